@@ -68,12 +68,16 @@ class Drawn:
     refused: dict[int, str]
 
 
+class NotWords(ToolError, argparse.ArgumentTypeError):
+    """Why a text has no words; argparse says it with the name of its argument."""
+
+
 def option_words(argument: str) -> tuple[str, ...]:
-    """Returns options of labels(1) that are given as one argument, as a shell reads them."""
+    """Returns options that are given as one text, as a shell reads them; raises `NotWords`."""
     try:
         return tuple(shlex.split(argument))
     except ValueError as error:
-        raise argparse.ArgumentTypeError(f"{argument!r}: {error}") from error
+        raise NotWords(f"{argument!r}: {error}") from error
 
 
 def bytes_a_row(width: int) -> int:

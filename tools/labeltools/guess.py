@@ -5,14 +5,15 @@ shows the guess, label-table proposes it, and the keeper of the shop decides.
 import re
 import unicodedata
 from collections.abc import Callable, Mapping, Sequence
+from contextlib import suppress
 from dataclasses import dataclass, replace
-from itertools import islice
+from functools import partial
+from itertools import islice, zip_longest
 
 from labeltools.codes import AUTO, CodeRules, code_of
-from labeltools.columns import names_of
+from labeltools.columns import names_of, texts_of
 from labeltools.messages import RowError, Talk
-from labeltools.money import NotMoney, parse
-from labeltools.rows import Row
+from labeltools.money import parse
 from labeltools.symbologies import CODE128, QR
 from labeltools.table import head_of
 from labeltools.table_options import TableOptions
@@ -38,9 +39,10 @@ SAMPLE = 300  # rows that are looked at
 COPIES = re.compile("[0-9]{1,3}")
 LINK = re.compile("://")
 DECIMALS = re.compile("[0-9]+[.,][0-9]{2}")
+WORDS = re.compile(r"(?:[^\W\d][\W\d]*){6}")  # letters of a title
 NO_BARS = re.compile(".*://.*|.{31,}")
-WORDS = 5  # letters of a title
 LEAST = 0.5  # a column that scores less is not guessed
+is_code = partial(code_of, rules=CodeRules())  # surely an EAN or UPC
 
 
 @dataclass(frozen=True)
@@ -64,39 +66,33 @@ def guess_of(data: bytes, name: str, options: TableOptions, talk: Talk) -> Guess
         # the names have more than half as many cells as any row; what is above is a title
         counts = [sum(map(bool, names_of(row))) for row in rows]
         top = next(row for row, count in zip(rows, counts) if 2 * count > max(counts))
-        is_article = any(map(is_code, names_of(top)))
+        is_article = share([name for name in names_of(top) if name], is_code) > 0
         row = None if is_article else top.number
         file = replace(file, has_header=not is_article, header_row=row)
         return guess_of(data, name, replace(options, file=file), talk)
-    return guess([row for row in rows if not row.problem], file.has_header is not False)
+    has_names = file.has_header is not False
+    names = names_of(rows[0]) if has_names else ()
+    below = [texts_of(row) for row in rows[has_names:] if not row.problem]
+    columns = list(zip_longest(names, *below, fillvalue=""))
+    return guess(columns, rows[0].number if has_names else 0)
 
 
-def guess(rows: Sequence[Row], has_names: bool) -> Guess:
-    """Returns a guess from the row of names, or the first article, and some rows below it.
-
-    >>> guess([Row(1, ["Nr", "EAN"]), Row(2, ["7", "4006381333931"])], True).columns
-    {'code': 1}
-    """
-    width = max(len(row.cells) for row in rows)
-    texts = [[row.seen(place).strip() for place in range(width)] for row in rows]
-    names = [*names_of(rows[0]), *[""] * width][:width] if has_names else [""] * width
-    columns = [[line[place] for line in texts[has_names:] if line[place]] for place in range(width)]
+def guess(columns: Sequence[Sequence[str]], header: int) -> Guess:
+    """Returns a guess from columns, each with its name in front, which may be empty."""
+    names = [column[0] for column in columns]
+    texts = [[text.strip() for text in column[1:] if text.strip()] for column in columns]
     found: dict[str, int] = {}
     for kind in NAMES:
-        free = [place for place in range(width) if place not in found.values()]
-        scores = {place: score(kind, names[place], columns[place]) for place in free}
+        free = [place for place in range(len(columns)) if place not in found.values()]
+        scores = {place: score(kind, names[place], texts[place]) for place in free}
         best = max(free, key=scores.__getitem__, default=-1)
         if scores.get(best, 0) >= LEAST:
             found[kind] = best
-    symbology = symbology_of(columns[found["code"]]) if "code" in found else AUTO
-    return Guess(names, found, symbology, rows[0].number if has_names else 0)
-
-
-def symbology_of(texts: Sequence[str]) -> str:
-    """Returns the symbology of a column of codes."""
-    if share(texts, is_code) >= LEAST:
-        return AUTO
-    return QR.name if share(texts, NO_BARS.fullmatch) > LEAST else CODE128.name
+    symbology = AUTO
+    code = found.get("code")
+    if code is not None and share(texts[code], is_code) < LEAST:
+        symbology = QR.name if share(texts[code], NO_BARS.fullmatch) > LEAST else CODE128.name
+    return Guess(names, found, symbology, header)
 
 
 def score(kind: str, name: str, texts: Sequence[str]) -> float:
@@ -110,9 +106,8 @@ def score(kind: str, name: str, texts: Sequence[str]) -> float:
         return by_name + share(texts, is_price if by_name or not name else has_currency)
     if kind == "copies":
         return by_name if share(texts, COPIES.fullmatch) == 1 else 0.0
-    is_wordy = share(texts, lambda text: len(re.sub(r"[\W\d]", "", text)) > WORDS)
     differ = len(set(texts)) / max(1, len(texts))
-    return by_name + is_wordy * differ - share(texts, is_price)
+    return by_name + share(texts, WORDS.search) * differ - share(texts, is_price)
 
 
 def named(name: str, words: Sequence[str]) -> float:
@@ -124,26 +119,19 @@ def named(name: str, words: Sequence[str]) -> float:
 
 
 def share(texts: Sequence[str], test: Callable[[str], object]) -> float:
-    """Returns the part of the texts that pass a test."""
-    return sum(bool(test(text)) for text in texts) / len(texts) if texts else 0.0
-
-
-def is_code(text: str) -> bool:
-    """Returns whether a text is surely an EAN or UPC."""
-    try:
-        return bool(text) and bool(code_of(text, CodeRules()))
-    except RowError:
-        return False
+    """Returns the part of the texts that pass a test; those that it refuses do not."""
+    passed = 0
+    for text in texts:
+        with suppress(RowError):
+            passed += bool(test(text))
+    return passed / max(1, len(texts))
 
 
 def has_currency(text: str) -> bool:
-    """Returns whether a text is a price with a currency."""
-    try:
-        return bool(parse(text).currency)
-    except NotMoney:
-        return False
+    """Returns whether a price has a currency; raises `RowError` for what is no price."""
+    return bool(parse(text).currency)
 
 
 def is_price(text: str) -> bool:
-    """Returns whether a text is a price with a currency, or a number with decimals."""
-    return has_currency(text) or DECIMALS.fullmatch(text) is not None
+    """Returns whether a text is a number with decimals, or a price with a currency."""
+    return DECIMALS.fullmatch(text) is not None or has_currency(text)

@@ -7,14 +7,14 @@
 """
 
 from dataclasses import dataclass, replace
-from typing import Iterable, Mapping, Optional, Sequence
+from typing import Iterable, Iterator, Mapping, Optional, Sequence
 
 from labeltools.area import ARTICLE, DESIGNS, Edges, Wishes, plan_of
 from labeltools.engine import Drawn, run_labels
 from labeltools.forms import ESCPOS, FORMS, PDF, Form
 from labeltools.layout import LaidOut, LaidOutFile, PrintLabel, lay_out, print_label
 from labeltools.letters import Fonts, Letters
-from labeltools.lines_file import UNPRINTABLE, LinesFile, read_lines
+from labeltools.lines_file import UNPRINTABLE, LineRecord, LinesFile, read_lines
 from labeltools.messages import BAD_ARGUMENTS, Place, Talk, ToolError
 from labeltools.pen import Medium, Pen
 from labeltools.press import Press, PrintJob, Prints, pens_of, with_copies
@@ -209,7 +209,8 @@ def prepared(options: PrintOptions, job: PrintJob, found: DrawnLines, talk: Talk
     reasons.update(laid_out.left_out)
     wanted = only_wanted(laid_out.labels, options.only)
     if options.read_back:
-        reasons.update(faults(wanted, laid_out, job, letters, talk))
+        for record, fault in faults(wanted, laid_out, job, letters, talk):
+            reasons[record.number] = fault
         wanted = [item for item in wanted if item.label.record.number not in reasons]
     left_out = list(without_line(lines, options.only))
     left_out += refused_labels(lines, reasons, options.only)
@@ -274,16 +275,14 @@ def refused_labels(
 
 def faults(
     items: Sequence[LaidOut], laid_out: LaidOutFile, job: PrintJob, letters: Letters, talk: Talk
-) -> dict[int, str]:
-    """Returns what is wrong with labels as they are drawn, by the numbers of their lines."""
+) -> Iterator[tuple[LineRecord, str]]:
+    """Yields the lines of labels that are not drawn as they have to be, and what is wrong."""
     pen = Pen(Medium(job.plan.dpi, True), job.fonts, letters)
-    found = {}
     for done, item in enumerate(items):
         talk.go_on(done, len(items))
         fault = fault_of(item, laid_out.area, pen)
         if fault is not None:
-            found[item.label.record.number] = fault
-    return found
+            yield item.label.record, fault
 
 
 def remarks_on(

@@ -5,16 +5,15 @@ of them, and what was chosen the last time.
 import json
 import os
 import shlex
-import time
 from collections.abc import Mapping, Sequence
 from contextlib import suppress
-from dataclasses import dataclass, replace
 from pathlib import Path
 from typing import Any
 
 from labeltools import print_command, table_command
 from labeltools.command_line import read_input, words_of
-from labeltools.guess import Guess, guess_of
+from labeltools.engine import option_words
+from labeltools.guess import guess_of
 from labeltools.messages import Cancelled, Place, ToolError
 from labeltools.press import Press
 from labeltools.print_job import Prepared, faults, labels_of, planned
@@ -36,7 +35,7 @@ class Talk:
         self.notes: list[LeftOut] = []
         self.progress = 0.0  # the part that is done, where that is known
         self.is_stopped = False
-        self.begin = time.monotonic()
+        self.looks = 0  # that were taken at the work
 
     def note(self, place: Place | None, cell: str, reason: str, hint: str) -> None:
         """Keeps why a row is left out."""
@@ -53,111 +52,75 @@ class Talk:
         self.progress = done / total if total else 0.0
 
 
-@dataclass(frozen=True)
 class Table:
-    """A table that is open."""
-
-    path: Path
-    data: bytes
-    guess: Guess
-
-
-def opened(path: Path, words: str, header: int | None, talk: Talk) -> Table:
-    """Returns a table that is read by further words of label-table; its names are in the row
-    `header` (0: in none) where that is known. Raises `ToolError` and `OSError`.
+    """A table that is open, and what was made of it last: its lines, by the words of label-table;
+    the line that prints it in a shell, what there is to say, and how many rows are left out.
     """
-    _, data = read_input(str(path))
-    options = table_command.options_of(table_command.understood(["--code", "1", *split(words)]))
-    if header is not None:
-        has_header = None if header else False
-        rules = replace(options.file, header_row=header or None, has_header=has_header)
-        options = replace(options, file=rules)
-    return Table(path, data, guess_of(data, path.name, options, talk))
+
+    words: Sequence[str] = ()
+    lines: Lines
+    said: Sequence[LeftOut]
+    command: str
+    notes: Sequence[LeftOut]
+    left_out: int
+
+    def __init__(self, path: Path, text: str, header: int | None, talk: Talk) -> None:
+        """Reads a table by further words of label-table; its names are in the row `header` (0: in
+        none) where that is known. Raises `ToolError` and `OSError`.
+        """
+        head = words_of({"header-row": header, "no-header": header == 0})
+        arguments = table_command.understood(["--code", "1", *head, *option_words(text)])
+        _, self.data = read_input(str(path))
+        self.path = path
+        self.guess = guess_of(self.data, path.name, table_command.options_of(arguments), talk)
+        self.kept = remembered().get("\n".join(self.guess.names), {})
+
+    def labels(self, choices: Choices, talk: Talk) -> Prepared:
+        """Returns the labels that are chosen; raises `ToolError` and `OSError`."""
+        to_print = print_words(choices)
+        options = print_command.options_of(print_command.command_line().parse_args(to_print))
+        job = planned(options)
+        words = [*table_words(choices), "--", str(self.path)]
+        if words != self.words:  # other paper needs no other lines
+            rules = table_command.options_of(table_command.understood(words))
+            self.lines = lines_of_table(self.data, self.path.name, rules, talk)
+            self.said = tuple(talk.notes)
+            self.words = words
+        found = labels_of(options, job, self.path.name, self.lines.output, talk)
+        rows = set(self.lines.left_out)
+        more = [one for one in found.left_out if one.place and one.place.number not in rows]
+        remarks = [LeftOut(None, "", remark) for remark in found.remarks]
+        self.notes = [*self.said, *more, *remarks]
+        self.left_out = len(rows) + len(more)
+        commands = ["label-table", *words], ["label-print", *to_print]
+        self.command = " | ".join(map(shlex.join, commands)) + f" > labels.{job.form.name}"
+        remember("\n".join(self.guess.names), choices)
+        return found
 
 
-def table_words(table: Table, choices: Choices) -> list[str]:
-    """Returns the words of label-table; raises `ToolError` for a quote that is not closed."""
+def table_words(choices: Choices) -> list[str]:
+    """Returns the words of label-table, but for the file; raises `ToolError`."""
     options = {name: choices[name] for name in (*COLUMNS, "symbology", "header-row")}
     options["no-header"] = not choices["header-row"]
-    return [*words_of(options), *split(choices["for-table"]), "--", str(table.path)]
+    return [*words_of(options), *option_words(choices["for-table"])]
 
 
 def print_words(choices: Choices) -> list[str]:
-    """Returns the words of label-print; raises `ToolError` for a quote that is not closed."""
+    """Returns the words of label-print; raises `ToolError`."""
     options = {name: choices[name] for name in ("stock", "first", "design", "to", "dpi")}
     if choices["roll"]:
         options["paper"] = f"{choices['width']:g}x{choices['height']:g}"
         del options["stock"], options["first"]
-    return [*words_of(options), *split(choices["for-print"])]
+    return [*words_of(options), *option_words(choices["for-print"])]
 
 
-def split(text: str) -> list[str]:
-    """Returns the words of a text; raises `ToolError` for a quote that is not closed."""
-    try:
-        return shlex.split(text)
-    except ValueError as error:
-        raise ToolError(f"{text}: {error}") from error
-
-
-def command(table: Table, choices: Choices) -> str:
-    """Returns the line that does the same in a shell."""
-    lines = shlex.join(["label-table", *table_words(table, choices)])
-    labels = shlex.join(["label-print", *print_words(choices)])
-    return f"{lines} | {labels} > labels.{choices['to']}"
-
-
-@dataclass(frozen=True)
-class Labels:
-    """Labels that can be printed; the words that their lines were made by, the lines, and what
-    there is to say about them.
-    """
-
-    prepared: Prepared
-    words: Sequence[str]
-    lines: Lines
-    said: Sequence[LeftOut]
-
-    def left_out(self) -> list[LeftOut]:
-        """Returns the labels of lines that are not printed."""
-        by_table = set(self.lines.left_out)
-        found = ((one, one.place.number) for one in self.prepared.left_out if one.place)
-        return [one for one, row in found if row not in by_table]
-
-    def notes(self) -> list[LeftOut]:
-        """Returns why rows are left out, and what else there is to say."""
-        remarks = [LeftOut(None, "", remark) for remark in self.prepared.remarks]
-        return [*self.said, *self.left_out(), *remarks]
-
-
-def made(table: Table, choices: Choices, old: Labels | None, talk: Talk) -> Labels:
-    """Returns the labels of a table. Their lines are those of `old` where the words of label-table
-    are the same. Raises `ToolError` and `OSError`.
-    """
-    arguments = print_command.command_line().parse_args(print_words(choices))
-    options = print_command.options_of(arguments)
-    job = planned(options)
-    words = table_words(table, choices)
-    if old is not None and old.words == words:
-        lines = old.lines
-        said = old.said
-    else:
-        rules = table_command.options_of(table_command.understood(words))
-        lines = lines_of_table(table.data, table.path.name, rules, talk)
-        said = tuple(talk.notes)
-    return Labels(labels_of(options, job, table.path.name, lines.output, talk), words, lines, said)
-
-
-def read_back(prepared: Prepared, talk: Talk) -> Press:
+def read_back(labels: Prepared, talk: Talk) -> Press:
     """Reads each label as it is drawn, and returns what writes them; raises `ToolError` where one
     is not what it has to be.
     """
-    laid_out = prepared.laid_out
-    found = faults(prepared.labels, laid_out, prepared.job, prepared.letters, talk)
-    for item in prepared.labels:
-        record = item.label.record
-        if record.number in found:
-            raise ToolError(f"nothing is printed: {record.place}: {found[record.number]}")
-    return prepared.press(talk)
+    for record, fault in faults(labels.labels, labels.laid_out, labels.job, labels.letters, talk):
+        raise ToolError(f"nothing is printed: {record.place}: {fault}")
+    return labels.press(talk)
 
 
 def remembered() -> dict[str, Choices]:

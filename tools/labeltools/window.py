@@ -3,7 +3,6 @@ printed, the rows that are left out, and the ways out. Its widgets are those of 
 """
 
 import math
-import time
 from collections.abc import Callable
 from concurrent.futures import Future, ThreadPoolExecutor
 from contextlib import suppress
@@ -11,17 +10,17 @@ from functools import lru_cache, partial
 from pathlib import Path
 from typing import Any
 
-from labeltools import shop
 from labeltools.area import MILLIMETRES
 from labeltools.command_line import Parser
+from labeltools.forms import PBM, SVG
 from labeltools.forms.pdf import POINTS
 from labeltools.messages import ToolError, of_system
 from labeltools.pango import library
-from labeltools.preview import Preview, of_labels
+from labeltools.preview import Preview
 from labeltools.print_command import check_count, print_on
 from labeltools.print_job import Prepared
 from labeltools.printer import media_of, queues
-from labeltools.shop import COLUMNS, Choices, Labels, Table, Talk, read_back
+from labeltools.shop import COLUMNS, Choices, Table, Talk, read_back
 from labeltools.stock import list_stock
 from labeltools.translation import translated
 from labeltools.words import _, counted
@@ -42,10 +41,9 @@ CONTROLS = {
 MANY = 1000  # labels above it are asked for before they are printed
 MOST_NOTES = 2000
 DOT = 2  # pixels of a dot, where dots are looked at
-SCREEN_DPI = 96  # of a monitor that does not say its size
+SCREEN = 96 / MILLIMETRES  # pixels of a millimetre of a monitor that does not say its size
 LOOK = 50  # milliseconds between two looks at the work
-PATIENCE = 0.5  # seconds of work after which it is shown
-Then = Callable[[Any], object]
+PATIENCE = 10  # looks after which work is shown
 
 
 class Window:
@@ -53,18 +51,21 @@ class Window:
     work ends the old one, whose result is dropped.
     """
 
+    labels: Prepared  # that were made last
+    shown: Preview
+    redraw = staticmethod(Gtk.Widget.queue_draw)
+
     def __init__(self) -> None:
-        self.builder = Gtk.Builder.new_from_file(str(FILE))
-        self.widget = self.builder.get_object
+        builder = Gtk.Builder.new_from_file(str(FILE))
+        self.widget = builder.get_object
         self.window = self.widget("window")
         self.thread = ThreadPoolExecutor(1)
         self.talk = Talk()
         self.path: Path | None = None  # None too while controls are filled
         self.table: Table | None = None
-        self.labels: Labels | None = None
-        self.previews: list[Preview] = []  # of pages, and of single labels
+        self.has_labels = False  # that are chosen
         self.offer_sheets()
-        self.builder.connect_signals(self)
+        builder.connect_signals(self)
         self.window.drag_dest_set(Gtk.DestDefaults.ALL, [], Gdk.DragAction.COPY)
         self.window.drag_dest_add_uri_targets()
 
@@ -79,46 +80,36 @@ class Window:
             lambda _self, typed, row: store[row][1] in listed(typed)
         )
 
-    # ---- work beside the window
-
-    def start(self, work: Callable[[Talk], Any], then: Then = lambda _result: None) -> None:
+    def start(self, work: Callable[[Talk], Any], then: Callable[[Any], object] = bool) -> None:
         """Does work; nothing goes out until it is done."""
-        self.talk.is_stopped = True
+        self.on_stop()
         self.talk = Talk()
         self.widget("info").hide()
         self.widget("out").set_sensitive(False)
         GLib.timeout_add(LOOK, self.look, self.talk, self.thread.submit(work, self.talk), then)
 
-    def look(self, talk: Talk, future: "Future[Any]", then: Then) -> bool:
+    def look(self, talk: Talk, future: "Future[Any]", then: Callable[[Any], object]) -> bool:
         """Shows how far work is, or what came of it; returns whether it goes on."""
-        if talk.is_stopped:
-            return False
-        if not future.done():
-            self.widget("working").set_visible(time.monotonic() - talk.begin > PATIENCE)
+        if future.done() and not talk.is_stopped:
+            self.on_stop()
+            try:
+                with suppress(SystemExit):  # --help was typed
+                    then(future.result())
+            except (ToolError, OSError) as error:
+                problem = of_system(error) if isinstance(error, OSError) else error
+                self.widget("problem").set_text(said(problem.what, problem.hint))
+                self.widget("info").show()
+        elif not talk.is_stopped:
+            talk.looks += 1
+            self.widget("working").set_visible(talk.looks > PATIENCE)
             self.widget("progress").set_fraction(talk.progress)
-            return True
-        self.on_stop()
-        try:
-            with suppress(SystemExit):  # --help was typed
-                then(future.result())
-        except (ToolError, OSError) as error:
-            self.show_problem(error if isinstance(error, ToolError) else of_system(error))
-        return False
+        return not talk.is_stopped
 
     def on_stop(self, _button: Any = None) -> None:
         """Ends work, and lets labels go out where there are some."""
         self.talk.is_stopped = True
         self.widget("working").hide()
-        has_labels = self.labels is not None and len(self.labels.prepared.labels) > 0
-        self.widget("out").set_sensitive(has_labels)
-
-    def show_problem(self, error: ToolError) -> None:
-        """Shows why there are no labels, or why they do not go out."""
-        self.widget("problem").set_text(said(error.what, error.hint))
-        self.widget("info").show()
-        self.widget("out").set_sensitive(False)
-
-    # ---- from a table to labels
+        self.widget("out").set_sensitive(self.has_labels)
 
     def open(self, path: Path, header: int | None = None) -> None:
         """Reads a table, guesses its columns or takes those of the last time, and makes labels."""
@@ -126,29 +117,26 @@ class Window:
             self.widget("for-table").set_text("")
         self.path = path
         self.table = None
-        self.labels = None
-        self.previews = []
-        for name in ("columns", "notes"):
-            self.widget(name).clear()
-        self.widget("count").set_text("")
+        self.has_labels = False
+        self.widget("columns").clear()
+        self.widget("result").hide()
         self.widget("head").set_subtitle(path.name)
         self.widget("stack").set_visible_child_name("work")
-        words = self.widget("for-table").get_text()
-        self.start(partial(shop.opened, path, words, header), self.fill)
+        self.start(partial(Table, path, self.widget("for-table").get_text(), header), self.fill)
 
     def fill(self, table: Table) -> None:
         """Fills the choices of columns for a table."""
         self.path = None
         guess = table.guess
-        kept = shop.remembered().get("\n".join(guess.names), {})
         store = self.widget("columns")
         store.append(["", _("none")])
         for number, name in enumerate(guess.names, 1):
             store.append([str(number), name or _("column {number}").format(number=number)])
         columns = {option: str(place + 1) for option, place in guess.columns.items()}
         self.take({**dict.fromkeys(COLUMNS, ""), "code": "1", **columns})
-        self.take({"symbology": guess.symbology, **kept, "header-row": guess.header, "first": 1})
-        self.widget("guessed").set_visible(not kept)
+        self.take({"symbology": guess.symbology, **table.kept})
+        self.take({"header-row": guess.header, "first": 1})
+        self.widget("guessed").set_visible(not table.kept)
         self.path = table.path
         self.table = table
         self.make()
@@ -167,56 +155,42 @@ class Window:
     def make(self, _control: Any = None) -> None:
         """Makes the labels that are chosen."""
         if self.table is not None:
-            choices = self.choices()
-            work = partial(shop.made, self.table, choices, self.labels)
-            self.start(work, partial(self.show_labels, self.table, choices))
+            self.has_labels = False
+            work = partial(self.table.labels, self.choices())
+            self.start(work, partial(self.show_labels, self.table))
 
-    def show_labels(self, table: Table, choices: Choices, labels: Labels) -> None:
+    def show_labels(self, table: Table, labels: Prepared) -> None:
         """Shows the labels that were made, and what there is to say about them."""
         self.labels = labels
-        pages = Preview(labels.prepared.job, labels.prepared, labels.prepared.prints)
-        self.previews = [pages, of_labels(labels.prepared)]
-        shop.remember("\n".join(table.guess.names), choices)
-        self.widget("command").set_text(shop.command(table, choices))
-        self.widget("count").set_text(translated(labels.lines.summary))
-        self.show_notes(labels)
-        self.show_view()
-        self.on_stop()
-        check_count(labels.prepared.job, labels.prepared.prints, False)
-
-    def show_notes(self, labels: Labels) -> None:
-        """Shows which rows are left out, and why."""
+        self.widget("command").set_text(table.command)
+        self.widget("count").set_text(translated(table.lines.summary))
         store = self.widget("notes")
         store.clear()
-        for note in labels.notes()[:MOST_NOTES]:
+        for note in table.notes[:MOST_NOTES]:
             row = str(note.place.number) if note.place else ""
             store.append([row, note.data, said(note.reason, note.hint)])
-        count = len(labels.lines.left_out) + len(labels.left_out())
-        text = counted(count, "{number} row is left out", "{number} rows are left out")
-        self.widget("left-out").set_text(text if count else _("Please look at this"))
-        self.widget("below").set_visible(len(store) > 0)
-
-    # ---- what is looked at
-
-    def view(self) -> tuple[str, Preview | None, int]:
-        """Returns what is looked at: how, what draws it, and the number of the page, from 0."""
-        kind = self.widget("view").get_active_id()
-        shown = self.previews[kind != "page"] if self.previews else None
-        return kind, shown, self.widget("number").get_value_as_int() - 1
+        text = counted(table.left_out, "{number} row is left out", "{number} rows are left out")
+        self.widget("left-out").set_text(text if table.left_out else _("Please look at this"))
+        self.widget("below").set_visible(table.notes)
+        self.show_view()
+        self.widget("result").show()
+        check_count(labels.job, labels.prints, False)
+        self.has_labels = True
+        self.on_stop()
 
     def show_view(self, _control: Any = None) -> None:
         """Shows the page or the label, and how many there are."""
-        kind, shown, _number = self.view()
-        if shown is None:
-            return
-        self.widget("number").set_range(1, shown.count)
-        self.widget("of").set_text(_("of {all}").format(all=shown.count))
-        width, height = shown.size
-        scale = {"dots": DOT / shown.job.plan.dot, "true": self.true_scale()}.get(kind, 0.0)
+        kind = self.widget("view").get_active_id()
+        form = SVG if self.labels.job.form.is_drawn and kind != "dots" else PBM
+        self.shown = Preview(self.labels, form, kind != "page")
+        self.widget("number").set_range(1, self.shown.count)
+        self.widget("of").set_text(_("of {all}").format(all=self.shown.count))
+        dots = DOT / self.labels.job.plan.dot
+        scale = {"dots": dots, "true": self.true_scale()}.get(kind, 0.0)
+        width, height = self.shown.size
         paper = self.widget("paper")
         paper.set_size_request(math.ceil(width * scale), math.ceil(height * scale))
-        for side in ("halign", "valign"):
-            paper.set_property(side, Gtk.Align.CENTER if scale else Gtk.Align.FILL)
+        paper.set_halign(Gtk.Align.CENTER if scale else Gtk.Align.FILL)
         self.widget("desk").set_property("ratio", width / height)
         paper.queue_draw()
 
@@ -224,34 +198,28 @@ class Window:
         """Returns the pixels of a millimetre of the monitor, as far as it says its size."""
         monitor = self.window.get_display().get_monitor_at_window(self.window.get_window())
         width = monitor.get_width_mm()
-        return float(monitor.get_geometry().width / width if width else SCREEN_DPI / MILLIMETRES)
+        return float(monitor.get_geometry().width / width if width else SCREEN)
 
     def on_draw(self, paper: Any, canvas: Any) -> None:
         """Draws the view."""
-        kind, shown, number = self.view()
-        if shown is not None:
-            scale = paper.get_allocated_width() / shown.size[0]
-            canvas.scale(scale, scale)
-            shown.draw(canvas, number, kind == "dots")
+        scale = paper.get_allocated_width() / self.shown.size[0]
+        canvas.scale(scale, scale)
+        self.shown.draw(canvas, self.widget("number").get_value_as_int())
 
     def on_click(self, paper: Any, event: Any) -> None:
         """Begins at the cell of the first page that was clicked: those before it are used."""
-        kind, shown, number = self.view()
-        if shown is not None and kind == "page" and number == 0:
-            scale = paper.get_allocated_width() / shown.size[0]
-            cell = shown.cell_at(event.x / scale, event.y / scale)
-            self.widget("first").set_value(cell or shown.job.first)
+        scale = paper.get_allocated_width() / self.shown.size[0]
+        cell = self.shown.cell_at(event.x / scale, event.y / scale)
+        is_first = self.widget("number").get_value_as_int() == 1
+        if cell and is_first and self.widget("view").get_active_id() == "page":
+            self.widget("first").set_value(cell)
 
     def on_note(self, selection: Any) -> None:
         """Shows the label of the row that was chosen, where there is one."""
         model, row = selection.get_selected()
-        shown = self.view()[1]
-        if row is not None and shown is not None and model[row][0]:
-            page = shown.page_of_row(int(model[row][0]))
-            if page is not None:
-                self.widget("number").set_value(page + 1)
-
-    # ---- ways in and out
+        page = self.shown.page_of(model[row][0]) if row else 0
+        if page:
+            self.widget("number").set_value(page)
 
     def on_open(self, _button: Any) -> None:
         """Asks for a table."""
@@ -263,79 +231,76 @@ class Window:
         for uri in event[3].get_uris()[:1]:
             self.open(Path(Gio.File.new_for_uri(uri).get_path() or uri))
 
-    def on_header(self, control: Any) -> None:
-        """Takes the names of the columns from another row."""
+    def reopen(self, control: Any) -> None:
+        """Reads the table by other words, such as its encoding, or with names in another row."""
         if self.path is not None:
-            self.open(self.path, control.get_value_as_int())
+            is_header = control is self.widget("header-row")
+            self.open(self.path, control.get_value_as_int() if is_header else None)
 
-    def on_words(self, _entry: Any) -> None:
-        """Reads the table by other words, such as its encoding."""
-        if self.path is not None:
-            self.open(self.path)
+    def is_meant(self) -> bool:
+        """Returns whether labels are meant, which is asked for where they are many."""
+        if len(self.labels.prints) <= MANY:
+            return True
+        answer = self.widget("many").run()
+        self.widget("many").hide()
+        return bool(answer == Gtk.ResponseType.OK)
 
     def on_save(self, _button: Any) -> None:
         """Asks for a file, and writes it."""
-        labels = self.meant()
         chooser = self.widget("saver")
-        if labels is not None:
-            chooser.set_current_name(f"labels.{labels.job.form.name}")
-            if chooser.run() == Gtk.ResponseType.ACCEPT:
-                self.save(Path(chooser.get_filename()))
+        chooser.set_current_name(f"labels.{self.labels.job.form.name}")
+        if self.is_meant() and chooser.run() == Gtk.ResponseType.ACCEPT:
+            self.save(Path(chooser.get_filename()))
 
     def save(self, path: Path) -> None:
         """Reads each label back, and writes what label-print writes."""
-        assert self.labels is not None
-        labels = self.labels.prepared
+        labels = self.labels
         self.start(lambda talk: read_back(labels, talk).save(labels.prints, path))
 
     def on_print(self, _button: Any) -> None:
         """Prints: by the dialog of the desktop, or for ZPL and ESC/POS the file at a queue."""
-        labels = self.meant()
-        if labels is not None and labels.job.form.is_roll:
-            self.start(lambda _talk: queues(), partial(self.ask_queue, labels))
-        elif labels is not None:
-            self.start(partial(read_back, labels), self.ask_printer)
+        labels = self.labels
+        action = Gtk.PrintOperationAction.PRINT_DIALOG
+        if not self.is_meant():
+            return
+        if labels.job.form.is_roll:
+            self.start(lambda _talk: queues(), self.ask_queue)
+        else:
+            self.start(
+                partial(read_back, labels), lambda _press: self.operation().run(action, self.window)
+            )
 
-    def meant(self) -> Prepared | None:
-        """Returns the labels that are shown; asks whether many of them are meant."""
-        if self.labels is None:
-            return None
-        if len(self.labels.prepared.prints) > MANY:
-            dialog = self.widget("many")
-            dialog.set_property("secondary-text", translated(self.labels.lines.summary))
-            answer = dialog.run()
-            dialog.hide()
-            if answer != Gtk.ResponseType.OK:
-                return None
-        return self.labels.prepared
-
-    def ask_queue(self, labels: Prepared, names: list[str]) -> None:
+    def ask_queue(self, names: list[str]) -> None:
         """Asks for a queue for the file of a printer's own language."""
         menu = Gtk.Menu()
         for name in names or [_("there is no printer")]:
             item = Gtk.MenuItem(label=name, sensitive=bool(names), visible=True)
-            item.connect("activate", self.send, labels, name)
+            item.connect("activate", self.send, name)
             menu.append(item)
         south = Gdk.Gravity.SOUTH_WEST
         menu.popup_at_widget(self.widget("print"), south, Gdk.Gravity.NORTH_WEST, None)
 
-    def send(self, _item: Any, labels: Prepared, queue: str) -> None:
+    def send(self, _item: Any, queue: str) -> None:
         """Reads each label back, and sends what label-print writes to a queue."""
+        labels = self.labels
         self.start(lambda talk: print_on(read_back(labels, talk), labels.prints, queue))
-
-    def ask_printer(self, _press: Any) -> None:
-        """Asks for a printer by the dialog of the desktop, and prints."""
-        self.operation().run(Gtk.PrintOperationAction.PRINT_DIALOG, self.window)
 
     def operation(self) -> Any:
         """Returns what prints each page in its own size: no scaling, no margins of the printer."""
-        pages = self.previews[0]
+        pages = Preview(self.labels, self.labels.job.form)
+        dpi = self.labels.job.plan.dpi
+
+        def draw(_operation: Any, context: Any, number: int) -> None:
+            canvas = context.get_cairo_context()
+            canvas.scale(POINTS / dpi, POINTS / dpi)
+            pages.press.draw(canvas, pages.press.page(number, pages.prints))
+
         points = [side * POINTS / MILLIMETRES for side in pages.size]
         setup = Gtk.PageSetup()
         setup.set_paper_size(Gtk.PaperSize.new_from_ppd(media_of(pages.size), _("Labels"), *points))
         settings = Gtk.PrintSettings()
         settings.set("cups-print-scaling", "none")
-        settings.set("cups-Resolution", f"{pages.job.plan.dpi}dpi")
+        settings.set("cups-Resolution", f"{dpi}dpi")
         operation = Gtk.PrintOperation(
             default_page_setup=setup,
             print_settings=settings,
@@ -346,10 +311,7 @@ class Window:
             allow_async=True,
             show_progress=True,
         )
-        operation.connect(
-            "draw-page",
-            lambda _self, context, number: pages.print(context.get_cairo_context(), number),
-        )
+        operation.connect("draw-page", draw)
         return operation
 
 

@@ -157,12 +157,12 @@ class WindowTest(unittest.TestCase):
     def shown(self):
         """The pixels of what the window shows, and how many of them are dark."""
         settle(0.1)
-        kind, shown, number = self.window.view()
+        shown = self.window.shown
         sides = (round(side * SCALE) for side in shown.size)
         surface = cairo.ImageSurface(cairo.FORMAT_RGB24, *sides)
         canvas = cairo.Context(surface)
         canvas.scale(SCALE, SCALE)
-        shown.draw(canvas, number, kind == "dots")
+        shown.draw(canvas, self.window.widget("number").get_value_as_int())
         surface.flush()
         data = bytes(surface.get_data())
         return data, data.count(bytes(3))
@@ -176,15 +176,19 @@ class WindowTest(unittest.TestCase):
 
     def open(self, path=None):
         self.window.open(path or self.table)
-        self.until(lambda: self.window.labels is not None or self.problem())
+        self.until(lambda: self.window.has_labels or self.problem())
 
     def change(self, **choices):
         """Changes choices, and waits for the labels."""
-        before = self.window.labels
+        before = getattr(self.window, "labels", None)
         self.window.widget("info").hide()
         for name, value in choices.items():
             self.window.take({name.replace("_", "-"): value})
-        self.until(lambda: self.window.labels not in (None, before) or self.problem())
+        self.until(lambda: self.is_made(before) or self.problem())
+
+    def is_made(self, before):
+        """Whether there are other labels than before."""
+        return self.window.has_labels and self.window.labels is not before
 
     def problem(self):
         info = self.window.widget("info")
@@ -264,7 +268,7 @@ class WindowTest(unittest.TestCase):
         self.assertNotEqual(hash(dots), hash(label))
         self.assertGreater(self.paper_width(), 1000)
         self.look("true")
-        true = self.window.true_scale() * self.window.view()[1].size[0]
+        true = self.window.true_scale() * self.window.shown.size[0]
         self.assertAlmostEqual(self.paper_width(), true, delta=2)
 
     def paper_width(self):
@@ -279,7 +283,7 @@ class WindowTest(unittest.TestCase):
         scale = paper.get_allocated_width() / 210
         before = self.window.labels
         self.window.on_click(paper, mock.Mock(x=100 * scale, y=70 * scale))
-        self.until(lambda: self.window.labels is not before)
+        self.until(lambda: self.is_made(before))
         self.assertEqual(self.window.choices()["first"], 5)
         self.window.on_click(paper, mock.Mock(x=1, y=1))  # beside the cells
         self.assertEqual(self.window.choices()["first"], 5)
@@ -291,7 +295,7 @@ class WindowTest(unittest.TestCase):
         self.window.widget("notes").append(["3", "", ""])
         self.window.widget("list").get_selection().select_path(Gtk.TreePath(1))
         settle(0.1)
-        self.assertEqual(self.window.view()[2], 1)
+        self.assertEqual(self.window.widget("number").get_value_as_int(), 2)
 
     def test_a_table_is_an_argument(self):
         words = [TOOLS / "label-window", self.table]
@@ -310,13 +314,13 @@ class WindowTest(unittest.TestCase):
         opener.get_filename.return_value = str(self.table)
         self.window.widget = lambda name: opener if name == "opener" else widget(name)
         self.window.widget("open").clicked()
-        self.until(lambda: self.window.labels)
+        self.until(lambda: self.window.has_labels)
 
     def test_a_table_is_dropped(self):
         data = mock.Mock()
         data.get_uris.return_value = [Gio.File.new_for_path(str(self.table)).get_uri()]
         self.window.on_drop(None, None, 0, 0, data, 0, 0)
-        self.until(lambda: self.window.labels)
+        self.until(lambda: self.window.has_labels)
         data.get_uris.return_value = ["https://example.org/a.csv"]
         self.window.on_drop(None, None, 0, 0, data, 0, 0)
         self.until(self.problem)
@@ -332,25 +336,22 @@ class WindowTest(unittest.TestCase):
         self.assertEqual(self.window.choices()["header-row"], 0)
         self.assertIn("2 labels of 2 rows", self.window.widget("count").get_text())
         self.window.widget("header-row").set_value(1)
-        self.until(lambda: self.window.labels is None)
-        self.until(lambda: self.window.labels)
+        self.until(lambda: not self.window.has_labels)
+        self.until(lambda: self.window.has_labels)
         self.assertIn("1 label of 1 row", self.window.widget("count").get_text())
 
     def test_many_labels_are_asked_for(self):
         self.open()
-        self.assertIs(self.window.meant(), self.window.labels.prepared)
+        self.assertTrue(self.window.is_meant())
         self.table.write_text(TABLE.replace("5000;3", "5000;998"))
         self.open()
         widget = self.window.widget
         many = mock.Mock()
         self.window.widget = lambda name: many if name == "many" else widget(name)
-        for answer, meant in (
-            (Gtk.ResponseType.CANCEL, None),
-            (Gtk.ResponseType.OK, self.window.labels.prepared),
-        ):
+        for answer, is_meant in ((Gtk.ResponseType.CANCEL, False), (Gtk.ResponseType.OK, True)):
             many.run.return_value = answer
-            self.assertIs(self.window.meant(), meant)
-        summary = many.set_property.call_args[0][1]
+            self.assertEqual(self.window.is_meant(), is_meant)
+        summary = widget("many").get_property("secondary-text")
         self.assertIn("1001 labels of 3 rows", summary)
 
     def test_a_queue_gets_the_file_as_it_is(self):
@@ -369,10 +370,10 @@ class WindowTest(unittest.TestCase):
             self.window.ask_queue = lambda *values: asked.append(values)
             self.window.on_print(None)
             self.until(lambda: asked)
-            labels, names = asked[0]
+            (names,) = asked[0]
             self.assertEqual(names, ["office", "zebra"])
-            window.Window.ask_queue(self.window, labels, names)
-            self.window.send(None, labels, "zebra")
+            window.Window.ask_queue(self.window, names)
+            self.window.send(None, "zebra")
             self.until(lambda: self.window.talk.is_stopped)
         self.assertEqual(self.problem(), "")
         self.assertEqual((self.folder / "words").read_text(), "-d zebra -o raw\n")
@@ -422,12 +423,12 @@ class WindowTest(unittest.TestCase):
 
     def test_wrong_words_are_said_and_the_page_stays(self):
         self.open()
-        before = self.window.view()[1]
+        before = self.window.shown
         for words, said in (("--no-such-option", "--no-such-option"), ("'open", "quotation")):
             self.change(for_print=words)
             self.assertIn(said, self.problem())
             self.assertFalse(self.window.widget("print").is_sensitive())
-            self.assertIs(self.window.view()[1], before)
+            self.assertIs(self.window.shown, before)
         self.change(for_print="", price="")
         self.assertEqual(self.problem(), "")
         self.change(for_table="--no-such-option")
@@ -450,12 +451,12 @@ class WindowTest(unittest.TestCase):
     def test_a_wrong_picture_stops_the_print(self):
         self.open()
         made = self.window.labels
-        first, *others = made.prepared.laid_out.labels
+        first, *others = made.laid_out.labels
         packed = bytearray(first.label.modules.packed)
         packed[len(packed) // 2] ^= 0b00111100
         wrong = replace(first.label, modules=replace(first.label.modules, packed=bytes(packed)))
-        laid_out = replace(made.prepared.laid_out, labels=(replace(first, label=wrong), *others))
-        self.window.labels = replace(made, prepared=replace(made.prepared, laid_out=laid_out))
+        laid_out = replace(made.laid_out, labels=(replace(first, label=wrong), *others))
+        self.window.labels = replace(made, laid_out=laid_out)
         path = self.folder / "wrong.pdf"
         self.window.save(path)
         self.until(self.problem)
@@ -500,6 +501,9 @@ class WindowTest(unittest.TestCase):
         settle(0.5)
         self.assertEqual(list(self.folder.glob("*.pdf")), [])
         self.assertTrue(self.window.widget("print").is_sensitive())
+        self.window.take({"price": ""})
+        self.window.on_stop(None)  # the labels that are there are not those that are chosen
+        self.assertFalse(self.window.widget("print").is_sensitive())
 
     def test_the_desktop_finds_the_window(self):
         support.needs("desktop-file-validate", "appstreamcli")
