@@ -32,7 +32,7 @@ AUTO = "#![tactic(auto)]"
 IN_PAGES = (
     ("README.md", r"read all ([\d,]+) labels back", "compare_symbols.py", r"(\d+) read back"),
     ("README.md", r"drew the same ([\d,]+) symbols", "compare_symbols.py", r"(\d+) of \1 as zint"),
-    ("README.md", r"each of ([\d,]+)\s+simulated out-of-memory", "refuse_each_growth.sh", r"^(\d+) growths"),
+    ("README.md", r"each of ([\d,]+)\s+simulated out-of-memory", "refuse_each_growth.py", r"^(\d+) growths"),
     ("docs/PROOF.md", r"operator of ([\d,]+) believed definitions", "believed_rows.py", r"of (\d+) definitions"),
     ("docs/PROOF.md", r"one at a time: ([\d,]+)\s+changes", "believed_rows.py", r"^(\d+) changes"),
 )

@@ -25,9 +25,9 @@ BUILT = (
     "compare_symbols.py",
     "scan_damaged.py",
     "print_through_cups.py",
-    "refuse_each_growth.sh",
+    "refuse_each_growth.py",
     "run_recipes.py",
-    "instructions.sh --check",
+    "instructions.py --check",
 )
 # The steps whose last line is in scripts/counts.txt.
 COUNTED = (
@@ -35,9 +35,9 @@ COUNTED = (
     "believed_rows.py --sample --built",
     "compare_symbols.py",
     "scan_damaged.py",
-    "refuse_each_growth.sh",
+    "refuse_each_growth.py",
     "run_recipes.py",
-    "instructions.sh --check",
+    "instructions.py --check",
 )
 
 

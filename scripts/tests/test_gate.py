@@ -92,7 +92,7 @@ class TakenAway(InCopy):
             ("HANDLES", handles, "Handles allowed: Net.", "counts.py", f"HANDLES is not: {handles}"),
             (root, "#![tactic(auto)]\n", "", "counts.py", "crates/gf256: no line #![tactic(auto)] in its root file"),
             (counted, "crates: ", "crates: 99\ncrates: ", "counts.py", "two lines of the name crates"),
-            ("scripts/steps.py", '    "instructions.sh --check",\n', "", "counts.py", "steps of built: believed"),
+            ("scripts/steps.py", '    "instructions.py --check",\n', "", "counts.py", "steps of built: believed"),
             ("tools/tests/test_man.py", "import", "import no_such\nimport", "counts.py", "tools/tests cannot be read"),
             ("README.md", "drew the same 5", "drew the same 6", "counts.py", "README.md: drew the same 6"),
             ("docs/PROOF.md", "believed definitions", "definitions", "counts.py", "docs/PROOF.md: no operator of"),
@@ -142,11 +142,11 @@ class TakenAway(InCopy):
         self.assertEqual(found, (1, "0 labels: 0 read back, 0 of 0 as zint draws them\n"))
 
     def test_step_that_looked_at_less(self):
-        script = "scripts/refuse_each_growth.sh"
-        self.replace(script, "echo '1 growths: 1 no memory, 0 unaffected, 0 wrong'\n")
-        self.assert_fails("refuse_each_growth.sh", "scripts/counts.txt has ")
-        self.replace(script, "echo 'skipped: no compiler'\nexit 77\n")
-        self.assert_fails("refuse_each_growth.sh", "status 77")
+        script = "scripts/refuse_each_growth.py"
+        self.replace(script, "print('1 growths: 1 no memory, 0 unaffected, 0 wrong')\n")
+        self.assert_fails("refuse_each_growth.py", "scripts/counts.txt has ")
+        self.replace(script, "print('skipped: no compiler')\nraise SystemExit(77)\n")
+        self.assert_fails("refuse_each_growth.py", "status 77")
 
     def test_lint_that_is_not_installed(self):
         os.makedirs(self.path("empty"), exist_ok=True)
