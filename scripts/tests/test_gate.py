@@ -135,10 +135,7 @@ class TakenAway(InCopy):
     def test_no_labels_to_compare(self):
         text = read(self.path("scripts/compare_symbols.py"))
         self.replace("scripts/compare_symbols.py", text.replace("return [label for", "return [] and [label for"))
-        for tool in ("zbarimg", "zint", "labels"):
-            write(self.path("bin", tool), "#!/bin/sh\n", is_program=True)
-        command = [PYTHON, self.path("scripts/compare_symbols.py"), self.path("bin/labels")]
-        found = run_command(command, PATH=f"{self.path('bin')}:{os.environ['PATH']}")
+        found = run_command([PYTHON, self.path("scripts/compare_symbols.py"), "/bin/true"])
         self.assertEqual(found, (1, "0 labels: 0 read back, 0 of 0 as zint draws them\n"))
 
     def test_step_that_looked_at_less(self):

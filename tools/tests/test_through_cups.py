@@ -2,7 +2,6 @@
 wrong bar.
 """
 
-import importlib.util
 import unittest
 from typing import Iterator
 
@@ -10,11 +9,7 @@ import numpy
 
 import support
 
-PATH = support.TOP / "scripts/print_through_cups.py"
-found = importlib.util.spec_from_file_location("print_through_cups", PATH)
-assert found is not None and found.loader is not None
-cups = importlib.util.module_from_spec(found)
-found.loader.exec_module(cups)
+cups = support.script("print_through_cups")
 
 # two rows of 16 dots
 ROWS = numpy.array([[1, 0] * 8, [0] * 8 + [1] * 8], dtype=numpy.uint8)
@@ -32,7 +27,7 @@ class Languages(unittest.TestCase):
         job = b"~DGR:CUPS.GRF,6,2,\nAAAA00FF:^XA\n"
         (page,) = cups.pages_of_zpl(job)
         self.assertTrue(numpy.array_equal(page[2], ROWS[1]))
-        with self.assertRaises(cups.JobError):
+        with self.assertRaises(cups.jobs.JobError):
             list(cups.pages_of_zpl(b"~DGR:CUPS.GRF,9,2,\nAAAA00FF^XA\n"))
 
     def test_epl(self) -> None:
