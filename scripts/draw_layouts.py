@@ -1,19 +1,17 @@
 #!/usr/bin/python3
 """Draws the pictures of docs/PRINTING.md that show labels of many sizes and contents.
 
-usage: scripts/draw_layouts.py FOLDER
-
 It writes layouts-article.png and layouts-shelf.png, a picture for each design, in which labels are drawn as
 label-print draws them in dots. The program is the one that label-print runs.
 """
 
 import subprocess
-import sys
 from dataclasses import dataclass
 
 import cairo
 import numpy
 
+import sources
 from tools_path import laying, support
 
 from labeltools.area import MILLIMETRES, PAD
@@ -153,9 +151,9 @@ def surface_of(dots):
 
 
 def main():
-    if len(sys.argv) != 2:
-        print(__doc__, file=sys.stderr)
-        return 2
+    parser = sources.parser_of(__doc__, has_top=False)
+    parser.add_argument("folder", metavar="FOLDER", help="where the pictures go")
+    folder = parser.parse_args().folder
     for design in ("article", "shelf"):
         sheet = Sheet()
         for case in CASES:
@@ -164,9 +162,8 @@ def main():
             )
             for item in laid.labels[: case.count]:
                 sheet.add(laid.dots(item), case.dpi)
-        sheet.write(f"{sys.argv[1]}/layouts-{design}.png")
-    return 0
+        sheet.write(f"{folder}/layouts-{design}.png")
 
 
 if __name__ == "__main__":
-    sys.exit(main())
+    main()

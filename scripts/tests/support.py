@@ -13,8 +13,6 @@ TOP = os.path.dirname(os.path.dirname(os.path.dirname(os.path.abspath(__file__))
 SCRIPTS = os.path.join(TOP, "scripts")
 # Debian's Python, as the gate runs the scripts.
 PYTHON = "/usr/bin/python3"
-# What the shell scripts call of every system.
-OF_THE_SYSTEM = "bash env dirname realpath mktemp rm sed awk cat grep head cut true tee tail".split()
 # What a copy of the repository has.
 FOLDERS = (".ci", "completions", "crates", "debian", "docs", "lib", "man", "scripts", "tools")
 FILES = ("README.md", "CHANGELOG.md", "CONTRIBUTING.md", "HANDLES", "crates.txt")
@@ -29,8 +27,7 @@ def run_command(command, **environment):
 
 def run(script, *arguments, **environment):
     """The status of a script of scripts/ and all that it prints."""
-    interpreter = PYTHON if script.endswith(".py") else shutil.which("bash")
-    return run_command([interpreter, os.path.join(SCRIPTS, script), *arguments], **environment)
+    return run_command([PYTHON, os.path.join(SCRIPTS, script), *arguments], **environment)
 
 
 def module(name):
@@ -64,11 +61,8 @@ class InFolder(unittest.TestCase):
         return os.path.join(self.folder, *names)
 
     def bare_path(self):
-        """A folder for PATH with what every system has, and no third-party tool."""
-        os.makedirs(self.path("bare"))
-        for tool in OF_THE_SYSTEM:
-            os.symlink(shutil.which(tool), self.path("bare", tool))
-        return self.path("bare")
+        """A PATH with what every system has, and no kit."""
+        return "/usr/bin:/bin"
 
 
 class InCopy(unittest.TestCase):

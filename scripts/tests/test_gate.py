@@ -10,6 +10,7 @@ import re
 import shutil
 import subprocess
 import sys
+import tempfile
 import unittest
 
 from support import PYTHON, SCRIPTS, TOP, InCopy, InFolder, module, read, run_command, write
@@ -49,9 +50,9 @@ class TakenAway(InCopy):
         )
         for old, new, steps, said in (
             ("scripts/tests", "scripts/t", "counts.py", "scripts/tests: 0, and "),
-            ("scripts/tests", "scripts/t", "scripts/tests", "there is no folder scripts/tests"),
+            ("scripts/tests", "scripts/t", "run_tests.py scripts/tests", "there is no folder scripts/tests"),
             ("tools/tests", "tools/t", "counts.py", "tools/tests: 0, and "),
-            ("tools/tests", "tools/t", "tools/tests", "there is no folder tools/tests"),
+            ("tools/tests", "tools/t", "run_tests.py tools/tests", "there is no folder tools/tests"),
             ("crates/device/wrong-bodies", "crates/device/bodies", "counts.py", "wrong bodies of device: none, and "),
             (f"crates/device/wrong-bodies/{name}", "away", "counts.py", "wrong bodies of device: "),
             (name := f"crates/device/wrong-bodies/{name}", name + ".old", "counts.py", ".old, which no script reads"),
@@ -92,7 +93,7 @@ class TakenAway(InCopy):
             ("HANDLES", handles, "Handles allowed: Net.", "counts.py", f"HANDLES is not: {handles}"),
             (root, "#![tactic(auto)]\n", "", "counts.py", "crates/gf256: no line #![tactic(auto)] in its root file"),
             (counted, "crates: ", "crates: 99\ncrates: ", "counts.py", "two lines of the name crates"),
-            ("scripts/steps.py", '    "instructions.py --check",\n', "", "counts.py", "steps of built: believed"),
+            ("scripts/gate.py", '    "instructions.py --check",\n', "", "counts.py", "steps of built: believed"),
             ("tools/tests/test_man.py", "import", "import no_such\nimport", "counts.py", "tools/tests cannot be read"),
             ("README.md", "drew the same 5", "drew the same 6", "counts.py", "README.md: drew the same 6"),
             ("docs/PROOF.md", "believed definitions", "definitions", "counts.py", "docs/PROOF.md: no operator of"),
@@ -112,6 +113,8 @@ class TakenAway(InCopy):
             ("docs/GLOSSARY.md", row, row.replace("own", ""), "a row without the 5 cells"),
             ("docs/GLOSSARY.md", row, row + row, "device: also in line"),
             ("docs/GLOSSARY.md", "| Term | Meaning |", "| Term | Sense |", "no term"),
+            ("README.md", "](docs/PROOF.md", "](docs/PROOFS.md", "a link to no file: docs/PROOFS.md"),
+            ("README.md", "](docs/PROOF.md", "](docs/PROOF.md#none", "a link to no heading: docs/PROOF.md#none"),
         )
         self.assert_changes_fail(changes, lambda: self.gate("pages.py"))
 
@@ -119,7 +122,7 @@ class TakenAway(InCopy):
         self.move("tools/tests", "tools/tests-away")
         os.mkdir(self.path("tools/tests"))
         self.addCleanup(os.rmdir, self.path("tools/tests"))
-        self.assert_fails("tools/tests", "Ran 0 tests")
+        self.assert_fails("run_tests.py tools/tests", "Ran 0 tests")
 
     def test_skipped_tests(self):
         """A test that is skipped is a failure, but before the proofs one that draws."""
@@ -127,9 +130,9 @@ class TakenAway(InCopy):
         self.addCleanup(shutil.rmtree, self.path("tools/tests"))
         for reason, before in (("not installed: zint", 1), ("/not/built is not built: run (cd ..)", 0)):
             write(self.path("tools/tests/test_one.py"), SKIPPED.format(reason))
-            status, said = self.gate("tools/tests")
+            status, said = self.gate("run_tests.py tools/tests")
             self.assertEqual((status, said.split("\n")[-2]), (1, "1 passed, 1 failed"), said)
-            status, said = self.gate("tools/tests without the program")
+            status, said = self.gate("run_tests.py tools/tests --without-program")
             self.assertEqual((status, said.split("\n")[-2]), (before, f"1 passed, {before} failed"), said)
 
     def test_no_labels_to_compare(self):
@@ -147,142 +150,139 @@ class TakenAway(InCopy):
 
     def test_lint_that_is_not_installed(self):
         os.makedirs(self.path("empty"), exist_ok=True)
-        self.assert_fails("lints", "not installed: shellcheck", PATH=self.path("empty"))
+        self.assert_fails("lints.py", "not installed: shellcheck", PATH=self.path("empty"))
 
     def test_lints_that_find_nothing(self):
         """A lint that passes what is wrong is reported, and so is one that is asked for nothing."""
         for tool in ("shellcheck", "black", "flake8", "mypy", "mandoc"):
             write(self.path("bin", tool), "#!/bin/sh\n", is_program=True)
-        status, said = self.gate("lints", PATH=f"{self.path('bin')}:{os.environ['PATH']}")
+        status, said = self.gate("lints.py", PATH=f"{self.path('bin')}:{os.environ['PATH']}")
         found = (status, said.count(" finds nothing in: "), said.split("\n")[-2])
         self.assertEqual(found, (1, 8, "0 passed, 8 failed"))
-        self.move("man", "manuals")
-        self.assert_fails("lints", "mandoc reads no file")
+        self.move("completions/labels.bash", "completions/labels.old")
+        self.assert_fails("lints.py", "shellcheck --norc --shell=bash reads no file")
 
     def test_files_that_no_lint_would_read(self):
         """Another first line, and settings beside the code that the lints do not look at."""
         first = "#!/usr/bin/python3 -B"
         self.replace("tools/label-other", f"{first}\nimport os\n")
-        self.assert_fails("lints", f"tools/label-other: no lint knows {first}")
+        self.assert_fails("lints.py", f"tools/label-other: no lint knows {first}")
         self.doCleanups()
         self.replace(".flake8", "[flake8]\nextend-ignore = F\n")
         self.replace("pyproject.toml", "[tool.black]\nexclude = '.'\n")
         self.replace(".shellcheckrc", "disable=all\n")
         self.replace("scripts/planted.py", "import os\nx = 'one'\n")
         self.replace("scripts/planted.sh", "#!/bin/sh\nrm $1\n")
-        status, said = self.gate("lints")
-        found = ["F401" in said, "SC2086" in said, "black found something" in said]
+        status, said = self.gate("lints.py")
+        found = ["F401" in said, "SC2086" in said, "119 found something" in said]
         self.assertEqual((status, found), (1, [True] * 3), said)
 
 
 # Stands in for a part of the gate. Of gate.py `quick` runs one step, `built` two.
-STUB = """import sys
-ran = dict(quick=["one"], built={built!r}).get(sys.argv[-1], [])
-print(*(f"ok: {{step}}, 1.5 s" for step in ran), sep="\\n")
+PART = """import sys
+steps = dict(quick=["one"], built={built!r}).get(sys.argv[-1], [])
+print(*(f"ok: {{step}}, 1.5 s" for step in steps), sep="\\n")
 print("{name}", *sys.argv[1:], "ran")
 print({last!r})
 sys.exit({status})
 """
+RT = "[ $1 != version ] || {{ echo 'kit-1 logic {version}'; exit; }}; echo rt ci ran; {then}"
+
+
+def part(name, last, status=0, built=("two", "tests of three")):
+    return {f"scripts/{name}.py": PART.format(name=name, last=last, status=status, built=built)}
+
+
+def program(name, text):
+    return {f"bin/{name}": f"#!/bin/sh\n{text}\n"}
+
+
+def kit(then="echo '3 passed, 0 failed (30 minutes)'", version=2):
+    return program("rt", RT.format(then=then, version=version))
+
+
+PARTS = {
+    ".ci/run": read(os.path.join(TOP, ".ci/run")),
+    "scripts/packages.txt": read(os.path.join(TOP, "scripts/packages.txt")),
+    "scripts/counts.txt": "steps of quick: one\nsteps of built: two, tests of three\n",
+    "docs/PROOF.md": "The kit: `kit-1 logic 2`.\n",
+    **kit(),
+    **part("gate", "5 passed, 0 failed"),
+    **part("wrong_bodies", "2 passed, 0 failed"),
+    **part("plain_builds", "built"),
+    **program("apt-get", 'echo "apt-get $*"'),
+    **program("id", "echo ${ID:-0}"),
+    **program("dpkg-query", 'for name; do [ "$name" = "$MISSING" ] || echo "installed $name"; done'),
+}
+INSTALL = "apt-get install -y --no-install-recommends zint"
+IN_CI, ZINT = {"CI": "true", "MISSING": "zint"}, {"MISSING": "zint"}
 
 
 class Run(InFolder):
     """`.ci/run` over stand-ins of its parts: what is missing, the order, the status, the last line."""
 
-    def setUp(self):
-        super().setUp()
-        for name in (".ci/run", "scripts/packages.txt"):
-            write(self.path(*name.split("/")), read(os.path.join(TOP, name)))
-        for crate in ("labels", "labels_c"):
-            os.makedirs(self.path("crates", crate))
-        self.missing = ""
-        write(self.path("scripts", "counts.txt"), "steps of quick: one\nsteps of built: two, tests of three\n")
-        write(self.path("docs", "PROOF.md"), "The kit: `kit-1 logic 2`.\n")
-        for crate in ("labels", "labels_c"):
-            os.makedirs(self.path("crates", crate), exist_ok=True)
-        self.part("gate.py", "5 passed, 0 failed", 0)
-        self.part("wrong_bodies.py", "2 passed, 0 failed", 0)
-        self.part("plain_builds.py", "built", 0)
-        self.kit("echo 'rt ci ran'; echo '3 passed, 0 failed (30 minutes)'")
-        self.program("apt-get", 'echo "apt-get $*"')
-        self.program("id", "echo ${ID:-0}")
-        self.program("dpkg-query", """for name; do [ "$name" = "$MISSING" ] || echo "installed $name"; done""")
+    def run_gate(self, changes, environment):
+        """The status, the parts that ran, and the lines that are printed."""
+        folder = tempfile.mkdtemp(dir=self.folder)
+        for name, text in {**PARTS, **changes}.items():
+            write(os.path.join(folder, name), text, is_program=name.startswith("bin/"))
+        environment = {"CI": "", "PATH": f"{folder}/bin:/usr/bin:/bin", **environment}
+        status, said = run_command(["bash", os.path.join(folder, ".ci/run")], **environment)
+        lines = said.rstrip("\n").split("\n")
+        return status, [line.removesuffix(" ran") for line in lines if line.endswith(" ran")], lines
 
-    def program(self, name, text):
-        write(self.path("bin", name), f"#!/bin/sh\n{text}\n", is_program=True)
-
-    def part(self, name, last, status, built=("two", "tests of three")):
-        write(self.path("scripts", name), STUB.format(name=name, last=last, status=status, built=built))
-
-    def kit(self, proofs, version="kit-1 logic 2"):
-        self.program("rt", f"[ $1 != version ] || {{ echo '{version}'; exit; }}; {proofs}")
-
-    def run_gate(self, **environment):
-        environment = {"CI": "", "PATH": f"{self.path('bin')}:{os.environ['PATH']}", **environment}
-        status, said = run_command(["bash", self.path(".ci", "run")], **environment)
-        return status, said.rstrip("\n").split("\n")
-
-    def test_all_passes(self):
-        status, lines = self.run_gate()
-        parts = [line for line in lines if line.endswith(" ran")]
-        wanted = ["gate.py quick ran", "rt ci ran", "wrong_bodies.py --built ran", "gate.py built ran"]
-        self.assertEqual((status, lines[-1], parts), (0, "15 passed, 0 failed", wanted))
-        self.assertRegex(lines[-2], r"^\d+\.\d processor minutes$")
-
-    def test_step_that_did_not_run(self):
-        self.part("gate.py", "4 passed, 0 failed", 0, ["tests of three"])
-        status, lines = self.run_gate()
-        self.assertEqual((status, lines[-3], lines[-1]), (1, "did not run: two", "13 passed, 1 failed"))
-
-    def test_another_kit(self):
-        self.kit("", "kit-1 logic 3")
-        status, lines = self.run_gate(MISSING="zint", CI="true")
-        self.assertEqual((status, lines), (1, ["docs/PROOF.md does not name the kit on the path: kit-1 logic 3"]))
-
-    def test_missing_package(self):
-        """Elsewhere than in a gate that may install it the run ends at once, with the command to type."""
-        wanted = "as root: apt-get update && apt-get install -y --no-install-recommends zint"
-        for environment in ({}, {"CI": "true", "ID": "1000"}, {"CI": "no"}):
-            status, lines = self.run_gate(MISSING="zint", **environment)
-            self.assertEqual((status, lines), (1, [f"packages are missing; {wanted}"]))
-
-    def test_packages_are_installed(self):
-        status, lines = self.run_gate(MISSING="zint", CI="true")
-        wanted = ["installing: zint", "apt-get update", "apt-get install -y --no-install-recommends zint"]
-        self.assertEqual((status, lines[:3], lines[-1]), (0, wanted, "15 passed, 0 failed"))
-
-    def test_packages_that_cannot_be_installed(self):
-        self.program("apt-get", "exit 100")
-        self.assertEqual(self.run_gate(MISSING="zint", CI="true")[0], 100)
-
-    def test_no_kit(self):
-        """It is looked for before a package is installed."""
-        os.remove(self.path("bin", "rt"))
-        status, lines = self.run_gate(MISSING="zint", CI="true", PATH=f"{self.path('bin')}:{self.bare_path()}")
-        self.assertEqual((status, lines), (1, ["rt, the command of the Rattle kit, is not on the path"]))
-
-    def test_what_takes_seconds_is_reported_first(self):
-        self.part("gate.py", "4 passed, 1 failed", 1)
-        status, lines = self.run_gate()
-        self.assertEqual((status, lines[1], lines[-1]), (1, "gate.py quick ran", "4 passed, 1 failed"))
-        self.assertNotIn("rt ci ran", lines)
-
-    def test_parts_that_fail(self):
-        """The status is that of the proofs where these fail, else 1; what comes after the proofs runs all the same."""
-        self.kit("echo '2 passed, 1 failed'; exit 3")
-        status, lines = self.run_gate()
-        self.assertEqual((status, lines[-1]), (3, "7 passed, 1 failed"))
-        self.setUp()
-        for last, wanted in (("1 passed, 1 failed", "14 passed, 1 failed"), ("Traceback", "13 passed, 1 failed")):
-            self.part("wrong_bodies.py", last, 1)
-            status, lines = self.run_gate()
-            self.assertEqual((status, lines[-4], lines[-1]), (1, "gate.py built ran", wanted))
-
-    def test_builds_that_fail(self):
-        """What needs the program does not run without it."""
-        self.part("plain_builds.py", "not proved", 1)
-        status, lines = self.run_gate()
-        self.assertEqual((status, lines[-3], lines[-1]), (1, "not proved", "10 passed, 1 failed"))
-        self.assertNotIn("gate.py built ran", lines)
+    def test_runs(self):
+        quick, proofs, bodies, built = parts = ["gate quick", "rt ci", "wrong_bodies --built", "gate built"]
+        missing = f"packages are missing; as root: apt-get update && {INSTALL}"
+        another = "docs/PROOF.md does not name the kit on the path: kit-1 logic 3"
+        none = "rt, the command of the Rattle kit, is not on the path"
+        for changes, environment, status, ran, said, last in (
+            ({}, {}, 0, parts, "built", "15 passed, 0 failed"),
+            # Elsewhere than in a gate that may install it the run ends at once, with the command to type.
+            ({}, ZINT, 1, [], missing, missing),
+            ({}, {**IN_CI, "ID": "1000"}, 1, [], missing, missing),
+            ({}, {**IN_CI, "CI": "no"}, 1, [], missing, missing),
+            ({}, IN_CI, 0, parts, INSTALL, "15 passed, 0 failed"),
+            (program("apt-get", "exit 100"), IN_CI, 100, [], "installing: zint", "installing: zint"),
+            # The kit is looked for before a package is installed.
+            (kit(version=3), IN_CI, 1, [], another, another),
+            (program("rt", ""), {**IN_CI, "PATH": "/usr/bin:/bin"}, 1, [], none, none),
+            (part("gate", "4 passed, 1 failed", 1), {}, 1, [quick], "4 passed, 1 failed", "4 passed, 1 failed"),
+            (
+                part("gate", "4 passed, 0 failed", 0, ["two"]),
+                {},
+                1,
+                parts,
+                "did not run: tests of three",
+                "13 passed, 1 failed",
+            ),
+            # The status is that of the proofs where these fail; what comes after the wrong bodies runs all the same.
+            (
+                kit("echo '2 passed, 1 failed'; exit 3"),
+                {},
+                3,
+                [quick, proofs],
+                "2 passed, 1 failed",
+                "7 passed, 1 failed",
+            ),
+            (part("wrong_bodies", "1 passed, 1 failed", 1), {}, 1, parts, "1 passed, 1 failed", "14 passed, 1 failed"),
+            (part("wrong_bodies", "Traceback", 1), {}, 1, parts, "Traceback", "13 passed, 1 failed"),
+            # What needs the program does not run without it.
+            (
+                part("plain_builds", "not proved", 1),
+                {},
+                1,
+                [*parts[:3], "plain_builds"],
+                "not proved",
+                "10 passed, 1 failed",
+            ),
+        ):
+            with self.subTest(said=said, status=status):
+                found = self.run_gate(changes, environment)
+                self.assertEqual((*found[:2], found[2][-1]), (status, ran, last), found)
+                self.assertIn(said, found[2] + ["built"])
+                if len(ran) > 1:
+                    self.assertRegex(found[2][-2], r"^\d+\.\d processor minutes$")
 
 
 class Packages(unittest.TestCase):
@@ -297,9 +297,10 @@ class Packages(unittest.TestCase):
     def test_each_module_is_of_a_package(self):
         """What the scripts, the tools and their tests import is Python's own, is theirs, or is of a listed package."""
         listed = read(os.path.join(TOP, "scripts/packages.txt"))
-        paths = [path for folder in ("scripts", "tools", "lib") for path in module("lints").python_files(folder)]
+        os.chdir(TOP)
+        paths = module("lints").files_by_kind()["python"]
         own = {re.sub(r"\.py$", "", part) for path in paths for part in path.split(os.sep)}
-        trees = [ast.parse(read(os.path.join(TOP, path))) for path in paths]
+        trees = [ast.parse(read(path)) for path in paths]
         nodes = [node for tree in trees for node in ast.walk(tree)]
         names = {alias.name for node in nodes if isinstance(node, ast.Import) for alias in node.names}
         names |= {node.module for node in nodes if isinstance(node, ast.ImportFrom) and node.module}
@@ -314,15 +315,15 @@ class Packages(unittest.TestCase):
     def test_each_script_is_a_step(self):
         """Each program of scripts/ is a step of the gate, is run by `.ci/run` or by a page, or is one of these."""
         beside = {"debian_changelog.py"}
+        gate = module("gate")
         run = read(os.path.join(TOP, ".ci/run"))
-        steps = module("steps")
-        names = {step.split()[0] for step in (*steps.QUICK, *steps.BUILT)}
+        names = {step.split()[0] for step in (*gate.QUICK, *gate.BUILT)}
         names |= {*re.findall(r"(?m)^/usr/bin/python3 scripts/(\S+) ", run)}
-        pages = [read(os.path.join(TOP, page)) for page in module("run_recipes").PAGES]
+        pages = [read(os.path.join(TOP, page)) for page in module("pages").RUN]
         names |= {name for page in pages for name in re.findall(r"(?m)^scripts/(\S+) ", page)}
         programs = {name for name in os.listdir(SCRIPTS) if os.access(os.path.join(SCRIPTS, name), os.X_OK)}
         programs = {name for name in programs if os.path.isfile(os.path.join(SCRIPTS, name))}
-        self.assertEqual(programs - beside, names - {"lints", "scripts/tests", "tools/tests", "lib/tests"})
+        self.assertEqual(programs - beside, names)
 
 
 if __name__ == "__main__":

@@ -13,7 +13,7 @@ import sys
 import unittest
 from unittest import mock
 
-from support import SCRIPTS, InFolder, module, read, run, run_command, write
+from support import SCRIPTS, InFolder, module, read, run, write
 
 compare_symbols = module("compare_symbols")
 instructions = module("instructions")
@@ -27,8 +27,9 @@ class Arguments(InFolder):
     """Help ends with status 0 and an unknown argument with usage and status 2, in each script."""
 
     def names(self):
-        own = ["believed.py", "believed_rows.py", "compare_symbols.py", "counts.py", "gate.py", "pages.py"]
-        return [*own, "run_recipes.py", "unused.py", "wrong_bodies.py", "instructions.py", "refuse_each_growth.py"]
+        return [
+            name for name in os.listdir(SCRIPTS) if name.endswith(".py") and os.access(f"{SCRIPTS}/{name}", os.X_OK)
+        ]
 
     def test_help(self):
         for name in self.names():
@@ -264,11 +265,10 @@ class Judges(unittest.TestCase):
                     self.assertEqual(len([*compare_symbols.not_seen(None)]), count)
 
     def test_recipes(self):
-        self.assertEqual([*run_recipes.unseen()], [])
-        real = run_recipes.Run.judge
-        for bent in (lambda it, good, text: real(it, True, text), lambda it, good, text: None):
-            with mock.patch.object(run_recipes.Run, "judge", bent):
-                self.assertEqual(len([*run_recipes.unseen()]), 7)
+        self.assertEqual(run_recipes.unseen(), [])
+        for where, name, count in ((run_recipes.Commands, "fault", 3), (run_recipes, "fault_of_picture", 2)):
+            with mock.patch.object(where, name, lambda *given: ""):
+                self.assertEqual(len(run_recipes.unseen()), count)
 
 
 PAGE = """Text.
