@@ -14,6 +14,7 @@ import glob
 import os
 import re
 import sys
+from collections import Counter
 
 import compare_symbols
 import gate
@@ -23,7 +24,7 @@ import sources
 
 HEAD = "# What the gate looks at. `scripts/counts.py --write` makes this file anew; the gate compares each line.\n"
 TESTS = ("scripts/tests", "tools/tests", "lib/tests")
-FOLDERS_OF_EDITS = {"wrong-bodies": "wrong bodies", "right-bodies": "right bodies", "must-fail": "must-fail edits"}
+FOLDERS_OF_EDITS = ("wrong-bodies", "right-bodies", "must-fail")
 NO_HANDLES = "Handles allowed: none.\n"
 AUTO = "#![tactic(auto)]"
 # What pages say, with the counted step whose last line has the number, and how it is found there.
@@ -47,18 +48,23 @@ def count_tests(folder):
 
 
 def counts_of_crate(crate, files):
-    """The names and numbers of a crate: its tests, edits, worked values and stored run."""
+    """The numbers of a crate: its tests, edits, worked values and stored run."""
     items = [one for file in files if (file.crate, file.part) == (crate, "src") for one in file.declarations]
-    yield f"tests of {crate}", sum("#[test]" in "".join(it.text for it in one.attributes) for one in items)
-    for name, what in FOLDERS_OF_EDITS.items():
+    yield sum("#[test]" in "".join(it.text for it in one.attributes) for one in items), "tests"
+    for name in FOLDERS_OF_EDITS:
         edits = glob.glob(f"crates/{crate}/{name}/*")
         strange = [file for file in edits if not file.endswith(".edit")]
         if strange:
             sys.exit(f"{', '.join(strange)}, which no script reads")
-        yield f"{what} of {crate}", len(edits)
+        yield len(edits), name
     proofs = [file for file in files if (file.crate, file.part) == (crate, "proofs")]
-    yield f"worked values of {crate}", sum(one.worked_values() for file in proofs for one in file.declarations)
-    yield f"stored runs of {crate}", len(glob.glob(f"crates/{crate}/stdout"))
+    yield sum(one.worked_values() for file in proofs for one in file.declarations), "worked values"
+    yield len(glob.glob(f"crates/{crate}/stdout")), "stored runs"
+
+
+def joined(numbers):
+    """Numbers and what they count, as a text."""
+    return ", ".join(f"{number} {what}" for number, what in numbers if number) or "nothing"
 
 
 def counts_of_text():
@@ -67,18 +73,16 @@ def counts_of_text():
     files = reader.files_of(sources.TOP, crates, "src", "proofs")
     yield "steps of quick", ", ".join(gate.QUICK)
     yield "steps of built", ", ".join(gate.BUILT)
-    yield "crates", len(crates)
     for crate in crates:
-        yield from ((name, number) for name, number in counts_of_crate(crate, files) if number)
+        yield crate, joined(counts_of_crate(crate, files))
     for folder in TESTS:
         yield folder, count_tests(folder)
     texts = pages.texts()
-    languages = [block.language for text in texts.values() for block in pages.blocks_of(text)]
-    yield "pages", len(texts)
-    yield from ((f"blocks of {language}", languages.count(language)) for language in sorted(pages.LANGUAGES))
-    yield "links of the pages", sum(len([*pages.links_of(text)]) for text in texts.values())
+    languages = Counter(block.language for text in texts.values() for block in pages.blocks_of(text))
+    links = sum(len([*pages.links_of(text)]) for text in texts.values())
+    yield "pages", joined([(len(texts), "pages"), (links, "links"), (len(glob.glob("man/*.[13]")), "manuals")])
+    yield "blocks", joined((languages[language], language) for language in sorted(pages.LANGUAGES))
     yield "terms of the glossary", len([*pages.terms_of(texts[pages.GLOSSARY])])
-    yield "manuals", len(glob.glob("man/*.[13]"))
     yield "labels to compare", len(compare_symbols.all_labels())
 
 

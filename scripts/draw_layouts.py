@@ -5,16 +5,20 @@ It writes layouts-article.png and layouts-shelf.png, a picture for each design, 
 label-print draws them in dots. The program is the one that label-print runs.
 """
 
+import importlib
+import os
 import subprocess
+import sys
 from dataclasses import dataclass
 
 import cairo
 import numpy
 
 import sources
-from tools_path import laying, support
 
-from labeltools.area import MILLIMETRES, PAD
+sys.path[:0] = [os.path.join(sources.TOP, folder) for folder in ("tools", "tools/tests")]
+sys.dont_write_bytecode = True
+area, laying, support = map(importlib.import_module, ("labeltools.area", "laying", "support"))
 
 SCALE = 2.7  # pixels of a millimetre
 WIDTH = 1000  # pixels
@@ -108,8 +112,8 @@ class Sheet:
 
     def add(self, dots, dpi):
         """Adds a label with a millimetre of white around the area in which it has ink."""
-        dot = MILLIMETRES / dpi
-        height, width = (length * dot + 2 * PAD for length in dots.shape)
+        dot = area.MILLIMETRES / dpi
+        height, width = (length * dot + 2 * area.PAD for length in dots.shape)
         if self.x + width * SCALE > WIDTH - MARGIN:
             self.x = MARGIN
             self.y = self.next
@@ -121,7 +125,7 @@ class Sheet:
         canvas.rectangle(self.x, self.y + NAME, width * SCALE, height * SCALE)
         canvas.fill()
         canvas.save()
-        canvas.translate(self.x + PAD * SCALE, self.y + NAME + PAD * SCALE)
+        canvas.translate(self.x + area.PAD * SCALE, self.y + NAME + area.PAD * SCALE)
         canvas.scale(dot * SCALE, dot * SCALE)
         canvas.set_source_rgb(0, 0, 0)
         mask = cairo.SurfacePattern(surface_of(dots))

@@ -35,7 +35,6 @@ BUILT = (
     "run_tests.py lib/tests",
     "compare_symbols.py",
     "scan_damaged.py",
-    "print_through_cups.py",
     "refuse_each_growth.py",
     "run_recipes.py",
     "instructions.py --check",

@@ -15,7 +15,6 @@ The last line is `N pages, B blocks, T terms, F faults`. The status is 1 where t
 """
 
 import glob
-import itertools
 import os
 import re
 import sys
@@ -23,7 +22,6 @@ from dataclasses import dataclass
 
 from markdown_it import MarkdownIt
 
-import reader
 import sources
 
 # The pages whose commands run_recipes.py runs.
@@ -36,6 +34,7 @@ COLUMNS = ("Term", "Meaning", "Clause", "Name", "File")
 WITHOUT_EXAMPLE = {"labels", "labels_c", "examples", "tests"}
 LONGEST = 40
 FILE = re.compile(r"\b(?:crates/[\w/]+\.rt|lib/[\w/]+\.\w+)\b")
+EXAMPLE = re.compile(r"^fn page_of_(\w+)\(.*?\{\n(.*?)^\}", re.MULTILINE | re.DOTALL)
 NOT_CHECKED = "Not checked:"
 MARKDOWN = MarkdownIt().enable("table")
 
@@ -172,33 +171,26 @@ def faults_of_glossary(terms):
         yield 1, "no term"
 
 
-def words_of(tokens):
-    """The words of code, without the commas that a formatter puts last."""
-    words = [token.text for token in tokens]
-    return [word for word, after in zip(words, [*words[1:], ")"]) if word != "," or after not in (")", "]", "}")]
-
-
-def place_of(words, line, start):
-    """The index in words after a line of words, from a start on; nothing where the line is not there."""
-    places = (at for at in range(start, len(words)) if words[at : at + len(line)] == line)
-    return next((at + len(line) for at in places), None)
+def words_of(code):
+    """The words of code with a space around each, without comments and the commas that a formatter puts last."""
+    words = re.findall(r'"(?:\\.|[^"\\])*"|\w+|[^\w\s]', re.sub(r"(?<!:)//.*", "", code))
+    return re.sub(r" , (?=[)\]}]|$)", " ", f" {' '.join(words)} ")
 
 
 def faults_of_example(name, page, blocks, tests):
     """What is wrong with a crate's page: its length, and each line that its test does not have in its place."""
     if page.count("\n") > LONGEST:
         yield 1, f"{page.count(chr(10))} lines, and at most {LONGEST} are wanted"
-    words, place, is_empty = words_of(tests.get(f"page_of_{name}", ())), 0, True
+    words, place, is_empty = words_of(tests.get(name, "")), 0, True
     for block in blocks:
-        tokens = reader.tokens_of_text(block.code) if block.language == "rust" else []
-        for line, of_line in itertools.groupby(tokens, lambda token: token.line):
-            wanted = words_of(of_line)
-            if wanted[0] != "use":
-                is_empty, found = False, place_of(words, wanted, place)
-                place = found or place
-                if found is None:
-                    shown = block.code.split("\n")[line - 1].strip()
-                    yield block.line, f"page_of_{name} of crates/tests/src/pages.rt lacks: {shown}"
+        for line in block.code.split("\n") if block.language == "rust" else []:
+            wanted = words_of(line)
+            if wanted.strip() and not wanted.startswith(" use "):
+                is_empty, found = False, words.find(wanted, place)
+                if found < 0:
+                    yield block.line, f"page_of_{name} of crates/tests/src/pages.rt lacks: {line.strip()}"
+                else:
+                    place = found + len(wanted) - 1
     if is_empty and name not in WITHOUT_EXAMPLE:
         yield 1, "no example"
 
@@ -207,8 +199,8 @@ def main():
     sources.parser_of(__doc__, has_top=False).parse_args()
     os.chdir(sources.TOP)
     pages = texts()
-    (file,) = reader.files_at(sources.TOP, [f"{sources.TOP}/crates/tests/src/pages.rt"])
-    tests, faults, count = {one.name: one.tokens for one in file.declarations}, [], 0
+    tests = dict(EXAMPLE.findall(sources.read("crates/tests/src/pages.rt")))
+    faults, count = [], 0
     terms = [*terms_of(pages[GLOSSARY])]
     for page, text in pages.items():
         blocks = [*blocks_of(text)]
