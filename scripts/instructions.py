@@ -21,6 +21,7 @@ import subprocess
 import sys
 import tempfile
 from dataclasses import dataclass
+from functools import partial
 from pathlib import Path
 
 import sources
@@ -50,20 +51,10 @@ class Label:
     data: str
     level: str = "M"
 
-    def file(self, times):
-        """The name of a file in which its line is so many times."""
-        return file_of(f"{self.symbology} {self.data}", times)
-
 
 def front(count, text):
     """The first characters of a text over and over."""
     return (text * count)[:count]
-
-
-def file_of(line, times):
-    """The name of a file in which a line is so many times."""
-    Path("lines").write_text(f"{line}\n" * times, encoding="utf-8")
-    return "lines"
 
 
 LOT = "LOT-000123/Shelf 7b"
@@ -97,21 +88,17 @@ OF_LIBRARY = {
     "QR, 34 bytes": QR,
     "QR, 200 bytes": Label("qr", front(200, "https://example.com/Lot 7b?article=000123&x=")),
 }
-LIBRARY_CALLS = {
-    f"`{call}`, {name}": (call, label)
-    for call in ("labels_symbol", "labels_draw", "labels_line")
-    for name, label in OF_LIBRARY.items()
-    if call != "labels_line" or name in ("EAN-13", "QR, 34 bytes")
-}
-# What is beside us: programs, libraries in a loop, and calls of libraries.
-PROGRAMS = {"zint": "zint (`--dump`)", "barcode": "GNU barcode (PostScript)", "qrencode": "qrencode (text)"}
+LIBRARY_CALLS = {"labels_symbol": OF_LIBRARY, "labels_draw": OF_LIBRARY, "labels_line": ("EAN-13", "QR, 34 bytes")}
+# What is counted with us: programs, libraries in a loop, and calls of libraries.
+PROGRAMS = (PROGRAM, "zint", "barcode", "qrencode")
+SHOWN = ("zint (`--dump`)", "GNU barcode (PostScript)", "qrencode (text)")
 LOOPS = {
     "libzint, picture": "libzint",
     "libzint, no picture": "libzint, no picture",
     "libqrencode, picture": "libqrencode",
 }
-LIBRARIES = {name: name for name in ("libqrencode", "libzint", "qrcodegen")}
-NOTHING = {"./nothing": "empty C program"}
+LIBRARIES = ("libqrencode", "libzint", "qrcodegen")
+QR_ALONE = ("libqrencode", "qrcodegen")
 
 
 def stop(text):
@@ -144,131 +131,120 @@ def instructions_of(program, *words, environment=None):
     return int(re.search(r" Collected : (\d+)", said_by_valgrind(*command, environment=environment))[1])
 
 
-def system_calls_of(call, *command):
-    """How often a command makes a system call."""
-    said = said_by_valgrind("--tool=none", "--trace-syscalls=yes", *command)
-    if " sys_read " not in said:
-        stop(f"valgrind names no system call of: {' '.join(map(str, command))}")
-    return said.count(f" {call} ")
+def command_of(program, label, times, *options):
+    """The command of a program for a label, so many times, or nothing; qrencode draws it once."""
+    line = f"{label.symbology} {label.data}" if program == PROGRAM else label.data
+    Path("lines").write_text(f"{line}\n" * times, encoding="utf-8")
+    is_qr = label.symbology == "qr"
+    name, of_barcode = ("QRCODE", "") if is_qr else LINEAR[label.symbology]
+    kind = f"--secure={LEVELS.index(label.level) + 1}" if is_qr else "--notext"
+    if program == PROGRAM:
+        return [PROGRAM, *options, *(("--level", label.level) if label.level != "M" else ()), "lines"]
+    if program == "zint":
+        return ["zint", "-b", name, kind, "--quietzones", "--batch", "--dump", "-i", "lines"]
+    if program == "barcode" and not is_qr:
+        return ["barcode", "-e", of_barcode, "-n", "-o", os.devnull, "-i", "lines"]
+    if program == "qrencode" and is_qr:
+        return ["qrencode", "-l", label.level, "-s", "1", "-t", "ASCII", "-o", os.devnull, label.data]
+    return None
 
 
-def one_more(label, options=()):
-    """What one label more takes."""
-    command = [PROGRAM, *options, *(("--level", label.level) if label.level != "M" else ())]
-    if not output_of(*command, label.file(COUNT)):
+def one_more(program, label, *options):
+    """What one label more takes of a program, or nothing where it does not draw it."""
+    command = command_of(program, label, 1, *options)
+    if not command:
+        return None
+    if program == "qrencode":
+        return instructions_of(*command) - instructions_of(program, "-V")
+    if program == PROGRAM and not output_of(*command):
         stop(f"{PROGRAM} draws no label of: {label.data}")
-    return (instructions_of(*command, "lines") - instructions_of(*command, os.devnull)) / COUNT
+    few = 0 if program == PROGRAM else 1
+    less, more = (instructions_of(*command_of(program, label, times, *options)) for times in (few, few + COUNT))
+    return (more - less) / COUNT
 
 
-def calls_over_labels(call):
-    """The system calls of a run over 1,000 labels."""
-    return system_calls_of(call, PROGRAM, EAN.file(1000)) - system_calls_of(call, PROGRAM, os.devnull)
+def whole_run(program, label):
+    """What a whole run over one label takes of a program, or nothing where it does not draw it."""
+    command = command_of(program, label, 1)
+    return instructions_of(*command, environment={}) if command else None
 
 
-def calls_counted(calls):
-    """What each call of a library takes, by the call, which is a name and a label."""
-    output_of(*BUILD)
-    given = []
-    for call, label in calls:
-        words = (call, label.symbology, label.level, label.data)
-        if call.endswith(", picture"):
-            see_picture(label, output_of("./count_calls", *words))
-        given += words
-    said_by_valgrind("--tool=callgrind", "--callgrind-out-file=counts", "./count_calls", *given)
-    texts = [sources.read(f"counts.{number}") for number in range(1, len(calls) + 1)]
-    counts = [int(re.search(r"^summary: (\d+)", text, re.M)[1]) / CALLS for text in texts]
-    return dict(zip(calls, counts))
+def nothing():
+    """What a whole run of a program takes that does nothing."""
+    subprocess.run(["gcc", "-xc", "-", "-o", "nothing"], input=b"int main(void) { return 0; }", check=True)
+    return instructions_of("./nothing", environment={})
+
+
+def system_calls(call):
+    """How often a run over 1,000 labels makes a system call, without those of a run over none."""
+    counts = []
+    for times in (0, 1000):
+        said = said_by_valgrind("--tool=none", "--trace-syscalls=yes", *command_of(PROGRAM, EAN, times))
+        if " sys_read " not in said:
+            stop("valgrind names no system call")
+        counts.append(said.count(f" {call} "))
+    return counts[1] - counts[0]
+
+
+def of_call(call, label):
+    """What a call of a library takes, or nothing where it does not draw the label: some draw QR alone."""
+    if label.symbology != "qr" and call.startswith(QR_ALONE):
+        return None
+    words = ("./count_calls", call, label.symbology, label.level, label.data)
+    if not os.path.exists(words[0]):
+        output_of(*BUILD)
+    theirs = output_of(*words)
+    said_by_valgrind("--tool=callgrind", "--callgrind-out-file=counts", *words)
+    if theirs:
+        see_picture(label, theirs)
+    return int(re.search(r"^summary: (\d+)", sources.read("counts.1"), re.M)[1]) / CALLS
 
 
 def see_picture(label, theirs):
     """A picture of bars has to be that of `labels`, one of a QR symbol as large: its mask may differ."""
-    ours = output_of(PROGRAM, "--level", label.level, label.file(CALLS + 1))
+    ours = output_of(*command_of(PROGRAM, label, CALLS + 1))
     if label.symbology == "qr":
         ours, theirs = ours.split("\n")[1], theirs.split("\n")[1]
     if ours != theirs:
         stop(f"a library draws another picture of: {label.data}")
 
 
-def tables_of_ours():
-    """The tables of what is counted of us alone: the count of each row."""
-    labels = {name: one_more(label) for name, label in LABELS.items()}
-    labels |= {name: one_more(*given) for name, given in ONLY_OURS.items()}
-    starts = {name: instructions_of(PROGRAM, label.file(1), environment={}) for name, label in STARTS.items()}
-    calls = {name: calls_over_labels(call) for name, call in SYSTEM_CALLS.items()}
-    counts = calls_counted([*LIBRARY_CALLS.values()])
-    return labels, starts, calls, {name: counts[call] for name, call in LIBRARY_CALLS.items()}
-
-
-def commands_of(label):
-    """The command of each other program over the file `lines` of data; qrencode draws one label."""
-    if label.symbology == "qr":
-        kind = ("-b", "QRCODE", f"--secure={LEVELS.index(label.level) + 1}")
-        yield "qrencode", "-l", label.level, "-s", "1", "-t", "ASCII", "-o", os.devnull, label.data
-    else:
-        name, of_barcode = LINEAR[label.symbology]
-        kind = ("-b", name, "--notext")
-        yield "barcode", "-e", of_barcode, "-n", "-o", os.devnull, "-i", "lines"
-    yield "zint", *kind, "--quietzones", "--batch", "--dump", "-i", "lines"
-
-
-def one_more_of_others(label):
-    """What one label more takes of each other program."""
-    for program, *words in commands_of(label):
-        file_of(label.data, COUNT + 1)
-        count = instructions_of(program, *words)
-        file_of(label.data, 1)
-        if program == "qrencode":
-            yield program, count - instructions_of(program, "-V")
-        else:
-            yield program, (count - instructions_of(program, *words)) / COUNT
-
-
-def start_of_others(label):
-    """What a whole run over one label takes of each other program, and of one that does nothing."""
-    file_of(label.data, 1)
-    subprocess.run(["gcc", "-xc", "-", "-o", "nothing"], input=b"int main(void) { return 0; }", check=True)
-    for program, *words in (("./nothing",), *commands_of(label)):
-        yield program, instructions_of(program, *words, environment={})
-
-
-def others_of_library(label, calls):
-    """What these calls of other libraries take: libzint draws every label, the others QR alone."""
-    pairs = [(call, label) for call in calls if label.symbology == "qr" or call.startswith("libzint")]
-    return {call: count for (call, _), count in calls_counted(pairs).items()}
+def tables():
+    """The tables of the page: the head, and for each row what counts its cells, of which the first is ours."""
+    rows = {}
+    for name, label in LABELS.items():
+        ours, *others = (partial(one_more, program, label) for program in PROGRAMS)
+        rows[name] = [ours, *(partial(of_call, loop, label) for loop in LOOPS), *others]
+    rows |= {name: [partial(one_more, PROGRAM, label, *options)] for name, (label, options) in ONLY_OURS.items()}
+    yield ["Label", "labels", *LOOPS.values(), *SHOWN], rows
+    rows = {}
+    for name, label in STARTS.items():
+        ours, *others = (partial(whole_run, program, label) for program in PROGRAMS)
+        rows[name] = [ours, nothing, *others]
+    yield ["Start", "labels", "empty C program", *SHOWN], rows
+    yield ["Calls", "labels"], {name: [partial(system_calls, call)] for name, call in SYSTEM_CALLS.items()}
+    rows = {}
+    for call, names in LIBRARY_CALLS.items():
+        for name in names:
+            libraries = LIBRARIES if call == "labels_symbol" else ()
+            rows[f"`{call}`, {name}"] = [partial(of_call, one, OF_LIBRARY[name]) for one in (call, *libraries)]
+    yield ["Call", "liblabels", *LIBRARIES], rows
 
 
 def shown(count):
     """A cell: a count in hundreds, a small one as it is, or none."""
     if count is None:
         return "-"
-    return f"{100 * round(count / 100):,}" if count >= 1000 else f"{count}"
-
-
-def print_table(head, rows, others, others_of=lambda name: {}):
-    """Prints a table of what we take, and of what others do for the label of a row."""
-    print("|", " | ".join([*head, *others.values()]), "|\n|" + "---|" * (len(head) + len(others)))
-    for name, count in rows.items():
-        found = others_of(name)
-        print("|", " | ".join([name, shown(count), *(shown(found.get(other)) for other in others)]), "|")
-    print()
+    return f"{100 * round(count / 100):,}" if count >= 1000 else f"{count:.0f}"
 
 
 def print_tables():
-    """Prints the tables of the page."""
-    labels, starts, calls, library = tables_of_ours()
-
-    def of_label(name):
-        label = LABELS.get(name)
-        return {**others_of_library(label, LOOPS), **dict(one_more_of_others(label))} if label else {}
-
-    def of_library(name):
-        call, label = LIBRARY_CALLS[name]
-        return others_of_library(label, LIBRARIES) if call == "labels_symbol" else {}
-
-    print_table(("Label", "labels"), labels, LOOPS | PROGRAMS, of_label)
-    print_table(("Start", "labels"), starts, NOTHING | PROGRAMS, lambda name: dict(start_of_others(STARTS[name])))
-    print_table(("Calls", "labels"), calls, {})
-    print_table(("Call", "liblabels"), library, LIBRARIES, of_library)
+    for head, rows in tables():
+        print(f"| {' | '.join(head)} |\n|{'---|' * len(head)}")
+        for name, cells in rows.items():
+            found = [shown(cell()) for cell in cells]
+            print(f"| {' | '.join([name, *found, *['-'] * (len(head) - 1 - len(found))])} |")
+        print()
 
 
 def rows_of(page):
@@ -319,7 +295,7 @@ def main():
         if not sees_wrong_counts():
             print("a count that is 6 % below or above that of the page is not reported")
             return 1
-        found = {name: count for table in tables_of_ours() for name, count in table.items()}
+        found = {name: cells[0]() for _, rows in tables() for name, cells in rows.items()}
     lines, failed = check(found, PAGE.read_text(encoding="utf-8"))
     print(*lines, f"{len(found)} rows, {failed} failed", sep="\n")
     return 1 if failed else 0

@@ -322,9 +322,9 @@ class Instructions(unittest.TestCase):
         """A program that draws nothing or fails, and valgrind where it is not installed."""
         for program, wanted in (("true", "draws no label"), ("false", "status 1"), ("valgrind-9", "not installed")):
             said = io.StringIO()
-            with mock.patch.multiple(instructions, PROGRAM=program, file_of=lambda *given: os.devnull):
+            with mock.patch.multiple(instructions, PROGRAM=program, command_of=lambda *given: [program]):
                 with contextlib.redirect_stderr(said), self.assertRaises(SystemExit) as ended:
-                    instructions.one_more(instructions.EAN)
+                    instructions.one_more(program, instructions.EAN)
             self.assertEqual((ended.exception.code, wanted in said.getvalue()), (2, True), said.getvalue())
 
 
