@@ -13,9 +13,9 @@ TOP = os.path.dirname(os.path.dirname(os.path.dirname(os.path.abspath(__file__))
 SCRIPTS = os.path.join(TOP, "scripts")
 # Debian's Python, as the gate runs the scripts.
 PYTHON = "/usr/bin/python3"
-# What a copy of the repository has.
-FOLDERS = (".ci", "completions", "crates", "debian", "docs", "lib", "man", "scripts", "tools")
-FILES = ("README.md", "CHANGELOG.md", "CONTRIBUTING.md", "HANDLES", "crates.txt")
+sys.path.insert(0, SCRIPTS)
+# A script of scripts/ as a module, by its name.
+module = importlib.import_module
 
 
 def run_command(command, **environment):
@@ -28,13 +28,6 @@ def run_command(command, **environment):
 def run(script, *arguments, **environment):
     """The status of a script of scripts/ and all that it prints."""
     return run_command([PYTHON, os.path.join(SCRIPTS, script), *arguments], **environment)
-
-
-def module(name):
-    """A script of scripts/ as a module."""
-    if SCRIPTS not in sys.path:
-        sys.path.insert(0, SCRIPTS)
-    return importlib.import_module(name)
 
 
 def read(path):
@@ -70,13 +63,9 @@ class InCopy(unittest.TestCase):
 
     @classmethod
     def setUpClass(cls):
-        cls.folder = tempfile.mkdtemp(prefix="test-copy-")
-        cls.addClassCleanup(shutil.rmtree, cls.folder)
-        for name in FOLDERS:
-            left_out = shutil.ignore_patterns("out", "__pycache__")
-            shutil.copytree(os.path.join(TOP, name), os.path.join(cls.folder, name), ignore=left_out)
-        for name in FILES:
-            shutil.copy(os.path.join(TOP, name), cls.folder)
+        cls.folder = os.path.join(tempfile.mkdtemp(prefix="test-copy-"), "labels")
+        cls.addClassCleanup(shutil.rmtree, os.path.dirname(cls.folder))
+        shutil.copytree(TOP, cls.folder, ignore=shutil.ignore_patterns("out", ".git", "__pycache__"))
 
     def path(self, *names):
         return os.path.join(self.folder, *names)
@@ -93,14 +82,3 @@ class InCopy(unittest.TestCase):
         else:
             self.addCleanup(os.remove, self.path(file))
         write(self.path(file), text)
-
-    def assert_changes_fail(self, changes, fails):
-        """Each change of a file, `new` in the place of the first `old`, makes `fails` end with 1 and say a text."""
-        for file, old, new, *step, said in changes:
-            with self.subTest(file=file, old=old, new=new):
-                text = read(self.path(file))
-                self.assertIn(old, text)
-                self.replace(file, text.replace(old, new, 1))
-                status, printed = fails(*step)
-                self.assertEqual((status, said in printed), (1, True), printed)
-                self.doCleanups()
