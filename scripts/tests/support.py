@@ -82,3 +82,14 @@ class InCopy(unittest.TestCase):
         else:
             self.addCleanup(os.remove, self.path(file))
         write(self.path(file), text)
+
+    def assert_changes_fail(self, changes, fails):
+        """Each change of a file, `new` in the place of the first `old`, makes `fails` end with 1 and say a text."""
+        for file, old, new, said in changes:
+            with self.subTest(file=file, old=old, new=new):
+                text = read(self.path(file))
+                self.assertIn(old, text)
+                self.replace(file, text.replace(old, new, 1))
+                status, printed = fails()
+                self.assertEqual((status, said in printed), (1, True), printed)
+            self.doCleanups()

@@ -126,14 +126,8 @@ class TakenAway(InCopy):
                 self.doCleanups()
 
     def test_what_is_written_otherwise(self):
-        for step, rows in CHANGED.items():
-            for file, old, new, said in rows:
-                with self.subTest(step=step, old=old, new=new):
-                    text = read(self.path(file))
-                    self.assertIn(old, text)
-                    self.replace(file, text.replace(old, new, 1))
-                    self.assert_fails(step, said)
-                self.doCleanups()
+        for step, changes in CHANGED.items():
+            self.assert_changes_fail(changes, lambda: self.gate(step))
 
     def test_tests_that_are_not_found(self):
         self.move("tools/tests", "tools/tests-away")
