@@ -265,10 +265,15 @@ class Judges(unittest.TestCase):
                     self.assertEqual(len([*compare_symbols.not_seen(None)]), count)
 
     def test_recipes(self):
-        self.assertEqual(run_recipes.unseen(), [])
-        for where, name, count in ((run_recipes.Commands, "fault", 3), (run_recipes, "fault_of_picture", 2)):
-            with mock.patch.object(where, name, lambda *given: ""):
-                self.assertEqual(len(run_recipes.unseen()), count)
+        self.assertEqual([*run_recipes.unseen()], [])
+        for where, name, bent, count in (
+            (run_recipes.Commands, "fault", lambda *given: "", 3),
+            (run_recipes, "fault_of_picture", lambda *given: "", 2),
+            (run_recipes, "judged", lambda *given: (1, 1), 5),
+            (run_recipes, "judged", lambda *given: (1, 0), 5),
+        ):
+            with mock.patch.object(where, name, bent):
+                self.assertEqual(len([*run_recipes.unseen()]), count)
 
 
 PAGE = """Text.
