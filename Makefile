@@ -86,13 +86,13 @@ uninstall: all
 
 # dpkg-buildpackage reads it before it runs anything.
 debian/changelog:
-	scripts/debian_changelog.py > $@
+	debian/changelog.py > $@
 
 # What is committed, built in a copy. The packages are those of the commit, byte for byte.
 deb: $(LABELS) $(PROVED)
 	rm -rf out/deb && mkdir -p out/deb/source
 	git archive HEAD | tar -x -C out/deb/source
-	scripts/debian_changelog.py > out/deb/source/debian/changelog
+	debian/changelog.py > out/deb/source/debian/changelog
 	cd out/deb/source && LABELS=$(abspath $(LABELS)) PROVED=$(abspath $(PROVED)) dpkg-buildpackage -b -us -uc
 	ls out/deb/*.deb
 

@@ -15,35 +15,30 @@ report: a picture with a turned module, and a picture of other data. Status 2: b
 third-party program missing."""
 
 import dataclasses
-import os
 import random
-import shutil
 import subprocess
 import sys
-import tempfile
+
+from segno import consts
 
 import sources
 from pictures import DIGITS, Label, box_of, gray, pictures_of, with_check_digit
 
-TOOLS = ("zbarimg", "zint")
 # The reader that zbarimg has for each symbology. It reads UPC-A as the EAN-13 of the same bars.
 READERS = {"ean13": "ean13", "ean8": "ean8", "upca": "ean13", "code128": "code128", "qr": "qrcode"}
 LETTERS = "ABCDEFGHIJKLMNOPQRSTUVWXYZ"
 ALPHANUMERIC = f"{DIGITS}{LETTERS} $%*+-./:"
-# The most digits, alphanumeric characters and bytes that versions 1, 5 and 10 hold at each level (ISO/IEC 18004,
-# table 7).
-CAPACITIES = {
-    "L": ((41, 25, 17), (255, 154, 106), (652, 395, 271)),
-    "M": ((34, 20, 14), (202, 122, 84), (513, 311, 213)),
-    "Q": ((27, 16, 11), (144, 87, 60), (364, 221, 151)),
-    "H": ((17, 10, 7), (106, 64, 44), (288, 174, 119)),
-}
-# What versions 1 to 10 hold at level H: all levels hold as much.
-MOST = (
-    (17, 34, 58, 82, 106, 139, 154, 202, 235, 288),
-    (10, 20, 35, 50, 64, 84, 93, 122, 143, 174),
-    (7, 14, 24, 34, 44, 58, 64, 84, 98, 119),
-)
+# Of digits, alphanumeric characters and bytes: how many of them take how many bits, and the bits of their count in
+# versions 1 to 9 and in version 10 (ISO/IEC 18004, clause 7.4).
+MODES = ((3, 10, 10, 12), (2, 11, 9, 11), (1, 8, 8, 16))
+MODE_BITS = 4
+
+
+def capacity(version, level, mode):
+    """The most characters of one mode that a QR symbol holds."""
+    characters, bits, *bits_of_count = MODES[mode]
+    room = consts.SYMBOL_CAPACITY[version][consts.ERROR_MAPPING[level]] - MODE_BITS - bits_of_count[version == 10]
+    return room * characters // bits
 
 
 def ean_and_upc(draw):
@@ -93,7 +88,7 @@ def qr_of_one_mode(draw):
         for level_number, level in enumerate("LMQH"):
             for mask in range(8):
                 kind = (version + level_number + mask) % 3
-                length = 1 + draw.randrange(MOST[kind][version - 1])
+                length = 1 + draw.randrange(capacity(version, "H", kind))
                 data = "".join(draw.choices(alphabets[kind], k=length))
                 head = f"qr,level={level},min-version={version},mask={mask}"
                 zint = ("-b", "QRCODE", f"--secure={level_number + 1}", f"--vers={version}", f"--mask={mask}")
@@ -102,10 +97,10 @@ def qr_of_one_mode(draw):
 
 def qr_by_capacity(draw):
     """QR labels that fill versions 1, 5 and 10 to the last character, one mode each."""
-    for level, versions in CAPACITIES.items():
-        for number, counts in enumerate(versions):
-            for letters, count in zip((DIGITS, LETTERS, LETTERS.lower()), counts):
-                data = "".join(draw.choices(letters, k=count)).encode()
+    for level in "LMQH":
+        for number, version in enumerate((1, 5, 10)):
+            for mode, letters in enumerate((DIGITS, LETTERS, LETTERS.lower())):
+                data = "".join(draw.choices(letters, k=capacity(version, level, mode))).encode()
                 yield Label(f"qr,level={level}", data, data, 2 + number)
 
 
@@ -131,38 +126,30 @@ def all_labels():
     return [label for part in parts for label in part(draw)]
 
 
-def write_picture(pixels, scale, path):
-    """Writes a picture with ten modules of white above and below as PGM."""
-    rows = gray(pixels, 10 * scale)
-    with open(path, "wb") as file:
-        file.write(b"P5\n%d %d\n255\n" % rows.shape[::-1] + rows.tobytes())
-
-
-def reading_of(path, symbology):
-    """The bytes that zbarimg reads in a file, as the reader of this symbology alone; none where it reads nothing."""
-    command = ["zbarimg", "--nodbus", "--quiet", "-Sdisable", f"-S{READERS[symbology]}.enable", "-Sbinary", path]
-    ran = subprocess.run(command, capture_output=True)
+def reading_of(label, picture):
+    """The bytes that zbarimg reads in a picture by the reader of this symbology; none where it reads nothing."""
+    rows = gray(picture, 10 * label.scale)
+    reader = f"-S{READERS[label.head.split(',')[0]]}.enable"
+    command = ["zbarimg", "--nodbus", "--quiet", "-Sdisable", reader, "-Sbinary", "-"]
+    ran = subprocess.run(command, input=b"P5\n%d %d\n255\n" % rows.shape[::-1] + rows.tobytes(), capture_output=True)
     # It ends with status 4 where it read nothing.
     if ran.returncode not in (0, 4):
         sys.exit(f"zbarimg ended with status {ran.returncode}:\n{ran.stderr.decode()}")
     return ran.stdout
 
 
-def not_read_back(program, labels, folder):
+def not_read_back(program, labels):
     """The labels that are not read back, each with what is read."""
-    found, path = [], os.path.join(folder, "label.pgm")
     for scale, escapes in sorted({(label.scale, label.escapes) for label in labels}):
         group = [label for label in labels if (label.scale, label.escapes) == (scale, escapes)]
-        options = ["--scale", str(scale)] + (["--escapes"] if escapes else [])
-        for label, picture in zip(group, pictures_of(program, group, *options)):
-            write_picture(picture, scale, path)
-            reading = reading_of(path, label.head.split(",")[0])
+        options = ["--escapes"] if escapes else []
+        for label, picture in zip(group, pictures_of(program, group, "--scale", str(scale), *options)):
+            reading = reading_of(label, picture)
             if reading != label.full:
-                found.append(f"scale {scale}, {label.line()!r}: read as {reading!r}")
-    return found
+                yield f"scale {scale}, {label.line()!r}: read as {reading!r}"
 
 
-def rows_of_ours(pixels):
+def rows_of(pixels):
     """The rows of modules of a picture at one pixel a module, without its quiet zone, as texts of 0 and 1."""
     left, top, right, bottom = box_of(pixels)
     symbol = pixels[top:bottom, left:right]
@@ -170,22 +157,12 @@ def rows_of_ours(pixels):
     return ["".join(map(str, row)) for row in (symbol[:1] if is_linear else symbol)]
 
 
-def rows_of_zint(arguments, width):
-    """The rows of modules of zint's symbol, of this width, as texts of 0 and 1."""
-    ran = subprocess.run(["zint", "--dump", *arguments], capture_output=True, text=True, check=True)
-    rows = [bin(int("1" + line.replace(" ", ""), 16))[3:] for line in ran.stdout.splitlines()]
-    return [row[:width] for row in rows]
-
-
-def difference(label, picture):
-    """What tells the picture from zint's symbol, or nothing where each module is the same."""
-    ours = rows_of_ours(picture)
-    zints = rows_of_zint(label.zint, len(ours[0]))
-    if ours == zints:
-        return ""
-    wrong = sum(a != b for row, other in zip(ours, zints) for a, b in zip(row, other))
-    sizes = f"{len(ours[0])} by {len(ours)} and {len(zints[0])} by {len(zints)} modules"
-    return f"{label.line()!r}: {sizes}, {wrong} differ"
+def is_as_zint(label, picture):
+    """Whether each module of a picture is that of zint's symbol, whose rows zint prints in hexadecimal digits."""
+    ours = rows_of(picture)
+    ran = subprocess.run(["zint", "--dump", *label.zint], capture_output=True, text=True, check=True)
+    theirs = [bin(int("1" + line.replace(" ", ""), 16))[3:] for line in ran.stdout.splitlines()]
+    return ours == [row[: len(ours[0])] for row in theirs]
 
 
 def with_turned_module(pixels):
@@ -196,32 +173,27 @@ def with_turned_module(pixels):
     return turned
 
 
-def not_seen(program, folder):
+def not_seen(program):
     """The wrong cases that the comparisons do not report."""
-    label = Label("qr,level=L,min-version=1,mask=0", b"WRONG", b"WRONG", 2)
-    label = dataclasses.replace(label, zint=("-b", "QRCODE", "--secure=1", "--vers=1", "--mask=0", "-d", "WRONG"))
-    if not difference(label, with_turned_module(pictures_of(program, [label])[0])):
+    zint = ("-b", "QRCODE", "--secure=1", "--vers=1", "--mask=0", "-d", "WRONG")
+    label = Label("qr,level=L,min-version=1,mask=0", b"WRONG", b"WRONG", 2, zint=zint)
+    if is_as_zint(label, with_turned_module(pictures_of(program, [label])[0])):
         yield "a picture with a turned module passes as zint's"
-    if not not_read_back(program, [dataclasses.replace(label, full=b"RIGHT")], folder):
+    if not [*not_read_back(program, [dataclasses.replace(label, full=b"RIGHT")])]:
         yield "a picture of other data passes as read back"
 
 
 def main():
     program = sources.program_given(__doc__)
-    missing = [tool for tool in TOOLS if shutil.which(tool) is None]
-    if missing:
-        print(f"nothing was compared: not installed: {', '.join(missing)}", file=sys.stderr)
-        return 2
     labels = all_labels()
     with_zint = [label for label in labels if label.zint]
-    pictures = pictures_of(program, with_zint)
-    differ = [text for label, picture in zip(with_zint, pictures) if (text := difference(label, picture))]
-    with tempfile.TemporaryDirectory() as folder:
-        unread = not_read_back(program, labels, folder)
-        unseen = list(not_seen(program, folder)) if labels else []
-    print(*differ, *unread, *unseen, sep="\n", end="\n" if differ or unread or unseen else "")
+    pairs = zip(with_zint, pictures_of(program, with_zint))
+    differ = [f"zint draws another symbol: {label}" for label, picture in pairs if not is_as_zint(label, picture)]
+    unread = [*not_read_back(program, labels)]
+    unseen = [*not_seen(program)] if labels else []
     read, same = len(labels) - len(unread), len(with_zint) - len(differ)
-    print(f"{len(labels)} labels: {read} read back, {same} of {len(with_zint)} as zint draws them")
+    last = f"{len(labels)} labels: {read} read back, {same} of {len(with_zint)} as zint draws them"
+    print(*differ, *unread, *unseen, last, sep="\n")
     return 1 if differ or unread or unseen or not with_zint else 0
 
 

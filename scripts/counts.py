@@ -11,150 +11,127 @@ program, crates/labels/out/labels.
 """
 
 import glob
-import importlib
 import os
 import re
-import subprocess
 import sys
+from collections import Counter
 
+import compare_symbols
+import gate
 import pages
 import reader
 import sources
-import steps
 
-FILE = "scripts/counts.txt"
 HEAD = "# What the gate looks at. `scripts/counts.py --write` makes this file anew; the gate compares each line.\n"
 TESTS = ("scripts/tests", "tools/tests", "lib/tests")
-FOLDERS_OF_EDITS = {"wrong-bodies": "wrong bodies", "right-bodies": "right bodies", "must-fail": "must-fail edits"}
+FOLDERS_OF_EDITS = ("wrong-bodies", "right-bodies", "must-fail")
 NO_HANDLES = "Handles allowed: none.\n"
 AUTO = "#![tactic(auto)]"
 # What pages say, with the counted step whose last line has the number, and how it is found there.
 IN_PAGES = (
     ("README.md", r"read all ([\d,]+) labels back", "compare_symbols.py", r"(\d+) read back"),
     ("README.md", r"drew the same ([\d,]+) symbols", "compare_symbols.py", r"(\d+) of \1 as zint"),
-    ("README.md", r"each of ([\d,]+)\s+simulated out-of-memory", "refuse_each_growth.sh", r"^(\d+) growths"),
+    ("README.md", r"each of ([\d,]+)\s+simulated out-of-memory", "refuse_each_growth.py", r"^(\d+) growths"),
     ("docs/PROOF.md", r"operator of ([\d,]+) believed definitions", "believed_rows.py", r"of (\d+) definitions"),
     ("docs/PROOF.md", r"one at a time: ([\d,]+)\s+changes", "believed_rows.py", r"^(\d+) changes"),
 )
-# Finds the tests of a folder, and stops where a file of them cannot be read.
-COUNT_TESTS = """import sys, unittest
-loader = unittest.TestLoader()
-found = loader.discover(sys.argv[1])
-print(*loader.errors, file=sys.stderr)
-print(found.countTestCases())
-sys.exit(bool(loader.errors))"""
 
 
-def count_tests(top, folder):
+def count_tests(folder):
     """How many tests unittest finds below a folder; none where it is not there."""
-    if not os.path.isdir(os.path.join(top, folder)):
+    if not os.path.isdir(folder):
         return 0
-    command = [sources.PYTHON, "-c", COUNT_TESTS, folder]
-    ran = subprocess.run(command, cwd=top, stdout=subprocess.PIPE, text=True)
-    if ran.returncode:
-        sys.exit(f"the tests of {folder} cannot be read")
-    return int(ran.stdout.split()[-1])
+    status, said = sources.run([sources.PYTHON, "scripts/run_tests.py", "--count", folder])
+    if status:
+        sys.exit(f"the tests of {folder} cannot be read\n{said}")
+    return int(said.split()[-1])
 
 
-def counts_of_crate(top, crate, files):
-    """The names and numbers of a crate: its tests, edits, worked values and stored run."""
-    folder = os.path.join(top, "crates", crate)
+def counts_of_crate(crate, files):
+    """The numbers of a crate: its tests, edits, worked values and stored run."""
     items = [one for file in files if (file.crate, file.part) == (crate, "src") for one in file.declarations]
-    yield f"tests of {crate}", sum("#[test]" in "".join(it.text for it in one.attributes) for one in items)
-    for name, what in FOLDERS_OF_EDITS.items():
-        edits = os.listdir(f"{folder}/{name}") if os.path.isdir(f"{folder}/{name}") else []
+    yield sum("#[test]" in "".join(it.text for it in one.attributes) for one in items), "tests"
+    for name in FOLDERS_OF_EDITS:
+        edits = glob.glob(f"crates/{crate}/{name}/*")
         strange = [file for file in edits if not file.endswith(".edit")]
         if strange:
-            sys.exit(f"crates/{crate}/{name} has {', '.join(strange)}, which no script reads")
-        yield f"{what} of {crate}", len(edits)
+            sys.exit(f"{', '.join(strange)}, which no script reads")
+        yield len(edits), name
     proofs = [file for file in files if (file.crate, file.part) == (crate, "proofs")]
-    yield f"worked values of {crate}", sum(one.worked_values() for file in proofs for one in file.declarations)
-    yield f"stored runs of {crate}", len(glob.glob(f"{folder}/stdout"))
+    yield sum(one.worked_values() for file in proofs for one in file.declarations), "worked values"
+    yield len(glob.glob(f"crates/{crate}/stdout")), "stored runs"
 
 
-def counts_of_text(top):
+def joined(numbers):
+    """Numbers and what they count, as a text."""
+    return ", ".join(f"{number} {what}" for number, what in numbers if number) or "nothing"
+
+
+def counts_of_text():
     """The names and numbers that the text of the repository gives."""
-    crates = sources.crates_of(top)
-    files = reader.files_of(top, crates, "src", "proofs")
-    yield "steps of quick", ", ".join(steps.QUICK)
-    yield "steps of built", ", ".join(steps.BUILT)
-    yield "crates", len(crates)
+    crates = sources.crates_of(sources.TOP)
+    files = reader.files_of(sources.TOP, crates, "src", "proofs")
+    yield "steps of quick", ", ".join(gate.QUICK)
+    yield "steps of built", ", ".join(gate.BUILT)
     for crate in crates:
-        yield from ((name, number) for name, number in counts_of_crate(top, crate, files) if number)
+        yield crate, joined(counts_of_crate(crate, files))
     for folder in TESTS:
-        yield folder, count_tests(top, folder)
-    texts = pages.pages_of(top)
-    languages = [language for text in texts.values() for _, language, _, _ in pages.blocks_of(text)]
-    yield "pages", len(texts)
-    yield from ((f"blocks of {language}", languages.count(language)) for language in sorted(pages.LANGUAGES))
-    yield "terms of the glossary", len(list(pages.terms_of(texts[pages.GLOSSARY])))
-    yield "manuals", len(glob.glob(f"{top}/man/*.[13]"))
-    # It needs numpy, which Debian's Python has; gate.py, which reads this file, may be run by another one.
-    compare_symbols = importlib.import_module("compare_symbols")
+        yield folder, count_tests(folder)
+    texts = pages.texts()
+    languages = Counter(block.language for text in texts.values() for block in pages.blocks_of(text))
+    links = sum(len([*pages.links_of(text)]) for text in texts.values())
+    yield "pages", joined([(len(texts), "pages"), (links, "links"), (len(glob.glob("man/*.[13]")), "manuals")])
+    yield "blocks", joined((languages[language], language) for language in sorted(pages.LANGUAGES))
+    yield "terms of the glossary", len([*pages.terms_of(texts[pages.GLOSSARY])])
     yield "labels to compare", len(compare_symbols.all_labels())
 
 
-def last_line(text):
-    return text.rstrip("\n").split("\n")[-1]
-
-
-def ran(step):
+def last_line_of(step):
     """The last line of a step. Stops where it fails."""
     print(f"runs {step}", flush=True)
-    done = subprocess.run(steps.command_of(step), stdout=subprocess.PIPE, text=True)
-    if done.returncode != 0:
-        sys.exit(f"{done.stdout}{step} ended with status {done.returncode}: {FILE} is as it was")
-    return last_line(done.stdout)
+    status, said, last = gate.run(step)
+    if status:
+        sys.exit(f"{said}{step} ended with status {status}: {gate.COUNTS} is as it was")
+    return last
 
 
-def kept(top):
-    """The lines of the file, by their names. Stops where two lines have one name."""
-    path = os.path.join(top, FILE)
-    lines = sources.read(path).split("\n") if os.path.isfile(path) else []
-    pairs = [line.split(": ", 1) for line in lines if ": " in line and not line.startswith("#")]
-    names = [name for name, _ in pairs]
-    twice = sorted({name for name in names if names.count(name) > 1})
-    if twice:
-        sys.exit(f"{FILE} has two lines of the name {twice[0]}")
-    return dict(pairs)
-
-
-def faults_of_rules(top):
+def faults_of_rules():
     """What HANDLES and the root files of the crates have that they must not have."""
-    if sources.read(os.path.join(top, "HANDLES")) != NO_HANDLES:
+    if sources.read("HANDLES") != NO_HANDLES:
         yield f"HANDLES is not: {NO_HANDLES.rstrip()}"
-    for crate in sources.crates_of(top):
-        roots = glob.glob(f"{top}/crates/{crate}/src/lib.rt") + glob.glob(f"{top}/crates/{crate}/src/main.rt")
+    for crate in sources.crates_of(sources.TOP):
+        roots = glob.glob(f"crates/{crate}/src/lib.rt") + glob.glob(f"crates/{crate}/src/main.rt")
         if not roots or any(AUTO not in sources.read(root).split("\n") for root in roots):
             yield f"crates/{crate}: no line {AUTO} in its root file"
 
 
-def faults_of_pages(top, wanted):
+def faults_of_pages(wanted):
     """The numbers of pages that are not those of the file, or that a page lacks."""
     for page, sentence, step, place in IN_PAGES:
         right = re.search(place, wanted.get(step, ""))
-        said = re.search(sentence, sources.read(os.path.join(top, page)))
+        said = re.search(sentence, sources.read(page))
         if not right or not said or said[1] != f"{int(right[1]):,}":
-            yield f"{page}: {said[0] if said else f'no {sentence}'}, and {FILE} has {wanted.get(step)}"
+            yield f"{page}: {said[0] if said else f'no {sentence}'}, and {gate.COUNTS} has {wanted.get(step)}"
 
 
 def main():
-    parser = sources.parser_of(__doc__)
-    parser.add_argument("--write", action="store_true", help=f"make {FILE} anew")
+    parser = sources.parser_of(__doc__, has_top=False)
+    parser.add_argument("--write", action="store_true", help=f"make {gate.COUNTS} anew")
     given = parser.parse_args()
-    found = {name: str(number) for name, number in counts_of_text(given.top)}
-    wanted = kept(given.top)
+    os.chdir(sources.TOP)
+    found = {name: str(number) for name, number in counts_of_text()}
     if given.write:
-        found.update({step: ran(step) for step in steps.COUNTED})
-        with open(os.path.join(given.top, FILE), "w", encoding="utf-8") as file:
+        found |= {step: last_line_of(step) for step in gate.COUNTED}
+        with open(gate.COUNTS, "w", encoding="utf-8") as file:
             file.write(HEAD + "".join(f"{name}: {text}\n" for name, text in found.items()))
         return 0
-    faults = [*faults_of_rules(given.top), *faults_of_pages(given.top, wanted)]
-    wanted = {name: text for name, text in wanted.items() if name not in steps.COUNTED}
+    kept = gate.counts_kept()
+    faults = [*faults_of_rules(), *faults_of_pages(kept)]
+    wanted = {name: text for name, text in kept.items() if name not in gate.COUNTED}
     for name in {**wanted, **found}:
         if wanted.get(name) != found.get(name):
-            faults.append(f"{name}: {found.get(name, 'none')}, and {wanted.get(name, 'none')} in {FILE}")
-    print("\n".join([*faults, f"{len(found)} numbers, {len(faults)} faults"]))
+            faults.append(f"{name}: {found.get(name, 'none')}, and {wanted.get(name, 'none')} in {gate.COUNTS}")
+    print(*faults, f"{len(found)} numbers, {len(faults)} faults", sep="\n")
     return 1 if faults else 0
 
 

@@ -5,78 +5,88 @@ usage: scripts/gate.py quick | built | STEP..
 
 quick: what needs no program and no proof: the texts, the lints, the tests of the scripts, and those of the tools that
 draw nothing. built: what needs the proved program, crates/labels/out/labels, and the proved library,
-crates/labels_c/out/liblabels_c.a. STEP: these steps alone, by their names in steps.py.
+crates/labels_c/out/liblabels_c.a. STEP: these steps alone, each a script of scripts/ with its arguments.
 
 Of a step that fails all is printed that it wrote, of another one its last line. Nothing is skipped: a test that is
 skipped, a step that ends with 77, a program or a folder that is missing is a failure, and so is a last line of a
-counted step that is not the one in scripts/counts.txt. A step counts as one, but of a folder of tests each test does,
-and of the lints each lint. The last line is `N passed, M failed`.
+counted step that is not the one in scripts/counts.txt. A step counts as one, but one whose last line is `N passed, M
+failed` as these. The last line is the sum of them.
 """
 
-import os
 import re
 import sys
 import time
 
-import counts
-import lints
 import sources
-import steps
 
-# Why a test of the tools is left out before the proofs: it draws.
-NOT_BUILT = "is not built: run "
+QUICK = (
+    "counts.py",
+    "believed.py --check",
+    "believed_rows.py",
+    "unused.py",
+    "pages.py",
+    "lints.py",
+    "run_tests.py scripts/tests",
+    "run_tests.py tools/tests --without-program",
+)
+BUILT = (
+    "believed_rows.py --sample --built",
+    "run_tests.py tools/tests",
+    "run_tests.py lib/tests",
+    "compare_symbols.py",
+    "scan_damaged.py",
+    "refuse_each_growth.py",
+    "run_recipes.py",
+    "instructions.py --check",
+)
+# The steps whose last line is in the file of counts: those that judge what is built, and one before.
+COUNTED = ("believed_rows.py", *(step for step in BUILT if not step.startswith("run_tests.py")))
+COUNTS = "scripts/counts.txt"
 
 
-def run_tests(folder, without_program):
-    """How many tests of a folder passed, how many failed, and what they wrote."""
-    if not os.path.isdir(os.path.join(sources.TOP, folder)):
-        return 0, 1, f"there is no folder {folder}"
-    more = {"NO_SKIP": "", "LABELS": "/not/built"} if without_program else {"NO_SKIP": "1"}
-    status, said = sources.run([sources.PYTHON, "-m", "unittest", "discover", "-v", "-b", "-s", folder], **more)
-    count = int((re.findall(r"^Ran (\d+) test", said, re.M) or ["0"])[-1])
-    ends = (re.findall(r"^(?:OK|FAILED)(?: \(.*\))?$", said, re.M) or [""])[-1]
-    reasons = re.findall(r"\.\.\. skipped ['\"](.*)['\"]$", said, re.M)
-    left_out = sum(without_program and NOT_BUILT in reason for reason in reasons)
-    faults = sum(map(int, re.findall(r"=(\d+)", ends))) - left_out
-    good = max(count - left_out - faults, 0)
-    if not faults and (status or not ends or not good):
-        faults = 1
-    return good, faults, said
+def counts_kept():
+    """The lines of the file of counts, by their names. Stops where two lines have one name."""
+    lines = sources.read(f"{sources.TOP}/{COUNTS}").split("\n")
+    pairs = [line.split(": ", 1) for line in lines if ": " in line and not line.startswith("#")]
+    names = [name for name, _ in pairs]
+    twice = sorted({name for name in names if names.count(name) > 1})
+    if twice:
+        sys.exit(f"{COUNTS} has two lines of the name {twice[0]}")
+    return dict(pairs)
 
 
-def run_script(step):
-    """Whether a script of scripts/ passed, as two numbers, and what it wrote."""
-    status, said = sources.run(steps.command_of(step))
-    if status:
+def run(step):
+    """The status of a step, what it wrote, and the last line of that."""
+    status, said = sources.run([sources.PYTHON, *f"scripts/{step}".split()])
+    return status, said, said.rstrip("\n").split("\n")[-1]
+
+
+def passed_and_failed(step):
+    """How many of a step passed and failed, and what is printed of it."""
+    status, said, last = run(step)
+    numbers = re.fullmatch(r"(\d+) passed, (\d+) failed", last)
+    good, bad = map(int, numbers.groups()) if numbers else (int(status == 0), int(status != 0))
+    if (status != 0) != (bad > 0) or not good + bad:
         return 0, 1, f"{said}status {status}"
-    wanted = counts.kept(sources.TOP).get(step)
-    if step in steps.COUNTED and counts.last_line(said) != wanted:
-        return 0, 1, f"{said}{counts.FILE} has {wanted or 'no such line'}"
-    return 1, 0, said
-
-
-def run_step(name):
-    """How many of a step passed and failed, and what it wrote."""
-    if name == "lints":
-        return lints.run_all()
-    if "/tests" in name:
-        return run_tests(name.split()[0], without_program=" without " in name)
-    return run_script(name)
+    wanted = counts_kept().get(step)
+    if step in COUNTED and not bad and last != wanted:
+        return 0, 1, f"{said}{COUNTS} has {wanted or 'no such line'}"
+    return good, bad, f"{said}status {status}" if bad else last
 
 
 def main():
-    names = {("quick",): steps.QUICK, ("built",): steps.BUILT}.get(tuple(sys.argv[1:]), sys.argv[1:])
-    if not names or not {*names} <= {*steps.QUICK, *steps.BUILT}:
-        print(__doc__, file=sys.stdout if sys.argv[1:] in (["-h"], ["--help"]) else sys.stderr)
-        return 0 if sys.argv[1:] in (["-h"], ["--help"]) else 2
-    os.chdir(sources.TOP)
+    steps = {("quick",): QUICK, ("built",): BUILT}.get(tuple(sys.argv[1:]), sys.argv[1:])
+    if not steps or not {*steps} <= {*QUICK, *BUILT}:
+        is_asked = sys.argv[1:] in (["-h"], ["--help"])
+        print(__doc__, file=sys.stdout if is_asked else sys.stderr)
+        return 0 if is_asked else 2
     passed = failed = 0
-    for name in names:
+    for step in steps:
         start = time.monotonic()
-        good, bad, said = run_step(name)
+        good, bad, said = passed_and_failed(step)
         passed, failed = passed + good, failed + bad
-        print(said if bad else counts.last_line(said))
-        print(f"{'FAILED' if bad else 'ok'}: {name}, {time.monotonic() - start:.1f} s", flush=True)
+        print(said)
+        print(f"{'FAILED' if bad else 'ok'}: {step}, {time.monotonic() - start:.1f} s", flush=True)
     print(f"{passed} passed, {failed} failed")
     return 1 if failed else 0
 

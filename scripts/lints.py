@@ -1,18 +1,19 @@
-"""The lints of the gate, each with a wrong text in which it has to find something.
+#!/usr/bin/python3
+"""Runs the lints of the gate, each over a wrong text first, in which it has to find something.
 
 What a file is, its first line says, or its ending. A first line `#!` that is none of INTERPRETERS is a fault: such a
-file would be read by no lint. Settings beside the code are not read, but for scripts/mypy.ini.
+file would be read by no lint. Settings beside the code are not read, but for scripts/mypy.ini. The last line is `N
+passed, M failed`.
 """
 
-import glob
 import os
+import sys
 import tempfile
 from dataclasses import dataclass
 
 import sources
 
-COLUMNS, COLUMNS_OF_TOOLS = "119", "100"
-FOLDERS = (".ci", "scripts", "tools", "lib", "debian")
+FOLDERS = (".ci", "scripts", "tools", "lib", "debian", "man", "completions")
 # The first lines that a file may have, and what reads it.
 INTERPRETERS = {
     "#!/usr/bin/python3": "python",
@@ -21,100 +22,89 @@ INTERPRETERS = {
     "#!/bin/sh": "shell",
     "#!/usr/bin/make -f": "",
 }
+ENDINGS = {".py": "python", ".bash": "completion", ".1": "manual", ".3": "manual"}
+# black puts a space before the colon of a slice, which E203 is against.
+STYLE = "flake8 --isolated --extend-ignore E203 --max-line-length"
+LAYOUT = f"black --config {os.devnull} --quiet --check --line-length"
+TYPES = f"mypy --no-error-summary --cache-dir {os.devnull} --config-file scripts/mypy.ini"
 
 
 @dataclass(frozen=True)
 class Lint:
     """A lint: its command, the files that it reads, and the name and text of a file that it has to refuse."""
 
-    command: tuple
+    command: str
     files: list
     wrong_name: str
     wrong: str
 
+    def fault(self):
+        """What it finds, or that it reads no file, or that it finds nothing in what is wrong."""
+        if not self.files:
+            return f"{self.command} reads no file"
+        with tempfile.TemporaryDirectory(prefix="lints-") as folder:
+            wrong = os.path.join(folder, self.wrong_name)
+            with open(wrong, "w", encoding="utf-8") as file:
+                file.write(self.wrong)
+            if not self.findings([wrong]):
+                return f"{self.command} finds nothing in: {self.wrong}"
+        return self.findings(self.files)
+
+    def findings(self, files):
+        """What it finds, and its status; nothing where it finds nothing."""
+        status, said = sources.run([*self.command.split(), *files])
+        return f"{said}{self.command} found something, status {status}" if status or said else ""
+
 
 def kind_of(path):
-    """What reads a file: "python", "shell", nothing, or for a first line that is unknown that line."""
+    """What reads a file, or for a first line that is unknown that line; nothing where nothing does."""
     with open(path, "rb") as file:
         first = file.readline().rstrip().decode("utf-8", "replace")
     if first.startswith("#!"):
         return INTERPRETERS.get(first, first)
-    return "python" if path.endswith(".py") else ""
-
-
-def python_files(folder):
-    """The files of Python below a folder of the repository."""
-    paths = [os.path.relpath(path, sources.TOP) for path in sources.files_below(os.path.join(sources.TOP, folder), "")]
-    return [path for path in paths if kind_of(os.path.join(sources.TOP, path)) == "python"]
+    return ENDINGS.get(os.path.splitext(path)[1], "")
 
 
 def files_by_kind():
-    """The files below the folders, by what reads them. A folder that is not there stops."""
-    found = {}
+    """The files below the folders, by what reads them."""
+    found = {"python": [], "shell": [], "completion": [], "manual": []}
     for folder in FOLDERS:
         if not os.path.isdir(folder):
-            raise SystemExit(f"there is no folder {folder}")
+            sys.exit(f"there is no folder {folder}")
         for path in sources.files_below(folder, ""):
             found.setdefault(kind_of(path), []).append(path)
     return found
 
 
-def layout(paths, columns):
-    """The layout of files of Python, whose code is at most this wide."""
-    command = ("black", "--config", os.devnull, "--quiet", "--check", "--line-length", columns)
-    return Lint(command, paths, "wrong.py", "x = 'one'\n")
-
-
-def style(paths, columns):
-    """The style of files of Python, whose code and texts are at most this wide."""
-    # black puts a space before the colon of a slice, which E203 is against
-    command = ("flake8", "--isolated", "--max-line-length", columns, "--extend-ignore", "E203")
-    return Lint(command, paths, "wrong.py", "import os\n")
-
-
-def all_lints(python, shell):
-    """The lints over these files."""
-    manuals, completions = glob.glob("man/*.[13]"), glob.glob("completions/*.bash")
-    tools = [path for path in python if path.startswith("tools/")]
+def all_lints(files):
+    """The lints over these files. Python is 100 columns wide in tools/, where the texts are too, and 119 elsewhere."""
+    tools = [path for path in files["python"] if path.startswith("tools/")]
     used = [path for path in tools if "/tests/" not in path]
-    typed = [*used, *(path for path in python if path.startswith("lib/python/"))]
-    types = ("mypy", "--no-error-summary", "--cache-dir", os.devnull, "--config-file", "scripts/mypy.ini")
-    return [
-        Lint(("shellcheck", "--norc"), shell, "wrong.sh", "#!/bin/sh\nrm $1\n"),
-        Lint(("shellcheck", "--norc", "--shell=bash"), completions, "wrong.bash", "rm $1\n"),
-        layout(tools, COLUMNS_OF_TOOLS),
-        layout([path for path in python if path not in tools], COLUMNS),
-        style(used, COLUMNS_OF_TOOLS),
-        style([path for path in python if path not in used], COLUMNS),
-        Lint(types, typed, "wrong.py", "number: int = 'one'\n"),
-        Lint(("mandoc", "-Tlint", "-W", "warning"), manuals, "wrong.1", ".TH WRONG 1\n.SH NAME\n.XX\n"),
-    ]
+    others = [path for path in files["python"] if path not in tools]
+    typed = [*used, *(path for path in others if path.startswith("lib/python/"))]
+    return (
+        Lint("shellcheck --norc", files["shell"], "wrong.sh", "#!/bin/sh\nrm $1\n"),
+        Lint("shellcheck --norc --shell=bash", files["completion"], "wrong.bash", "rm $1\n"),
+        Lint(f"{LAYOUT} 100", tools, "wrong.py", "x = 'one'\n"),
+        Lint(f"{LAYOUT} 119", others, "wrong.py", "x = 'one'\n"),
+        Lint(f"{STYLE} 100", used, "wrong.py", "import os\n"),
+        Lint(f"{STYLE} 119", [path for path in files["python"] if path not in used], "wrong.py", "import os\n"),
+        Lint(TYPES, typed, "wrong.py", "number: int = 'one'\n"),
+        Lint("mandoc -Tlint -W warning", files["manual"], "wrong.1", ".TH WRONG 1\n.SH NAME\n.XX\n"),
+    )
 
 
-def findings(command):
-    """What a lint finds, and its status; nothing where it finds nothing."""
-    status, said = sources.run(command)
-    return f"{said}{command[0]} found something, status {status}" if status or said else ""
-
-
-def fault_of(lint):
-    """What a lint finds in its files, or that it reads none, or that it finds nothing in what is wrong."""
-    if not lint.files:
-        return f"{lint.command[0]} reads no file"
-    with tempfile.TemporaryDirectory(prefix="lints-") as folder:
-        wrong = os.path.join(folder, lint.wrong_name)
-        with open(wrong, "w", encoding="utf-8") as file:
-            file.write(lint.wrong)
-        if not findings([*lint.command, wrong]):
-            return f"{lint.command[0]} finds nothing in: {lint.wrong}"
-    return findings([*lint.command, *lint.files])
-
-
-def run_all():
-    """How many lints found nothing, how many found something, and what that is."""
+def main():
+    sources.parser_of(__doc__, has_top=False).parse_args()
+    os.chdir(sources.TOP)
     files = files_by_kind()
-    known = {"", *INTERPRETERS.values()}
-    faults = [f"{path}: no lint knows {kind}" for kind in {*files} - known for path in files[kind]]
-    lints = all_lints(files["python"], files["shell"])
-    found = [fault for lint in lints if (fault := fault_of(lint))]
-    return len(lints) - len(found), len(found) + len(faults), "\n".join([*faults, *found])
+    unknown = [kind for kind in files if kind.startswith("#!")]
+    faults = [f"{path}: no lint knows {kind}" for kind in unknown for path in files[kind]]
+    lints = all_lints(files)
+    found = [fault for lint in lints if (fault := lint.fault())]
+    print(*faults, *found, f"{len(lints) - len(found)} passed, {len(found) + len(faults)} failed", sep="\n")
+    return 1 if found or faults else 0
+
+
+if __name__ == "__main__":
+    sys.exit(main())

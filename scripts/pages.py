@@ -6,6 +6,7 @@
 - Code is quoted as it is: each block of Rust, C, C++ and Python in docs/LIBRARY.md and docs/PROOF.md, and each block
   of text that begins with a clause (`ensures`), is in a file crates/*.rt or lib/* that the page names before it, line
   by line, but for the spaces in front. A block below a line `Not checked:` is left out.
+- Each link from one file of the repository to another leads to a file and a heading.
 - Each name in the tables of docs/GLOSSARY.md is in the file beside it, as a whole word.
 - Each crate has a page of at most 40 lines. Each line of a block of Rust in it, but for imports and comments, is a
   line of the function page_of_NAME in crates/tests/src/pages.rt, in the same order, white space apart.
@@ -14,15 +15,17 @@ The last line is `N pages, B blocks, T terms, F faults`. The status is 1 where t
 """
 
 import glob
-import itertools
 import os
 import re
 import sys
+from dataclasses import dataclass
 
-import reader
-import run_recipes
+from markdown_it import MarkdownIt
+
 import sources
 
+# The pages whose commands run_recipes.py runs.
+RUN = ("README.md", "docs/INPUT.md", "docs/PRINTING.md", "docs/RECIPES.md")
 QUOTED = {"rust", "c", "cpp", "python"}
 LANGUAGES = {"sh", "sh kit", "text", *QUOTED}
 QUOTING = ("docs/LIBRARY.md", "docs/PROOF.md")
@@ -30,48 +33,62 @@ GLOSSARY = "docs/GLOSSARY.md"
 COLUMNS = ("Term", "Meaning", "Clause", "Name", "File")
 WITHOUT_EXAMPLE = {"labels", "labels_c", "examples", "tests"}
 LONGEST = 40
-FENCE = re.compile(r"^\s*(`{3,}|~{3,})\s*(.*?)\s*$")
 FILE = re.compile(r"\b(?:crates/[\w/]+\.rt|lib/[\w/]+\.\w+)\b")
+EXAMPLE = re.compile(r"^fn page_of_(\w+)\(.*?\{\n(.*?)^\}", re.MULTILINE | re.DOTALL)
 NOT_CHECKED = "Not checked:"
+MARKDOWN = MarkdownIt().enable("table")
 
 
-def pages_of(top):
-    """The text of each page, by its path below the top."""
-    paths = [*sorted(glob.glob(f"{top}/*.md")), *sorted(glob.glob(f"{top}/docs/*.md"))]
-    paths += [os.path.join(top, "crates", name, "README.md") for name in sources.crates_of(top)]
-    wanted = [*paths, *(os.path.join(top, page) for page in (*run_recipes.PAGES, *QUOTING))]
-    missing = [path for path in wanted if not os.path.isfile(path)]
+@dataclass(frozen=True)
+class Block:
+    """A block of code: the number of its first line, its language, its code, the page above it, and whether it is
+    closed and whether nothing is between it and the block before.
+    """
+
+    line: int
+    language: str
+    code: str
+    above: str
+    is_closed: bool
+    is_next: bool
+
+
+def texts():
+    """The text of each page, by its path."""
+    crates = [f"crates/{name}/README.md" for name in sources.crates_of(sources.TOP)]
+    paths = [*sorted(glob.glob("*.md")), *sorted(glob.glob("docs/*.md")), *crates]
+    missing = [path for path in dict.fromkeys((*paths, *RUN, *QUOTING, GLOSSARY)) if not os.path.isfile(path)]
     if missing:
-        sys.exit("\n".join(f"there is no {os.path.relpath(path, top)}" for path in dict.fromkeys(missing)))
-    return {os.path.relpath(path, top): sources.read(path) for path in paths}
+        sys.exit("\n".join(f"there is no {path}" for path in missing))
+    return {path: sources.read(path) for path in paths}
 
 
 def blocks_of(text):
-    """The blocks of a page: the number of the first line, the language, the code and the lines above it; code None
-    where the block is not closed before the next one begins."""
+    """The blocks of a page."""
     lines = text.split("\n")
-    fences = [(number, *match.groups()) for number, line in enumerate(lines, 1) if (match := FENCE.match(line))]
-    while fences:
-        start, mark, language = fences.pop(0)
-        code = None
-        if fences and fences[0][1:] == (mark, ""):
-            code = "\n".join(lines[start : fences.pop(0)[0] - 1])
-        yield start, language if mark == "```" else mark, code, lines[: start - 1]
+    tokens = MARKDOWN.parse(text)
+    for before, token in zip([None, *tokens], tokens):
+        if token.type == "fence":
+            start, end = token.map
+            language = token.info.strip() if token.markup == "```" else token.markup
+            is_closed = lines[end - 1].strip() == token.markup and "```" not in token.content
+            is_next = before is not None and before.type == "fence"
+            yield Block(start + 1, language, token.content, "\n".join(lines[:start]), is_closed, is_next)
 
 
-def faults_of_blocks(top, page, blocks):
+def faults_of_blocks(page, blocks):
     """What is wrong with the blocks of a page, each with the number of its line."""
-    for number, language, code, above in blocks:
-        is_quoted = code is not None and (language in QUOTED or code.lstrip().startswith("ensures"))
-        if code is None:
-            yield number, "this block is not closed"
-        elif language not in LANGUAGES:
-            yield number, f"no script reads blocks of {language or 'no language'}"
-        elif language.startswith("sh") and page not in run_recipes.PAGES:
-            yield number, "nothing runs the commands of this page: write them as text"
-        elif page in QUOTING and is_quoted and not "\n".join(above).rstrip().endswith(NOT_CHECKED):
-            if not is_in_files(top, code, "\n".join(above)):
-                yield number, "this code is in no file that the page names above it"
+    for block in blocks:
+        is_quoted = block.language in QUOTED or block.code.lstrip().startswith("ensures")
+        if not block.is_closed:
+            yield block.line, "this block is not closed"
+        elif block.language not in LANGUAGES:
+            yield block.line, f"no script reads blocks of {block.language or 'no language'}"
+        elif block.language.startswith("sh") and page not in RUN:
+            yield block.line, "nothing runs the commands of this page: write them as text"
+        elif page in QUOTING and is_quoted and not block.above.rstrip().endswith(NOT_CHECKED):
+            if not is_in_files(block.code, block.above):
+                yield block.line, "this code is in no file that the page names above it"
 
 
 def stripped(text):
@@ -79,11 +96,35 @@ def stripped(text):
     return "".join(f"{line.strip()}\n" for line in text.split("\n") if line.strip())
 
 
-def is_in_files(top, code, above):
+def is_in_files(code, above):
     """Whether code is in one of the files that the text above it names."""
-    paths = [os.path.join(top, name) for name in sorted(set(FILE.findall(above)))]
-    texts = ["\n" + stripped(sources.read(path)) for path in paths if os.path.isfile(path)]
+    texts = ["\n" + stripped(sources.read(path)) for path in {*FILE.findall(above)} if os.path.isfile(path)]
     return any("\n" + stripped(code) in text for text in texts)
+
+
+def anchors_of(text):
+    """The names by which links lead to the headings of a page."""
+    tokens = MARKDOWN.parse(text)
+    headings = [inline.content for token, inline in zip(tokens, tokens[1:]) if token.type == "heading_open"]
+    return [re.sub(r"[^\w\- ]", "", heading.lower()).replace(" ", "-") for heading in headings]
+
+
+def fault_of_link(page, link):
+    """What is wrong with a link of a page, or nothing."""
+    path, _, anchor = link.partition("#")
+    target = os.path.join(os.path.dirname(page), path) if path else page
+    if not os.path.exists(target):
+        return f"a link to no file: {link}"
+    if anchor and anchor not in anchors_of(sources.read(target)):
+        return f"a link to no heading: {link}"
+    return None
+
+
+def links_of(text):
+    """The links of a page to files of the repository, each with the number of its line."""
+    for token in MARKDOWN.parse(text):
+        links = [part.attrs.get("href") or part.attrs.get("src") for part in token.children or []]
+        yield from ((token.map[0] + 1, link) for link in links if link and ":" not in link)
 
 
 def cells_of(line):
@@ -103,25 +144,24 @@ def terms_of(page):
             yield number, cells_of(line)
 
 
-def fault_of_term(top, cells):
+def fault_of_term(cells):
     """What is wrong with a row of the glossary, or nothing."""
     if len(cells) != len(COLUMNS) or not all(cells):
         return f"a row without the {len(COLUMNS)} cells"
     name, file = (re.fullmatch(r"`([^`]+)`", cell) for cell in cells[3:])
     if not name or not file:
         return "the name and the file are each one word between backticks"
-    path = os.path.join(top, file.group(1))
-    if not os.path.isfile(path):
-        return f"{cells[0]}: no file {file.group(1)}"
-    if not re.search(rf"(?<![\w']){re.escape(name.group(1))}(?![\w'])", sources.read(path)):
-        return f"{cells[0]}: no `{name.group(1)}` in {file.group(1)}"
+    if not os.path.isfile(file[1]):
+        return f"{cells[0]}: no file {file[1]}"
+    if not re.search(rf"(?<![\w']){re.escape(name[1])}(?![\w'])", sources.read(file[1])):
+        return f"{cells[0]}: no `{name[1]}` in {file[1]}"
     return None
 
 
-def faults_of_glossary(top, terms):
+def faults_of_glossary(terms):
     seen = {}
     for number, cells in terms:
-        fault = fault_of_term(top, cells)
+        fault = fault_of_term(cells)
         if not fault and cells[0] in seen:
             fault = f"{cells[0]}: also in line {seen[cells[0]]}"
         seen.setdefault(cells[0], number)
@@ -131,53 +171,48 @@ def faults_of_glossary(top, terms):
         yield 1, "no term"
 
 
-def words_of(tokens):
-    """The words of code, without the commas that a formatter puts last."""
-    words = [token.text for token in tokens]
-    return [word for word, after in zip(words, [*words[1:], ")"]) if word != "," or after not in (")", "]", "}")]
-
-
-def place_of(words, line, start):
-    """The index in words after a line of words, from a start on; nothing where the line is not there."""
-    places = (at for at in range(start, len(words)) if words[at : at + len(line)] == line)
-    return next((at + len(line) for at in places), None)
+def words_of(code):
+    """The words of code with a space around each, without comments and the commas that a formatter puts last."""
+    words = re.findall(r'"(?:\\.|[^"\\])*"|\w+|[^\w\s]', re.sub(r"(?<!:)//.*", "", code))
+    return re.sub(r" , (?=[)\]}]|$)", " ", f" {' '.join(words)} ")
 
 
 def faults_of_example(name, page, blocks, tests):
     """What is wrong with a crate's page: its length, and each line that its test does not have in its place."""
     if page.count("\n") > LONGEST:
         yield 1, f"{page.count(chr(10))} lines, and at most {LONGEST} are wanted"
-    words, place, is_empty = words_of(tests.get(f"page_of_{name}", ())), 0, True
-    for number, language, code, _ in blocks:
-        tokens = reader.tokens_of_text(code) if language == "rust" and code else []
-        for line, of_line in itertools.groupby(tokens, lambda token: token.line):
-            wanted = words_of(of_line)
-            if wanted[0] != "use":
-                is_empty, found = False, place_of(words, wanted, place)
-                place = found or place
-                if found is None:
-                    shown = code.split("\n")[line - 1].strip()
-                    yield number, f"page_of_{name} of crates/tests/src/pages.rt lacks: {shown}"
+    words, place, is_empty = words_of(tests.get(name, "")), 0, True
+    for block in blocks:
+        for line in block.code.split("\n") if block.language == "rust" else []:
+            wanted = words_of(line)
+            if wanted.strip() and not wanted.startswith(" use "):
+                is_empty, found = False, words.find(wanted, place)
+                if found < 0:
+                    yield block.line, f"page_of_{name} of crates/tests/src/pages.rt lacks: {line.strip()}"
+                else:
+                    place = found + len(wanted) - 1
     if is_empty and name not in WITHOUT_EXAMPLE:
         yield 1, "no example"
 
 
 def main():
-    top = sources.parser_of(__doc__).parse_args().top
-    pages = pages_of(top)
-    (file,) = reader.files_at(top, [os.path.join(top, "crates/tests/src/pages.rt")])
-    tests, faults, count = {one.name: one.tokens for one in file.declarations}, [], 0
-    terms = list(terms_of(pages[GLOSSARY]))
+    sources.parser_of(__doc__, has_top=False).parse_args()
+    os.chdir(sources.TOP)
+    pages = texts()
+    tests = dict(EXAMPLE.findall(sources.read("crates/tests/src/pages.rt")))
+    faults, count = [], 0
+    terms = [*terms_of(pages[GLOSSARY])]
     for page, text in pages.items():
-        blocks = list(blocks_of(text))
+        blocks = [*blocks_of(text)]
         count += len(blocks)
-        found = list(faults_of_blocks(top, page, blocks))
+        found = [*faults_of_blocks(page, blocks)]
+        found += [(line, fault) for line, link in links_of(text) if (fault := fault_of_link(page, link))]
         if page == GLOSSARY:
-            found += faults_of_glossary(top, terms)
+            found += faults_of_glossary(terms)
         if page.startswith("crates/"):
             found += faults_of_example(page.split("/")[1], text, blocks, tests)
         faults += [f"{page}:{number}: {fault}" for number, fault in found]
-    print("\n".join([*faults, f"{len(pages)} pages, {count} blocks, {len(terms)} terms, {len(faults)} faults"]))
+    print(*faults, f"{len(pages)} pages, {count} blocks, {len(terms)} terms, {len(faults)} faults", sep="\n")
     return 1 if faults else 0
 
 

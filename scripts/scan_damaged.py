@@ -8,7 +8,8 @@ quarters, and in a mirror; and damaged at random, by a fixed seed, up to what th
 - modules turned (dark for light), as many as the limit of the symbology: the same ones in each row of a bar code, or
   other ones in each row; anywhere in a QR symbol
 - wrong pixels, one fewer than a module more would have
-- wrong codewords of a QR symbol: in each block half of its error correction codewords
+- wrong codewords of a QR symbol: in each block half of its error correction codewords. Where the codewords and blocks
+  are, segno says.
 
 A scanner may read the full data or nothing. Other data is a misreading; each is printed, and the status is then 1.
 There is one exception. Where whole modules of a bar code are turned, the reading rules of the standards read nothing,
@@ -18,88 +19,68 @@ what the scanners make of some labels there is counted too. In each run two labe
 label, as the worked values say; the run fails unless both scanners read them as the other one and are caught.
 
 The last line is `N damaged labels, read twice: F as drawn, U not, M misread, G guessed; beyond the limits: ..`. Status
-2: bad arguments, no such program, a third-party module missing.
+2: bad arguments, no such program.
 """
 
+import functools
 import random
 import sys
 from collections import Counter
-from dataclasses import dataclass
-from typing import Callable, Iterator
 
 import numpy
+import zbar
+import zxingcpp
+from segno import consts, encoder
 
 import sources
 from pictures import DIGITS, Label, box_of, gray, pictures_of, with_check_digit
 
-try:
-    import zbar
-    import zxingcpp
-except ImportError as missing:
-    print(f"nothing was scanned: {missing}: apt-get install python3-zbar python3-zxing-cpp", file=sys.stderr)
-    sys.exit(2)
-
 SEED = 15417
 SCALE = 3
-# A run damages at least so many labels.
-LEAST = 2000
 # White around a picture, in pixels.
 MARGIN = 10 * SCALE
-# The least error correction codewords of a block, and the blocks, of versions 1 to 10 (ISO/IEC 18004, table 9).
-EC_CODEWORDS = {
-    "L": (7, 10, 15, 20, 26, 18, 20, 24, 30, 18),
-    "M": (10, 16, 26, 18, 24, 16, 18, 22, 22, 26),
-    "Q": (13, 22, 18, 26, 18, 24, 18, 22, 20, 24),
-    "H": (17, 28, 22, 16, 22, 28, 26, 26, 24, 28),
-}
-BLOCKS = {
-    "L": (1, 1, 1, 1, 1, 2, 2, 2, 2, 4),
-    "M": (1, 1, 1, 2, 2, 4, 4, 4, 5, 5),
-    "Q": (1, 1, 2, 2, 4, 4, 6, 6, 8, 8),
-    "H": (1, 1, 2, 4, 4, 4, 5, 6, 8, 8),
-}
-# Codewords of versions 1 to 10 (table 1), and the centres of their alignment patterns (annex E).
-CODEWORDS = (26, 44, 70, 100, 134, 172, 196, 242, 292, 346)
-CENTRES = ((), (6, 18), (6, 22), (6, 26), (6, 30), (6, 34), (6, 22, 38), (6, 24, 42), (6, 26, 46), (6, 28, 50))
-# How many modules may be turned in each row of a bar code.
+# A run damages at least so many labels.
+LEAST = 2000
+# How many modules may be turned in each row of a bar code, and in a QR symbol.
 TURNED_IN_A_ROW = {"ean13": 1, "ean8": 3, "upca": 3, "code128": 1}
 MOST_TURNED_IN_QR = 13
-TURNED = "modules turned"
-TURNED_IN_ROWS = "modules turned in each row"
+SCANNERS = ("zbar", "zxing-cpp")
+# What segno writes where a codeword may be, and the number of the first bit that it is given.
+FREE, FIRST = 2, 3
 
 
-Pixels = numpy.ndarray
-
-
-@dataclass(frozen=True, eq=False)
 class Picture:
-    """A label as drawn: its pixels, 1 where dark; where its symbol begins and ends; and what it is."""
+    """A label as drawn: its pixels, 1 where dark, where its symbol is in them, and of a QR symbol what segno says."""
 
-    symbology: str
-    full: bytes
-    pixels: Pixels
-    left: int
-    top: int
-    right: int
-    bottom: int
-    version: int = 0
-    level: str = ""
+    def __init__(self, label, pixels):
+        self.label = label
+        self.pixels = pixels
+        left, top, right, bottom = box_of(pixels)
+        self.symbol = slice(top, bottom), slice(left, right)
+        symbology, *settings = label.head.split(",")
+        self.is_qr = symbology == "qr"
+        if self.is_qr:
+            level, version = (setting.partition("=")[2] for setting in settings)
+            self.version = int(version)
+            infos = consts.ECC[self.version][consts.ERROR_MAPPING[level]]
+            self.blocks = [one for one in infos for _ in range(one.num_blocks)]
+            self.ec_codewords = infos[0].num_total - infos[0].num_data
+            self.limit = min(MOST_TURNED_IN_QR, self.ec_codewords)
+        else:
+            self.limit = TURNED_IN_A_ROW[symbology]
 
-    @property
-    def columns(self) -> int:
-        """Modules from left to right."""
-        return (self.right - self.left) // SCALE
+    def no_modules(self):
+        """The rows of modules, of which none is to be turned."""
+        return numpy.zeros_like(self.pixels[self.symbol][::SCALE, ::SCALE])
 
-    @property
-    def ec_codewords(self) -> int:
-        return EC_CODEWORDS[self.level][self.version - 1]
-
-    def nothing(self) -> Pixels:
-        """A mask of no pixel."""
-        return numpy.zeros_like(self.pixels)
+    def turned(self, modules):
+        """The pixels with the modules turned that are 1 here."""
+        pixels = self.pixels.copy()
+        pixels[self.symbol] ^= modules.repeat(SCALE, 0).repeat(SCALE, 1)
+        return pixels
 
 
-def bar_codes(draw: random.Random, count: int) -> Iterator[Label]:
+def bar_codes(draw, count):
     """Labels of the four linear symbologies, `count` of each."""
     for _ in range(count):
         for name, length in (("ean13", 12), ("ean8", 7), ("upca", 11)):
@@ -110,132 +91,84 @@ def bar_codes(draw: random.Random, count: int) -> Iterator[Label]:
         yield Label(f"code128,height={draw.randrange(12, 30)}", text, text, SCALE)
 
 
-def qr_symbols(draw: random.Random, count: int) -> Iterator[tuple[Label, int, str]]:
-    """Labels of QR symbols, `count` of each version and level, with their version and level."""
+def qr_symbols(draw, count):
+    """Labels of QR symbols, `count` of each version and level."""
     for _ in range(count):
         for version in range(1, 11):
             for level in "LMQH":
                 text = "".join(chr(draw.randrange(33, 127)) for _ in range(draw.randrange(1, 8))).encode()
-                yield Label(f"qr,level={level},min-version={version}", text, text, SCALE), version, level
+                yield Label(f"qr,level={level},min-version={version}", text, text, SCALE)
 
 
-def is_function_module(version: int, x: int, y: int) -> bool:
-    """Whether a module of a QR symbol holds no codeword: a pattern, or format or version information (clause 6.3)."""
-    side = 17 + 4 * version
-    if x == 6 or y == 6:
-        return True
-    if (x < 9 and y < 9) or (x < 9 and y >= side - 8) or (x >= side - 8 and y < 9):
-        return True
-    if version >= 7 and min(x, y) < 6 and max(x, y) >= side - 11:
-        return True
-    centres = CENTRES[version - 1]
-    for column in centres:
-        for row in centres:
-            is_in_finder = (column == 6 and row in (6, centres[-1])) or (row == 6 and column == centres[-1])
-            if not is_in_finder and abs(x - column) <= 2 and abs(y - row) <= 2:
-                return True
-    return False
+def pictures(program, labels):
+    """The labels as the program draws them."""
+    for label, pixels in zip(labels, pictures_of(program, labels, "--scale", str(SCALE))):
+        yield Picture(label, pixels)
 
 
-def codeword_places(version: int) -> list[list[tuple[int, int]]]:
-    """The eight modules of each codeword, in the order in which codewords are placed (clause 7.7.3)."""
-    side = 17 + 4 * version
-    right_columns = [column for column in range(side - 1, 0, -2) if column > 6]
-    right_columns += [5, 3, 1]
-    places = []
-    for turn, right in enumerate(right_columns):
-        rows = range(side) if turn % 2 else range(side - 1, -1, -1)
-        places += [(x, y) for y in rows for x in (right, right - 1) if not is_function_module(version, x, y)]
-    return [places[start : start + 8] for start in range(0, 8 * CODEWORDS[version - 1], 8)]
+@functools.cache
+def codewords_of(version):
+    """The places of the eight modules of each codeword, in the order in which codewords are placed (clause 7.7.3)."""
+    matrix = encoder.make_matrix(version)
+    encoder.add_finder_patterns(matrix, False)
+    encoder.add_alignment_patterns(matrix, version)
+    rows = [list(row) for row in matrix]
+    bits = range(FIRST, FIRST + sum(row.count(FREE) for row in rows))
+    encoder.add_codewords(rows, bits, version)
+    places = {bit: (y, x) for y, row in enumerate(rows) for x, bit in enumerate(row)}
+    return [[places[bit] for bit in bits[start : start + 8]] for start in range(0, len(bits) - 7, 8)]
 
 
-def block_of(place: int, version: int, level: str) -> int:
-    """The block that the codeword at this place belongs to (clause 7.6)."""
-    blocks = BLOCKS[level][version - 1]
-    data_codewords = CODEWORDS[version - 1] - blocks * EC_CODEWORDS[level][version - 1]
-    shorter = data_codewords // blocks
-    if place < shorter * blocks:
-        return place % blocks
-    if place < data_codewords:
-        return blocks - data_codewords % blocks + place - shorter * blocks
-    return (place - data_codewords) % blocks
+def blocks_of(picture):
+    """The codewords of each block, which are interleaved (clause 7.6)."""
+    codewords = iter(codewords_of(picture.version))
+    blocks = [[] for _ in picture.blocks]
+    for turn in range(picture.blocks[-1].num_data):
+        for block, sizes in zip(blocks, picture.blocks):
+            if turn < sizes.num_data:
+                block.append(next(codewords))
+    for _ in range(picture.ec_codewords):
+        for block in blocks:
+            block.append(next(codewords))
+    return blocks
 
 
-@dataclass(frozen=True)
-class Damage:
-    """A kind of damage: what it is called, and the mask of the pixels of a picture that it turns."""
-
-    name: str
-    mask: Callable[[Picture, random.Random], Pixels]
-
-
-def turn_modules(mask: Pixels, picture: Picture, places: list[tuple[int, int]]) -> None:
-    """Sets the pixels of modules of a QR symbol."""
-    for x, y in places:
-        left, top = picture.left + x * SCALE, picture.top + y * SCALE
-        mask[top : top + SCALE, left : left + SCALE] = 1
-
-
-def turn_bars(mask: Pixels, picture: Picture, columns: list[int], top: int, bottom: int) -> None:
-    """Sets the pixels of modules of a bar code, from one row of pixels to another."""
-    for column in columns:
-        left = picture.left + column * SCALE
-        mask[top:bottom, left : left + SCALE] = 1
-
-
-def turned_modules(count: int) -> Damage:
+def turn_modules(picture, draw, count):
     """Turns modules: of a bar code in all its rows, of a QR symbol anywhere."""
-
-    def damage(picture: Picture, draw: random.Random) -> Pixels:
-        side, mask = picture.columns, picture.nothing()
-        if picture.symbology == "qr":
-            places = [(place % side, place // side) for place in draw.sample(range(side * side), count)]
-            turn_modules(mask, picture, places)
-        else:
-            turn_bars(mask, picture, draw.sample(range(side), count), picture.top, picture.bottom)
-        return mask
-
-    return Damage(TURNED, damage)
+    modules = picture.no_modules()
+    if picture.is_qr:
+        modules.flat[draw.sample(range(modules.size), count)] = 1
+    else:
+        modules[:, draw.sample(range(len(modules[0])), count)] = 1
+    return picture.turned(modules)
 
 
-def turned_in_each_row(count: int) -> Damage:
+def turn_in_each_row(picture, draw, count):
     """Turns modules of a bar code, other ones in each row of modules."""
-
-    def damage(picture: Picture, draw: random.Random) -> Pixels:
-        mask = picture.nothing()
-        for top in range(picture.top, picture.bottom, SCALE):
-            turn_bars(mask, picture, draw.sample(range(picture.columns), count), top, top + SCALE)
-        return mask
-
-    return Damage(TURNED_IN_ROWS, damage)
+    modules = picture.no_modules()
+    for row in modules:
+        row[draw.sample(range(len(row)), count)] = 1
+    return picture.turned(modules)
 
 
-def wrong_pixels(count: int) -> Damage:
+def turn_pixels(picture, draw, count):
     """Turns pixels anywhere in the picture."""
-
-    def damage(picture: Picture, draw: random.Random) -> Pixels:
-        mask = picture.nothing()
-        mask.flat[draw.sample(range(mask.size), count)] = 1
-        return mask
-
-    return Damage("wrong pixels", damage)
+    pixels = picture.pixels.copy()
+    pixels.flat[draw.sample(range(pixels.size), count)] ^= 1
+    return pixels
 
 
-def wrong_codewords(count: int) -> Damage:
+def spoil_codewords(picture, draw, count):
     """Spoils this many codewords in each block of a QR symbol."""
-
-    def damage(picture: Picture, draw: random.Random) -> Pixels:
-        places, mask = codeword_places(picture.version), picture.nothing()
-        for block in range(BLOCKS[picture.level][picture.version - 1]):
-            own = [n for n in range(len(places)) if block_of(n, picture.version, picture.level) == block]
-            for number in draw.sample(own, count):
-                turn_modules(mask, picture, draw.sample(places[number], draw.randrange(1, 9)))
-        return mask
-
-    return Damage("wrong codewords", damage)
+    modules = picture.no_modules()
+    for block in blocks_of(picture):
+        for codeword in draw.sample(block, count):
+            for place in draw.sample(codeword, draw.randrange(1, 9)):
+                modules[place] = 1
+    return picture.turned(modules)
 
 
-def positions(pixels: Pixels) -> Iterator[Pixels]:
+def positions(pixels):
     """The picture turned by a quarter, a half and three quarters, and each of the four in a mirror."""
     for quarters in range(1, 5):
         turned = numpy.rot90(pixels, -quarters)
@@ -243,39 +176,32 @@ def positions(pixels: Pixels) -> Iterator[Pixels]:
         yield numpy.fliplr(turned)
 
 
-def turned_limit(picture: Picture) -> int:
-    """How many modules may be turned, in a row of a bar code or in a QR symbol."""
-    if picture.symbology == "qr":
-        return min(MOST_TURNED_IN_QR, picture.ec_codewords)
-    return TURNED_IN_A_ROW[picture.symbology]
-
-
-def within(picture: Picture) -> list[Damage]:
-    """The damages up to the limits."""
-    limit = turned_limit(picture)
-    pixels_of_a_module = SCALE * (SCALE if picture.symbology == "qr" else len(picture.pixels))
-    damages = [turned_modules(count) for count in sorted({1, (limit + 1) // 2, limit})]
-    damages.append(wrong_pixels((limit + 1) * pixels_of_a_module - 1))
-    if picture.symbology == "qr":
-        damages += [wrong_codewords(1), wrong_codewords(picture.ec_codewords // 2)]
+def within(picture, draw):
+    """What is damaged up to the limits, and whether the reading rules of the standard read nothing of it."""
+    limit = picture.limit
+    for count in sorted({1, (limit + 1) // 2, limit}):
+        yield turn_modules(picture, draw, count), not picture.is_qr
+    pixels_of_a_module = SCALE * (SCALE if picture.is_qr else len(picture.pixels))
+    yield turn_pixels(picture, draw, (limit + 1) * pixels_of_a_module - 1), False
+    if picture.is_qr:
+        yield spoil_codewords(picture, draw, 1), False
+        yield spoil_codewords(picture, draw, picture.ec_codewords // 2), False
     else:
-        damages.append(turned_in_each_row(limit))
-    return damages
+        yield turn_in_each_row(picture, draw, limit), True
 
 
-def beyond(picture: Picture) -> list[Damage]:
-    """Damages above the limits, of which nothing is promised."""
-    limit = turned_limit(picture)
-    damages = [turned_modules(limit + 1), turned_modules(2 * limit + 2)]
-    if picture.symbology == "qr":
-        damages.append(wrong_codewords(picture.ec_codewords // 2 + 1))
-    return damages
+def beyond(picture, draw):
+    """What is damaged above the limits, of which nothing is promised."""
+    yield turn_modules(picture, draw, picture.limit + 1)
+    yield turn_modules(picture, draw, 2 * picture.limit + 2)
+    if picture.is_qr:
+        yield spoil_codewords(picture, draw, picture.ec_codewords // 2 + 1)
 
 
 class Scanners:
-    """zbar and zxing-cpp, each set to all five symbologies."""
+    """zbar and zxing-cpp, each set to all five symbologies, and what they made of labels."""
 
-    def __init__(self) -> None:
+    def __init__(self):
         self.zbar = zbar.ImageScanner()
         self.zbar.parse_config("disable")
         for name in ("ean13", "ean8", "upca", "code128", "qrcode"):
@@ -283,95 +209,61 @@ class Scanners:
         kinds = zxingcpp.BarcodeFormat
         self.formats = kinds.EAN13 | kinds.EAN8 | kinds.UPCA | kinds.Code128 | kinds.QRCode
 
-    def read(self, pixels: Pixels) -> list[set[bytes]]:
+    def read(self, pixels):
         """What each scanner reads in a picture, with white around it."""
         grays = gray(pixels, MARGIN, MARGIN)
         image = zbar.Image(grays.shape[1], grays.shape[0], "Y800", grays.tobytes())
         self.zbar.scan(image)
-        by_zbar = {symbol.data.encode() for symbol in image}
         found = zxingcpp.read_barcode(grays, formats=self.formats)
-        return [by_zbar, {found.bytes} if found else set()]
+        return {symbol.data.encode() for symbol in image}, {found.bytes} if found else set()
+
+    def scan(self, picture, pixels, wrong="misread", is_shown=True):
+        """What each scanner made of a picture: `read`, `unread`, or for other data the word `wrong`, shown."""
+        results = []
+        for scanner, found in zip(SCANNERS, self.read(pixels)):
+            right = {plain(picture.label.full)}
+            result = "unread" if not found else "read" if {*map(plain, found)} == right else wrong
+            if result == wrong and is_shown:
+                print(f"{picture.label.line()}: {scanner} {wrong} {sorted(found)!r}")
+            results.append(result)
+        return results
+
+    def sees_other_labels(self, program):
+        """Whether both scanners are caught where two modules are turned that make a label another one."""
+        numbers = [b"2431309135250", b"7452309135250"]
+        one, other = pictures(program, [Label("ean13", number, number, SCALE) for number in numbers])
+        found = self.scan(one, other.pixels, is_shown=False) + self.scan(other, one.pixels, is_shown=False)
+        return found == ["misread"] * 4
 
 
-def plain(data: bytes) -> bytes:
+def plain(data):
     """Data in which the EAN-13 of a UPC-A symbol, which has the same bars, is the UPC-A."""
     return data[1:] if len(data) == 13 and data.isdigit() and data.startswith(b"0") else data
 
 
-def judge(full: bytes, found: set[bytes]) -> str:
-    """What a scanner made of a label with this full data."""
-    if not found:
-        return "unread"
-    return "read" if {plain(data) for data in found} == {plain(full)} else "misread"
-
-
-def scan(scanners: Scanners, picture: Picture, pixels: Pixels, what: str) -> list[str]:
-    """What each scanner made of a picture. Prints each misreading of what has a name."""
-    results = []
-    for name, found in zip(("zbar", "zxing-cpp"), scanners.read(pixels)):
-        result = judge(picture.full, found)
-        if result == "misread" and what in (TURNED, TURNED_IN_ROWS) and picture.symbology != "qr":
-            result = "guessed"
-        if result in ("misread", "guessed") and what:
-            print(f"{picture.symbology} {picture.full!r}, {what}: {name} {result} {sorted(found)!r}")
-        results.append(result)
-    return results
-
-
-def other_labels(program: str) -> Iterator[tuple[Picture, Pixels]]:
-    """A label, and its picture with two modules turned, which is the picture of another label."""
-    numbers = [b"2431309135250", b"7452309135250"]
-    drawn = pictures_of(program, [Label("ean13", number, number, SCALE) for number in numbers], "--scale", str(SCALE))
-    pictures = [Picture("ean13", number, pixels, *box_of(pixels)) for number, pixels in zip(numbers, drawn)]
-    for picture, other in (pictures, pictures[::-1]):
-        yield picture, other.pixels
-
-
-def all_pictures(program: str, draw: random.Random) -> Iterator[Picture]:
-    """The labels, as the program draws them."""
-    bar_labels = list(bar_codes(draw, 100))
-    symbols = list(qr_symbols(draw, 2))
-    labels = [*bar_labels, *(label for label, _, _ in symbols)]
-    kinds = [(0, "")] * len(bar_labels) + [(version, level) for _, version, level in symbols]
-    drawn = pictures_of(program, labels, "--scale", str(SCALE))
-    for label, pixels, kind in zip(labels, drawn, kinds):
-        yield Picture(label.head.split(",")[0], label.full, pixels, *box_of(pixels), *kind)
-
-
-def is_caught(scanners: Scanners, program: str) -> bool:
-    """Whether both scanners are caught where a damaged label is another one."""
-    results = [scan(scanners, picture, pixels, "") for picture, pixels in other_labels(program)]
-    return results == [["misread"] * 2] * 2
-
-
-def main() -> int:
+def main():
     program = sources.program_given(__doc__)
-    draw = random.Random(SEED)
-    scanners = Scanners()
-    total = 0
-    unread = 0
-    within_limits: Counter[str] = Counter()
-    beyond_limits: Counter[str] = Counter()
-    for picture in list(all_pictures(program, draw)):
-        unread += "read" not in scan(scanners, picture, picture.pixels, "as drawn")
-        pictures = [("another position", pixels) for pixels in positions(picture.pixels)]
-        pictures += [(one.name, picture.pixels ^ one.mask(picture, draw)) for one in within(picture)]
-        for what, pixels in pictures:
-            within_limits.update(scan(scanners, picture, pixels, what))
-        total += len(pictures)
-        for one in beyond(picture):
-            beyond_limits.update(scan(scanners, picture, picture.pixels ^ one.mask(picture, draw), ""))
-    caught = is_caught(scanners, program)
-    if not caught:
+    draw, scanners = random.Random(SEED), Scanners()
+    unread, inside, outside = 0, Counter(), Counter()
+    for picture in [*pictures(program, [*bar_codes(draw, 100), *qr_symbols(draw, 2)])]:
+        unread += "read" not in scanners.scan(picture, picture.pixels)
+        damaged = [(pixels, False) for pixels in positions(picture.pixels)] + [*within(picture, draw)]
+        for pixels, is_guess in damaged:
+            inside.update(scanners.scan(picture, pixels, "guessed" if is_guess else "misread"))
+        for pixels in beyond(picture, draw):
+            outside.update(scanners.scan(picture, pixels, is_shown=False))
+    total = inside.total() // len(SCANNERS)
+    is_caught = scanners.sees_other_labels(program)
+    if not is_caught:
         print("a damaged label that is another label was not caught")
     if unread:
         print(f"{unread} labels are read by no scanner as they are drawn")
     print(
-        f"{total} damaged labels, read twice: {within_limits['read']} as drawn, {within_limits['unread']} not, "
-        f"{within_limits['misread']} misread, {within_limits['guessed']} guessed; beyond the limits: "
-        f"{beyond_limits['read']} as drawn, {beyond_limits['unread']} not, {beyond_limits['misread']} misread"
+        f"{total} damaged labels, read twice: {inside['read']} as drawn, {inside['unread']} not, "
+        f"{inside['misread']} misread, {inside['guessed']} guessed; beyond the limits: "
+        f"{outside['read']} as drawn, {outside['unread']} not, {outside['misread']} misread"
     )
-    return 0 if caught and not unread and not within_limits["misread"] and total >= LEAST else 1
+    return 0 if is_caught and not unread and not inside["misread"] and total >= LEAST else 1
 
 
 if __name__ == "__main__":

@@ -13,11 +13,9 @@ TOP = os.path.dirname(os.path.dirname(os.path.dirname(os.path.abspath(__file__))
 SCRIPTS = os.path.join(TOP, "scripts")
 # Debian's Python, as the gate runs the scripts.
 PYTHON = "/usr/bin/python3"
-# What the shell scripts call of every system.
-OF_THE_SYSTEM = "bash env dirname realpath mktemp rm sed awk cat grep head cut true tee tail".split()
-# What a copy of the repository has.
-FOLDERS = (".ci", "completions", "crates", "debian", "docs", "lib", "man", "scripts", "tools")
-FILES = ("README.md", "CHANGELOG.md", "CONTRIBUTING.md", "HANDLES", "crates.txt")
+sys.path.insert(0, SCRIPTS)
+# A script of scripts/ as a module, by its name.
+module = importlib.import_module
 
 
 def run_command(command, **environment):
@@ -29,15 +27,7 @@ def run_command(command, **environment):
 
 def run(script, *arguments, **environment):
     """The status of a script of scripts/ and all that it prints."""
-    interpreter = PYTHON if script.endswith(".py") else shutil.which("bash")
-    return run_command([interpreter, os.path.join(SCRIPTS, script), *arguments], **environment)
-
-
-def module(name):
-    """A script of scripts/ as a module."""
-    if SCRIPTS not in sys.path:
-        sys.path.insert(0, SCRIPTS)
-    return importlib.import_module(name)
+    return run_command([PYTHON, os.path.join(SCRIPTS, script), *arguments], **environment)
 
 
 def read(path):
@@ -64,11 +54,8 @@ class InFolder(unittest.TestCase):
         return os.path.join(self.folder, *names)
 
     def bare_path(self):
-        """A folder for PATH with what every system has, and no third-party tool."""
-        os.makedirs(self.path("bare"))
-        for tool in OF_THE_SYSTEM:
-            os.symlink(shutil.which(tool), self.path("bare", tool))
-        return self.path("bare")
+        """A PATH with what every system has, and no kit."""
+        return "/usr/bin:/bin"
 
 
 class InCopy(unittest.TestCase):
@@ -76,13 +63,9 @@ class InCopy(unittest.TestCase):
 
     @classmethod
     def setUpClass(cls):
-        cls.folder = tempfile.mkdtemp(prefix="test-copy-")
-        cls.addClassCleanup(shutil.rmtree, cls.folder)
-        for name in FOLDERS:
-            left_out = shutil.ignore_patterns("out", "__pycache__")
-            shutil.copytree(os.path.join(TOP, name), os.path.join(cls.folder, name), ignore=left_out)
-        for name in FILES:
-            shutil.copy(os.path.join(TOP, name), cls.folder)
+        cls.folder = os.path.join(tempfile.mkdtemp(prefix="test-copy-"), "labels")
+        cls.addClassCleanup(shutil.rmtree, os.path.dirname(cls.folder))
+        shutil.copytree(TOP, cls.folder, ignore=shutil.ignore_patterns("out", ".git", "__pycache__"))
 
     def path(self, *names):
         return os.path.join(self.folder, *names)
@@ -102,11 +85,11 @@ class InCopy(unittest.TestCase):
 
     def assert_changes_fail(self, changes, fails):
         """Each change of a file, `new` in the place of the first `old`, makes `fails` end with 1 and say a text."""
-        for file, old, new, *step, said in changes:
+        for file, old, new, said in changes:
             with self.subTest(file=file, old=old, new=new):
                 text = read(self.path(file))
                 self.assertIn(old, text)
                 self.replace(file, text.replace(old, new, 1))
-                status, printed = fails(*step)
+                status, printed = fails()
                 self.assertEqual((status, said in printed), (1, True), printed)
-                self.doCleanups()
+            self.doCleanups()

@@ -10,12 +10,14 @@ import os
 import re
 import shutil
 import types
+import sys
 import unittest
 from unittest import mock
 
-from support import SCRIPTS, InFolder, module, read, run, run_command, write
+from support import SCRIPTS, InFolder, module, read, run, write
 
 compare_symbols = module("compare_symbols")
+instructions = module("instructions")
 run_recipes = module("run_recipes")
 pictures = module("pictures")
 reader = module("reader")
@@ -26,8 +28,9 @@ class Arguments(InFolder):
     """Help ends with status 0 and an unknown argument with usage and status 2, in each script."""
 
     def names(self):
-        own = ["believed.py", "believed_rows.py", "compare_symbols.py", "counts.py", "gate.py", "pages.py"]
-        return [*own, "run_recipes.py", "unused.py", "wrong_bodies.py", "instructions.sh", "refuse_each_growth.sh"]
+        return [
+            name for name in os.listdir(SCRIPTS) if name.endswith(".py") and os.access(f"{SCRIPTS}/{name}", os.X_OK)
+        ]
 
     def test_help(self):
         for name in self.names():
@@ -40,15 +43,8 @@ class Arguments(InFolder):
             self.assertEqual((name, status, "usage: " in said), (name, 2, True))
 
     def test_no_such_program(self):
-        for name in ("compare_symbols.py", "run_recipes.py", "refuse_each_growth.sh", "instructions.sh"):
+        for name in ("compare_symbols.py", "run_recipes.py", "refuse_each_growth.py"):
             self.assertEqual(run(name, "/no/such/program")[0], 2, name)
-
-    def test_missing_tool(self):
-        """What a script calls and is not there is named, and is a failure."""
-        path = self.bare_path()
-        for name, tool in (("compare_symbols.py", "zbarimg"), ("instructions.sh", "valgrind")):
-            status, said = run(name, "/bin/true", PATH=path)
-            self.assertEqual((status, f"not installed: {tool}" in said), (2, True), said)
 
 
 CODE = """/// A brace.
@@ -292,99 +288,78 @@ class Judges(unittest.TestCase):
         turned = compare_symbols.with_turned_module(picture)
         self.assertEqual((turned != picture).nonzero(), (4, 4))
         with mock.patch.object(compare_symbols, "pictures_of", return_value=[picture]):
-            for difference, unread, count in (("", [], 2), ("it", [], 1), ("", ["it"], 1), ("it", ["it"], 0)):
-                with mock.patch.object(compare_symbols, "difference", return_value=difference):
-                    with mock.patch.object(compare_symbols, "not_read_back", return_value=unread):
-                        self.assertEqual(len([*compare_symbols.not_seen(None, None)]), count)
+            for is_same, unread, count in ((True, [], 2), (False, [], 1), (True, ["it"], 1), (False, ["it"], 0)):
+                bent = {"is_as_zint": lambda *given: is_same, "not_read_back": lambda *given: unread}
+                with mock.patch.multiple(compare_symbols, **bent):
+                    self.assertEqual(len([*compare_symbols.not_seen(None)]), count)
 
     def test_recipes(self):
         self.assertEqual([*run_recipes.unseen()], [])
-        real = run_recipes.Run.judge
-        for bent in (lambda it, good, text: real(it, True, text), lambda it, good, text: None):
-            with mock.patch.object(run_recipes.Run, "judge", bent):
-                self.assertEqual(len([*run_recipes.unseen()]), 7)
+        for where, name, bent, count in (
+            (run_recipes.Commands, "fault", lambda *given: "", 3),
+            (run_recipes, "fault_of_picture", lambda *given: "", 2),
+            (run_recipes, "judged", lambda *given: (1, 1), 5),
+            (run_recipes, "judged", lambda *given: (1, 0), 5),
+        ):
+            with mock.patch.object(where, name, bent):
+                self.assertEqual(len([*run_recipes.unseen()]), count)
 
 
-VALGRIND = """#!/usr/bin/env bash
-# Stands in for valgrind: each line of the last argument takes EACH instructions, and the run one write for a line.
-for last in "$@"; do :; done
-lines=$(grep -c . "$last")
-if [[ $* == *--trace-syscalls* ]]; then
-    for ((i = 0; i < lines + 9; i++)); do echo 'SYSCALL[1,1](0) sys_read ( 3 )' >&2; done
-    for ((i = 0; i < lines * ${WRITES:-1}; i++)); do echo 'SYSCALL[1,1](1) sys_write ( 1 )' >&2; done
-else
-    echo "==1== Collected : $((1000 + lines * ${EACH:-20000}))" >&2
-fi
+PAGE = """Text.
+
+| Label | labels | zint |
+|---|---|---|
+| one | 20,000 | 7 |
+| two | 1,000 | - |
+
+| Other | labels |
+|---|---|
+| three | 1 |
+
+| Call | liblabels |
+|---|---|
+| `labels_draw`, one | 300 |
 """
 
 
-class Instructions(InFolder):
-    """--check compares each row of the tables; valgrind and the program are stand-ins."""
-
-    table = ""
-
-    def setUp(self):
-        super().setUp()
-        self.program = self.path("labels")
-        write(self.program, "#!/bin/sh\necho drawn\n", is_program=True)
-        self.environment = {"PATH": self.bare_path()}
-        write(self.path("bare", "valgrind"), VALGRIND, is_program=True)
-        write(self.path("table.md"), self.table or self.make_table())
-
-    def make_table(self):
-        """The table that the script prints of the stand-ins, made once for all tests."""
-        status, table = run("instructions.sh", self.program, **self.environment)
-        self.assertEqual(status, 0, table)
-        type(self).table = table[table.index("| Label |") :]
-        return self.table
-
-    def check(self, **more):
-        arguments = ("--check", "--table", self.path("table.md"), self.program)
-        return run("instructions.sh", *arguments, **self.environment, **more)
+class Instructions(unittest.TestCase):
+    """Counts are compared with each row of the page."""
 
     def test_rows(self):
-        """What is measured, beside a table, gives a status and a line."""
-        digits = "QR, 600 digits, level L"
-        gone = re.sub(rf"\| {digits}.*\n", "", self.table)
-        no_number = re.sub(rf"(\| {digits} \|) [\d,]+", r"\1 many", self.table)
-        more = self.table.replace("| EAN-13 |", "| EAN-99 | 1 | - | - | - |\n| EAN-13 |")
-        for table, environment, status, wanted in (
-            (self.table, {}, 0, "EAN-13: 20,000 in the table, 20,000 measured, +0.0 %"),
-            (self.table, {}, 0, "16 rows, 0 failed"),
-            (self.table, {"EACH": "21000"}, 0, "16 rows, 0 failed"),
-            (self.table, {"EACH": "21200"}, 1, "FAILS EAN-13: 20,000 in the table, 21,200 measured, +6.0 %"),
-            (self.table, {"EACH": "19000"}, 0, "16 rows, 0 failed"),
-            (self.table, {"EACH": "18800"}, 1, "FAILS EAN-13: 20,000 in the table, 18,800 measured, -6.0 %"),
-            (self.table, {"WRITES": "3"}, 1, "FAILS writes of 1,000 EAN-13 labels"),
-            (gone, {}, 1, f"FAILS {digits}: the table has no such row"),
-            (no_number, {}, 1, f"FAILS {digits}: the table has many"),
-            (more, {}, 1, "FAILS EAN-99"),
+        found = {"one": 20000, "two": 1000, "`labels_draw`, one": 300}
+        for old, new, more, fails in (
+            ("", "", {}, []),
+            ("", "", {"one": 21000, "two": 950}, []),
+            ("", "", {"one": 21200}, ["one: 20,000 on the page, 21,200 measured, +6.0 %"]),
+            ("", "", {"one": 18800}, ["one: 20,000 on the page, 18,800 measured, -6.0 %"]),
+            ("| two | 1,000 | - |\n", "", {}, ["two: the page has no such row"]),
+            ("20,000", "many", {}, ["one: the page has many"]),
+            ("| two ", "| one | 1 |\n| two ", {}, ["one: the page has 20,000; 1"]),
+            ("300 |\n", "300 |\n| more | 1 |\n", {}, ["more: a row of the page that is not measured"]),
+            ("liblabels", "labels", {}, ["`labels_draw`, one: the page has no such row"]),
         ):
-            with self.subTest(wanted):
-                write(self.path("table.md"), table)
-                found, said = self.check(**environment)
-                self.assertEqual((found, wanted in said), (status, True), said)
+            with self.subTest(old=old, new=new, more=more):
+                lines, failed = instructions.check({**found, **more}, PAGE.replace(old, new))
+                self.assertEqual([line for line in lines if line.startswith("FAILS")], [f"FAILS {it}" for it in fails])
+                self.assertEqual((failed, len(lines)), (len(fails), max(3, len(lines))))
 
     def test_comparison_that_passes_all(self):
         """One with another room for what is off, or that counts no failure, is shown counts that it has to report."""
-        script = read(os.path.join(SCRIPTS, "instructions.sh"))
-        for old, new in (("room=5", "room=50"), ("failures=$((failures + 1))", ":"), ('fail "FAILS $line"', ":")):
-            with self.subTest(new):
-                self.assertEqual(script.count(old), 1)
-                write(self.path("scripts/instructions.sh"), script.replace(old, new))
-                command = ["bash", self.path("scripts/instructions.sh"), "--check", "--table", self.path("table.md")]
-                status, said = run_command([*command, self.program], **self.environment)
-                self.assertEqual((status, "of the table is not reported" in said), (1, True), said)
+        said = io.StringIO()
+        for name, bent in (("ROOM", 50), ("compared", lambda *given: "one: fine"), ("check", lambda *given: ([], 0))):
+            with self.subTest(name), mock.patch.object(instructions, name, bent), contextlib.redirect_stdout(said):
+                with mock.patch.object(sys, "argv", ["instructions.py", "--check"]):
+                    self.assertEqual(instructions.main(), 1)
+        self.assertEqual(said.getvalue().count("is not reported"), 3)
 
-    def test_program_that_draws_nothing(self):
-        write(self.program, "#!/bin/sh\n", is_program=True)
-        status, said = self.check()
-        self.assertEqual(status, 2)
-        self.assertIn("draws no label", said)
-
-    def test_program_that_fails(self):
-        write(self.program, "#!/bin/sh\necho drawn\nexit 3\n", is_program=True)
-        self.assertEqual(self.check()[0], 2)
+    def test_what_is_not_counted(self):
+        """A program that draws nothing or fails, and valgrind where it is not installed."""
+        for program, wanted in (("true", "draws no label"), ("false", "status 1"), ("valgrind-9", "not installed")):
+            said = io.StringIO()
+            with mock.patch.multiple(instructions, PROGRAM=program, command_of=lambda *given: [program]):
+                with contextlib.redirect_stderr(said), self.assertRaises(SystemExit) as ended:
+                    instructions.one_more(program, instructions.EAN)
+            self.assertEqual((ended.exception.code, wanted in said.getvalue()), (2, True), said.getvalue())
 
 
 LIBRARY = """//! A small crate.

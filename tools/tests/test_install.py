@@ -92,14 +92,14 @@ class Versions(InFolder):
 
     def version_of_head(self) -> str:
         """The version of the package of the last commit."""
-        first = command_of("scripts/debian_changelog.py", cwd=self.folder).split("\n")[0]
+        first = command_of("debian/changelog.py", cwd=self.folder).split("\n")[0]
         match = re.fullmatch(r"labels \((\S+)\) unstable; urgency=medium", first)
         assert match, first
         return match[1]
 
     def test_versions_rise(self) -> None:
         """A commit has a version above that of the one before; a tag has the plain version."""
-        for name in ("scripts/debian_changelog.py", "scripts/sources.py", "CHANGELOG.md"):
+        for name in ("debian/changelog.py", "CHANGELOG.md"):
             (self.folder / name).parent.mkdir(exist_ok=True)
             shutil.copy(support.TOP / name, self.folder / name)
         command_of("git", "init", "-q", cwd=self.folder)

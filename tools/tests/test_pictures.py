@@ -2,9 +2,7 @@
 it.
 """
 
-import importlib.util
 import os
-import sys
 import tempfile
 import unittest
 from pathlib import Path
@@ -14,12 +12,7 @@ import jobs
 import support
 from laying import laid_out, look
 
-PATH = support.TOP / "scripts/draw_layouts.py"
-found = importlib.util.spec_from_file_location("draw_layouts", PATH)
-assert found is not None and found.loader is not None
-layouts = importlib.util.module_from_spec(found)
-sys.modules["draw_layouts"] = layouts
-found.loader.exec_module(layouts)
+layouts = support.script("draw_layouts")
 
 
 def setUpModule() -> None:
@@ -29,7 +22,7 @@ def setUpModule() -> None:
 class Pictures(unittest.TestCase):
     def laid(self, case: Any, design: str) -> Any:
         """The labels of a case."""
-        data = layouts.file_of(case.labels)
+        data = support.file_of(case.labels)
         return laid_out(data, case.size, case.dpi, design=design, is_roll=case.is_roll)
 
     def test_each_label_is_laid_out_and_read(self) -> None:

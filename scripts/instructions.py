@@ -1,0 +1,305 @@
+#!/usr/bin/python3
+"""Counts the instructions that a label takes, beside other libraries and programs, as docs/BENCHMARKS.md has them.
+
+It prints the tables of that page, for which zint, GNU barcode and qrencode have to be installed. valgrind (callgrind)
+counts, the same on a busy machine as on an idle one. What one label more costs: from a run over COUNT more labels one
+over none is subtracted, for zint and GNU barcode one over a single label, and for qrencode, which draws one label a
+run, one that prints its version. A call of a library is a tenth of ten calls, after one that is not counted
+(lib/tests/count_calls.c). A whole run has an empty environment, since the loader reads it. System calls are those of a
+run without those of a run over no line. Every program writes to /dev/null.
+
+--check counts the program and the static library alone, and compares each row with the page. The status is 1 where a
+row takes more than 5 % more or less than the page says, or where the page lacks a row, has one that is no number, or
+one that is not measured. In each run the comparison is shown two counts that are 6 % off, which it has to report. The
+last line is `N rows, M failed`. Status 2: bad arguments, a program or library that is missing, a count that failed.
+"""
+
+import os
+import re
+import shutil
+import subprocess
+import sys
+import tempfile
+from dataclasses import dataclass
+from functools import partial
+from pathlib import Path
+
+import sources
+
+COUNT = 20
+# The calls of a library that lib/tests/count_calls.c counts together.
+CALLS = 10
+# By how much in a hundred a count may be above or below that of the page.
+ROOM = 5
+TOP = Path(sources.TOP)
+PAGE = TOP / "docs/BENCHMARKS.md"
+PROGRAM = TOP / "crates/labels/out/labels"
+LIBRARY = (TOP / "lib/tests/count_calls.c", TOP / "lib/labels.c", TOP / "crates/labels_c/out/liblabels_c.a")
+BUILD = ("gcc", "-O2", f"-I{TOP}/lib", *LIBRARY, "-lqrencode", "-lzint", "-lqrcodegen", "-o", "count_calls")
+# The tables of the page that are counted, by the first two cells of their heads.
+HEADS = (["Label", "labels"], ["Start", "labels"], ["Calls", "labels"], ["Call", "liblabels"])
+LEVELS = "LMQH"
+# What zint and GNU barcode call a linear symbology.
+LINEAR = {"ean13": ("EANX", "ean13"), "code128": ("CODE128", "128")}
+
+
+@dataclass(frozen=True)
+class Label:
+    """A label: its symbology, its data, and the level of a QR symbol."""
+
+    symbology: str
+    data: str
+    level: str = "M"
+
+
+def front(count, text):
+    """The first characters of a text over and over."""
+    return (text * count)[:count]
+
+
+LOT = "LOT-000123/Shelf 7b"
+URL = "https://example.com/article/000123"
+PI = "31415926535897932384"
+EAN = Label("ean13", "400638133393")
+CODE128 = Label("code128", LOT)
+QR = Label("qr", URL)
+# The labels that others draw too, and those that `labels` alone draws, with its options.
+LABELS = {
+    "EAN-13": EAN,
+    f"Code 128, `{LOT}`": CODE128,
+    f"QR, `{URL}`, level M": QR,
+    "QR, 200 letters and digits in lower case, level M": Label(
+        "qr", front(200, "a1b2c3d4e5f6g7h8i9j0klmnopqrstuvwxyz")
+    ),
+    "QR, 600 digits, level L": Label("qr", front(600, PI), "L"),
+    "QR, 300 digits, level L": Label("qr", front(300, PI), "L"),
+}
+ONLY_OURS = {
+    **{f"QR, `{URL}`, `--scale {scale}`": (QR, ("--scale", f"{scale}")) for scale in (5, 6, 7, 8)},
+    "EAN-13, `--scale 8`": (EAN, ("--scale", "8")),
+    "EAN-13, `--format ascii --height 5`": (EAN, ("--format", "ascii", "--height", "5")),
+}
+STARTS = {"a run with one EAN-13": EAN, f"a run with one QR, `{URL}`": QR}
+SYSTEM_CALLS = {"reads of 1,000 EAN-13 lines": "sys_read", "writes of 1,000 EAN-13 labels": "sys_write"}
+# The labels of the library's calls. Of the second QR symbol no mode but that for bytes pays.
+OF_LIBRARY = {
+    "EAN-13": Label("ean13", "4006381333931"),
+    f"Code 128, `{LOT}`": CODE128,
+    "QR, 34 bytes": QR,
+    "QR, 200 bytes": Label("qr", front(200, "https://example.com/Lot 7b?article=000123&x=")),
+}
+LIBRARY_CALLS = {"labels_symbol": OF_LIBRARY, "labels_draw": OF_LIBRARY, "labels_line": ("EAN-13", "QR, 34 bytes")}
+# What is counted with us: programs, libraries in a loop, and calls of libraries.
+PROGRAMS = (PROGRAM, "zint", "barcode", "qrencode")
+SHOWN = ("zint (`--dump`)", "GNU barcode (PostScript)", "qrencode (text)")
+LOOPS = {
+    "libzint, picture": "libzint",
+    "libzint, no picture": "libzint, no picture",
+    "libqrencode, picture": "libqrencode",
+}
+LIBRARIES = ("libqrencode", "libzint", "qrcodegen")
+QR_ALONE = ("libqrencode", "qrcodegen")
+
+
+def stop(text):
+    print(f"{sys.argv[0]}: {text}", file=sys.stderr)
+    sys.exit(2)
+
+
+def ran(*command, **how):
+    """A command that has run. Stops where it fails."""
+    if not shutil.which(command[0]):
+        stop(f"not installed: {command[0]}")
+    done = subprocess.run(command, stdin=subprocess.DEVNULL, stderr=subprocess.PIPE, text=True, **how)
+    if done.returncode:
+        stop(f"status {done.returncode} of: {' '.join(map(str, command))}\n{done.stderr}")
+    return done
+
+
+def output_of(*command):
+    return ran(*command, stdout=subprocess.PIPE).stdout
+
+
+def said_by_valgrind(*words, environment=None):
+    """What valgrind says of a command whose output is thrown away."""
+    return ran("valgrind", *words, stdout=subprocess.DEVNULL, env=environment).stderr
+
+
+def instructions_of(program, *words, environment=None):
+    """The instructions of a command."""
+    command = ("--tool=callgrind", "--callgrind-out-file=/dev/null", shutil.which(program), *words)
+    return int(re.search(r" Collected : (\d+)", said_by_valgrind(*command, environment=environment))[1])
+
+
+def command_of(program, label, times, *options):
+    """The command of a program for a label, so many times, or nothing; qrencode draws it once."""
+    line = f"{label.symbology} {label.data}" if program == PROGRAM else label.data
+    Path("lines").write_text(f"{line}\n" * times, encoding="utf-8")
+    is_qr = label.symbology == "qr"
+    name, of_barcode = ("QRCODE", "") if is_qr else LINEAR[label.symbology]
+    kind = f"--secure={LEVELS.index(label.level) + 1}" if is_qr else "--notext"
+    if program == PROGRAM:
+        return [PROGRAM, *options, *(("--level", label.level) if label.level != "M" else ()), "lines"]
+    if program == "zint":
+        return ["zint", "-b", name, kind, "--quietzones", "--batch", "--dump", "-i", "lines"]
+    if program == "barcode" and not is_qr:
+        return ["barcode", "-e", of_barcode, "-n", "-o", os.devnull, "-i", "lines"]
+    if program == "qrencode" and is_qr:
+        return ["qrencode", "-l", label.level, "-s", "1", "-t", "ASCII", "-o", os.devnull, label.data]
+    return None
+
+
+def one_more(program, label, *options):
+    """What one label more takes of a program, or nothing where it does not draw it."""
+    command = command_of(program, label, 1, *options)
+    if not command:
+        return None
+    if program == "qrencode":
+        return instructions_of(*command) - instructions_of(program, "-V")
+    if program == PROGRAM and not output_of(*command):
+        stop(f"{PROGRAM} draws no label of: {label.data}")
+    few = 0 if program == PROGRAM else 1
+    less, more = (instructions_of(*command_of(program, label, times, *options)) for times in (few, few + COUNT))
+    return (more - less) / COUNT
+
+
+def whole_run(program, label):
+    """What a whole run over one label takes of a program, or nothing where it does not draw it."""
+    command = command_of(program, label, 1)
+    return instructions_of(*command, environment={}) if command else None
+
+
+def nothing():
+    """What a whole run of a program takes that does nothing."""
+    subprocess.run(["gcc", "-xc", "-", "-o", "nothing"], input=b"int main(void) { return 0; }", check=True)
+    return instructions_of("./nothing", environment={})
+
+
+def system_calls(call):
+    """How often a run over 1,000 labels makes a system call, without those of a run over none."""
+    counts = []
+    for times in (0, 1000):
+        said = said_by_valgrind("--tool=none", "--trace-syscalls=yes", *command_of(PROGRAM, EAN, times))
+        if " sys_read " not in said:
+            stop("valgrind names no system call")
+        counts.append(said.count(f" {call} "))
+    return counts[1] - counts[0]
+
+
+def of_call(call, label):
+    """What a call of a library takes, or nothing where it does not draw the label: some draw QR alone."""
+    if label.symbology != "qr" and call.startswith(QR_ALONE):
+        return None
+    words = ("./count_calls", call, label.symbology, label.level, label.data)
+    if not os.path.exists(words[0]):
+        output_of(*BUILD)
+    theirs = output_of(*words)
+    said_by_valgrind("--tool=callgrind", "--callgrind-out-file=counts", *words)
+    if theirs:
+        see_picture(label, theirs)
+    return int(re.search(r"^summary: (\d+)", sources.read("counts.1"), re.M)[1]) / CALLS
+
+
+def see_picture(label, theirs):
+    """A picture of bars has to be that of `labels`, one of a QR symbol as large: its mask may differ."""
+    ours = output_of(*command_of(PROGRAM, label, CALLS + 1))
+    if label.symbology == "qr":
+        ours, theirs = ours.split("\n")[1], theirs.split("\n")[1]
+    if ours != theirs:
+        stop(f"a library draws another picture of: {label.data}")
+
+
+def tables():
+    """The tables of the page: the head, and for each row what counts its cells, of which the first is ours."""
+    rows = {}
+    for name, label in LABELS.items():
+        ours, *others = (partial(one_more, program, label) for program in PROGRAMS)
+        rows[name] = [ours, *(partial(of_call, loop, label) for loop in LOOPS), *others]
+    rows |= {name: [partial(one_more, PROGRAM, label, *options)] for name, (label, options) in ONLY_OURS.items()}
+    yield ["Label", "labels", *LOOPS.values(), *SHOWN], rows
+    rows = {}
+    for name, label in STARTS.items():
+        ours, *others = (partial(whole_run, program, label) for program in PROGRAMS)
+        rows[name] = [ours, nothing, *others]
+    yield ["Start", "labels", "empty C program", *SHOWN], rows
+    yield ["Calls", "labels"], {name: [partial(system_calls, call)] for name, call in SYSTEM_CALLS.items()}
+    rows = {}
+    for call, names in LIBRARY_CALLS.items():
+        for name in names:
+            libraries = LIBRARIES if call == "labels_symbol" else ()
+            rows[f"`{call}`, {name}"] = [partial(of_call, one, OF_LIBRARY[name]) for one in (call, *libraries)]
+    yield ["Call", "liblabels", *LIBRARIES], rows
+
+
+def shown(count):
+    """A cell: a count in hundreds, a small one as it is, or none."""
+    if count is None:
+        return "-"
+    return f"{100 * round(count / 100):,}" if count >= 1000 else f"{count:.0f}"
+
+
+def print_tables():
+    for head, rows in tables():
+        print(f"| {' | '.join(head)} |\n|{'---|' * len(head)}")
+        for name, cells in rows.items():
+            found = [shown(cell()) for cell in cells]
+            print(f"| {' | '.join([name, *found, *['-'] * (len(head) - 1 - len(found))])} |")
+        print()
+
+
+def rows_of(page):
+    """The rows of the page's tables that are counted: a name, and the number of ours."""
+    is_counted = False
+    for line in page.split("\n"):
+        cells = [cell.strip() for cell in line.split("|")[1:3]]
+        is_counted = cells in HEADS or is_counted and len(cells) == 2
+        if is_counted and cells not in HEADS and not cells[0].startswith("---"):
+            yield cells
+
+
+def compared(name, found, wanted):
+    """A line on a count beside that of the page, which begins with FAILS where they differ."""
+    if not re.fullmatch(r"[1-9][\d,]*", wanted):
+        return f"FAILS {name}: the page has {wanted or 'no such row'}"
+    percent = 100 * found / int(wanted.replace(",", "")) - 100
+    line = f"{name}: {wanted} on the page, {found:,.0f} measured, {percent:+.1f} %"
+    return f"FAILS {line}" if abs(percent) > ROOM else line
+
+
+def check(found, page):
+    """A line for each count, and how many fail."""
+    rows = [*rows_of(page)]
+    lines = []
+    for name, count in found.items():
+        lines.append(compared(name, count, "; ".join(cell for other, cell in rows if other == name)))
+    lines += [f"FAILS {name}: a row of the page that is not measured" for name, _ in rows if name not in found]
+    return lines, sum(line.startswith("FAILS") for line in lines)
+
+
+def sees_wrong_counts():
+    """Whether counts that are 6 % below and above those of a page are reported."""
+    page = "| Label | labels |\n|---|---|\n| low | 1,000 |\n| high | 1,000 |\n| right | 1,000 |\n"
+    lines, failed = check({"low": 940, "high": 1060, "right": 1000}, page)
+    return failed == 2 and [line.startswith("FAILS") for line in lines] == [True, True, False]
+
+
+def main():
+    parser = sources.parser_of(__doc__, has_top=False)
+    parser.add_argument("--check", action="store_true", help="compare what is ours with the page")
+    given = parser.parse_args()
+    with tempfile.TemporaryDirectory() as folder:
+        os.chdir(folder)
+        if not given.check:
+            print_tables()
+            return 0
+        if not sees_wrong_counts():
+            print("a count that is 6 % below or above that of the page is not reported")
+            return 1
+        found = {name: cells[0]() for _, rows in tables() for name, cells in rows.items()}
+    lines, failed = check(found, PAGE.read_text(encoding="utf-8"))
+    print(*lines, f"{len(found)} rows, {failed} failed", sep="\n")
+    return 1 if failed else 0
+
+
+if __name__ == "__main__":
+    sys.exit(main())

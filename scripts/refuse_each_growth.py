@@ -1,0 +1,128 @@
+#!/usr/bin/python3
+"""Refuses memory to the program `labels`, one growth a run, and looks at what it then does.
+
+The arguments and the input are those of the stored run (crates/labels/args and stdin), from standard input and from a
+FILE; then other arguments. In run N the Nth call of malloc or realloc is refused, by a small library that is loaded
+before the C library (it needs glibc and a C compiler). N goes up to the first run that makes fewer than N such calls.
+A run is good where it does what it does when no growth is refused, with the same output, messages and status; or where
+it writes nothing on standard output and `labels: no memory` on standard error, and ends with status 3, as a run of
+each command has to. Any other run is reported, and makes the status of this script 1.
+
+In each run it is shown a program that loses its output without a word where a growth is refused, which it has to
+report. The last line is `N growths: K no memory, L unaffected, M wrong`. Status 2: bad arguments, no such program, no
+C compiler.
+"""
+
+import itertools
+import os
+import subprocess
+import sys
+import tempfile
+from collections import Counter
+from pathlib import Path
+
+import sources
+
+CRATE = Path(sources.TOP, "crates/labels")
+STORED = (CRATE / "args").read_text(encoding="utf-8").splitlines()
+OTHERS = (
+    "--format ascii --scale 2 --height 3 --level Q --min-version 3 --mask 5 --escapes stdin".split(),
+    ["--help"],
+    ["--scale", "9"],
+    ["--no-such-argument"],
+    ["no-such-file"],
+)
+NO_MEMORY = (3, b"", b"labels: no memory\n")
+# The call of malloc or realloc whose number is GROWTH finds no memory, and leaves the file MARK.
+REFUSE = """
+#include <errno.h>
+#include <fcntl.h>
+#include <stdlib.h>
+
+void *__libc_malloc(size_t size);
+void *__libc_realloc(void *old, size_t size);
+
+static int is_refused(void) {
+    static long calls;
+    if (++calls != atol(getenv("GROWTH")))
+        return 0;
+    creat(getenv("MARK"), 0600);
+    errno = ENOMEM;
+    return 1;
+}
+
+void *malloc(size_t size) { return is_refused() ? NULL : __libc_malloc(size); }
+void *realloc(void *old, size_t size) { return is_refused() ? NULL : __libc_realloc(old, size); }
+"""
+# Writes what it has no memory for as nothing at all, and ends as if all were well.
+LOSER = """
+#include <stdlib.h>
+#include <unistd.h>
+
+int main(void) {
+    void *volatile room = malloc(1);
+    return room && write(STDOUT_FILENO, "all", 3) != 3;
+}
+"""
+
+
+def build(text, file, *options):
+    """Builds a program or library of C."""
+    file.with_suffix(".c").write_text(text, encoding="utf-8")
+    status, said = sources.run(["cc", "-O2", *options, f"{file}.c", "-o", str(file)])
+    if status:
+        print(said, file=sys.stderr)
+        sys.exit(2)
+
+
+def run(folder, command, growth):
+    """The status of a command and both of its outputs, with this growth refused; none for 0."""
+    more = {"GROWTH": str(growth), "MARK": folder / "mark", "LD_PRELOAD": folder / "refuse"}
+    with open(CRATE / "stdin", "rb") as lines:
+        done = subprocess.run(command, stdin=lines, capture_output=True, cwd=CRATE, env={**os.environ, **more})
+    return done.returncode, done.stdout, done.stderr
+
+
+def refuse_each(folder, command):
+    """What comes of each growth of a command, and what it does where none is refused."""
+    whole, mark = run(folder, command, 0), folder / "mark"
+    found = Counter()
+    for growth in itertools.count(1):
+        status, out, err = done = run(folder, command, growth)
+        if not mark.exists():
+            break
+        mark.unlink()
+        kind = "unaffected" if done == whole else "no memory" if done == NO_MEMORY else "wrong"
+        found[kind] += 1
+        if kind == "wrong":
+            print(f"{command}: growth {growth}: status {status}, {len(out)} bytes on standard output, and {err}")
+    if not found["no memory"]:
+        print(f"{command}: none of its growths ended with 'no memory'")
+        found["wrong"] += 1
+    return found, whole
+
+
+def main():
+    program = sources.program_given(__doc__)
+    found = Counter()
+    with tempfile.TemporaryDirectory() as name:
+        folder = Path(name)
+        build(REFUSE, folder / "refuse", "-fPIC", "-shared")
+        build(LOSER, folder / "loser")
+        print("this program loses its output, which is reported:")
+        if refuse_each(folder, [folder / "loser"])[0] != Counter(wrong=2):
+            print("it is not reported")
+            return 1
+        for arguments in (STORED, [*STORED, "stdin"], *OTHERS):
+            outcomes, whole = refuse_each(folder, [program, *arguments])
+            found += outcomes
+            if arguments not in OTHERS and whole[:2] != (0, (CRATE / "stdout").read_bytes()):
+                print(f"{arguments}: not the stored run")
+                found["wrong"] += 1
+    kinds = ("no memory", "unaffected", "wrong")
+    print(f"{found.total()} growths: {', '.join(f'{found[kind]} {kind}' for kind in kinds)}")
+    return 1 if found["wrong"] else 0
+
+
+if __name__ == "__main__":
+    sys.exit(main())
