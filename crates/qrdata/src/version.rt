@@ -80,7 +80,7 @@ impl Version {
     }
 
     /// Proves that a version is one of 1 to 10. It does nothing when it runs.
-    pub fn known(self)
+    pub fn prove_range(self)
         ensures { IsVersion self }
     {
         let _ = &self.number;
@@ -113,7 +113,7 @@ impl Version {
     pub fn data_codewords(self, level: Level) -> usize
         ensures { result ≡ data_codewords self level }
     {
-        self.known();
+        self.prove_range();
         self.total_codewords() - self.block_count(level) * self.ec_codewords_per_block(level)
     }
 
@@ -123,7 +123,7 @@ impl Version {
         ensures value { result ≡ capacity self level }
         ensures few { result ≤ 2192 }
     {
-        self.known();
+        self.prove_range();
         8 * self.data_codewords(level)
     }
 
@@ -148,7 +148,7 @@ impl Version {
     pub(crate) fn lengths(self, level: Level) -> Lengths
         ensures { result.items ≡ block_lengths self level }
     {
-        self.known();
+        self.prove_range();
         let blocks = self.block_count(level);
         let codewords = self.data_codewords(level);
         let mut lengths = Lengths::new();
