@@ -14,7 +14,7 @@ use crate::asked::asked_of;
 use crate::numbers::{Answer, CallOptions, DONE, NO_ROOM, code_of};
 use crate::slice_sink::SliceSink;
 use filter::draw;
-use labelcore::{Fault, Options, Symbology, write_reason};
+use labelcore::{Fault, LabelOptions, RunOptions, Symbology, write_reason};
 
 /// Draws one symbol into `out`, or puts the reason why there is none into `message`. Of a text that is too long it puts
 /// what there is room for, and answers with the length of the whole.
@@ -34,7 +34,14 @@ pub fn draw_into(
     ensures read { ReadsAsked (asked options.now symbology bytes.now) bytes.now }
 {
     match asked_of(options, symbology, bytes) {
-        Ok(asked) => draw_asked(&asked.options, asked.symbology, bytes, out, message),
+        Ok(asked) => draw_asked(
+            &asked.options.run,
+            &asked.options.label,
+            asked.symbology,
+            bytes,
+            out,
+            message,
+        ),
         Err(code) => declined(code),
     }
 }
@@ -58,7 +65,8 @@ pub fn declined(code: u32) -> Answer
 
 /// Draws one symbol.
 pub fn draw_asked(
-    options: &Options,
+    run: &RunOptions,
+    label: &LabelOptions,
     symbology: Symbology,
     bytes: &[u8],
     out: &mut [u8],
@@ -70,13 +78,13 @@ pub fn draw_asked(
       out_after = out.new;
       message = message.old;
       message_after = message.new;
-    }) result options.now.run
-        (symbol_of options.now.label symbology bytes.now) }
-    ensures read { IfOk (symbol_of options.now.label symbology bytes.now) (λ symbol.
-        IsRead options.now.run.format options.now.run.scale (image_of options.now.run (drawn symbol)) symbol) }
+    }) result run.now
+        (symbol_of label.now symbology bytes.now) }
+    ensures read { IfOk (symbol_of label.now symbology bytes.now) (λ symbol.
+        IsRead run.now.format run.now.scale (image_of run.now (drawn symbol)) symbol) }
 {
     let room = out.len();
-    match put_picture(options, symbology, bytes, out) {
+    match put_picture(run, label, symbology, bytes, out) {
         Ok(length) => Answer {
             code: if length <= room { DONE } else { NO_ROOM },
             reserved: 0,
@@ -89,23 +97,24 @@ pub fn draw_asked(
 
 /// Puts the picture of one symbol into a room. Returns its length, or why there is none.
 fn put_picture(
-    options: &Options,
+    run: &RunOptions,
+    label: &LabelOptions,
     symbology: Symbology,
     bytes: &[u8],
     out: &mut [u8],
 ) -> Result<usize, Fault>
     requires { bytes.now ≢ [] }
     ensures put { out.new ≡ put_text out.old 0
-        (image_of options.now.run (outcome_of (symbol_of options.now.label symbology bytes.now))) }
-    ensures size { IfOk result (λ size. size ≡ min (length (image_of options.now.run
-        (outcome_of (symbol_of options.now.label symbology bytes.now)))) (2 ^ 64 - 1)) }
-    ensures refusal { MatchResult result (λ _. IsOk (symbol_of options.now.label symbology bytes.now))
-        (λ fault. symbol_of options.now.label symbology bytes.now ≡ Err fault) }
-    ensures read { IfOk (symbol_of options.now.label symbology bytes.now) (λ symbol.
-        IsRead options.now.run.format options.now.run.scale (image_of options.now.run (drawn symbol)) symbol) }
+        (image_of run.now (outcome_of (symbol_of label.now symbology bytes.now))) }
+    ensures size { IfOk result (λ size. size ≡ min (length (image_of run.now
+        (outcome_of (symbol_of label.now symbology bytes.now)))) (2 ^ 64 - 1)) }
+    ensures refusal { MatchResult result (λ _. IsOk (symbol_of label.now symbology bytes.now))
+        (λ fault. symbol_of label.now symbology bytes.now ≡ Err fault) }
+    ensures read { IfOk (symbol_of label.now symbology bytes.now) (λ symbol.
+        IsRead run.now.format run.now.scale (image_of run.now (drawn symbol)) symbol) }
 {
     let mut sink = SliceSink::new(out);
-    let drawn = draw(options, symbology, bytes, &mut sink);
+    let drawn = draw(run, label, symbology, bytes, &mut sink);
     let length = sink.count();
     match drawn {
         Ok(Ok(())) => Ok(length),

@@ -46,11 +46,7 @@ fn line_picture(options: &Options, text: &[u8], out: &mut [u8], message: &mut [u
         Item::Skipped => declined(SKIPPED),
         Item::Refused(fault) => refused(&fault, message),
         Item::Drawn(symbology, label, bytes) => {
-            let asked = Options {
-                run: options.run,
-                label,
-            };
-            draw_asked(&asked, symbology, bytes, out, message)
+            draw_asked(&options.run, &label, symbology, bytes, out, message)
         }
     }
 }

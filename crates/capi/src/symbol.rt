@@ -120,7 +120,7 @@ pub fn symbol_told(
     ensures told { IfOk (symbol_of options.now.label symbology bytes.now) (λ symbol.
         IsDrawnAs symbol info.new) }
 {
-    options.ranges();
+    Options::prove_ranges(&options.run, &options.label);
     let answer = symbol_asked(&options.label, symbology, bytes, modules, message, info);
     info.symbology = number_of_symbology(symbology);
     info.height = height_of(symbology, info.width, options.label.height());

@@ -63,7 +63,7 @@ impl<S: Sink> Buffered<S> {
 
     /// Proves that a flushed sink buffers nothing, and that the sink below is flushed: it took all that this one took,
     /// after what was buffered before. It does nothing when it runs.
-    pub fn reaches(&self)
+    pub fn prove_reached(&self)
         ensures buffered { ⟦<Buffered<S> as Sink>⟧.is_flushed self.now ≡ true → buffered_bytes self.now ≡ [] }
         ensures below { ⟦<Buffered<S> as Sink>⟧.is_flushed self.now ≡ true
             → S.is_flushed (sink_of self.now) ≡ true }

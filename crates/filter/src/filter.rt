@@ -43,7 +43,7 @@ impl Filter {
     pub fn new(options: Options) -> Self
         ensures { IsAfter options result [] }
     {
-        options.ranges();
+        Options::prove_ranges(&options.run, &options.label);
         Filter {
             options,
             line: LineBuf::new(),

@@ -1,16 +1,15 @@
 //! What is done at the end of a line.
 ghost use Rattle.std.specs.Prelude.{◌≡◌, ℕ, List, [], ◌∷◌, IfOk, MatchResult};
 ghost use Rattle.labelcore.specs.HeldLine.{held_line};
-ghost use Rattle.labelcore.specs.ItemView.{item_seen};
-ghost use Rattle.labelcore.specs.LineItem.{HasData, refused};
+ghost use Rattle.labelcore.specs.LineItem.{refused};
 ghost use Rattle.labelcore.specs.OptionValues.{RunValues};
-ghost use Rattle.filter.specs.Output.{of_line, outcome, outcome_of_item, status_of};
-ghost use Rattle.filter.specs.Filter.{DrawsOutcome, FlushesNeither, Stops, Took, taken};
+ghost use Rattle.filter.specs.Output.{of_line, outcome, status_of};
+ghost use Rattle.filter.specs.Filter.{FlushesNeither, Stops, Took, taken};
 
 use crate::status::{RunFault, Status};
 use crate::symbol::draw;
-use device::{IoFault, Sink};
-use labelcore::{Fault, Item, LineBuf, Options, RunOptions, Scratch, parse, write_fault};
+use device::Sink;
+use labelcore::{Fault, Item, LineBuf, Options, Scratch, parse, write_fault};
 
 /// Writes the image or the message of the line with this number, and flushes nothing. Returns the status of this line.
 ///
@@ -33,34 +32,21 @@ pub fn finish_line<O: Sink, E: Sink>(
     ensures sinks { FlushesNeither O.Sink E.Sink out.old out.new err.old err.new result }
 {
     let mut scratch = Scratch::new();
-    let item = parse(options, line, &mut scratch);
-    match draw_item(&options.run, item, out) {
-        Ok(Ok(())) => Ok(Status::Clean),
-        Ok(Err(fault)) => refuse(number, &fault, out, err),
-        Err(_) => Err(RunFault::WriteOut),
-    }
-}
-
-/// Draws what a line asks for. The inner result is the fault where the line is refused.
-fn draw_item<O: Sink>(
-    run: &RunOptions,
-    item: Item,
-    out: &mut O,
-) -> Result<Result<(), Fault>, IoFault>
-    requires { HasData (item_seen item) }
-    ensures { DrawsOutcome O.Sink out.old out.new run.now
-        (outcome_of_item (item_seen item.entry)) result }
-{
-    match item {
-        Item::Skipped => Ok(Ok(())),
-        Item::Refused(fault) => Ok(Err(fault)),
+    match parse(options, line, &mut scratch) {
+        Item::Skipped => Ok(Status::Clean),
+        Item::Refused(fault) => refuse(number, &fault, out, err),
         Item::Drawn(symbology, label, bytes) => {
-            draw(&Options { run: *run, label }, symbology, bytes, out)
+            match draw(&options.run, &label, symbology, bytes, out) {
+                Ok(Ok(())) => Ok(Status::Clean),
+                Ok(Err(fault)) => refuse(number, &fault, out, err),
+                Err(_) => Err(RunFault::WriteOut),
+            }
         }
     }
 }
 
 /// Writes the message of a refused line. Before it, passes on the images of earlier lines.
+#[tactic(auto, unfolding(crate::specs::Output::status_of))]
 fn refuse<O: Sink, E: Sink>(
     number: u64,
     fault: &Fault,
@@ -72,7 +58,7 @@ fn refuse<O: Sink, E: Sink>(
         (of_line number (refused fault.now) ∷ []))
         (Stops run (taken (O.took out.old out.new) (E.took err.old err.new))
         (of_line number (refused fault.now) ∷ [])) }
-    ensures status { IfOk result (λ status. status ≡ Status.Refused) }
+    ensures status { IfOk result (λ status. status ≡ status_of (of_line number (refused fault.now) ∷ [])) }
     ensures sinks { FlushesNeither O.Sink E.Sink out.old out.new err.old err.new result }
 {
     let Ok(()) = out.pass_on() else {

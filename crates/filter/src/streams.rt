@@ -39,7 +39,7 @@ pub fn run_streams<R: Read, W: Write, E: Sink>(
 {
     match run(options, source, out, err) {
         Ok(status) => {
-            out.reaches();
+            out.prove_reached();
             Ok(status)
         }
         Err(fault) => Err(fault),

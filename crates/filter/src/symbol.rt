@@ -19,8 +19,8 @@ use picture::{Bars, Framed, Grid, QuietZone, Scaled, write_ascii, write_pbm};
 use qrdata::{Codewords, Plan, choose, codewords};
 use qrmatrix::{Matrix, QUIET_ZONE};
 
-/// Draws one symbol: writes the image of `bytes` in a symbology, under these options, and flushes nothing. `bytes` is
-/// not empty. The inner result is the fault where the data is refused; nothing is written then.
+/// Draws one symbol: writes the image of `bytes` in a symbology, under the options of a run and of a label, and flushes
+/// nothing. `bytes` is not empty. The inner result is the fault where the data is refused; nothing is written then.
 ///
 /// The image reads back as the full data of the symbol: the data and, for EAN and UPC, the check digit.
 ///
@@ -29,42 +29,44 @@ use qrmatrix::{Matrix, QUIET_ZONE};
 /// [`IoFault`] where a write fails: the sink took a beginning of the image.
 #[tactic(auto, unfolding(crate::specs::Symbol::symbol_of))]
 pub fn draw<O: Sink>(
-    options: &Options,
+    run: &RunOptions,
+    label: &LabelOptions,
     symbology: Symbology,
     bytes: &[u8],
     out: &mut O,
 ) -> Result<Result<(), Fault>, IoFault>
     requires { bytes.now ≢ [] }
-    ensures drawn { DrawsOutcome O.Sink out.old out.new options.now.run
-        (outcome_of (symbol_of options.now.label symbology bytes.now)) result }
-    ensures read { IfOk (symbol_of options.now.label symbology bytes.now) (λ symbol.
-        IsRead options.now.run.format options.now.run.scale (image_of options.now.run (drawn symbol)) symbol) }
+    ensures drawn { DrawsOutcome O.Sink out.old out.new run.now
+        (outcome_of (symbol_of label.now symbology bytes.now)) result }
+    ensures read { IfOk (symbol_of label.now symbology bytes.now) (λ symbol.
+        IsRead run.now.format run.now.scale (image_of run.now (drawn symbol)) symbol) }
 {
-    options.ranges();
+    Options::prove_ranges(run, label);
     match symbology {
-        Symbology::Ean13 => draw_linear::<Ean13, O>(options, bytes, out),
-        Symbology::Ean8 => draw_linear::<Ean8, O>(options, bytes, out),
-        Symbology::UpcA => draw_linear::<UpcA, O>(options, bytes, out),
-        Symbology::Code128 => draw_linear::<Code128, O>(options, bytes, out),
-        Symbology::Qr => draw_qr(options, bytes, out),
+        Symbology::Ean13 => draw_linear::<Ean13, O>(run, label, bytes, out),
+        Symbology::Ean8 => draw_linear::<Ean8, O>(run, label, bytes, out),
+        Symbology::UpcA => draw_linear::<UpcA, O>(run, label, bytes, out),
+        Symbology::Code128 => draw_linear::<Code128, O>(run, label, bytes, out),
+        Symbology::Qr => draw_qr(run, label, bytes, out),
     }
 }
 
 /// Draws a linear symbol.
 fn draw_linear<L: Linear, O: Sink>(
-    options: &Options,
+    run: &RunOptions,
+    label: &LabelOptions,
     bytes: &[u8],
     out: &mut O,
 ) -> Result<Result<(), Fault>, IoFault>
     requires some { bytes.now ≢ [] }
     requires narrow { L.QUIET_ZONES.left + L.QUIET_ZONES.right ≤ 20 }
     ensures { (symbology : Symbology) → quiet_zone symbology ≡ beside L.QUIET_ZONES
-        → DrawsOutcome O.Sink out.old out.new options.now.run
-        (outcome_of (linear_symbol symbology L.row_of options.now.label (L.full_data bytes.now))) result }
+        → DrawsOutcome O.Sink out.old out.new run.now
+        (outcome_of (linear_symbol symbology L.row_of label.now (L.full_data bytes.now))) result }
 {
     let mut row = Row::new();
     match L::encode(bytes, &mut row) {
-        Ok(()) => match write_bars(options, row.as_slice(), L::QUIET_ZONES, out) {
+        Ok(()) => match write_bars(run, label, row.as_slice(), L::QUIET_ZONES, out) {
             Ok(()) => Ok(Ok(())),
             Err(fault) => Err(fault),
         },
@@ -74,38 +76,40 @@ fn draw_linear<L: Linear, O: Sink>(
 
 /// Writes the image of a row as bars, with these quiet zones before and after it.
 fn write_bars<O: Sink>(
-    options: &Options,
+    run: &RunOptions,
+    label: &LabelOptions,
     row: &[bool],
     zones: QuietZones,
     out: &mut O,
 ) -> Result<(), IoFault>
     requires fits { length row.now ≤ MAX_MODULES }
     requires narrow { zones.left + zones.right ≤ 20 }
-    ensures { WritesText O.Sink out.old out.new (image_in (beside zones) options.now.run
-        (bars row.now options.now.label.height)) result }
+    ensures { WritesText O.Sink out.old out.new (image_in (beside zones) run.now
+        (bars row.now label.now.height)) result }
 {
-    let bars = Bars::new(row, usize::from(options.label.height()));
+    let bars = Bars::new(row, usize::from(label.height()));
     let zone = QuietZone {
         left: zones.left,
         right: zones.right,
         top: 0,
         bottom: 0,
     };
-    write_picture(&options.run, bars, zone, out)
+    write_picture(run, bars, zone, out)
 }
 
 /// Draws a QR symbol.
 #[tactic(auto, unfolding(crate::specs::Symbol::symbol_of))]
 fn draw_qr<O: Sink>(
-    options: &Options,
+    run: &RunOptions,
+    label: &LabelOptions,
     bytes: &[u8],
     out: &mut O,
 ) -> Result<Result<(), Fault>, IoFault>
-    ensures { DrawsOutcome O.Sink out.old out.new options.now.run
-        (outcome_of (symbol_of options.now.label Qr bytes.now)) result }
+    ensures { DrawsOutcome O.Sink out.old out.new run.now
+        (outcome_of (symbol_of label.now Qr bytes.now)) result }
 {
-    match choose(options.label.min_version(), options.label.level(), bytes) {
-        Ok(plan) => match write_plan(options, &plan, out) {
+    match choose(label.min_version(), label.level(), bytes) {
+        Ok(plan) => match write_plan(run, label, &plan, out) {
             Ok(()) => Ok(Ok(())),
             Err(fault) => Err(fault),
         },
@@ -114,11 +118,16 @@ fn draw_qr<O: Sink>(
 }
 
 /// Writes the image of a plan.
-fn write_plan<O: Sink>(options: &Options, plan: &Plan, out: &mut O) -> Result<(), IoFault>
+fn write_plan<O: Sink>(
+    run: &RunOptions,
+    label: &LabelOptions,
+    plan: &Plan,
+    out: &mut O,
+) -> Result<(), IoFault>
     requires chosen { plan.now.segments ≡ chosen_segments plan.now.version plan.now.bytes }
-    requires level { plan.now.level ≡ options.now.label.level }
-    ensures { WritesText O.Sink out.old out.new (image_in (quiet_zone Qr) options.now.run
-        (qr_modules options.now.label plan.now.bytes plan.now.version)) result }
+    requires level { plan.now.level ≡ label.now.level }
+    ensures { WritesText O.Sink out.old out.new (image_in (quiet_zone Qr) run.now
+        (qr_modules label.now plan.now.bytes plan.now.version)) result }
 {
     let zone = QuietZone {
         left: QUIET_ZONE,
@@ -126,7 +135,7 @@ fn write_plan<O: Sink>(options: &Options, plan: &Plan, out: &mut O) -> Result<()
         top: QUIET_ZONE,
         bottom: QUIET_ZONE,
     };
-    write_picture(&options.run, matrix_of(&options.label, plan), zone, out)
+    write_picture(run, matrix_of(label, plan), zone, out)
 }
 
 /// The symbol of a plan.

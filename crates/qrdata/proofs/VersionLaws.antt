@@ -2,14 +2,15 @@
 use Rattle.std.proofs.Common.{◌≡◌, ℕ, suc, zero, ◌+◌, ◌-◌, ◌*◌, ◌/◌, ◌%◌, ◌<◌, ◌≤◌, List, [], ◌∷◌, ◌++◌, replicate}
 use Rattle.std.proofs.Common.{refl, arith, Bool, true, false, cond, inl, inr}
 use Rattle.std.specs.Prelude.{bytes_eq, nat_lt, nat_le, ◌==◌, slice_index, slice_index_or}
-use Rattle.std.specs.List.{list_all}
+use Rattle.std.specs.List.{AllPass, list_all}
 use Rattle.std.proofs.lemmas.Bool.{agree_below, agree_below_at, cases_lt, eqb-true, leb-true, ltb-true}
 use Rattle.std.proofs.lemmas.List.Sums.{AllPass-from_list_all}
 use Rattle.std.proofs.lemmas.Slice.Eq.{bytes_eq-Decides}
 use Rattle.qrdata.specs.declared.level.Level.{Level}
 use Rattle.qrdata.specs.declared.level.Level.TheVariants.{L, M, Q, H}
 use Rattle.qrdata.specs.declared.mode.Mode.TheVariants.{Byte}
-use Rattle.qrdata.specs.declared.version.TheConstants.{TOTAL, BLOCKS, EC_CODEWORDS}
+use Rattle.qrdata.specs.declared.version.TheConstants.{SIZES}
+use Rattle.qrdata.specs.declared.version.Sizes.{Sizes}
 use Rattle.qrdata.specs.Private.Blocks.{block_count, place_of}
 use Rattle.qrdata.specs.Segments.{count_width}
 use Rattle.qrdata.specs.Versions.{IsVersion, block_lengths, block_table, capacity, data_codewords}
@@ -24,9 +25,9 @@ abbrev pub even_lengths : ℕ → ℕ → List ℕ
 even_lengths blocks codewords = replicate (blocks - codewords % blocks) (codewords / blocks)
     ++ replicate (codewords % blocks) (codewords / blocks + 1)
 
--- what a table of the code has for a version and a level
-abbrev pub coded : List (List ℕ) → ℕ → Level → ℕ
-coded table version level = slice_index (slice_index_or table (version - 1) []) (place_of level)
+-- the row of a version in the table of the code, which has one for each
+abbrev pub sizes : Sizes → ℕ → Sizes
+sizes missing version = slice_index_or SIZES (version - 1) missing
 
 -- what is true of the symbols of a version at a level
 pub record IsSound (version : ℕ) (level : Level) : Type 0 where
@@ -42,12 +43,14 @@ pub record IsSound (version : ℕ) (level : Level) : Type 0 where
   pub even : even_lengths (block_count version level) (data_codewords version level) ≡ block_lengths version level
   pub short_blocks : list_all (λ n. nat_le (n + ec_codewords_per_block version level) 255) (block_lengths version level)
       ≡ true
-  pub coded_total : slice_index TOTAL (version - 1) ≡ total_codewords version
-  pub coded_blocks : coded BLOCKS version level ≡ block_count version level
-  pub coded_ec_codewords : coded EC_CODEWORDS version level ≡ ec_codewords_per_block version level
+  pub coded_total : (missing : Sizes) → (sizes missing version).total ≡ total_codewords version
+  pub coded_blocks : (missing : Sizes)
+      → slice_index (sizes missing version).blocks (place_of level) ≡ block_count version level
+  pub coded_ec_codewords : (missing : Sizes)
+      → slice_index (sizes missing version).ec_codewords (place_of level) ≡ ec_codewords_per_block version level
 
-tests : Level → ℕ → List Bool
-tests level version =
+tests : Sizes → Level → ℕ → List Bool
+tests missing level version =
     let blocks = block_count version level in
     let ec_codewords = ec_codewords_per_block version level in
     let codewords = data_codewords version level in
@@ -56,25 +59,28 @@ tests level version =
     ∷ (codewords + blocks * ec_codewords == total) ∷ nat_le total 346
     ∷ nat_le (8 * codewords) (widest version) ∷ nat_le (data_codewords (version - 1) level) codewords
     ∷ bytes_eq (even_lengths blocks codewords) (block_lengths version level)
-    ∷ (slice_index TOTAL (version - 1) == total)
-    ∷ (coded BLOCKS version level == blocks) ∷ (coded EC_CODEWORDS version level == ec_codewords)
+    ∷ ((sizes missing version).total == total)
+    ∷ (slice_index (sizes missing version).blocks (place_of level) == blocks)
+    ∷ (slice_index (sizes missing version).ec_codewords (place_of level) == ec_codewords)
     ∷ list_all (λ n. nat_le (n + ec_codewords) 255) (block_lengths version level) ∷ []
 
-tests_pass : (level : Level) → agree_below (λ k. list_all (λ test. test) (tests level (suc k))) (λ k. true) 10 ≡ true
+tests_pass : (missing : Sizes) (level : Level)
+    → agree_below (λ k. list_all (λ test. test) (tests missing level (suc k))) (λ k. true) 10 ≡ true
 unfolding tests data_codewords total_codewords block_count ec_codewords_per_block block_lengths groups_of block_table
-tests_pass L = refl
-tests_pass M = refl
-tests_pass Q = refl
-tests_pass H = refl
+tests_pass missing L = refl
+tests_pass missing M = refl
+tests_pass missing Q = refl
+tests_pass missing H = refl
 
 pub IsSound-of : (version : ℕ) (level : Level) → IsVersion version → IsSound version level
 unfolding tests
 IsSound-of zero level known = absurd (omega (arith, known.0))
 IsSound-of (suc k) level known =
-    let all : list_all (λ test. test) (tests level (suc k)) ≡ true =
-    agree_below_at (λ k. list_all (λ test. test) (tests level (suc k))) (λ k. true) 10 k (tests_pass level)
-    (omega (arith, known.1)) in
-    let test = AllPass-from_list_all (λ test. test) (tests level (suc k)) all in
+    let coded : (missing : Sizes) → AllPass (λ test. test) (tests missing level (suc k)) = λ missing.
+        AllPass-from_list_all (λ test. test) (tests missing level (suc k))
+        (agree_below_at (λ k. list_all (λ test. test) (tests missing level (suc k))) (λ k. true) 10 k
+        (tests_pass missing level) (omega (arith, known.1))) in
+    let test = coded (record { total = 0; blocks = []; ec_codewords = [] }) in
     record {
       some_blocks = ltb-true _ _ (test 0 true (omega arith));
       few_blocks = leb-true _ _ (test 1 true (omega arith));
@@ -85,9 +91,9 @@ IsSound-of (suc k) level known =
       few_bits = leb-true _ _ (test 6 true (omega arith));
       more = leb-true _ _ (test 7 true (omega arith));
       even = (bytes_eq-Decides _ _).0 (test 8 true (omega arith));
-      coded_total = eqb-true _ _ (test 9 true (omega arith));
-      coded_blocks = eqb-true _ _ (test 10 true (omega arith));
-      coded_ec_codewords = eqb-true _ _ (test 11 true (omega arith));
+      coded_total = λ missing. eqb-true _ _ (coded missing 9 true (omega arith));
+      coded_blocks = λ missing. eqb-true _ _ (coded missing 10 true (omega arith));
+      coded_ec_codewords = λ missing. eqb-true _ _ (coded missing 11 true (omega arith));
       short_blocks = test 12 true (omega arith);
     }
 

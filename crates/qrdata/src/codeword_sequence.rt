@@ -35,7 +35,7 @@ fn push_data(version: Version, level: Level, segments: &[Segment], bytes: &[u8],
     ensures { message.new.codewords.items
         ≡ data_codewords_of (data_codewords version level) (segments_bits version segments.now bytes.now) }
 {
-    version.known();
+    version.prove_range();
     let size = version.data_codewords(level);
     message.push_segments(version, segments, bytes);
     message.end(size);
@@ -47,7 +47,7 @@ fn write_symbol(version: Version, level: Level, message: &[u8], codewords: &mut 
     requires whole { length message.now ≡ data_codewords version level }
     ensures { codewords.new.items ≡ final_message version level message.now }
 {
-    version.known();
+    version.prove_range();
     let count = version.ec_codewords_per_block(level);
     let blocks = version.lengths(level);
     let lengths = blocks.as_slice();

@@ -59,7 +59,7 @@ impl<'a> Plan<'a> {
         ensures known { IsVersion result }
     {
         let version = self.version;
-        version.known();
+        version.prove_range();
         version
     }
 
@@ -149,7 +149,7 @@ fn plan_between<'a>(
     ensures some { IfSome result (IsSmallestPlan lowest highest level bytes.now) }
     ensures none { IfNone result (NoPlan lowest highest level bytes.now) }
 {
-    highest.known();
+    highest.prove_range();
     // Three bytes have ten bits at least.
     if bytes.len() > 3 * highest.capacity(level) / 10 {
         return None;

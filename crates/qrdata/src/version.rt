@@ -10,36 +10,31 @@ use crate::blocks::{Lengths, push_lengths};
 use crate::level::Level;
 use std::marker::Model;
 
-/// The codewords of a symbol, data and error correction codewords. In each of these tables place 0 is version 1. They
-/// are proved to hold what `specs/Versions.antt` lists in the standard's notation.
-const TOTAL: [usize; 10] = [26, 44, 70, 100, 134, 172, 196, 242, 292, 346];
+/// The sizes of the symbols of a version. Each array has a place for levels L, M, Q and H.
+#[derive(Clone, Copy)]
+struct Sizes {
+    /// The codewords of a symbol, data and error correction codewords.
+    total: usize,
+    /// The blocks of a symbol.
+    blocks: [usize; 4],
+    /// The error correction codewords of each block.
+    ec_codewords: [usize; 4],
+}
 
-/// The number of blocks of a symbol at levels L, M, Q and H.
-const BLOCKS: [[usize; 4]; 10] = [
-    [1, 1, 1, 1],
-    [1, 1, 1, 1],
-    [1, 1, 2, 2],
-    [1, 2, 2, 4],
-    [1, 2, 4, 4],
-    [2, 4, 4, 4],
-    [2, 4, 6, 5],
-    [2, 4, 6, 6],
-    [2, 5, 8, 8],
-    [4, 5, 8, 8],
-];
-
-/// The number of error correction codewords of each block at levels L, M, Q and H.
-const EC_CODEWORDS: [[usize; 4]; 10] = [
-    [7, 10, 13, 17],
-    [10, 16, 22, 28],
-    [15, 26, 18, 22],
-    [20, 18, 26, 16],
-    [26, 24, 18, 22],
-    [18, 16, 24, 28],
-    [20, 18, 18, 26],
-    [24, 22, 22, 26],
-    [30, 22, 20, 24],
-    [18, 26, 24, 28],
+/// The sizes of each version; place 0 is version 1. They are proved to be what `specs/Versions.antt` lists in the
+/// standard's notation.
+#[rattlefmt::skip]
+const SIZES: [Sizes; 10] = [
+    Sizes { total: 26, blocks: [1, 1, 1, 1], ec_codewords: [7, 10, 13, 17] },
+    Sizes { total: 44, blocks: [1, 1, 1, 1], ec_codewords: [10, 16, 22, 28] },
+    Sizes { total: 70, blocks: [1, 1, 2, 2], ec_codewords: [15, 26, 18, 22] },
+    Sizes { total: 100, blocks: [1, 2, 2, 4], ec_codewords: [20, 18, 26, 16] },
+    Sizes { total: 134, blocks: [1, 2, 4, 4], ec_codewords: [26, 24, 18, 22] },
+    Sizes { total: 172, blocks: [2, 4, 4, 4], ec_codewords: [18, 16, 24, 28] },
+    Sizes { total: 196, blocks: [2, 4, 6, 5], ec_codewords: [20, 18, 18, 26] },
+    Sizes { total: 242, blocks: [2, 4, 6, 6], ec_codewords: [24, 22, 22, 26] },
+    Sizes { total: 292, blocks: [2, 5, 8, 8], ec_codewords: [30, 22, 20, 24] },
+    Sizes { total: 346, blocks: [4, 5, 8, 8], ec_codewords: [18, 26, 24, 28] },
 ];
 
 /// A version of a symbol, 1 to 10. Clauses see it as that number.
@@ -80,7 +75,7 @@ impl Version {
     }
 
     /// Proves that a version is one of 1 to 10. It does nothing when it runs.
-    pub fn known(self)
+    pub fn prove_range(self)
         ensures { IsVersion self }
     {
         let _ = &self.number;
@@ -106,14 +101,14 @@ impl Version {
     pub fn total_codewords(self) -> usize
         ensures { result ≡ total_codewords self }
     {
-        TOTAL[usize::from(self.number) - 1]
+        SIZES[usize::from(self.number) - 1].total
     }
 
     /// Returns the number of data codewords of a symbol at a level, those of all its blocks.
     pub fn data_codewords(self, level: Level) -> usize
         ensures { result ≡ data_codewords self level }
     {
-        self.known();
+        self.prove_range();
         self.total_codewords() - self.block_count(level) * self.ec_codewords_per_block(level)
     }
 
@@ -123,7 +118,7 @@ impl Version {
         ensures value { result ≡ capacity self level }
         ensures few { result ≤ 2192 }
     {
-        self.known();
+        self.prove_range();
         8 * self.data_codewords(level)
     }
 
@@ -133,7 +128,7 @@ impl Version {
         ensures some { 0 < result }
         ensures few { result ≤ 8 }
     {
-        BLOCKS[usize::from(self.number) - 1][level.place()]
+        SIZES[usize::from(self.number) - 1].blocks[level.place()]
     }
 
     /// Returns the number of error correction codewords of each block at a level.
@@ -141,14 +136,14 @@ impl Version {
         ensures value { result ≡ ec_codewords_per_block self level }
         ensures count { IsEcCodewordCount result }
     {
-        EC_CODEWORDS[usize::from(self.number) - 1][level.place()]
+        SIZES[usize::from(self.number) - 1].ec_codewords[level.place()]
     }
 
     /// Returns the number of data codewords of each block at a level, the short blocks first.
     pub(crate) fn lengths(self, level: Level) -> Lengths
         ensures { result.items ≡ block_lengths self level }
     {
-        self.known();
+        self.prove_range();
         let blocks = self.block_count(level);
         let codewords = self.data_codewords(level);
         let mut lengths = Lengths::new();

@@ -111,15 +111,15 @@ left_bit false bits i first second e f = e ∙ ap bits (sym (add-zero i))
 -- place_row and place_free have m and o, the square before and after a flip, `two` by a call, and the other facts by
 -- their contracts
 pub row_placed : (strip : Strip) (marked m o : List (List Bool)) (codewords : List ℕ) (i t free two word : ℕ)
-    → t < strip.n → strip.x + 1 < 57 → free < 4 → two < 4 → ShowsFree two free word → HasBits 2 word codewords i
-    → bit free 1 ≡ value_at marked (strip.x + 1) (row_of strip.n strip.number t)
-    → bit free 0 ≡ value_at marked strip.x (row_of strip.n strip.number t)
-    → ((a b : ℕ) → value_at o a b ≡ flip_if ((b == row_of strip.n strip.number t)
+    → t < strip.side → strip.x + 1 < 57 → free < 4 → two < 4 → ShowsFree two free word → HasBits 2 word codewords i
+    → bit free 1 ≡ value_at marked (strip.x + 1) (row_of strip.side strip.number t)
+    → bit free 0 ≡ value_at marked strip.x (row_of strip.side strip.number t)
+    → ((a b : ℕ) → value_at o a b ≡ flip_if ((b == row_of strip.side strip.number t)
     && bit (two * 2 ^ strip.x % 2 ^ 64) a) (value_at m a b))
     → MovesOn strip marked codewords m o i t (i + (free + 1) / 2) (t + 1)
 row_placed strip marked m o codewords i t free two word lt lx lf l2 shows has right left flips v start is marks p =
     let x = strip.x in
-    let y = row_of strip.n strip.number t in
+    let y = row_of strip.side strip.number t in
     let k = 2 * side_of v * strip.number + 2 * t in
     let inside : t < side_of v = let same = is.side in omega arith in
     let row = ap (λ n. row_of n strip.number t) is.side in
@@ -160,10 +160,10 @@ both_free free w x y row bits e low high = (
 -- a whole strip is placed
 pub strip_placed : (v k i j : ℕ) (strip : Strip) (codewords : List ℕ) (start : ℕ → ℕ → Bool)
     (free old new : List (List Bool)) → IsStrip v strip → MarksFree v free → strip.number ≡ k
-    → MovesOn strip free codewords old new i 0 j strip.n
+    → MovesOn strip free codewords old new i 0 j strip.side
     → Placed v codewords start (value_at old) i (2 * side_of v * k)
     → Placed v codewords start (value_at new) j (2 * side_of v * (k + 1))
 strip_placed v k i j strip codewords start free old new is marks e moves p =
     let begins : 2 * side_of v * k ≡ 2 * side_of v * strip.number + 2 * 0 = rw e (omega arith) in
-    let ends : 2 * side_of v * strip.number + 2 * strip.n ≡ 2 * side_of v * (k + 1) = rw (e, is.side) (omega arith) in
+    let ends : 2 * side_of v * strip.number + 2 * strip.side ≡ 2 * side_of v * (k + 1) = rw (e, is.side) (omega arith) in
     placed_as j j _ _ refl ends (moves v start is marks (placed_as i i _ _ refl begins p))

@@ -9,11 +9,11 @@ use qrdata::{Level, Mask, Version};
 
 /// Returns the row of the module in column 8 that has bit `i` of the format information (ISO/IEC 18004, 7.9).
 #[tactic(auto, unfolding(crate::specs::Private::FunctionRows::row_of_bit))]
-fn row_of_bit(n: usize, i: usize) -> usize
-    requires side { (21 ≤ n) × (n ≤ SIDE) }
+fn row_of_bit(side: usize, i: usize) -> usize
+    requires side { (21 ≤ side) × (side ≤ SIDE) }
     requires bit { i < 15 }
-    ensures value { result ≡ FunctionRows.row_of_bit n i }
-    ensures inside { result < n }
+    ensures value { result ≡ FunctionRows.row_of_bit side i }
+    ensures inside { result < side }
 {
     if i < 6 {
         i
@@ -21,20 +21,20 @@ fn row_of_bit(n: usize, i: usize) -> usize
         // Row 6 has the timing pattern.
         i + 1
     } else {
-        n + i - 15
+        side + i - 15
     }
 }
 
 /// Returns the column of the module in row 8 that has bit `i` of the format information (ISO/IEC 18004, 7.9).
 #[tactic(auto, unfolding(crate::specs::Private::FunctionRows::column_of_bit))]
-fn column_of_bit(n: usize, i: usize) -> usize
-    requires side { (21 ≤ n) × (n ≤ SIDE) }
+fn column_of_bit(side: usize, i: usize) -> usize
+    requires side { (21 ≤ side) × (side ≤ SIDE) }
     requires bit { i < 15 }
-    ensures value { result ≡ FunctionRows.column_of_bit n i }
-    ensures inside { result < n }
+    ensures value { result ≡ FunctionRows.column_of_bit side i }
+    ensures inside { result < side }
 {
     if i < 8 {
-        n - 1 - i
+        side - 1 - i
     } else if i == 8 {
         // Column 6 has the timing pattern.
         7
@@ -48,10 +48,10 @@ pub fn draw_format(version: Version, level: Level, mask: Mask, modules: &mut Squ
     ensures { ShowsFormat version level mask modules.old modules.new }
 {
     let information = format_information(level, mask);
-    let n = version.side();
+    let side = version.side();
     for i in 0..15 {
         let dark = u64::from((information >> i) & 1);
-        modules.flip(row_of_bit(n, i), dark << 8);
-        modules.flip(8, dark << column_of_bit(n, i));
+        modules.flip(row_of_bit(side, i), dark << 8);
+        modules.flip(8, dark << column_of_bit(side, i));
     }
 }

@@ -62,12 +62,12 @@ impl PatternRow {
 /// The finder patterns with their separators and the format information beside them, and the module that is always
 /// dark.
 #[tactic(auto, unfolding(crate::specs::Private::FunctionRows::corners))]
-fn corners(n: usize, y: usize) -> PatternRow
-    requires side { (21 ≤ n) × (n ≤ SIDE) }
-    requires row { y < n }
-    ensures { result ≡ FunctionRows.corners n y }
+fn corners(side: usize, y: usize) -> PatternRow
+    requires side { (21 ≤ side) × (side ≤ SIDE) }
+    requires row { y < side }
+    ensures { result ≡ FunctionRows.corners side y }
 {
-    let last = n - 8;
+    let last = side - 8;
     if y < 9 {
         let row = FINDER[y];
         PatternRow {
@@ -82,7 +82,7 @@ fn corners(n: usize, y: usize) -> PatternRow
     } else if last < y {
         PatternRow {
             taken: 0x1FF,
-            dark: FINDER[n - 1 - y],
+            dark: FINDER[side - 1 - y],
         }
     } else {
         NONE
@@ -91,16 +91,17 @@ fn corners(n: usize, y: usize) -> PatternRow
 
 /// Returns the left columns of the alignment patterns that row `y` may have. None has its centre in a finder pattern.
 #[tactic(auto, unfolding(crate::specs::Private::FunctionRows::left_columns))]
-fn left_columns(n: usize, centres: u64, y: usize) -> u64
-    requires side { (21 ≤ n) × (n ≤ SIDE) }
+fn left_columns(side: usize, centres: u64, y: usize) -> u64
+    requires side { (21 ≤ side) × (side ≤ SIDE) }
     requires centres { centres < 2 ^ SIDE }
-    ensures value { result ≡ FunctionRows.left_columns n centres y }
+    ensures value { result ≡ FunctionRows.left_columns side centres y }
     ensures bound { result < 2 ^ (SIDE - 2) }
 {
-    // Patterns with their centres in row 6 reach down to row 8, those with their centres in row n - 7 up to row n - 9.
+    // Patterns with their centres in row 6 reach down to row 8, those with their centres in row `side - 7` up to row
+    // `side - 9`.
     let finders = if y < 9 {
-        0xFF | (0xFF << (n - 8))
-    } else if n - 9 <= y {
+        0xFF | (0xFF << (side - 8))
+    } else if side - 9 <= y {
         0xFF
     } else {
         0
@@ -136,12 +137,12 @@ fn alignments(version: Version, y: usize) -> PatternRow
 
 /// The timing patterns.
 #[tactic(auto, unfolding(crate::specs::Private::FunctionRows::timings))]
-fn timings(n: usize, y: usize) -> PatternRow
-    requires { n ≤ SIDE }
-    ensures { result ≡ FunctionRows.timings n y }
+fn timings(side: usize, y: usize) -> PatternRow
+    requires { side ≤ SIDE }
+    ensures { result ≡ FunctionRows.timings side y }
 {
     if y == 6 {
-        let taken = low_ones(n);
+        let taken = low_ones(side);
         PatternRow {
             taken,
             dark: taken & EVERY_OTHER,
@@ -203,9 +204,9 @@ pub fn function_row(version: Version, y: usize) -> PatternRow
     requires { y < side_of version }
     ensures { HasFunctions version y result }
 {
-    let n = version.side();
-    corners(n, y)
+    let side = version.side();
+    corners(side, y)
         .join(alignments(version, y))
-        .join(timings(n, y))
+        .join(timings(side, y))
         .join(versions(version, y))
 }

@@ -86,14 +86,14 @@ fn write_rows(
     }
 }
 
-/// Writes the modules, the free ones flipped by the mask, into the first `n` rows of `masked`: twelve rows at a time,
-/// since the masks repeat after them.
-pub fn write_masked(n: usize, mask: Mask, free: &Square, modules: &Square, masked: &mut Square)
-    requires { n ≤ SIDE }
-    ensures { IsMaskedTo n mask free.now modules.now masked.old masked.new }
+/// Writes the modules, the free ones flipped by the mask, into the first `side` rows of `masked`: twelve rows at a
+/// time, since the masks repeat after them.
+pub fn write_masked(side: usize, mask: Mask, free: &Square, modules: &Square, masked: &mut Square)
+    requires { side ≤ SIDE }
+    ensures { IsMaskedTo side mask free.now modules.now masked.old masked.new }
 {
-    for block in 0..n / 12 {
+    for block in 0..side / 12 {
         write_rows(12 * block, 12, mask, free, modules, masked);
     }
-    write_rows(n / 12 * 12, n % 12, mask, free, modules, masked);
+    write_rows(side / 12 * 12, side % 12, mask, free, modules, masked);
 }

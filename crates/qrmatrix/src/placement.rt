@@ -20,7 +20,7 @@ const ROOM: usize = 408;
 #[derive(Clone, Copy)]
 struct Strip {
     /// The modules on a side of the symbol.
-    n: usize,
+    side: usize,
     /// How many strips are to its right.
     number: usize,
     /// The left one of its columns.
@@ -29,21 +29,21 @@ struct Strip {
 
 impl Strip {
     /// Makes the strip that has `number` others to its right. No strip has the column of the timing pattern.
-    fn new(n: usize, number: usize) -> Strip
-        requires side { (21 ≤ n) × (n ≤ SIDE) }
-        requires number { number < (n - 1) / 2 }
-        ensures side { result.n ≡ n }
+    fn new(side: usize, number: usize) -> Strip
+        requires side { (21 ≤ side) × (side ≤ SIDE) }
+        requires number { number < (side - 1) / 2 }
+        ensures side { result.side ≡ side }
         ensures number { result.number ≡ number }
-        ensures inside { result.x + 1 < n }
-        ensures strip { (v : ℕ) → 1 ≤ v → v ≤ 10 → n ≡ side_of v → IsStrip v result }
+        ensures inside { result.x + 1 < side }
+        ensures strip { (v : ℕ) → 1 ≤ v → v ≤ 10 → side ≡ side_of v → IsStrip v result }
     {
-        let right = if number < (n - 7) / 2 {
-            n - 1 - 2 * number
+        let right = if number < (side - 7) / 2 {
+            side - 1 - 2 * number
         } else {
-            n - 2 - 2 * number
+            side - 2 - 2 * number
         };
         Strip {
-            n,
+            side,
             number,
             x: right - 1,
         }
@@ -51,12 +51,12 @@ impl Strip {
 
     /// Returns the row that the strip reaches after `t` others: one strip goes up, and the next one down.
     fn row(self, t: usize) -> usize
-        requires { t < self.n }
-        ensures value { result ≡ row_of self.n self.number t }
-        ensures inside { result < self.n }
+        requires { t < self.side }
+        ensures value { result ≡ row_of self.side self.number t }
+        ensures inside { result < self.side }
     {
         if self.number % 2 == 0 {
-            self.n - 1 - t
+            self.side - 1 - t
         } else {
             t
         }
@@ -89,7 +89,7 @@ fn bits_from(bytes: &[u8; ROOM], i: usize) -> u64
 
 /// Returns bit `x` and, one place higher, the next one.
 #[tactic(auto, using(crate::proofs::TwoBitsLaws::two_low, crate::proofs::TwoBitsLaws::two_high))]
-fn two_at(bits: u64, x: usize) -> u64
+fn pair_at(bits: u64, x: usize) -> u64
     requires { x + 1 < 64 }
     ensures low { bit result 0 ≡ bit bits x }
     ensures high { bit result 1 ≡ bit bits (x + 1) }
@@ -99,7 +99,7 @@ fn two_at(bits: u64, x: usize) -> u64
 }
 
 /// Returns the next bits for two modules, the right one first. One that is not free gets none.
-fn two_of(free: u64, bits: u64) -> u64
+fn bits_for_pair(free: u64, bits: u64) -> u64
     requires { free < 4 }
     ensures value { ShowsFree result free bits }
     ensures bound { result < 4 }
@@ -117,44 +117,44 @@ fn place_row(free: &Square, modules: &mut Square, x: usize, y: usize, bits: u64)
     ensures placed { MovesRow free.now modules.old modules.new x y bits result }
     ensures bound { result ≤ 2 }
 {
-    let two = two_at(free.row(y), x);
-    if two == 0 {
+    let free_pair = pair_at(free.row(y), x);
+    if free_pair == 0 {
         return 0;
     }
-    modules.flip(y, two_of(two, bits) << x);
-    (two as usize + 1) / 2
+    modules.flip(y, bits_for_pair(free_pair, bits) << x);
+    (free_pair as usize + 1) / 2
 }
 
 /// Returns whether both modules of the strip are free in row `t` and in the next three that it reaches.
 fn are_four_free(strip: Strip, t: usize, free: &Square) -> bool
-    requires side { strip.n ≤ SIDE }
+    requires side { strip.side ≤ SIDE }
     requires column { strip.x + 1 < SIDE }
-    requires row { t + 3 < strip.n }
+    requires row { t + 3 < strip.side }
     ensures { IsTrue result → (j : ℕ) → j < 4
-        → (value_at free.now strip.x (row_of strip.n strip.number (t + j)) ≡ true)
-        × (value_at free.now (strip.x + 1) (row_of strip.n strip.number (t + j)) ≡ true) }
+        → (value_at free.now strip.x (row_of strip.side strip.number (t + j)) ≡ true)
+        × (value_at free.now (strip.x + 1) (row_of strip.side strip.number (t + j)) ≡ true) }
 {
     let rows = free.row(strip.row(t))
         & free.row(strip.row(t + 1))
         & free.row(strip.row(t + 2))
         & free.row(strip.row(t + 3));
-    two_at(rows, strip.x) == 3
+    pair_at(rows, strip.x) == 3
 }
 
 /// Places eight bits on four rows whose modules are free, from row `t` on.
 fn place_free(strip: Strip, t: usize, bits: u64, modules: &mut Square)
-    requires side { strip.n ≤ SIDE }
+    requires side { strip.side ≤ SIDE }
     requires column { strip.x + 1 < SIDE }
-    requires row { t + 3 < strip.n }
+    requires row { t + 3 < strip.side }
     ensures { (free : List (List Bool)) → ((j : ℕ) → j < 4
-        → (value_at free strip.x (row_of strip.n strip.number (t + j)) ≡ true)
-        × (value_at free (strip.x + 1) (row_of strip.n strip.number (t + j)) ≡ true))
+        → (value_at free strip.x (row_of strip.side strip.number (t + j)) ≡ true)
+        × (value_at free (strip.x + 1) (row_of strip.side strip.number (t + j)) ≡ true))
         → (codewords : List ℕ) (i : ℕ) → HasBits 57 bits codewords i
         → MovesOn strip free codewords modules.old modules.new i t (i + 8) (t + 4) }
 {
     for j in 0..4 {
-        let two = two_of(3, bits << (2 * j));
-        modules.flip(strip.row(t + j), two << strip.x);
+        let pair = bits_for_pair(3, bits << (2 * j));
+        modules.flip(strip.row(t + j), pair << strip.x);
     }
 }
 
@@ -167,9 +167,9 @@ fn place_rows(
     free: &Square,
     modules: &mut Square,
 ) -> usize
-    requires side { strip.n ≤ SIDE }
+    requires side { strip.side ≤ SIDE }
     requires column { strip.x + 1 < SIDE }
-    requires row { t + count ≤ strip.n }
+    requires row { t + count ≤ strip.side }
     requires count { count ≤ 4 }
     ensures placed { (codewords : List ℕ) (i : ℕ) → HasBits 57 bits codewords i
         → MovesOn strip free.now codewords modules.old modules.new i t (i + result) (t + count) }
@@ -185,9 +185,9 @@ fn place_rows(
 /// Places the bits from bit `i` on on four rows of a strip, from row `t` on, and returns how many.
 #[inline(always)]
 fn place_four(strip: Strip, t: usize, bits: u64, free: &Square, modules: &mut Square) -> usize
-    requires side { strip.n ≤ SIDE }
+    requires side { strip.side ≤ SIDE }
     requires column { strip.x + 1 < SIDE }
-    requires row { t + 3 < strip.n }
+    requires row { t + 3 < strip.side }
     ensures placed { (codewords : List ℕ) (i : ℕ) → HasBits 57 bits codewords i
         → MovesOn strip free.now codewords modules.old modules.new i t (i + result) (t + 4) }
     ensures bound { result ≤ 8 }
@@ -209,21 +209,21 @@ fn place_strip(
     modules: &mut Square,
     first: usize,
 ) -> usize
-    requires side { (strip.n ≤ SIDE) × (strip.n % 4 ≡ 1) }
+    requires side { (strip.side ≤ SIDE) × (strip.side % 4 ≡ 1) }
     requires column { strip.x + 1 < SIDE }
-    requires first { first + 2 * strip.n < 8 * (ROOM - 8) }
-    ensures placed { MovesOn strip free.now bytes.now modules.old modules.new first 0 result strip.n }
-    ensures bound { result ≤ first + 2 * strip.n }
+    requires first { first + 2 * strip.side < 8 * (ROOM - 8) }
+    ensures placed { MovesOn strip free.now bytes.now modules.old modules.new first 0 result strip.side }
+    ensures bound { result ≤ first + 2 * strip.side }
 {
     // Row 0 is placed alone, so that the four rows are the same ones in each strip.
     let begin = strip.number % 2;
     let mut i = first + place_rows(strip, 0, begin, bits_from(bytes, first), free, modules);
-    for block in 0..strip.n / 4 {
+    for block in 0..strip.side / 4 {
         i += place_four(strip, begin + 4 * block, bits_from(bytes, i), free, modules);
     }
     i + place_rows(
         strip,
-        strip.n - 1 + begin,
+        strip.side - 1 + begin,
         1 - begin,
         bits_from(bytes, i),
         free,
@@ -239,12 +239,12 @@ pub fn place(version: Version, codewords: &Codewords, free: &Square, modules: &m
         → is_free version x y ≡ true → value_at modules.old x y ≡ false }
     ensures { PlacesCodewords version codewords.now.items modules.old modules.new }
 {
-    let n = version.side();
+    let side = version.side();
     let bytes = with_zeros(codewords);
     let mut i = 0;
     // One strip goes up and one down, so that the compiler knows which.
-    for pair in 0..(n - 1) / 4 {
-        i = place_strip(Strip::new(n, 2 * pair), &bytes, free, modules, i);
-        i = place_strip(Strip::new(n, 2 * pair + 1), &bytes, free, modules, i);
+    for pair in 0..(side - 1) / 4 {
+        i = place_strip(Strip::new(side, 2 * pair), &bytes, free, modules, i);
+        i = place_strip(Strip::new(side, 2 * pair + 1), &bytes, free, modules, i);
     }
 }

@@ -8,23 +8,23 @@ ghost use Rattle.qrmatrix.specs.Private.PenaltyParts.{finder_from, is_finder, is
 
 use crate::square::SIDE;
 
-/// Returns ones in the lowest `n` places, and zeros above.
-pub fn low_ones(n: usize) -> u64
-    requires { n ≤ SIDE }
-    ensures value { result ≡ 2 ^ n - 1 }
-    ensures bits { (i : ℕ) → bit result i ≡ nat_lt i n }
+/// Returns ones in the lowest `count` places, and zeros above.
+pub fn low_ones(count: usize) -> u64
+    requires { count ≤ SIDE }
+    ensures value { result ≡ 2 ^ count - 1 }
+    ensures bits { (i : ℕ) → bit result i ≡ nat_lt i count }
     ensures bound { result < 2 ^ SIDE }
 {
-    (1 << n) - 1
+    (1 << count) - 1
 }
 
-/// Returns how many of the lowest `n` places have a one.
-pub fn ones_below(row_bits: u64, n: usize) -> u32
-    requires { n ≤ SIDE }
-    ensures value { result ≡ count_below n (bit row_bits) }
-    ensures bound { result ≤ n }
+/// Returns how many of the lowest `count` places have a one.
+pub fn ones_below(row_bits: u64, count: usize) -> u32
+    requires { count ≤ SIDE }
+    ensures value { result ≡ count_below count (bit row_bits) }
+    ensures bound { result ≤ count }
 {
-    (row_bits & low_ones(n)).count_ones()
+    (row_bits & low_ones(count)).count_ones()
 }
 
 /// Returns the places at which two rows have the same colour.
@@ -98,14 +98,14 @@ pub fn run_starts(row_bits: u64) -> u64
     ((row_bits ^ (row_bits >> 1)) << 1) | 1
 }
 
-/// Returns the penalty of runs in the lowest `n` places. `uniform` has the places at which windows of one colour begin,
-/// and `begins` those at which a run begins.
+/// Returns the penalty of runs in the lowest `count` places. `uniform` has the places at which windows of one colour
+/// begin, and `begins` those at which a run begins.
 #[tactic(auto, using(crate::proofs::RowSumLaws::points_counted))]
-pub fn run_points(uniform: u64, begins: u64, n: usize) -> u32
-    requires { n ≤ SIDE }
+pub fn run_points(uniform: u64, begins: u64, count: usize) -> u32
+    requires { count ≤ SIDE }
     ensures value { result
-        ≡ sum_below n (λ i. if bit uniform i then 1 + (if bit begins i then 2 else 0) else 0) }
-    ensures bound { result ≤ 3 * n }
+        ≡ sum_below count (λ i. if bit uniform i then 1 + (if bit begins i then 2 else 0) else 0) }
+    ensures bound { result ≤ 3 * count }
 {
-    ones_below(uniform, n) + 2 * ones_below(uniform & begins, n)
+    ones_below(uniform, count) + 2 * ones_below(uniform & begins, count)
 }

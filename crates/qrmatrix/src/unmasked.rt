@@ -38,10 +38,10 @@ fn draw_functions(version: Version, free: &mut Square, modules: &mut Square)
     requires { IsBlank free.old × IsBlank modules.old }
     ensures { DrawsFunctions version free.new modules.old modules.new }
 {
-    let n = version.side();
-    for y in 0..n {
+    let side = version.side();
+    for y in 0..side {
         let row = function_row(version, y);
-        free.flip(y, low_ones(n) & !row.taken);
+        free.flip(y, low_ones(side) & !row.taken);
         modules.flip(y, row.dark);
     }
 }
@@ -142,8 +142,8 @@ impl Unmasked {
             → IsWithin (side_of self.now.version) masked.old.modules
             → IsWithin (side_of self.now.version) masked.new.modules }
     {
-        let n = self.version.side();
-        write_masked(n, mask, &self.free, &self.modules, &mut masked.modules);
+        let side = self.version.side();
+        write_masked(side, mask, &self.free, &self.modules, &mut masked.modules);
         draw_format(self.version, self.level, mask, &mut masked.modules);
         masked.mask = mask;
     }

@@ -48,7 +48,7 @@ pub record Placed (v : ℕ) (codewords : List ℕ) (old new : ℕ → ℕ → Bo
 pub record IsStrip (v : ℕ) (strip : Strip) : Type 0 where
   pub least : 1 ≤ v
   pub most : v ≤ 10
-  pub side : strip.n ≡ side_of v
+  pub side : strip.side ≡ side_of v
   pub number : strip.number < (side_of v - 1) / 2
   pub column : strip.x + 1 ≡ right_column (side_of v) strip.number
 
@@ -62,5 +62,5 @@ MovesOn strip free codewords old new i t j u =
 -- `count` bits, the highest of a word, are placed on a row of each strip that has the row and the columns
 abbrev pub MovesRow : List (List Bool) → List (List Bool) → List (List Bool) → ℕ → ℕ → ℕ → ℕ → Type 0
 MovesRow free old new x y word count =
-    (strip : Strip) (t : ℕ) (codewords : List ℕ) (i : ℕ) → x ≡ strip.x → y ≡ row_of strip.n strip.number t
-    → t < strip.n → HasBits 2 word codewords i → MovesOn strip free codewords old new i t (i + count) (t + 1)
+    (strip : Strip) (t : ℕ) (codewords : List ℕ) (i : ℕ) → x ≡ strip.x → y ≡ row_of strip.side strip.number t
+    → t < strip.side → HasBits 2 word codewords i → MovesOn strip free codewords old new i t (i + count) (t + 1)

@@ -7,11 +7,11 @@ use qrdata::{Level, Mask, Version};
 
 #[test]
 fn one_symbol_is_drawn_without_a_line(rt: HostRuntime) {
-    let options = low(&rt);
+    let Options { run, label } = low(&rt);
     let mut images = Vec::new(rt.alloc());
     let mut out = StdSink::new(&mut images);
-    let drawn = draw(&options, Symbology::Ean8, b"7351353", &mut out);
-    let refused = draw(&options, Symbology::Ean8, b"73513530", &mut out);
+    let drawn = draw(&run, &label, Symbology::Ean8, b"7351353", &mut out);
+    let refused = draw(&run, &label, Symbology::Ean8, b"73513530", &mut out);
     let refusal = Fault::WrongCheckDigit { given: 0, right: 7 };
     let is_right = (drawn == Ok(Ok(()))) & (refused == Ok(Err(refusal)));
     assert!(rt; is_right & (images.as_slice() == EAN8.as_slice()));

@@ -7,7 +7,7 @@ use Rattle.capi.proofs.symbol.symbol_told.Goals as goal
 pub returns-clause-read : goal.returns-clause-read
 returns-clause-read c =
     let options = c.args.options.now in
-    let range = c.ranges-2.ensures in
+    let range = c.prove_ranges.ensures in
     modules_of_data_read (record { run = options.run; label = one_row options.label })
     (record {
       scale_low = range.scale_low;

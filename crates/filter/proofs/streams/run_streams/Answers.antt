@@ -14,9 +14,9 @@ returns-in-Ok g c =
         text = p.text;
         given = Consumes-whole _ _ p.text (λ bytes. p.text ≡ bytes) p.given.0 h.ended.1 refl;
         sends = Took-by c.args.options.run (images_by _ _ _ (λ bytes took.
-            c.reaches.ensures.bytes h.flushed.0 _ _ bytes took)) (script c.args.options p.text) p.sends;
+            c.prove_reached.ensures.bytes h.flushed.0 _ _ bytes took)) (script c.args.options p.text) p.sends;
         status = p.status;
         read = p.read;
       };
-      reaches = (c.reaches.ensures.buffered h.flushed.0, c.reaches.ensures.below h.flushed.0);
+      reaches = (c.prove_reached.ensures.buffered h.flushed.0, c.prove_reached.ensures.below h.flushed.0);
     }

@@ -5,16 +5,16 @@ pub returns-in-WrongCheckDigit-clause-text : goal.returns-in-WrongCheckDigit-cla
 returns-in-WrongCheckDigit-clause-text c =
     rw (
       c.append_number-in-WrongCheckDigit.ensures.text,
-      c.append.ensures,
+      c.push_str.ensures.bytes,
       c.append_number.ensures.text,
       c.in-WrongCheckDigit.is,
     )
-    (three c.args.text.now.items (decimal c.in-WrongCheckDigit.given) (codes ", should be ")
+    (three c.args.text.now.bytes (decimal c.in-WrongCheckDigit.given) (codes ", should be ")
     (decimal c.in-WrongCheckDigit.right)) where
       three : (t a b d : List ℕ) → ((t ++ a) ++ b) ++ d ≡ t ++ (a ++ (b ++ d))
       three t a b d = simp append_assoc
 
 pub returns-in-NotAscii-clause-text : goal.returns-in-NotAscii-clause-text
 returns-in-NotAscii-clause-text c =
-    rw (c.append-in-NotAscii.ensures, c.append_number-in-NotAscii.ensures.text, c.in-NotAscii.is)
-    (append_assoc c.args.text.now.items (decimal c.in-NotAscii.place) (codes " is not ASCII"))
+    rw (c.push_str-in-NotAscii.ensures.bytes, c.append_number-in-NotAscii.ensures.text, c.in-NotAscii.is)
+    (append_assoc c.args.text.now.bytes (decimal c.in-NotAscii.place) (codes " is not ASCII"))

@@ -18,7 +18,7 @@ push_segments-requires-clause-room c = omega (
   arith,
   ap length c.requires.empty,
   c.requires.plan.fits,
-  capacity-le c.args.level c.args.version c.known.ensures,
+  capacity-le c.args.level c.args.version c.prove_range.ensures,
 )
 
 pub end-requires : goal.end-requires
@@ -30,7 +30,7 @@ end-requires c = record {
     c.data_codewords-size.ensures,
     length-segments_bits c.args.version c.args.segments.now c.args.bytes.now c.requires.plan.cut,
   );
-  size = data_codewords-few c.args.version c.args.level c.data_codewords-size.ensures c.known.ensures;
+  size = data_codewords-few c.args.version c.args.level c.data_codewords-size.ensures c.prove_range.ensures;
 }
 
 pub returns : goal.returns
@@ -56,6 +56,6 @@ push_padding-requires c = record {
     arith,
     c.len.ensures.value,
     c.end.ensures.count,
-    data_codewords-few c.args.version c.args.level c.data_codewords-size.ensures c.known.ensures,
+    data_codewords-few c.args.version c.args.level c.data_codewords-size.ensures c.prove_range.ensures,
   );
 }

@@ -15,7 +15,7 @@ returns-then-bytes-capacity-clause-none c = λ v from to.
       c.if-bytes-capacity.true,
       c.capacity.ensures.value,
       third v segments c.args.bytes.now (chosen_segments-is v c.args.bytes.now),
-      capacity-rising c.args.level v c.args.highest to c.known.ensures.1,
+      capacity-rising c.args.level v c.args.highest to c.prove_range.ensures.1,
     )
 
 pub overflow_cast-bits : goal.overflow_cast-bits

@@ -12,7 +12,7 @@ use Rattle.qrmatrix.proofs.RowBitsLaws.{up_narrow}
 use Rattle.qrmatrix.proofs.format.draw_format.Goals as goal
 
 pub loop-i-init : goal.loop-i-init
-loop-i-init c = none_drawn c.side-n.result c.format_information-information.result c.args.modules.now
+loop-i-init c = none_drawn c.side-side.result c.format_information-information.result c.args.modules.now
 
 pub flip-requires-in-loop-i-clause-row_bits : goal.flip-requires-in-loop-i-clause-row_bits
 flip-requires-in-loop-i-clause-row_bits c =
@@ -22,8 +22,8 @@ flip-requires-in-loop-i-clause-row_bits c =
 
 pub loop-i-preserved : goal.loop-i-preserved
 loop-i-preserved c =
-    let n = c.side-n.result in
-    let width = c.side-n.ensures.value in
+    let n = c.side-side.result in
+    let width = c.side-side.ensures.value in
     drawn_next n c.format_information-information.result c.loop-i.i c.from-dark.result c.row_of_bit.result
     c.column_of_bit.result c.args.modules.now c.loop-i.modules c.flip.new.self c.flip-in-loop-i.new.self (omega arith)
     (omega arith) (omega arith) c.from-dark.ensures c.row_of_bit.ensures.value c.row_of_bit.ensures.inside
@@ -34,9 +34,9 @@ pub returns : goal.returns
 returns c =
     let v = c.args.version in
     let n = side_of v in
-    let known = c.side-n.ensures.known in
+    let known = c.side-side.ensures.known in
     let last : c.loop-i.i ≡ 15 = omega arith in
-    let drawn = rw (last, c.side-n.ensures.value) at c.loop-i.invariant in
+    let drawn = rw (last, c.side-side.ensures.value) at c.loop-i.invariant in
     let information = c.format_information-information.ensures in
     record {
       inside = λ x y lx ly. drawn x y

@@ -16,8 +16,8 @@ returns c =
       c.alignments.ensures,
       c.timings.ensures,
       c.versions.ensures,
-      c.side-n.ensures.value,
+      c.side-side.ensures.value,
     )
     (refl {a = function_row v c.args.y}) in
     subst (HasFunctions v c.args.y) (sym e)
-    (function_row_is v c.side-n.ensures.known.0 c.side-n.ensures.known.1 c.args.y c.requires)
+    (function_row_is v c.side-side.ensures.known.0 c.side-side.ensures.known.1 c.args.y c.requires)

@@ -11,7 +11,7 @@ loop-block-preserved c =
 
 pub returns : goal.returns
 returns c =
-    let n = c.args.n in
+    let n = c.args.side in
     let reached : 12 * c.loop-block.block ≡ n / 12 * 12 = omega arith in
     let end : n / 12 * 12 + n % 12 ≡ n = omega arith in
     subst (λ z. IsMaskedTo z c.args.mask c.args.free.now c.args.modules.now c.args.masked.now c.write_rows-2.new.masked)

@@ -8,7 +8,7 @@ use Rattle.qrmatrix.proofs.penalty.all_column_finders.Goals as goal
 
 pub returns-clause-value : goal.returns-clause-value
 returns-clause-value c =
-    let n = c.args.n in
+    let n = c.args.side in
     let m = value_at c.args.modules.now in
     let all : c.loop-y.y ≡ n - 6 = omega arith in
     c.loop-y.invariant.total

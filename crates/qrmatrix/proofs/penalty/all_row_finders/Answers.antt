@@ -9,7 +9,7 @@ use Rattle.qrmatrix.proofs.penalty.all_row_finders.Goals as goal
 
 pub loop-y-preserved : goal.loop-y-preserved
 loop-y-preserved c =
-    let n = c.args.n in
+    let n = c.args.side in
     let y = c.loop-y.y in
     let m = value_at c.args.modules.now in
     let f : ℕ → ℕ = λ y. count_below (n - 10) (shows_finder (λ x. m x y)) in

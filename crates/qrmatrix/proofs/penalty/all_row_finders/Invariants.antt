@@ -7,6 +7,6 @@ use Rattle.qrmatrix.proofs.penalty.all_row_finders.Given as goal
 abbrev pub invariant-loop-y : goal.invariant-loop-y
 invariant-loop-y l = record {
   total : l.total
-      ≡ sum_below l.y (λ y. count_below (l.n - 10) (shows_finder (λ x. value_at l.modules x y)));
+      ≡ sum_below l.y (λ y. count_below (l.side - 10) (shows_finder (λ x. value_at l.modules x y)));
   bound : l.total ≤ 57 * l.y;
 }

@@ -16,7 +16,7 @@ returns-then-y-ge4-clause-value c =
     let back : y - 4 + 4 ≡ y = omega arith in
     let reached : nat_le 4 y ≡ true = le-leb 4 y c.if-y-ge4.true in
     c.ones_below.ensures.value
-    ∙ count_same c.args.n (bit _) (λ x. light_from (m x) (y - 4) && finder_from (m x) (y - 4 + 4)) (λ x l.
+    ∙ count_same c.args.side (bit _) (λ x. light_from (m x) (y - 4) && finder_from (m x) (y - 4 + 4)) (λ x l.
     and_bit c.args.finders c.light_columns.result x
     ∙ rw (c.requires.finders x (omega arith), c.light_columns.ensures x (omega arith), back)
     (and_comm (finder_from (m x) y) (light_from (m x) (y - 4))))

@@ -8,13 +8,13 @@ use Rattle.qrmatrix.proofs.RowBitsLaws.{and_bit}
 use Rattle.qrmatrix.proofs.WindowLaws.{count_same}
 use Rattle.qrmatrix.proofs.penalty.light_below.Goals as goal
 
-pub returns-then-y-n-clause-value : goal.returns-then-y-n-clause-value
-returns-then-y-n-clause-value c =
+pub returns-then-y-side-clause-value : goal.returns-then-y-side-clause-value
+returns-then-y-side-clause-value c =
     let m = value_at c.args.modules.now in
     let y = c.args.y in
-    let reached : nat_lt y (c.args.n - 10) ≡ true = lt-ltb y (c.args.n - 10) c.if-y-n.true in
+    let reached : nat_lt y (c.args.side - 10) ≡ true = lt-ltb y (c.args.side - 10) c.if-y-side.true in
     c.ones_below.ensures.value
-    ∙ count_same c.args.n (bit _) (λ x. finder_from (m x) y && light_from (m x) (y + 7)) (λ x l.
+    ∙ count_same c.args.side (bit _) (λ x. finder_from (m x) y && light_from (m x) (y + 7)) (λ x l.
     and_bit c.args.finders c.light_columns.result x
     ∙ rw (c.requires.finders x (omega arith), c.light_columns.ensures x (omega arith)) refl)
     ∙ rw reached refl

@@ -12,14 +12,14 @@ returns c =
     λ set.
     let free = c.args.free.now in
     let x = c.args.strip.x in
-    let n = c.args.strip.n in
+    let n = c.args.strip.side in
     let number = c.args.strip.number in
     let t = c.args.t in
-    let three = eqb-true c.two_at.result 3 set in
+    let three = eqb-true c.pair_at.result 3 set in
     let low = in_each c.row-2.result c.row-4.result c.row-6.result c.row-8.result x
-    (sym c.two_at.ensures.low ∙ ap (λ z. bit z 0) three) in
+    (sym c.pair_at.ensures.low ∙ ap (λ z. bit z 0) three) in
     let high = in_each c.row-2.result c.row-4.result c.row-6.result c.row-8.result (x + 1)
-    (sym c.two_at.ensures.high ∙ ap (λ z. bit z 1) three) in
+    (sym c.pair_at.ensures.high ∙ ap (λ z. bit z 1) three) in
     by_four
     (λ j. (value_at free x (row_of n number (t + j)) ≡ true) × (value_at free (x + 1) (row_of n number (t + j)) ≡ true))
     (both_free free c.row-2.result x c.row.result (row_of n number (t + 0)) c.row-2.ensures.bits

@@ -18,7 +18,7 @@ loop-pair-init c =
     record {
       placed = placed_none v c.with_zeros-bytes.result _ (2 * side_of v * 0) (omega arith);
       bound = omega arith;
-      width = c.side-n.ensures.value;
+      width = c.side-side.ensures.value;
     }
 
 pub loop-pair-preserved : goal.loop-pair-preserved
@@ -33,7 +33,7 @@ loop-pair-preserved c =
     let down = c.new-in-loop-pair in
     let first = c.place_strip-i in
     let second = c.place_strip-i-in-loop-pair in
-    let known = c.side-n.ensures.known in
+    let known = c.side-side.ensures.known in
     let is_up = up.ensures.strip v known.0 known.1 width in
     let is_down = down.ensures.strip v known.0 known.1 width in
     let first_most = first.ensures.bound in
@@ -56,8 +56,8 @@ pub returns : goal.returns
 returns c =
     let v = c.args.version in
     let n = side_of v in
-    let known = c.side-n.ensures.known in
-    let width = c.side-n.ensures.value in
+    let known = c.side-side.ensures.known in
+    let width = c.side-side.ensures.value in
     let last : 2 * c.loop-pair.pair ≡ (side_of v - 1) / 2 = omega arith in
     let shown = c.loop-pair.invariant.placed.shown in
     record {

@@ -9,5 +9,5 @@ invariant-loop-pair l = record {
   placed : Placed l.fn.version l.bytes (value_at l.fn.modules) (value_at l.modules) l.i
       (2 * side_of l.fn.version * (2 * l.pair));
   bound : l.i ≤ 228 * l.pair;
-  width : l.n ≡ side_of l.fn.version;
+  width : l.side ≡ side_of l.fn.version;
 }

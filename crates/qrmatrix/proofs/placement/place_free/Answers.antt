@@ -12,7 +12,7 @@ loop-j-init c = record {
 
 pub flip-requires-clause-row_bits : goal.flip-requires-clause-row_bits
 flip-requires-clause-row_bits c =
-    up_narrow c.two_of-two.result 2 c.args.strip.x c.two_of-two.ensures.bound (omega arith)
+    up_narrow c.bits_for_pair-pair.result 2 c.args.strip.x c.bits_for_pair-pair.ensures.bound (omega arith)
 
 pub loop-j-preserved : goal.loop-j-preserved
 loop-j-preserved c = record {
@@ -20,7 +20,7 @@ loop-j-preserved c = record {
       let j = c.loop-j.j in
       let t = c.args.t + j in
       let rows = four j (omega arith) in
-      let two = c.two_of-two in
+      let two = c.bits_for_pair-pair in
       renumbered c.args.strip.number (i + 2 * j + 2) (i + 2 * (j + 1)) (t + 1) (c.args.t + (j + 1)) (omega arith)
       (omega arith)
       (row_placed c.args.strip free c.loop-j.modules c.flip.new.self codewords (i + 2 * j) t 3 two.result _

@@ -34,7 +34,7 @@ pub returns-clause-placed : goal.returns-clause-placed
 returns-clause-placed c =
     λ v start is marks p.
     let begin = c.args.strip.number % 2 in
-    let n = c.args.strip.n in
+    let n = c.args.strip.side in
     let i = c.loop-block.i in
     let rows = c.place_rows-2 in
     renumbered c.args.strip.number (i + rows.result) (i + rows.result) (n - 1 + begin + (1 - begin)) n refl

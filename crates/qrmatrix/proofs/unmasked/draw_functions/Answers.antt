@@ -24,14 +24,14 @@ flip-requires-clause-row_bits c =
     omega (arith, c.low_ones.ensures.bound, and_le_l c.low_ones.result (bit_not w64 c.function_row-row.result.taken))
 
 pub flip-requires-in-loop-y-clause-row_bits : goal.flip-requires-in-loop-y-clause-row_bits
-flip-requires-in-loop-y-clause-row_bits c = fits c.args.version c.function_row-row.result.dark c.side-n.ensures.known.1
+flip-requires-in-loop-y-clause-row_bits c = fits c.args.version c.function_row-row.result.dark c.side-side.ensures.known.1
     c.function_row-row.ensures.narrow_dark
 
 pub loop-y-preserved : goal.loop-y-preserved
 loop-y-preserved c =
     let v = c.args.version in
-    let n = c.side-n.result in
-    let width = c.side-n.ensures.value in
+    let n = c.side-side.result in
+    let width = c.side-side.ensures.value in
     let y = c.loop-y.y in
     let row = c.function_row-row.result in
     let has = c.function_row-row.ensures in
@@ -61,8 +61,8 @@ loop-y-preserved c =
 
 pub returns : goal.returns
 returns c =
-    let n = c.side-n.result in
-    let width = c.side-n.ensures.value in
+    let n = c.side-side.result in
+    let width = c.side-side.ensures.value in
     let free = c.loop-y.invariant.free in
     let modules = c.loop-y.invariant.modules in
     record {

@@ -7,6 +7,6 @@ use Rattle.qrmatrix.proofs.unmasked.draw_functions.Given as goal
 
 abbrev pub invariant-loop-y : goal.invariant-loop-y
 invariant-loop-y l = record {
-  free : TurnedTo l.y (λ x y. nat_lt x l.n && is_free l.version x y) l.fn.free l.free;
-  modules : TurnedTo l.y (λ x y. nat_lt x l.n && unmasked_module l.version (role l.version x y)) l.fn.modules l.modules;
+  free : TurnedTo l.y (λ x y. nat_lt x l.side && is_free l.version x y) l.fn.free l.free;
+  modules : TurnedTo l.y (λ x y. nat_lt x l.side && unmasked_module l.version (role l.version x y)) l.fn.modules l.modules;
 }

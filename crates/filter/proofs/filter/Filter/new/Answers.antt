@@ -5,7 +5,7 @@ pub returns : goal.returns
 unfolding ended_lines open_line events_after status_of
 returns c = record {
   options_are = refl;
-  range = c.ranges-2.ensures;
+  range = c.prove_ranges.ensures;
   bytes = All-nil (λ b. b < 256);
   line = c.new.ensures;
   line_count = refl;

@@ -7,7 +7,7 @@ pub overflow_add-size : goal.overflow_add-size
 overflow_add-size c = omega (
   arith,
   div-le_self c.data_codewords-codewords.result c.block_count-blocks.result,
-  data_codewords-few c.args.self c.args.level c.data_codewords-codewords.ensures c.known.ensures,
+  data_codewords-few c.args.self c.args.level c.data_codewords-codewords.ensures c.prove_range.ensures,
 )
 
 pub returns : goal.returns
@@ -18,4 +18,4 @@ returns c =
       c.new-lengths.ensures,
       c.block_count-blocks.ensures.value,
       c.data_codewords-codewords.ensures,
-    ) (IsSound-of c.args.self c.args.level c.known.ensures).even
+    ) (IsSound-of c.args.self c.args.level c.prove_range.ensures).even

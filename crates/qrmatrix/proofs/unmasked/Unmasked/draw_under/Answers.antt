@@ -17,7 +17,7 @@ returns-clause-modules c =
     let drawn = c.draw_format.ensures in
     let masked : IsMaskedTo n mask self.free self.modules c.args.masked.now.modules c.write_masked.new.masked =
     subst (λ k. IsMaskedTo k mask self.free self.modules c.args.masked.now.modules c.write_masked.new.masked)
-    c.side-n.ensures.value c.write_masked.ensures in
+    c.side-side.ensures.value c.write_masked.ensures in
     elim (cases_lt y n) [
       | inr gy ↦
           let out = and_right (nat_lt x n) (nat_lt y n) (le-ltb y n gy) in

@@ -5,11 +5,11 @@ use Rattle.qrmatrix.specs.Penalty.{balance_penalty, dark_count, is_one_colour, r
 use Rattle.qrmatrix.specs.Square.{value_at}
 use Rattle.qrmatrix.proofs.FinderLaws.{all_but_last}
 use Rattle.qrmatrix.proofs.PenaltySumLaws.{dark_count-sum, square_penalty-sum}
-use Rattle.qrmatrix.proofs.penalty.rows.Goals as goal
+use Rattle.qrmatrix.proofs.penalty.row_penalty.Goals as goal
 
 pub returns-clause-value : goal.returns-clause-value
 returns-clause-value c =
-    let n = c.args.n in
+    let n = c.args.side in
     let m = value_at c.args.modules.now in
     let all : c.loop-y.y ≡ n = omega arith in
     let runs : c.loop-y.runs ≡ sum_below n (λ y. run_penalty n (λ x. m x y)) =

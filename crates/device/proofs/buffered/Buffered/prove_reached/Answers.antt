@@ -1,5 +1,5 @@
 use Rattle.device.proofs.PassingLaws.{PassesOn-all, slice_range-none}
-use Rattle.device.proofs.buffered.Buffered.reaches.Goals as goal
+use Rattle.device.proofs.buffered.Buffered.prove_reached.Goals as goal
 
 pub returns-clause-buffered : goal.returns-clause-buffered
 returns-clause-buffered g c =
