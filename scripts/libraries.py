@@ -21,7 +21,6 @@ def kit():
     loader = importlib.machinery.SourceFileLoader("rtlib", path)
     module = importlib.util.module_from_spec(importlib.util.spec_from_loader("rtlib", loader))
     loader.exec_module(module)
-    module.guarded()
     return module
 
 

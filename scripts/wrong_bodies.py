@@ -10,10 +10,12 @@ A wrong body changes bodies of src/: it leaves clauses, ghost items and attribut
 leave the same text. The files of crates/*/right-bodies are of the same form and not wrong: the prover has to accept
 each, and one that is reported as refused is a fault of this script.
 
-`rt` tries each must-fail edit by a check of the crate. Here one check tries many: a proof reads of other functions
-their contracts alone, so a copy of the crate has a body in each of several functions. What fails only because it calls
-another is not judged, and is tried again. The first check of a crate tries its functions as they are: the prover has to
-accept each.
+`rt` tries each must-fail edit by a check of the crate. Here one check tries many, since a proof reads of other
+functions their contracts alone. Where several wrong bodies are of one function, a copy of the crate has the function
+once more for each of them, under another name, with its contract and its proof. It also has it once more as it is, and
+there the prover must find nothing wrong: a copy is judged as a function is. Any other body is tried in its function's
+place beside these, and so are those that change something else too, or are of a trait. What fails only because it
+calls another is not judged, and is tried again: beside others, or else alone.
 
 The status is 0 where each wrong body is refused, 1 where one is not or there is none, and 2 where an argument names no
 crate or there is no kit. The last line is `N passed, M failed`, as of `rt ci`.
@@ -44,6 +46,7 @@ class Body:
     changes: list  # (file, old, new)
     alone: bool = False
     is_right: bool = False  # it is there to be accepted
+    is_control: bool = False  # it is a function as it is, beside copies of it
 
 
 def read_body(path):
@@ -118,21 +121,98 @@ def fault_of(body, folder, seen):
     return "" if twin is body else f"it leaves the same text as {twin.name}"
 
 
-def together(bodies, folder):
-    """As many of the bodies as fit in one copy of the crate, each in functions of its own, and the changed texts."""
-    chosen, texts, taken = [], {}, set()
+def together(bodies, folder, texts):
+    """As many of the bodies as fit into texts, each in functions of its own, and the changed texts."""
+    chosen, taken = [], set()
     for body in bodies:
-        is_apart = chosen and (body.alone or chosen[0].alone)
+        is_apart = texts and body.alone or any(it.alone for it in chosen)
         more = None if is_apart or taken & {*body.functions} else changed(texts, body, folder)
         if more is not None:
             chosen, texts, taken = [*chosen, body], more, taken | {*body.functions}
     return chosen, texts
 
 
+# ---- copies of functions
+
+
+@dataclasses.dataclass
+class Copy:
+    """A function once more, under another name."""
+
+    body: Body  # which names the copy in place of the function
+    function: str  # that it is a copy of, by its path below the crate
+    file: str
+    end: int  # the place in the file at which the function ends
+    text: str  # of the copy, with its attributes
+
+
+def function_at(file, path):
+    """The function of a path in a file: a free one, or one of an `impl` of no trait. None where there is none."""
+    items = file.declarations
+    for name in path[:-1]:
+        items = [one for item in items if (item.kind, item.name) == ("impl", name) for one in item.inner]
+    return next((one for one in items if one.kind == "fn" and [one.name] == path[-1:]), None)
+
+
+def copy_of(body, ending, folder):
+    """A copy of the function that a body changes, with this ending of its name. There is none where the body changes
+    something else too, of a function of a trait, and of one that calls itself."""
+    function, name = body.functions[0], body.changes[0][0]
+    file, texts = file_at(folder, name), changed({}, body, folder)
+    module = [] if file.module == "lib" else file.module.split(".")
+    path = function.split("::")
+    one = function_at(file, path[len(module) :])
+    if not one or len(body.functions) > 1 or len(texts) > 1 or path[: len(module)] != module:
+        return None
+    begin, end = file.extent(one.tokens)
+    new_end = len(texts[name]) - len(file.text) + end
+    is_inside = (texts[name][:begin], texts[name][new_end:]) == (file.text[:begin], file.text[end:])
+    if not is_inside or "cycle" in [token.text for token in one.attributes]:
+        return None
+    attributes = file.text[one.attributes[0].start : begin] if one.attributes else ""
+    text = re.sub(rf"\bfn {one.name}\b", f"fn {one.name}_{ending}", texts[name][begin:new_end], count=1)
+    renamed = dataclasses.replace(body, functions=[f"{function}_{ending}"])
+    return Copy(renamed, function, name, end, attributes + text)
+
+
+def copies_of(bodies, folder):
+    """Copies of the functions that several bodies change, and one of each as it is."""
+    found = {}
+    for number, body in enumerate(bodies):
+        copy = copy_of(body, number, folder)
+        if copy:
+            found.setdefault(copy.function, []).append(copy)
+    for function, copies in found.items():
+        if len(copies) > 1:
+            unchanged = [(file, old, old) for file, old, _ in copies[0].body.changes]
+            control = Body(f"{function} as it is", [function], unchanged, is_right=True, is_control=True)
+            yield from (*copies, copy_of(control, "as_it_is", folder))
+
+
+def with_copies(copies, folder):
+    """The texts of the files with the copies in them, each after its function."""
+    texts = {copy.file: file_at(folder, copy.file).text for copy in copies}
+    for copy in sorted(copies, key=lambda it: -it.end):
+        text = texts[copy.file]
+        texts[copy.file] = f"{text[:copy.end]}\n\n{copy.text}{text[copy.end:]}"
+    return texts
+
+
+def copy_proof(copy, name, room):
+    """Gives a copy the proof of its function, in a copy of the crate of this name."""
+    names = copy.function, copy.body.functions[0]
+    old_folder, folder = [f"{room}/proofs/{it.replace('::', '/')}" for it in names]
+    old_module, module = [f"Rattle.{name}.proofs.{it.replace('::', '.')}." for it in names]
+    if os.path.isdir(old_folder):
+        shutil.copytree(old_folder, folder)
+    for path in sources.files_below(folder, ".antt"):
+        sources.write(path, sources.read(path).replace(old_module, module))
+
+
 # ---- checks
 
 
-def check(rtlib, crate, texts, functions, kept):
+def check(rtlib, crate, texts, functions, kept, copies):
     """What a check of these functions says over a copy of the crate with the changed texts."""
     with tempfile.TemporaryDirectory(prefix="wrong-bodies-") as room:
         for part in rtlib.PARTS:
@@ -140,6 +220,8 @@ def check(rtlib, crate, texts, functions, kept):
                 shutil.copytree(f"{crate.folder}/{part}", f"{room}/{part}")
         for file, text in texts.items():
             sources.write(f"{room}/{file}", text)
+        for copy in copies:
+            copy_proof(copy, crate.name, room)
         words = [*crate.words(["--jobs", "1"], keeps=False), "--incremental", kept]
         return libraries.check(rtlib, room, words + [it for name in functions for it in ("--only", name)])
 
@@ -167,13 +249,13 @@ class Tried:
     lines: list = dataclasses.field(default_factory=list)
 
     def judge(self, crate, bodies, said):
-        """Counts what a check says of bodies, and returns those that it does not judge."""
-        again = []
+        """Counts what a check says of bodies, and returns the names of those that it does not judge."""
+        again = set()
         for body in bodies:
             found = outcome(crate, body, said)
-            if found == "unknown":
-                again.append(body)
-            elif found == ("proved" if body.is_right else "refused"):
+            if found == "unknown" and not body.is_control:
+                again.add(body.name)
+            elif body.is_control and found == "unknown" or found == ("proved" if body.is_right else "refused"):
                 self.accepted += body.is_right
                 self.refused += not body.is_right
             else:
@@ -185,21 +267,24 @@ class Tried:
         return again
 
 
-def try_bodies(rtlib, crate, waiting, kept, tried):
-    """Tries bodies. What is not judged beside others is tried again after them, and alone where that judges none."""
-    while waiting:
-        left, again = waiting, []
-        while left:
-            chosen, texts = together(left, crate.folder)
-            said = check(rtlib, crate, texts, [name for it in chosen for name in it.functions], kept)
-            again += tried.judge(crate, chosen, said)
-            left = [body for body in left if body not in chosen]
-        if len(again) == len(waiting) and all(body.alone for body in again):
-            tried.lines += [f"{body.name}: not judged" for body in again]
-            break
-        for body in again:
-            body.alone = body.alone or len(again) == len(waiting)
-        waiting = again
+def try_bodies(rtlib, crate, left, kept, tried):
+    """Tries bodies: in each check all that can be in copies, and what fits beside them in its place."""
+    while left:
+        copies = list(copies_of([body for body in left if not body.alone], crate.folder))
+        in_copies = {copy.body.name for copy in copies}
+        others = [body for body in left if body.name not in in_copies]
+        chosen, texts = together(others, crate.folder, with_copies(copies, crate.folder))
+        beside = [*(copy.body for copy in copies), *chosen]
+        said = check(rtlib, crate, texts, [name for body in beside for name in body.functions], kept, copies)
+        again = tried.judge(crate, beside, said)
+        is_nothing_judged = again == {body.name for body in beside if not body.is_control}
+        if is_nothing_judged and all(body.alone for body in beside):
+            tried.lines += [f"{body.name}: not judged" for body in beside]
+            again = set()
+        waiting = [body for body in left if body.name in again]
+        for body in waiting:
+            body.alone = body.alone or is_nothing_judged
+        left = [body for body in others if body not in chosen] + waiting
 
 
 def try_all(rtlib, crate):
@@ -211,13 +296,11 @@ def try_all(rtlib, crate):
             tried.lines.append(f"{body.name}: {fault}")
         else:
             left.append(body)
-    functions = list(dict.fromkeys(name for body in left for name in body.functions))
-    as_it_is = Body("the crate as it is", functions, [], alone=True, is_right=True)
     with tempfile.TemporaryDirectory(prefix="wrong-bodies-kept-") as kept:
         proved = f"{crate.folder}/out/incremental"
         if os.path.isdir(proved):
             shutil.copytree(proved, kept, dirs_exist_ok=True)
-        try_bodies(rtlib, crate, [as_it_is, *left] if left else [], kept, tried)
+        try_bodies(rtlib, crate, left, kept, tried)
     print(f"{crate.name}: {tried.refused} refused, {tried.accepted} accepted, in {tried.checks} checks", flush=True)
     return tried
 
@@ -246,6 +329,7 @@ def main():
         print("0 passed, 1 failed")
         return 1
     rtlib = libraries.kit()
+    rtlib.guarded()  # once, before the threads call it
     of_kit = {it.name: it for it in rtlib.crates_below(sources.TOP)}
     crates = [of_kit[name] for name in sorted(counts, key=lambda it: -counts[it])]
     if libraries.build(list(dict.fromkeys(dep for crate in crates for dep in crate.below())), given.built):

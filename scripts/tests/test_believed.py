@@ -112,7 +112,7 @@ class Sample(unittest.TestCase):
 
         def judge(_given, _crate, changes, values):
             for change in changes:
-                self.assertIn(believed_rows.title_of(change.file), values)
+                self.assertIn(change.file.title, values)
                 change.by = "value" if refuses(change) else ""
 
         with (

@@ -91,28 +91,25 @@ class Outcomes(InFolder):
 
     def tried(self, *said):
         """What comes of the bodies, where the checks say this, one after the other."""
-        with mock.patch.object(wrong_bodies, "check", side_effect=said) as check:
+        with mock.patch.object(wrong_bodies, "check", side_effect=said):
             with contextlib.redirect_stdout(io.StringIO()):
                 tried = wrong_bodies.try_all(None, self.crate)
-        self.texts = [call.args[2].get("src/lib.rt", ONE) for call in check.mock_calls]
         return tried.refused, tried.accepted, tried.lines
 
     def test_what_a_check_says(self):
-        as_it_is, unended = SAID.format("proved"), "fn small::one: not proved\nkilled"
         wrong = ["one: it is right, and not reported as not refused"]
-        not_as_it_is = ["the crate as it is: it is right, and not reported as not refused"]
+        unended = "fn small::one: not proved\nkilled"
         for kind, *said, wanted in (
-            ("wrong-bodies", as_it_is, SAID.format("not proved"), (1, 1, [])),
-            ("wrong-bodies", as_it_is, SAID.format("no proof: expected answers for it"), (1, 1, [])),
-            ("wrong-bodies", as_it_is, SAID.format("proved"), (0, 1, ["one: NOT REFUSED"])),
-            ("wrong-bodies", as_it_is, "only=1 proved=0\n", (0, 1, ["one: NOT REFUSED"])),
-            ("wrong-bodies", as_it_is, *[SAID.format(CALLS)] * 3, (0, 1, ["one: not judged"])),
-            ("wrong-bodies", as_it_is, *[SAID.format("was not reached")] * 3, (0, 1, ["one: not judged"])),
-            ("wrong-bodies", as_it_is, unended, (1, 1, ["the check did not reach its end:", *unended.split("\n")])),
-            ("wrong-bodies", *[SAID.format("not proved")] * 2, (1, 0, not_as_it_is)),
-            ("right-bodies", as_it_is, as_it_is, (0, 2, [])),
-            ("right-bodies", as_it_is, SAID.format("not proved"), (0, 1, wrong)),
-            ("right-bodies", as_it_is, "only=1 proved=0\n", (0, 1, wrong)),
+            ("wrong-bodies", SAID.format("not proved"), (1, 0, [])),
+            ("wrong-bodies", SAID.format("no proof: expected answers for it"), (1, 0, [])),
+            ("wrong-bodies", SAID.format("proved"), (0, 0, ["one: NOT REFUSED"])),
+            ("wrong-bodies", "only=1 proved=0\n", (0, 0, ["one: NOT REFUSED"])),
+            ("wrong-bodies", *[SAID.format(CALLS)] * 2, (0, 0, ["one: not judged"])),
+            ("wrong-bodies", *[SAID.format("was not reached")] * 2, (0, 0, ["one: not judged"])),
+            ("wrong-bodies", unended, (1, 0, ["the check did not reach its end:", *unended.split("\n")])),
+            ("right-bodies", SAID.format("proved"), (0, 1, [])),
+            ("right-bodies", SAID.format("not proved"), (0, 0, wrong)),
+            ("right-bodies", "only=1 proved=0\n", (0, 0, wrong)),
         ):
             with self.subTest(kind=kind, said=said):
                 self.edit(EDIT.format("0 + 1"), kind)
@@ -133,15 +130,31 @@ class Outcomes(InFolder):
                 self.edit(text)
                 self.assertEqual(self.tried(), (0, 0, [f"one: {said}"]))
 
+    def test_two_of_one_text(self):
+        self.edit(EDIT.format("2"))
+        self.edit(EDIT.format(" 2"), name="two")
+        self.assertEqual(self.tried(SAID.format("not proved")), (1, 0, ["two: it leaves the same text as one"]))
+
     def test_two_of_one_function(self):
-        """Each is tried in a check of its own; of two that leave the same text the second is not tried."""
+        """Both are tried in copies of the function, beside one in which nothing may be refused."""
         self.edit(EDIT.format("2"))
         self.edit(EDIT.format("3"), name="two")
-        self.edit(EDIT.format(" 2"), name="twin")
-        said = [SAID.format(it) for it in ("proved", "not proved", "proved")]
-        wanted = ["twin: it leaves the same text as one", "two: NOT REFUSED"]
-        self.assertEqual(self.tried(*said), (1, 1, wanted))
-        self.assertEqual(self.texts, [ONE, ONE.replace("    1", "    2"), ONE.replace("    1", "    3")])
+        refused, control = "not proved", "one as it is: it is right, and not reported as not refused"
+        for *said, again, wanted in (
+            (refused, refused, "proved", (), (2, 1, [])),
+            (refused, "proved", "proved", (), (1, 1, ["two: NOT REFUSED"])),
+            (refused, refused, refused, (), (2, 0, [control])),
+            (refused, refused, CALLS, (), (2, 1, [])),
+            (refused, refused, "", (), (2, 0, [control])),
+            (CALLS, refused, "proved", [refused], (2, 1, [])),
+            (CALLS, refused, "proved", ["proved"], (1, 1, ["one: NOT REFUSED"])),
+            (CALLS, refused, "proved", [CALLS, CALLS], (1, 1, ["one: not judged"])),
+        ):
+            with self.subTest(said, again=again):
+                names = ("one_0", "one_1", "one_as_it_is")
+                lines = [f"fn small::{name}: {line}\n" for name, line in zip(names, said) if line]
+                first = "".join([*lines, "only=3 proved=0\n"])
+                self.assertEqual(self.tried(first, *map(SAID.format, again)), wanted)
 
     def test_two_functions(self):
         """They are tried in one check, and what fails by what it calls again: after the others, and then alone."""
@@ -150,15 +163,68 @@ class Outcomes(InFolder):
         self.edit(EDIT.format("8").replace("one", "other").replace("    1", "    7"), name="other")
         both = "fn small::one: {}\nfn small::other: {}\nonly=2 proved=0\n"
         refused, unknown = both.format("not proved", CALLS), both.format(CALLS, CALLS)
-        again, as_it_is = both.format("", "not proved"), both.format("proved", "proved")
+        again = both.format("", "not proved")
         for said, wanted in (
-            ([refused, again], (2, 1, [])),
-            ([refused, unknown, unknown], (1, 1, ["other: not judged"])),
-            ([unknown, unknown, SAID.format("not proved"), again], (2, 1, [])),
-            ([unknown] * 4, (0, 1, ["one: not judged", "other: not judged"])),
+            ([refused, again], (2, 0, [])),
+            ([refused, unknown, unknown], (1, 0, ["other: not judged"])),
+            ([unknown, SAID.format("not proved"), again], (2, 0, [])),
+            ([unknown] * 3, (0, 0, ["one: not judged", "other: not judged"])),
         ):
             with self.subTest(said):
-                self.assertEqual(self.tried(as_it_is, *said), wanted)
+                self.assertEqual(self.tried(*said), wanted)
+
+    def test_copies_beside_others(self):
+        """One check tries copies, and bodies in the places of other functions; what has to be alone comes after."""
+        write(self.path("src/lib.rt"), ONE + "\nfn other() -> u8 {\n    4\n}\n\nfn third() -> u8 {\n    7\n}\n")
+        self.edit(EDIT.format("2"), name="a")
+        self.edit(EDIT.format("3"), name="b")
+        other = "refused: other\nfile: src/lib.rt\nold:     4\nnew:     5\n"
+        self.edit(other, name="c")
+        self.edit(other.replace("other", "third").replace("4", "7") + "alone: it is read by all\n", name="d")
+        names = ("one_0", "one_1", "other", "one_as_it_is")
+        lines = [f"fn small::{name}: not proved\n" for name in names[:3]] + [f"fn small::{names[3]}: proved\n"]
+        first, then = "".join([*lines, "only=4 proved=1\n"]), "fn small::third: not proved\nonly=1 proved=0\n"
+        self.assertEqual(self.tried(first, then), (4, 1, []))
+
+    def test_copies(self):
+        """A copy has the text of its own body and a proof of its own; the function stands as it is."""
+        self.edit(EDIT.format("2"))
+        self.edit(EDIT.format("3"), name="two")
+        copies = list(wrong_bodies.copies_of(wrong_bodies.bodies_of(self.folder), self.folder))
+        text = wrong_bodies.with_copies(copies, self.folder)["src/lib.rt"]
+        self.assertTrue(text.startswith(ONE.rstrip()))
+        names = [*zip(re.findall(r"pub fn (\w+)\(", text), re.findall(r"^    (\d)$", text, re.M))]
+        self.assertEqual(sorted(names), [("one", "1"), ("one_0", "2"), ("one_1", "3"), ("one_as_it_is", "1")])
+        for name in ("one.Goals", "one_more.Goals"):
+            write(self.path("proofs/one", f"{name}.antt"), f"use Rattle.small.proofs.{name} as goal\n")
+        wrong_bodies.copy_proof(copies[1], "small", self.folder)
+        goals = read(self.path("proofs/one_1/one.Goals.antt"))
+        self.assertEqual(goals, "use Rattle.small.proofs.one_1.Goals as goal\n")
+        self.assertNotIn("one_1", read(self.path("proofs/one_1/one_more.Goals.antt")))
+
+    def test_no_copies(self):
+        """What is more than one function, one of a trait, or one that calls itself, is tried in its place."""
+        text = "const A: u8 = 7;\nimpl<T> Some<T> {\n    #[inline]\n    fn one() -> u8 { 1 }\n}\n"
+        write(self.path("src/part.rt"), text + "impl Trait for Some {\n    fn one() -> u8 { 11 }\n}\n")
+        write(self.path("src/cycle.rt"), "#[cycle(one)]\nfn one() -> u8 { 1 }\n")
+
+        def copy_of(functions, changes):
+            return wrong_bodies.copy_of(wrong_bodies.Body("", functions, changes), 0, self.folder)
+
+        one = ("src/part.rt", "{ 1 }", "{ 2 }")
+        copy = copy_of(["part::Some::one"], [one])
+        self.assertEqual(copy.text, "#[inline]\n    fn one_0() -> u8 { 2 }")
+        for functions, changes in (
+            (["part::SomeTrait::one"], [("src/part.rt", "{ 11 }", "{ 2 }")]),
+            (["part::Some::one"], [("src/part.rt", "{ 11 }", "{ 2 }")]),
+            (["part::Some::one"], [one, ("src/part.rt", "= 7", "= 8")]),
+            (["part::Some::one"], [one, ("src/lib.rt", "    1", "    2")]),
+            (["part::Some::one", "one"], [one]),
+            (["other::Some::one"], [one]),
+            (["cycle::one"], [("src/cycle.rt", "{ 1 }", "{ 2 }")]),
+        ):
+            with self.subTest(functions=functions, changes=changes):
+                self.assertIsNone(copy_of(functions, changes))
 
 
 class Judges(unittest.TestCase):
