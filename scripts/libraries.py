@@ -1,5 +1,6 @@
 """What the scripts take of the kit: its module of crates, the proved libraries of these, and a check in a folder."""
 
+import functools
 import importlib.machinery
 import importlib.util
 import os
@@ -8,6 +9,7 @@ import subprocess
 import sys
 
 
+@functools.lru_cache(maxsize=None)
 def kit():
     """The kit's module of crates, which `rt` itself uses. The kit is the one that docs/PROOF.md names."""
     sys.dont_write_bytecode = True
@@ -19,7 +21,6 @@ def kit():
     loader = importlib.machinery.SourceFileLoader("rtlib", path)
     module = importlib.util.module_from_spec(importlib.util.spec_from_loader("rtlib", loader))
     loader.exec_module(module)
-    module.guarded()
     return module
 
 

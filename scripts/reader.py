@@ -5,18 +5,17 @@ Literal of the code; Head, Antt, Text and End of what the code says by the logic
 kit's layout, which `rt ci` demands, what stands side by side begins in one column.
 """
 
-import functools
 import itertools
 import json
 import os
 import re
-import shutil
 import subprocess
 import sys
 import tempfile
 from collections import namedtuple
 from dataclasses import dataclass, field
 
+import libraries
 import sources
 
 # `start` is the place in the text of the file, `column` that in its line.
@@ -95,6 +94,10 @@ class File:
                 (self.passed_on if passes_on else self.imports).extend(self.imports_in(item))
         else:
             self.take(tokens)
+
+    @property
+    def title(self):
+        return f"{self.crate}/{self.module}"
 
     def key(self, name=""):
         return Key(self.crate, self.part, self.module, name)
@@ -276,18 +279,11 @@ def name_of_item(kind, words):
 # ---- files
 
 
-@functools.lru_cache(maxsize=None)
-def rattle():
-    """The kit's program that reads files."""
-    rt = shutil.which("rt") or sys.exit("rt, the command of the Rattle kit, is not on the path")
-    return os.path.join(os.path.dirname(os.path.realpath(rt)), "rattle")
-
-
 def tokens_of(paths):
     """The tokens of each file."""
     if not paths:
         return []
-    ran = subprocess.run([rattle(), "fmt", "--tokens", *paths], capture_output=True, text=True)
+    ran = subprocess.run([libraries.kit().RATTLE, "fmt", "--tokens", *paths], capture_output=True, text=True)
     parts = re.split(r"^file \d+\n", ran.stdout, flags=re.M)[1:]
     if len(parts) != len(paths):
         sys.exit(f"the kit cannot read these files:\n{ran.stderr}")

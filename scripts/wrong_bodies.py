@@ -338,6 +338,7 @@ def main():
         print("0 passed, 1 failed")
         return 1
     rtlib = libraries.kit()
+    rtlib.guarded()  # once, before the threads call it
     of_kit = {it.name: it for it in rtlib.crates_below(sources.TOP)}
     crates = [of_kit[name] for name in sorted(counts, key=lambda it: -counts[it])]
     if libraries.build(list(dict.fromkeys(dep for crate in crates for dep in crate.below())), given.built):

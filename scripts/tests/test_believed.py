@@ -7,7 +7,6 @@ import contextlib
 import io
 import re
 import sys
-import types
 import unittest
 from unittest import mock
 
@@ -111,16 +110,12 @@ class Sample(unittest.TestCase):
     def sampled(self, refuses):
         """The status of --sample and its last line, where `refuses` says whether a change is refused."""
 
-        def judge(_rtlib, _words, _crate, changes, values):
+        def judge(_given, _crate, changes, values):
             for change in changes:
-                self.assertIn(believed_rows.title_of(change.file), values)
+                self.assertIn(change.file.title, values)
                 change.by = "value" if refuses(change) else ""
 
-        kit = mock.Mock()
-        kit.crates_below.return_value = [types.SimpleNamespace(name=name) for name in believed_rows.CRATES]
         with (
-            mock.patch.object(believed_rows.libraries, "kit", return_value=kit),
-            mock.patch.object(believed_rows, "words_for"),
             mock.patch.object(believed_rows, "judge", judge),
             mock.patch.object(sys, "argv", ["believed_rows.py", "--sample", "--seed", "1"]),
             contextlib.redirect_stdout(io.StringIO()) as said,

@@ -14,13 +14,12 @@ import sys
 import unittest
 from unittest import mock
 
-from support import SCRIPTS, InFolder, module, read, run, write
+from support import SCRIPTS, InCopy, InFolder, module, read, run, write
 
 compare_symbols = module("compare_symbols")
 instructions = module("instructions")
 run_recipes = module("run_recipes")
 pictures = module("pictures")
-reader = module("reader")
 wrong_bodies = module("wrong_bodies")
 
 
@@ -45,46 +44,6 @@ class Arguments(InFolder):
     def test_no_such_program(self):
         for name in ("compare_symbols.py", "run_recipes.py", "refuse_each_growth.py"):
             self.assertEqual(run(name, "/no/such/program")[0], 2, name)
-
-
-CODE = """/// A brace.
-#[derive(Debug)]
-pub fn brace<'a>(text: &'a [u8], _other: &'a str) -> bool
-    requires some { 0 < length text.now }
-    ensures { result ≡ (x == 1) }
-{
-    // } { no brace
-    text[0] == b'{' || _other == "}" || text[0] == b'\\''
-}
-
-ghost use Rattle.std.specs.Prelude.{◌≡◌};
-
-pub(crate) trait Named {
-    ghost name: { Self → List ℕ };
-
-    fn name(&self) -> usize
-        ensures { result ≡ length (name self.now) };
-}
-"""
-
-
-class Reader(InFolder):
-    """Items are found by their brackets, whatever is in comments, texts and characters."""
-
-    def items(self, text):
-        write(self.path("crates/one/src/lib.rt"), text)
-        return reader.files_of(self.folder, ["one"], "src")[0].declarations
-
-    def test_items(self):
-        brace, _, named = self.items(CODE)
-        self.assertEqual((brace.kind, brace.name, brace.is_public, brace.about), ("fn", "brace", True, "A brace."))
-        self.assertEqual((named.kind, named.name, named.is_public), ("trait", "Named", False))
-        self.assertEqual([item.kind for item in named.inner], ["ghost", "fn"])
-        self.assertEqual((brace.lines, named.lines), (3, 5))
-
-    def test_file_that_cannot_be_read(self):
-        with self.assertRaises(SystemExit):
-            self.items("fn one() ensures { 1 ")
 
 
 class WrongBodies(InFolder):
@@ -135,22 +94,22 @@ class Outcomes(InFolder):
 
     def test_what_a_check_says(self):
         wrong = ["one: it is right, and not reported as not refused"]
-        unended = ["the check did not reach its end:", "fn small::one: not proved", "killed"]
-        for kind, said, wanted in (
+        unended = "fn small::one: not proved\nkilled"
+        for kind, *said, wanted in (
             ("wrong-bodies", SAID.format("not proved"), (1, 0, [])),
             ("wrong-bodies", SAID.format("no proof: expected answers for it"), (1, 0, [])),
             ("wrong-bodies", SAID.format("proved"), (0, 0, ["one: NOT REFUSED"])),
             ("wrong-bodies", "only=1 proved=0\n", (0, 0, ["one: NOT REFUSED"])),
-            ("wrong-bodies", SAID.format(CALLS), (0, 0, ["one: not judged"])),
-            ("wrong-bodies", SAID.format("was not reached"), (0, 0, ["one: not judged"])),
-            ("wrong-bodies", "fn small::one: not proved\nkilled", (1, 0, unended)),
+            ("wrong-bodies", *[SAID.format(CALLS)] * 2, (0, 0, ["one: not judged"])),
+            ("wrong-bodies", *[SAID.format("was not reached")] * 2, (0, 0, ["one: not judged"])),
+            ("wrong-bodies", unended, (1, 0, ["the check did not reach its end:", *unended.split("\n")])),
             ("right-bodies", SAID.format("proved"), (0, 1, [])),
             ("right-bodies", SAID.format("not proved"), (0, 0, wrong)),
             ("right-bodies", "only=1 proved=0\n", (0, 0, wrong)),
         ):
             with self.subTest(kind=kind, said=said):
                 self.edit(EDIT.format("0 + 1"), kind)
-                self.assertEqual(self.tried(said), wanted)
+                self.assertEqual(self.tried(*said), wanted)
                 shutil.rmtree(self.path(kind))
 
     def test_bodies_that_are_not_tried(self):
@@ -223,18 +182,18 @@ class Outcomes(InFolder):
         self.assertEqual(self.tried(first, "fn small::third: not proved\nonly=1 proved=0\n"), (4, 1, []))
 
     def test_two_functions(self):
-        """They are tried in one check, and what fails by what it calls once more; alone where no other was judged."""
+        """They are tried in one check, and what fails by what it calls again: after the others, and then alone."""
         write(self.path("src/lib.rt"), ONE + "\nfn other() -> u8 {\n    7\n}\n")
         self.edit(EDIT.format("2"))
         self.edit(EDIT.format("8").replace("one", "other").replace("    1", "    7"), name="other")
-        both, end = "fn small::one: {}\nfn small::other: {}\n", "only=2 proved=0\n"
-        refused, unknown = both.format("not proved", CALLS) + end, both.format(CALLS, CALLS) + end
-        again = both.format("", "not proved") + end
+        both = "fn small::one: {}\nfn small::other: {}\nonly=2 proved=0\n"
+        refused, unknown = both.format("not proved", CALLS), both.format(CALLS, CALLS)
+        again = both.format("", "not proved")
         for said, wanted in (
             ([refused, again], (2, 0, [])),
-            ([refused, unknown], (1, 0, ["other: not judged"])),
+            ([refused, unknown, unknown], (1, 0, ["other: not judged"])),
             ([unknown, SAID.format("not proved"), again], (2, 0, [])),
-            ([unknown, unknown, unknown], (0, 0, ["one: not judged", "other: not judged"])),
+            ([unknown] * 3, (0, 0, ["one: not judged", "other: not judged"])),
         ):
             with self.subTest(said):
                 self.assertEqual(self.tried(*said), wanted)
@@ -362,73 +321,14 @@ class Instructions(unittest.TestCase):
             self.assertEqual((ended.exception.code, wanted in said.getvalue()), (2, True), said.getvalue())
 
 
-LIBRARY = """//! A small crate.
-ghost use Rattle.std.specs.Prelude.{◌≡◌, ◌+◌};
-ghost use Rattle.small.specs.Words.{twice};
+# Two lemmas of which the second cites the first, and one in a module whose `where` is on a line of its own.
+CHAIN = """
+pub never : ℕ → ℕ
+never n = never n
 
-use std::io::Write;
-
-mod other;
-
-pub use other::half;
-
-/// Twice a number.
-pub fn double(number: u32) -> u32
-    requires { number + number ≡ number + number }
-    ensures value { result ≡ twice number }
-    ensures again { result ≡ number + number }
-{
-    added(number, number)
-}
-
-fn added(a: u32, b: u32) -> u32 {
-    a + b
-}
-
-#[test]
-fn doubles() {
-    half(double(2));
-}
+above : ℕ → ℕ
+above n = never n
 """
-OTHER = """//! Halves.
-/// Half a number.
-pub fn half(number: u32) -> u32 {
-    number / 2
-}
-"""
-SPEC = """-- Words.
-use Rattle.std.specs.Prelude.{ℕ, ◌+◌}
-
--- twice a number
-pub twice : ℕ → ℕ
-twice n = n + n
-"""
-LEMMAS = """-- Lemmas.
-use Rattle.std.proofs.Common.{◌≡◌, ℕ, ◌+◌, refl}
-use Rattle.small.specs.Words.{twice}
-
--- twice
-pub twice-sum : (n : ℕ) → twice n ≡ n + n
-twice-sum n = refl
-"""
-ANSWERS = """use Rattle.small.proofs.Lemmas.{twice-sum}
-use Rattle.small.proofs.double.Goals as goal
-
-pub returns : goal.returns
-returns g c = twice-sum c.args.number
-"""
-WORKED = """-- Worked values.
-use Rattle.std.proofs.Common.{◌≡◌, ℕ, refl}
-use Rattle.small.specs.Words.{twice}
-
-three : ℕ
-three = 3
-
-six : twice three ≡ 6
-unfolding twice
-six = refl
-"""
-# A module whose `where` is on a line of its own, and a lemma that is cited within it alone.
 IN_MODULE = """
 next : ℕ → ℕ
 next n = n + 1
@@ -436,91 +336,59 @@ next n = n + 1
 module _ (a : ℕ)
     (b : ℕ)
   where
-    pub twice-next : twice (next a) ≡ next a + next a
-    twice-next = twice-sum (next a)
+    pub next-is : next a ≡ a + 1
+    next-is = refl
 """
-CITES_IN_MODULE = {
-    "proofs/Lemmas.antt": LEMMAS + IN_MODULE,
-    "proofs/double/Answers.antt": ANSWERS.replace("twice-sum c", "twice-next c").replace("sum}", "next}"),
-}
-NEVER_USED = "\n-- never used\npub never : ℕ → ℕ\nnever n = n\n"
+DEFINITION = """
+-- as itself
+pub same : ℕ → ℕ
+same n = n
+"""
+POWERS, MUL = "crates/gf256/proofs/PowerLaws.antt", "crates/gf256/proofs/field/mul/Answers.antt"
+FIELD, WORDS = "crates/gf256/src/field.rt", "crates/gf256/specs/Polynomial.antt"
+# What is planted in a file in the place of a text, or at its end, and what is found there.
+PLANTED = (
+    (POWERS, "", CHAIN, ("nothing uses the lemma never", "nothing uses the lemma above")),
+    (POWERS, "", IN_MODULE, ("nothing uses the lemma next", "nothing uses the lemma next-is")),
+    (POWERS, "", "\npub nil : 0 + 0 ≡ 0\nnil = refl\n", ("nothing uses the lemma nil",)),
+    (POWERS, "", "\npub cited : ℕ\ncited = 0\n", ("nothing uses the lemma cited",)),
+    (POWERS, "◌+◌, ", "◌+◌, ◌/◌, ", ("the imported name ◌/◌ is not used",)),
+    (MUL, "\n", "\nuse Rattle.gf256.proofs.PowerLaws.{cited}\n", ("the imported name cited is not used",)),
+    (WORDS, "", DEFINITION, ("nothing uses the definition same",)),
+    (FIELD, "◌<◌}", "◌<◌, ◌*◌}", ("the imported name ◌*◌ is not used",)),
+    (FIELD, "alpha, ", "alpha, twice, ", ("the imported name twice is not used",)),
+    (FIELD, "use crate", "use std::io::{ErrorKind, Write};\nuse crate", ("the imported name ErrorKind is not used",)),
+    (FIELD, "", "\nfn lonely() {\n    lonely()\n}\n", ("nothing calls the function lonely",)),
+    (FIELD, "", "\npub fn one() -> u8 {\n    1\n}\n", ("nothing calls the function one",)),
+)
 
 
-class Unused(InFolder):
-    """What is planted in a repository of one crate and used by nothing is found; what is used is not."""
+class Unused(InCopy):
+    """What is planted in a copy of the repository and used by nothing is found, and nothing else."""
 
-    def setUp(self):
-        super().setUp()
-        write(self.path("crates.txt"), "# all\nsmall:\n")
-        self.fill()
-
-    def fill(self):
-        self.plant("src/lib.rt", LIBRARY)
-        self.plant("src/other.rt", OTHER)
-        self.plant("specs/Words.antt", SPEC)
-        self.plant("proofs/Lemmas.antt", LEMMAS)
-        self.plant("proofs/double/Answers.antt", ANSWERS)
-
-    def plant(self, file, text):
-        write(self.path("crates", "small", file), text)
-
-    def found(self):
+    def test_planted(self):
+        texts = {file: read(self.path(file)) for file, *_ in PLANTED}
+        for file, old, new, _ in PLANTED:
+            self.assertIn(old, texts[file])
+            texts[file] = texts[file].replace(old, new, 1) if old else texts[file] + new
+        for file, text in texts.items():
+            self.replace(file, text)
         status, said = run("unused.py", "--top", self.folder)
         *lines, last = said.rstrip("\n").split("\n")
-        self.assertEqual(status, 1 if lines else 0, said)
-        self.assertTrue(last.endswith(f": {len(lines)} unused"), said)
-        return lines
+        found = []
+        for file, number, text in (line.split(":", 2) for line in lines):
+            self.assertIn(text.split(" ")[-1 if "nothing" in text else 4], texts[file].split("\n")[int(number) - 1])
+            found.append(file + text)
+        wanted = [f"{file} {text}" for file, *_, texts in PLANTED for text in texts]
+        self.assertEqual((status, sorted(found)), (1, sorted(wanted)))
+        self.assertTrue(last.endswith(f": {len(wanted)} unused"), said)
 
-    def test_all_is_used(self):
-        self.assertEqual(self.found(), [])
-        self.plant("proofs/Tables.antt", WORKED)
-        self.assertEqual(self.found(), [])
-        for file, text in CITES_IN_MODULE.items():
-            self.plant(file, text)
-        self.assertEqual(self.found(), [])
-
-    def test_what_nothing_uses(self):
-        lemmas, answers, library, spec = (
-            "proofs/Lemmas.antt",
-            "proofs/double/Answers.antt",
-            "src/lib.rt",
-            "specs/Words.antt",
-        )
-        calls_itself, other = NEVER_USED.replace("never n = n", "never n = never n"), "src/other.rt"
-        lemma, imported, name = "nothing uses the lemma never", "the imported name", "◌≡◌, ◌+◌"
-        above, nil = "\nabove : ℕ → ℕ\nabove n = never n\n", "\npub twice-nil : twice 0 ≡ 0\ntwice-nil = refl\n"
-        not_next = CITES_IN_MODULE | {lemmas: LEMMAS + IN_MODULE.replace("next a", "a")}
-        both = {lemmas: LEMMAS + NEVER_USED, answers: ANSWERS.replace("{twice-sum}", "{twice-sum, never}")}
-        error_kind = LIBRARY.replace("io::Write;", "io::{ErrorKind, Write};")
-        uncalled = LIBRARY.replace("    half(double(2));\n", "    double(2);\n")
-        for changes, wanted in (
-            ({lemmas: LEMMAS + NEVER_USED}, [f"{lemmas}:10: {lemma}"]),
-            ({lemmas: LEMMAS + calls_itself}, [lemma]),
-            ({lemmas: LEMMAS + NEVER_USED + above}, [lemma, "the lemma above"]),
-            (not_next, ["the lemma next"]),
-            (both, [lemma, f"{answers}:1: {imported} never is not used"]),
-            ({"proofs/Tables.antt": WORKED + NEVER_USED}, [lemma]),
-            ({lemmas: LEMMAS + nil}, ["the lemma twice-nil"]),
-            ({spec: SPEC + NEVER_USED}, [f"{spec}:9: nothing uses the definition never"]),
-            ({spec: SPEC + NEVER_USED + "\n-- never\n"}, ["the definition never"]),
-            ({lemmas: LEMMAS.replace("◌+◌, refl", "◌+◌, ◌*◌, refl")}, [f"{lemmas}:2: {imported} ◌*◌ is not used"]),
-            ({library: LIBRARY.replace(name, f"{name}, ◌*◌")}, [f"{library}:2: {imported} ◌*◌"]),
-            ({library: LIBRARY.replace(name, f"{name}, added")}, [f"{imported} added is not used"]),
-            ({library: error_kind}, [f"{library}:5: {imported} ErrorKind"]),
-            ({other: OTHER + "\nfn lonely() {\n    lonely()\n}\n"}, [f"{other}:7: nothing calls the function lonely"]),
-            ({library: uncalled}, ["nothing calls the function half"]),
-        ):
-            with self.subTest(wanted):
-                for file, text in changes.items():
-                    self.plant(file, text)
-                lines = self.found()
-                self.assertEqual(len(lines), len(wanted), lines)
-                self.assertEqual([it for it in wanted if not any(it in line for line in lines)], [], lines)
-                shutil.rmtree(self.path("crates"))
-                self.fill()
-
-    def test_nothing_to_look_at(self):
-        write(self.path("crates.txt"), "")
+    def test_what_cannot_be_read(self):
+        """A file of which the kit can make no words; no crate at all."""
+        self.replace(FIELD, "fn one() ensures { 1 ")
+        self.assertEqual(run("unused.py", "--top", self.folder)[0], 1)
+        self.move("crates", "boxes")
+        self.replace("crates.txt", "")
         self.assertEqual(run("unused.py", "--top", self.folder)[0], 1)
 
 
