@@ -13,6 +13,8 @@ report. The last line is `N growths: K no memory, L unaffected, M wrong`. Status
 C compiler.
 """
 
+import contextlib
+import io
 import itertools
 import os
 import subprocess
@@ -83,6 +85,13 @@ def run(folder, command, growth):
     return done.returncode, done.stdout, done.stderr
 
 
+def kind_of(done, whole):
+    """What came of a run, beside what the command does where nothing is refused."""
+    if done == whole:
+        return "unaffected"
+    return "no memory" if done == NO_MEMORY else "wrong"
+
+
 def refuse_each(folder, command):
     """What comes of each growth of a command, and what it does where none is refused."""
     whole, mark = run(folder, command, 0), folder / "mark"
@@ -92,7 +101,7 @@ def refuse_each(folder, command):
         if not mark.exists():
             break
         mark.unlink()
-        kind = "unaffected" if done == whole else "no memory" if done == NO_MEMORY else "wrong"
+        kind = kind_of(done, whole)
         found[kind] += 1
         if kind == "wrong":
             print(f"{command}: growth {growth}: status {status}, {len(out)} bytes on standard output, and {err}")
@@ -109,9 +118,10 @@ def main():
         folder = Path(name)
         build(REFUSE, folder / "refuse", "-fPIC", "-shared")
         build(LOSER, folder / "loser")
-        print("this program loses its output, which is reported:")
-        if refuse_each(folder, [folder / "loser"])[0] != Counter(wrong=2):
-            print("it is not reported")
+        with contextlib.redirect_stdout(io.StringIO()) as said:
+            outcomes, _ = refuse_each(folder, [folder / "loser"])
+        if outcomes != Counter(wrong=2) or "growth 1: status 0, 0 bytes" not in said.getvalue():
+            print("a program that loses its output where memory is refused is not reported")
             return 1
         for arguments in (STORED, [*STORED, "stdin"], *OTHERS):
             outcomes, whole = refuse_each(folder, [program, *arguments])

@@ -221,11 +221,13 @@ class Scanners:
         """What each scanner made of a picture: `read`, `unread`, or for other data the word `wrong`, shown."""
         results = []
         for scanner, found in zip(SCANNERS, self.read(pixels)):
-            right = {plain(picture.label.full)}
-            result = "unread" if not found else "read" if {*map(plain, found)} == right else wrong
-            if result == wrong and is_shown:
+            is_right = {*map(plain, found)} == {plain(picture.label.full)}
+            if found and not is_right and is_shown:
                 print(f"{picture.label.line()}: {scanner} {wrong} {sorted(found)!r}")
-            results.append(result)
+            if found:
+                results.append("read" if is_right else wrong)
+            else:
+                results.append("unread")
         return results
 
     def sees_other_labels(self, program):
