@@ -81,7 +81,7 @@ class TakenAway(InCopy):
             (tests, "def " "test_all_is_there(", "def all_is_there(", "counts.py", "scripts/tests: "),
             ("crates.txt", "gf256:", "# gf256:", "unused.py", "differ in: gf256"),
             ("crates.txt", "gf256:", "# gf256:", "counts.py", "differ in: gf256"),
-            ("crates/labelcore/specs/HeldLine.antt", "1100", "1101", "believed_rows.py", "line_limit"),
+            ("crates/labelcore/specs/HeldLine.antt", "1100", "1101", "believed_rows.py", "labelcore/HeldLine"),
             ("crates/device/README.md", "```rust\n", "```rust\nsink.forget();\n", "pages.py", "lacks: sink.forget();"),
             ("docs/INPUT.md", end, f"\n```sh\nlabels\n{end}", "pages.py", "this block is not closed"),
             ("docs/INPUT.md", end, f"\n~~~rust\nfn a() {{}}\n~~~\n{end}", "pages.py", "no script reads blocks of ~~~"),
