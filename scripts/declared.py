@@ -93,8 +93,8 @@ def keys_of(cited):
 
 def contract_of(code, crate, module, function):
     """The contract of a function, its head and its clauses, as an item. None where it is gone."""
-    for file in code:
-        for item in file.declarations if (file.crate, file.module) == (crate, module) else ():
-            if (item.kind, item.name) == ("fn", function):
-                return item_of("contract", function, file, item.about, [item])
-    return None
+    files = [file for file in code if (file.crate, file.module) == (crate, module)]
+    found = (
+        (file, item) for file in files for item in file.declarations if (item.kind, item.name) == ("fn", function)
+    )
+    return next((item_of("contract", function, file, item.about, [item]) for file, item in found), None)

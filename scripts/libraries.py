@@ -5,8 +5,9 @@ import importlib.machinery
 import importlib.util
 import os
 import shutil
-import subprocess
 import sys
+
+import sources
 
 
 @functools.lru_cache(maxsize=None)
@@ -40,6 +41,4 @@ def build(crates, as_left):
 
 def check(rtlib, folder, words):
     """What the kit's check says in a folder."""
-    command = [*rtlib.guarded(), rtlib.RATTLE, "check", *words]
-    how = {"stdin": subprocess.DEVNULL, "stdout": subprocess.PIPE, "stderr": subprocess.STDOUT}
-    return subprocess.run(command, cwd=folder, encoding="utf-8", errors="replace", **how).stdout
+    return sources.run([*rtlib.guarded(), rtlib.RATTLE, "check", *words], folder)[1]

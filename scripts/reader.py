@@ -220,10 +220,9 @@ class File:
         scope = self.tokens if item.kind == "use" else item.tokens
         for at, token in enumerate(item.tokens):
             if token.text == "use" and token.kind in ("Code", "Head"):
-                end = next(it for it in range(at, len(item.tokens)) if item.tokens[it].text == ";")
-                line, is_ghost = item.tokens[at + 1 : end + 1], token.kind == "Head"
-                for one in (imported if is_ghost else imported_by_code)(line, self.place(token)):
-                    yield one._replace(is_ghost=is_ghost, scope=scope)
+                line = itertools.takewhile(lambda it: it.text != ";", item.tokens[at + 1 :])
+                for one in imported(line, self.place(token)):
+                    yield one._replace(is_ghost=token.kind == "Head", scope=scope)
 
 
 def statements(tokens):
@@ -243,23 +242,15 @@ def is_signature(statement):
 
 
 def imported(tokens, place):
-    """The names that an import of the logic brings in: names of a file, or the file as a whole."""
-    words = [token.text for token in tokens if token.text not in ("{", "}", ";")]
-    listed = len(words) > 1 and words[1] == "."
-    for is_comma, group in itertools.groupby(words[2:] if listed else words, lambda word: word == ","):
-        if not is_comma:
-            name, *alias = group
-            file, inside = (words[0], name) if listed else (name, "")
+    """The names that an import brings in, each with what it names, if it is one of ours: a name of a file, or the file
+    as a whole."""
+    words = [token.text for token in tokens]
+    for at, word in enumerate(words):
+        if words[at + 1 : at + 2] in ([], [","], ["}"]) and word not in (",", "}", "self", "*"):
+            name = words[at - 2] if words[at - 1] == "as" else word
+            file, inside = (words[0], name) if words[1:2] == ["."] else (name, "")
             of_ours = re.fullmatch(r"Rattle\.(\w+)\.(specs|proofs)\.([\w.+-]+)", file)
-            target = Key(*of_ours.groups(), inside) if of_ours else None
-            yield Import(alias[-1] if alias else name.split(".")[-1], place, target)
-
-
-def imported_by_code(tokens, place):
-    """The names that an import of the code brings in; its last token is the semicolon."""
-    for token, after in zip(tokens, tokens[1:]):
-        if after.text in (",", "}", ";") and token.text.isidentifier() and token.text != "self":
-            yield Import(token.text, place)
+            yield Import(word.split(".")[-1], place, Key(*of_ours.groups(), inside) if of_ours else None)
 
 
 def name_of_item(kind, words):

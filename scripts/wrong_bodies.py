@@ -314,22 +314,16 @@ def try_all(rtlib, crate):
     return tried
 
 
-def arguments():
-    parser = sources.parser_of(__doc__, has_top=False)
-    parser.add_argument(
-        "crates", nargs="*", metavar="CRATE", help="a crate of crates.txt (all that have wrong bodies)"
-    )
+def main():
+    parser, known = sources.parser_of(__doc__, has_top=False), sources.crates_of(sources.TOP)
+    crates = "a crate of crates.txt (all that have wrong bodies)"
+    parser.add_argument("crates", nargs="*", metavar="CRATE", help=crates)
     built = "take the libraries below as `rt ci` left them; else build those that changed"
     parser.add_argument("--built", action="store_true", help=built)
-    given, known = parser.parse_args(), sources.crates_of(sources.TOP)
-    for name in given.crates:
-        if name not in known:
-            parser.error(f"no crate {name} in crates.txt, which has: {' '.join(known)}")
-    return given, known
-
-
-def main():
-    given, known = arguments()
+    given = parser.parse_args()
+    unknown = [name for name in given.crates if name not in known]
+    if unknown:
+        parser.error(f"no crate {unknown[0]} in crates.txt, which has: {' '.join(known)}")
     bodies = {name: bodies_of(f"{sources.TOP}/crates/{name}") for name in given.crates or known}
     counts = {name: len(found) for name, found in bodies.items() if any(not body.is_right for body in found)}
     without = [name for name in given.crates if name not in counts]
