@@ -78,7 +78,7 @@ CHANGED = {
         ("scripts/compare_symbols.py", "[label for part", "[] and [label for part", "compare: 0, and "),
     ),
     "unused.py": (("crates.txt", "gf256:", "# gf256:", "differ in: gf256"),),
-    "believed_rows.py": (("crates/labelcore/specs/HeldLine.antt", "1100", "1101", "line_limit"),),
+    "believed_rows.py": (("crates/labelcore/specs/HeldLine.antt", "1100", "1101", "labelcore/HeldLine"),),
     "pages.py": (
         ("crates/device/README.md", "```rust\n", "```rust\nsink.forget();\n", "lacks: sink.forget();"),
         ("docs/INPUT.md", END, f"\n```sh\nlabels\n{END}", "this block is not closed"),

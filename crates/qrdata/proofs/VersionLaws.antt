@@ -77,9 +77,9 @@ unfolding tests
 IsSound-of zero level known = absurd (omega (arith, known.0))
 IsSound-of (suc k) level known =
     let coded : (missing : Sizes) → AllPass (λ test. test) (tests missing level (suc k)) = λ missing.
-        AllPass-from_list_all (λ test. test) (tests missing level (suc k))
-        (agree_below_at (λ k. list_all (λ test. test) (tests missing level (suc k))) (λ k. true) 10 k
-        (tests_pass missing level) (omega (arith, known.1))) in
+    AllPass-from_list_all (λ test. test) (tests missing level (suc k))
+    (agree_below_at (λ k. list_all (λ test. test) (tests missing level (suc k))) (λ k. true) 10 k
+    (tests_pass missing level) (omega (arith, known.1))) in
     let test = coded (record { total = 0; blocks = []; ec_codewords = [] }) in
     record {
       some_blocks = ltb-true _ _ (test 0 true (omega arith));
