@@ -253,7 +253,8 @@ def print_on(press: Press, prints: Prints, queue: str) -> str:
 
 def say(found: Prepared) -> None:
     """Writes why labels are left out, and what else is to be said of the others."""
-    for message in [*report(found.left_out, found.tables), *found.remarks]:
+    remarks = [remark.text for remark in found.remarks]
+    for message in [*report(found.left_out, found.tables), *remarks]:
         write_message(TOOL, message)
 
 

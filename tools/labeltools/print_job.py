@@ -70,6 +70,14 @@ class PrintOptions:
 
 
 @dataclass(frozen=True)
+class Remark:
+    """What is said of labels that are printed, and the place of the first of them."""
+
+    first: Place
+    text: str
+
+
+@dataclass(frozen=True)
 class Prepared:
     """How labels go out; those that can be printed, with their layouts; those that cannot;
     what else is to be said; the tables that they are from; what measures their letters.
@@ -78,7 +86,7 @@ class Prepared:
     job: PrintJob
     laid_out: LaidOutFile
     left_out: tuple[LeftOut, ...]
-    remarks: tuple[str, ...]
+    remarks: tuple[Remark, ...]
     tables: frozenset[str]
     letters: Letters
 
@@ -287,7 +295,7 @@ def faults(
 
 def remarks_on(
     items: Sequence[LaidOut], laid_out: LaidOutFile, has_tables: bool, pen: Pen
-) -> Iterable[str]:
+) -> Iterable[Remark]:
     """Yields what is to be said of labels that are printed, each once for a file."""
     dot = laid_out.area.dot
     if laid_out.area.wishes.design == ARTICLE:
@@ -295,18 +303,22 @@ def remarks_on(
         if low:
             bars = min(item.layout.boxes["bars"].height for item in low) * dot
             hint = "hand scanners read them, a till that reads in all directions may not"
-            yield f"{places_of(low, has_tables)}: bars of {bars:.1f} mm: {hint}"
+            said = f"{places_of(low, has_tables)}: bars of {bars:.1f} mm: {hint}"
+            yield Remark(low[0].label.record.place, said)
     dense = [item for item in items if is_dense(item, dot)]
     if dense:
         finest = min(item.layout.module for item in dense) * dot
         hint = "some phones may not read them: shorten the data, or take a larger label"
-        yield f"{places_of(dense, has_tables)}: QR with modules of {finest:.2f} mm: {hint}"
+        said = f"{places_of(dense, has_tables)}: QR with modules of {finest:.2f} mm: {hint}"
+        yield Remark(dense[0].label.record.place, said)
     small = [item for item in items if item.layout.is_small_price]
     if small:
-        yield f"{places_of(small, has_tables)}: a wide price is smaller than the others"
+        said = f"{places_of(small, has_tables)}: a wide price is smaller than the others"
+        yield Remark(small[0].label.record.place, said)
     shortened = [item for item in items if pen.is_shortened(item)]
     if shortened:
-        yield f"{places_of(shortened, has_tables)}: shortened to fit, with an ellipsis"
+        said = f"{places_of(shortened, has_tables)}: shortened to fit, with an ellipsis"
+        yield Remark(shortened[0].label.record.place, said)
 
 
 def has_low_bars(item: LaidOut) -> bool:

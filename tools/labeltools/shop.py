@@ -89,7 +89,7 @@ class Table:
         found = labels_of(options, job, self.path.name, self.lines.output, talk)
         rows = set(self.lines.left_out)
         more = [one for one in found.left_out if one.place and one.place.number not in rows]
-        remarks = [LeftOut(None, "", remark) for remark in found.remarks]
+        remarks = [LeftOut(remark.first, "", remark.text) for remark in found.remarks]
         self.notes = [*self.said, *more, *remarks]
         self.left_out = len(rows) + len(more)
         commands = ["label-table", *words], ["label-print", *to_print]

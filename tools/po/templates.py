@@ -3,8 +3,8 @@
 
 usage: tools/po/templates.py [--check]
 
-A message is a text in a call of one of CALLS, or in a `yield` of a function about remarks: a plain
-one, an f-string, or the name of a variable that is one. With --check nothing is written, and the
+A message is a text in a call of one of CALLS: a plain one, an f-string, or the name of a variable
+that is one. With --check nothing is written, and the
 status is 1 where the file is not the one that would be written.
 """
 
@@ -22,6 +22,7 @@ CALLS = (
     "Fault",
     "Said",
     "LeftOut",
+    "Remark",
     "Cancelled",
     "say",
     "note",
@@ -61,14 +62,11 @@ def assigned_in(function: ast.AST) -> dict[str, list[str]]:
 
 def arguments_in(function: ast.AST) -> Iterator[ast.expr]:
     """Yields the expressions that are messages."""
-    is_about_remarks = "remarks" in getattr(function, "name", "")
     for node in ast.walk(function):
         if isinstance(node, ast.Call):
             name = getattr(node.func, "id", getattr(node.func, "attr", ""))
             if name in CALLS:
                 yield from node.args
-        if isinstance(node, ast.Yield) and node.value is not None and is_about_remarks:
-            yield node.value
 
 
 def templates() -> list[str]:

@@ -177,7 +177,8 @@ class Frames(unittest.TestCase):
             [item.layout.is_small_price for item in laid.labels], [False] * 10 + [True]
         )
         self.assertEqual(
-            list(laid.prepared.remarks), ["row 12: a wide price is smaller than the others"]
+            [remark.text for remark in laid.prepared.remarks],
+            ["row 12: a wide price is smaller than the others"],
         )
         for item in laid.labels:
             look(self, laid, item)
@@ -327,7 +328,7 @@ class Sizes(unittest.TestCase):
     def test_low_bars_and_dense_qr_are_said(self) -> None:
         low = laid_out(filed(PRICED), (60.0, 20.0), 300)
         self.assertRegex(
-            low.prepared.remarks[0],
+            low.prepared.remarks[0].text,
             r"^row 2: bars of \d+\.\d mm: hand scanners read them, a till that reads in all",
         )
         self.assertEqual(
@@ -335,7 +336,7 @@ class Sizes(unittest.TestCase):
         )
         dense = laid_out(b"qr " + b"x" * 150 + b"\n", (20.0, 20.0), 600)
         self.assertRegex(
-            dense.prepared.remarks[0], r"^line 1: QR with modules of 0\.[23]\d mm: some phones"
+            dense.prepared.remarks[0].text, r"^line 1: QR with modules of 0\.[23]\d mm: some phones"
         )
 
     def test_what_would_fit_fits(self) -> None:
@@ -416,7 +417,8 @@ class Words(unittest.TestCase):
         data = filed(PRICED, {**PRICED, "title": LONG * 3}, {**PRICED, "text": ["x" * 300]})
         laid = laid_out(data, (60.0, 40.0), 300)
         self.assertEqual(
-            list(laid.prepared.remarks), ["rows 3-4: shortened to fit, with an ellipsis"]
+            [remark.text for remark in laid.prepared.remarks],
+            ["rows 3-4: shortened to fit, with an ellipsis"],
         )
 
     def test_quick_and_slow_answers_agree(self) -> None:

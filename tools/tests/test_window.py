@@ -289,11 +289,15 @@ class WindowTest(unittest.TestCase):
         self.assertEqual(self.window.choices()["first"], 5)
 
     def test_a_chosen_row_shows_its_label(self):
+        """A row that is left out has no label, but one whose title is shortened has."""
+        long = "Pencil for every shop in the country " * 9
+        self.table.write_text(TABLE.replace("Soap", long))
         self.open()
         self.look("label")
-        self.assertEqual(self.window.widget("of").get_text(), "of 3")
-        self.window.widget("notes").append(["3", "", ""])
-        self.window.widget("list").get_selection().select_path(Gtk.TreePath(1))
+        notes = self.window.widget("notes")
+        (place,) = [number for number, note in enumerate(notes) if "shortened to fit" in note[2]]
+        self.assertEqual(notes[place][0], "3")
+        self.window.widget("list").get_selection().select_path(Gtk.TreePath(place))
         settle(0.1)
         self.assertEqual(self.window.widget("number").get_value_as_int(), 2)
 
