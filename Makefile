@@ -21,7 +21,7 @@ link = ln -sfn $(1) $(DESTDIR)$(2)
 
 help:
 	@echo 'make quick     the texts, the lints and the tests that need no program: minutes'
-	@echo 'make check     proves and tests every crate: most of an hour'
+	@echo 'make check     proves and tests every crate: 10 to 20 minutes'
 	@echo 'make gate      all that a change has to pass'
 	@echo 'make gate-test the same in a fresh Debian, as root'
 	@echo 'make all       the proved program in out/, the C library in out/lib/'
