@@ -11,10 +11,9 @@ use Rattle.linear.specs.Scanning.{HasNoGap, HasOneReading}
 use Rattle.linear.proofs.GapLaws.{code128_gap, ean13_gap, ean8_gap, upca_gap}
 use Rattle.linear.proofs.OneReadingLaws.{has_one_reading}
 use Rattle.picture.specs.Reading.{common_row}
-use Rattle.qrmatrix.specs.Reading.{IsUnreadInMirrors, IsUnreadTurned, Reading, read_matrix}
+use Rattle.qrmatrix.specs.Reading.{IsUpright, Reading, read_matrix}
 use Rattle.qrmatrix.specs.Square.{value_at}
-use Rattle.qrmatrix.proofs.MirrorLaws.{IsUnreadInMirrors-read}
-use Rattle.qrmatrix.proofs.TurnLaws.{IsUnreadTurned-read, first_rows_differ}
+use Rattle.qrmatrix.proofs.TurnLaws.{IsUpright-read, first_rows_differ}
 use Rattle.filter.specs.OneReading.{IsAlone}
 use Rattle.filter.specs.Reading.{modules_in, read_image, read_modules}
 use Rattle.filter.proofs.FoundLaws.{common_rows, square_read}
@@ -45,13 +44,11 @@ row_alone reading gap rows full read = (
         absurd (false≢true (one_row rows row square.0 is square.1)))
 
 square_alone : (rows : List (List Bool)) (full : List ℕ) → read_modules Qr rows ≡ Some full
-    → (common_row rows ≡ None) × IsUnreadInMirrors (length rows) (value_at rows)
-    × IsUnreadTurned (length rows) (value_at rows)
+    → (common_row rows ≡ None) × IsUpright (length rows) (value_at rows)
 square_alone rows full read =
     let square = square_read rows full read in (
       at square.0 square.1 (common_row rows) refl,
-      IsUnreadInMirrors-read (length rows) (value_at rows) square.0 square.1,
-      IsUnreadTurned-read (length rows) (value_at rows) square.0 square.1,
+      IsUpright-read (length rows) (value_at rows) square.0 square.1,
     )
   where
     at : (r : Reading) → read_matrix (length rows) (value_at rows) ≡ Some r → (o : Option (List Bool))

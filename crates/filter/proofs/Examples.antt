@@ -1,6 +1,7 @@
 -- Worked rows and the limits of a run, computed.
 use mathlib.Core.Bool.{xor}
 use Rattle.std.proofs.Common.{◌≡◌, ℕ, List, [], ◌∷◌, map, refl, None, Some, Err, codes, false, Bool, ◌++◌, drop}
+use Rattle.std.proofs.Common.{arith, replicate, reverse, sym}
 use Rattle.std.specs.Prelude.{◌==◌, slice_set, slice_index_or}
 use Rattle.labelcore.specs.Lines.{lines, ended_lines, open_line}
 use Rattle.gf256.specs.BinaryPolynomial.{binary_product, binary_remainder}
@@ -14,7 +15,11 @@ use Rattle.qrdata.specs.Versions.{groups_of}
 use Rattle.qrmatrix.specs.Functions.{fixed_module, is_free, role}
 use Rattle.qrmatrix.specs.Information.{format_information, version_information}
 use Rattle.qrmatrix.specs.Masks.{is_flipped}
-use Rattle.qrmatrix.specs.Reading.{read_bits, read_format, read_matrix, shows_functions, shows_version, walk}
+use Rattle.std.proofs.lemmas.Option.{none-some}
+use Rattle.qrmatrix.specs.Reading.{other_positions, read_bits, read_format, read_matrix, read_square, shows_functions}
+use Rattle.qrmatrix.specs.Reading.{shows_version, walk}
+use Rattle.qrmatrix.specs.Square.{value_at}
+use Rattle.filter.specs.OneReading.{IsAlone}
 use Rattle.picture.specs.Reading.{pbm_pixels, ascii_pixels, sample}
 use Rattle.labelcore.specs.declared.options.Format.TheVariants.{Pbm, Ascii}
 use Rattle.qrdata.specs.declared.level.Level.TheVariants.{M}
@@ -137,3 +142,20 @@ unfolding shown qr_rows read_matrix xor total_codewords read_format shows_versio
     bits_of byte_bits ec_codewords_per_block data_codewords block_lengths groups_of block_table evaluate field_power
     field_product binary_product number_at digits_at segment_at segments_at deinterleaving data_in
 qr_read = (refl, refl)
+
+-- in its seven other positions it is not read, and where it lies turned by a half it is not upright
+qr_upright : map (read_square 21) (other_positions 21 (value_at (shown qr_rows))) ≡ replicate 7 None
+unfolding shown qr_rows read_matrix xor total_codewords read_format shows_version shows_functions read_bits walk
+    codewords_of number_of fixed_module role is_free is_flipped format_information version_information binary_remainder
+qr_upright = refl
+
+turned : List (List Bool)
+unfolding shown qr_rows
+turned = reverse (map reverse (shown qr_rows))
+
+not_upright : IsAlone Qr turned → ⊥
+unfolding turned read_matrix xor total_codewords read_format shows_version shows_functions read_bits walk
+    codewords_of number_of fixed_module role is_free is_flipped format_information version_information binary_remainder
+    bits_of byte_bits ec_codewords_per_block data_codewords block_lengths groups_of block_table evaluate field_power
+    field_product binary_product number_at digits_at segment_at segments_at deinterleaving data_in
+not_upright alone = none-some (codes "01234567") (sym (alone.1 3 (λ x y. false) (omega arith)))

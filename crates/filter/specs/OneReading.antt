@@ -4,7 +4,7 @@ use Rattle.std.specs.Prelude.{◌≡◌, Bool, List, length, None, Some}
 use Rattle.labelcore.specs.declared.symbology.Symbology.{Symbology}
 use Rattle.labelcore.specs.declared.symbology.Symbology.TheVariants.{Qr}
 use Rattle.linear.specs.Scanning.{HasNoGap, HasOneReading}
-use Rattle.qrmatrix.specs.Reading.{IsUnreadInMirrors, IsUnreadTurned}
+use Rattle.qrmatrix.specs.Reading.{IsUpright}
 use Rattle.qrmatrix.specs.Square.{value_at}
 use Rattle.picture.specs.Reading.{common_row}
 use Rattle.filter.specs.Reading.{read_modules}
@@ -13,8 +13,7 @@ use Rattle.filter.specs.Reading.{read_modules}
 -- a linear one, in a mirror, or turned.
 abbrev pub IsAlone : Symbology → List (List Bool) → Type 0
 IsAlone Qr rows =
-    (common_row rows ≡ None) × IsUnreadInMirrors (length rows) (value_at rows)
-    × IsUnreadTurned (length rows) (value_at rows)
+    (common_row rows ≡ None) × IsUpright (length rows) (value_at rows)
 IsAlone linear rows =
     (read_modules Qr rows ≡ None)
     × ((row : List Bool) → common_row rows ≡ Some row → HasOneReading row × HasNoGap row)

@@ -10,8 +10,7 @@ use Rattle.labelcore.specs.declared.symbology.Symbology.TheVariants.{Ean13, Ean8
 use Rattle.qrdata.specs.Steps.{◌>>=◌}
 use Rattle.linear.specs.EanReading.{read_ean13, read_ean8, read_upca}
 use Rattle.linear.specs.Code128Reading.{read_code128}
-use Rattle.qrdata.specs.Reading.{data_in}
-use Rattle.qrmatrix.specs.Reading.{read_matrix}
+use Rattle.qrmatrix.specs.Reading.{read_square}
 use Rattle.qrmatrix.specs.Square.{value_at}
 use Rattle.picture.specs.Reading.{Raster, pbm_files, ascii_files, pbm_pixels, ascii_pixels, sample, common_row}
 use Rattle.filter.specs.Symbol.{quiet_zone}
@@ -32,10 +31,8 @@ read_modules Ean13 rows = common_row rows >>= read_ean13
 read_modules Ean8 rows = common_row rows >>= read_ean8
 read_modules UpcA rows = common_row rows >>= read_upca
 read_modules Code128 rows = common_row rows >>= read_code128
-read_modules Qr rows = do
-  side ← then_some (list_all (λ row. length row == length rows) rows) (length rows)
-  symbol ← read_matrix side (value_at rows)
-  data_in symbol.version symbol.level symbol.codewords
+read_modules Qr rows =
+    then_some (list_all (λ row. length row == length rows) rows) (length rows) >>= λ n. read_square n (value_at rows)
 
 -- the modules that an image shows, row by row; the reader knows the format, the scale and the symbology
 unfoldable pub modules_in : Format → ℕ → Symbology → List ℕ → Option (List (List Bool))

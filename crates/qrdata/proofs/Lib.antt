@@ -1,3 +1,4 @@
+pub mod BeginningLaws
 pub mod BestChoiceLaws
 pub mod BitStringLaws
 pub mod BlockLaws

@@ -29,7 +29,7 @@ pub byte_bits-single : (a : ℕ) → byte_bits (a ∷ []) ≡ bits_of 8 a
 unfolding byte_bits
 byte_bits-single a = append-nil (bits_of 8 a)
 
-eight_bits : (bits : List Bool) → length bits ≡ 8 → bits_of 8 (number_of bits) ≡ bits
+pub eight_bits : (bits : List Bool) → length bits ≡ 8 → bits_of 8 (number_of bits) ≡ bits
 eight_bits bits e = rw (← e) (bits_of-number_of bits)
 
 byte_bits-codewords_of : (n : ℕ) (bits : List Bool) → length bits ≡ 8 * n → byte_bits (codewords_of n bits) ≡ bits

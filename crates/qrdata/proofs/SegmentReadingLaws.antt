@@ -43,7 +43,7 @@ segment_at-segment_bits version mode bytes rest w h fits =
     )
     (payload_at-payload_bits mode bytes rest w h)
 
-not_end : (bits : List Bool) → 4 ≤ length bits → 0 < number_of (take 4 bits) → is_end bits ≡ false
+pub not_end : (bits : List Bool) → 4 ≤ length bits → 0 < number_of (take 4 bits) → is_end bits ≡ false
 not_end bits long high = grind (arith, nat_tests)
 
 -- a segment does not begin with four zeros

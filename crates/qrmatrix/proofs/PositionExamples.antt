@@ -11,8 +11,8 @@ use Rattle.qrmatrix.specs.Bits.{bit}
 use Rattle.qrmatrix.specs.Functions.{fixed_module, is_free, role}
 use Rattle.qrmatrix.specs.Information.{format_information, version_information}
 use Rattle.qrmatrix.specs.Masks.{is_flipped}
-use Rattle.qrmatrix.specs.Reading.{IsUnreadInMirrors, IsUnreadTurned, Reading, read_bits, read_format, read_matrix}
-use Rattle.qrmatrix.specs.Reading.{shows_functions, shows_version, walk}
+use Rattle.qrmatrix.specs.Reading.{IsUnreadInMirrors, IsUnreadTurned, Reading, other_positions, read_bits, read_format}
+use Rattle.qrmatrix.specs.Reading.{read_matrix, shows_functions, shows_version, walk}
 
 -- a symbol of version 2-L under mask 3, as Zint draws it (`zint -b 58 --vers=2 --secure=1 --mask=3 --dump -d "HALF A
 -- TURN"`): bit x of a row is its module at column x
@@ -32,31 +32,36 @@ read = refl
 
 -- the modules of a symbol of version 2 in all other positions: columns for rows, left for right, upside down; then
 -- turned by a half and by a quarter either way, and columns for rows along the other diagonal
-other_positions : List (ℕ → ℕ → Bool)
+positions : List (ℕ → ℕ → Bool)
 unfolding modules_of rows
-other_positions =
+positions =
     let dark = modules_of rows in
     (λ x y. dark y x) ∷ (λ x y. dark (24 - x) y) ∷ (λ x y. dark x (24 - y)) ∷ (λ x y. dark (24 - x) (24 - y))
     ∷ (λ x y. dark y (24 - x)) ∷ (λ x y. dark (24 - y) x) ∷ (λ x y. dark (24 - y) (24 - x)) ∷ []
 
-positions_read : map (read_matrix 25) other_positions ≡ replicate 7 None
-unfolding other_positions read_matrix read_format shows_version shows_functions number_of fixed_module role
+same_positions : other_positions 25 (modules_of rows) ≡ positions
+unfolding positions
+same_positions = refl
+
+positions_read : map (read_matrix 25) positions ≡ replicate 7 None
+unfolding positions read_matrix read_format shows_version shows_functions number_of fixed_module role
     format_information version_information binary_remainder
 positions_read = refl
 
 -- these are the positions in which a symbol is said not to be read
 in_mirrors : IsUnreadInMirrors 25 (modules_of rows)
-    → map (read_matrix 25) (take 3 other_positions) ≡ replicate 3 None
-unfolding other_positions
+    → map (read_matrix 25) (take 3 positions) ≡ replicate 3 None
+unfolding positions
 in_mirrors h = λ i. h.0 i ∷ h.1 i ∷ h.2 i ∷ []
 
-in_turns : IsUnreadTurned 25 (modules_of rows) → map (read_matrix 25) (drop 3 other_positions) ≡ replicate 4 None
-unfolding other_positions
+in_turns : IsUnreadTurned 25 (modules_of rows) → map (read_matrix 25) (drop 3 positions) ≡ replicate 4 None
+unfolding positions
 in_turns h = let turns = h (omega arith) in λ i. turns.0 i ∷ turns.1 i ∷ turns.2 i ∷ turns.3 i ∷ []
 
 -- Version 1 has no alignment pattern, and there modules alone do not refuse a turned symbol. These squares have the
 -- function patterns and the format information of two symbols of version 1-M: one upright, and one turned by a half
--- (mask 3) or by a quarter (mask 4). The other modules are light. Their codewords are not those of any data.
+-- (mask 3) or by a quarter (mask 4). The other modules are light. Their codewords are not those of any data, in any
+-- position: with a finder pattern where the data begins no data begins.
 half_alike : List ℕ
 half_alike =
     0x1FD17F ∷ 0x104141 ∷ 0x17505D ∷ 0x17515D ∷ 0x17405D ∷ 0x105041 ∷ 0x1FD57F ∷ 0x001100 ∷ 0x1A40ED ∷ 0 ∷ 0x004040 ∷ 0

@@ -12,6 +12,7 @@ use Rattle.qrdata.specs.declared.level.Level.{Level}
 use Rattle.qrdata.specs.declared.level.Level.TheVariants.{L, M, Q, H}
 use Rattle.qrdata.specs.Steps.{◌>>=◌}
 use Rattle.qrdata.specs.Bits.{number_of, codewords_of}
+use Rattle.qrdata.specs.Reading.{data_in}
 use Rattle.qrdata.specs.Versions.{total_codewords, side_of}
 use Rattle.qrmatrix.specs.Functions.{fixed_module, is_free}
 use Rattle.qrmatrix.specs.Masks.{is_flipped}
@@ -101,6 +102,21 @@ read_with v m format =
 -- the version, the level and the codewords of a symbol; there is no reading where any check fails
 unfoldable pub read_matrix : ℕ → (ℕ → ℕ → Bool) → Option Reading
 read_matrix n m = find (λ v. side_of v == n) (range_with_len 1 10) >>= λ v. read_format n m >>= read_with v m
+
+-- the data of a symbol
+abbrev pub read_square : ℕ → (ℕ → ℕ → Bool) → Option (List ℕ)
+read_square n m = read_matrix n m >>= λ symbol. data_in symbol.version symbol.level symbol.codewords
+
+-- a square in its seven other positions: with columns for rows, left for right and upside down; then turned by a half,
+-- by a quarter either way, and with columns for rows along the other diagonal
+abbrev pub other_positions : ℕ → (ℕ → ℕ → Bool) → List (ℕ → ℕ → Bool)
+other_positions n m =
+    (λ x y. m y x) ∷ (λ x y. m (n - 1 - x) y) ∷ (λ x y. m x (n - 1 - y)) ∷ (λ x y. m (n - 1 - x) (n - 1 - y))
+    ∷ (λ x y. m y (n - 1 - x)) ∷ (λ x y. m (n - 1 - y) x) ∷ (λ x y. m (n - 1 - y) (n - 1 - x)) ∷ []
+
+-- in no other position than upright is a symbol read
+abbrev pub IsUpright : ℕ → (ℕ → ℕ → Bool) → Type 0
+IsUpright n m = All (λ other. read_square n other ≡ None) (other_positions n m)
 
 -- whether a place is among some
 abbrev pub is_among : List (ℕ × ℕ) → ℕ → ℕ → Bool
