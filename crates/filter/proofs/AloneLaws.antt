@@ -7,9 +7,11 @@ use Rattle.labelcore.specs.declared.options.Format.{Format}
 use Rattle.labelcore.specs.declared.symbology.Symbology.{Symbology}
 use Rattle.linear.specs.Code128Reading.{read_code128}
 use Rattle.linear.specs.EanReading.{read_ean13, read_ean8, read_upca}
-use Rattle.linear.specs.Scanning.{HasNoGap, HasOneReading}
+use Rattle.linear.specs.Scanning.{HasNoGap, HasNoPart, HasOneReading}
 use Rattle.linear.proofs.GapLaws.{code128_gap, ean13_gap, ean8_gap, upca_gap}
-use Rattle.linear.proofs.OneReadingLaws.{has_one_reading}
+use Rattle.linear.proofs.OneReadingLaws.{IsBounded, code128_bounded, ean13_bounded, ean8_bounded, has_one_reading}
+use Rattle.linear.proofs.OneReadingLaws.{upca_bounded}
+use Rattle.linear.proofs.PartLaws.{HasNoPart-of}
 use Rattle.picture.specs.Reading.{common_row}
 use Rattle.qrmatrix.specs.Reading.{IsUpright, Reading, read_matrix}
 use Rattle.qrmatrix.specs.Square.{value_at}
@@ -28,12 +30,16 @@ one_row rows row r e is =
     ∙ sym (same 0 (omega (arith, differ.0)))) ∙ differ.1
 
 row_alone : (reading : List Bool → Option (List ℕ))
-    → ((row : List Bool) (full : List ℕ) → reading row ≡ Some full → HasNoGap row) → (rows : List (List Bool))
+    → ((row : List Bool) (full : List ℕ) → reading row ≡ Some full → HasNoGap row)
+    → ((row : List Bool) (full : List ℕ) → reading row ≡ Some full → IsBounded row) → (rows : List (List Bool))
     (full : List ℕ) → option_and_then reading (common_row rows) ≡ Some full → (read_modules Qr rows ≡ None)
-    × ((row : List Bool) → common_row rows ≡ Some row → HasOneReading row × HasNoGap row)
-row_alone reading gap rows full read = (
+    × ((row : List Bool) → common_row rows ≡ Some row → HasOneReading row × HasNoGap row × HasNoPart row)
+row_alone reading gap bounded rows full read = (
   at (read_modules Qr rows) refl,
-  λ row e. (has_one_reading row, gap row full (sym (ap (option_and_then reading) e) ∙ read)),
+  λ row e.
+      let is : reading row ≡ Some full = sym (ap (option_and_then reading) e) ∙ read in
+      let no_gap = gap row full is in
+      (has_one_reading row, no_gap, HasNoPart-of row no_gap (bounded row full is)),
 )
   where
     at : (o : Option (List ℕ)) → read_modules Qr rows ≡ o → read_modules Qr rows ≡ None
@@ -58,10 +64,10 @@ square_alone rows full read =
 
 pub rows_alone : (symbology : Symbology) (rows : List (List Bool)) (full : List ℕ)
     → read_modules symbology rows ≡ Some full → IsAlone symbology rows
-rows_alone Ean13 rows full read = row_alone read_ean13 ean13_gap rows full read
-rows_alone Ean8 rows full read = row_alone read_ean8 ean8_gap rows full read
-rows_alone UpcA rows full read = row_alone read_upca upca_gap rows full read
-rows_alone Code128 rows full read = row_alone read_code128 code128_gap rows full read
+rows_alone Ean13 rows full read = row_alone read_ean13 ean13_gap ean13_bounded rows full read
+rows_alone Ean8 rows full read = row_alone read_ean8 ean8_gap ean8_bounded rows full read
+rows_alone UpcA rows full read = row_alone read_upca upca_gap upca_bounded rows full read
+rows_alone Code128 rows full read = row_alone read_code128 code128_gap code128_bounded rows full read
 rows_alone Qr rows full read = square_alone rows full read
 
 pub IsAlone-read : (format : Format) (scale : ℕ) (image : List ℕ) (symbol : Symbol)

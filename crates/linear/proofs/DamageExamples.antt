@@ -1,6 +1,7 @@
 -- Worked values of damaged rows and of rows read backwards. The rows are as Zint 2.11.1 draws them, some with modules
 -- turned. Pairs of rows that are both read, and as near to each other as can be, show that no more turned modules are
 -- always seen.
+use Rattle.std.proofs.Common.{ap, arith, false, inl, inr, length, replicate}
 use Rattle.std.specs.Prelude.{◌≡◌, refl, Ok, Err, Some, true, Bool, List, [], ◌∷◌, ◌++◌, ℕ, codes, flat_map, reverse}
 use Rattle.std.specs.List.{range_with_len}
 use Rattle.linear.specs.declared.refusal.Refusal.TheVariants.{WrongCheckDigit}
@@ -10,7 +11,7 @@ use Rattle.linear.specs.Tables.{number_set_a, left_half_sets, character_widths}
 use Rattle.linear.specs.EanReading.{read_ean8, read_ean13, read_upca}
 use Rattle.linear.specs.Code128.{code128_row}
 use Rattle.linear.specs.Code128Reading.{read_code128}
-use Rattle.linear.specs.Scanning.{HasNoGap, readings}
+use Rattle.linear.specs.Scanning.{HasNoGap, HasNoPart, readings}
 use Rattle.linear.proofs.GapLaws.{HasNoGap-clear, clear}
 
 -- two of four modules; what one row alone has is not counted
@@ -70,6 +71,14 @@ ean8 = modules (codes "101011101101111010110001001100101010100001010011101000010
 ean8_readings : (readings ean8 ≡ codes "73513537" ∷ []) × (readings (reverse ean8) ≡ codes "73513537" ∷ [])
 unfolding ean8 number_set_a left_half_sets character_widths
 ean8_readings = (refl, refl)
+
+-- a row that is two of these, with five light modules between: a part of it is read, and is not the row
+ean8_twice : HasNoPart (ean8 ++ (replicate 5 false ++ ean8)) → ⊥
+unfolding ean8 number_set_a left_half_sets character_widths
+ean8_twice none = elim (none 5 5 [] ean8 (ean8 ++ replicate 5 false) refl) [
+  | inl same ↦ absurd (omega (arith, ap length same))
+  | inr unread ↦ absurd (omega (arith, ap length unread))
+]
 
 -- two modules are turned, and the groups show 13513537, whose check digit is wrong
 ean8_turned : List Bool

@@ -21,4 +21,5 @@ pub mod ValueReadingLaws
 pub mod Theorems
 pub mod GapLaws
 pub mod OneReadingLaws
+pub mod PartLaws
 pub mod EncodingLaws

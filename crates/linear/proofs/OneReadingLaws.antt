@@ -2,7 +2,7 @@
 -- set B, and Code 128 begins with no character (ISO/IEC 15420 and 15417, symbol characters and symbol structure).
 use Rattle.std.proofs.Common.{◌==◌, if◌then◌else◌, eq-eqb, ◌≡◌, ℕ, suc, ◌+◌, ◌*◌, ◌%◌, ◌<◌, ◌≤◌, Bool, true, false}
 use Rattle.std.proofs.Common.{Option, Some, None, List, [], ◌∷◌, ◌++◌, length, take, drop, get_or, refl, sym, ap, subst}
-use Rattle.std.proofs.Common.{◌∙◌, arith, append_assoc, append-nil, length-append}
+use Rattle.std.proofs.Common.{◌⊎◌, inl, inr, ◌-◌, ◌∙◌, arith, append_assoc, append-nil, length-append}
 use Rattle.std.specs.Prelude.{flat_map, is_some, position, replicate, reverse, slice_index}
 use Rattle.std.specs.Char.{IsAsciiDigit}
 use Rattle.std.specs.List.{AllByRecursion, list_all, range_with_len}
@@ -10,19 +10,20 @@ use Rattle.std.specs.Option.{option_to_list}
 use Rattle.std.proofs.lemmas.Bool.{false≢true}
 use Rattle.std.proofs.lemmas.Bool.Decides.{nat_tests}
 use Rattle.std.proofs.lemmas.Grind.{flat_map-append}
-use Rattle.std.proofs.lemmas.List.{length-reverse, reverse-append, take_all, take_more}
+use Rattle.std.proofs.lemmas.List.{get_or-reverse, length-reverse, reverse-append, take_all, take_more}
+use Rattle.std.proofs.lemmas.Option.{option_and_then_some}
 use Rattle.linear.specs.declared.ean.NumberSet.{NumberSet}
 use Rattle.linear.specs.declared.ean.NumberSet.TheVariants.{A, B, C}
 use Rattle.linear.specs.declared.tables.TheConstants.{STOP}
 use Rattle.linear.specs.Digits.{digit_value}
 use Rattle.linear.specs.Ean.{pattern, patterns, normal_guard, centre_guard, symbol, left_sets, ean13_row}
-use Rattle.linear.specs.EanReading.{digit_in, digit_in_a_or_b, read_ean8, read_ean13}
+use Rattle.linear.specs.EanReading.{digit_in, digit_in_a_or_b, read_ean8, read_ean13, read_upca}
 use Rattle.linear.specs.Modules.{same_modules}
 use Rattle.linear.specs.Tables.{left_half_sets, number_set_a}
 use Rattle.linear.specs.Code128.{character_modules}
 use Rattle.linear.specs.Code128Reading.{read_code128}
 use Rattle.linear.specs.Private.Data.{AreDigits, IsFull}
-use Rattle.linear.specs.Scanning.{HasOneReading}
+use Rattle.linear.specs.Scanning.{HasOneReading, readings}
 use Rattle.linear.proofs.CharacterLaws.{group_value, group_value-character_modules, length-character_modules}
 use Rattle.linear.proofs.CharacterRowLaws.{length-row}
 use Rattle.linear.proofs.EanLaws.{back_digits, by_recursion, front_digits, left_groups_of, length-symbol}
@@ -40,6 +41,21 @@ record IsOneWay (kind : ℕ) (begins : List Bool → Bool) (row : List Bool) : T
   long : length row % 11 ≡ kind
   forwards : begins row ≡ true
   backwards : begins (reverse row) ≡ false
+  some : 0 < length row
+  starts : get_or row 0 false ≡ true
+  ends : get_or (reverse row) 0 false ≡ true
+
+-- a row begins as its first part does, and ends as its last one
+starts_dark : (first middle last : List Bool) → get_or first 0 false ≡ true
+    → get_or ((first ++ middle) ++ last) 0 false ≡ true
+starts_dark [] middle last e = absurd (false≢true e)
+starts_dark (x ∷ first) middle last e = e
+
+ends_dark : (first middle last : List Bool) → get_or (reverse last) 0 false ≡ true
+    → get_or (reverse (first ++ (middle ++ last))) 0 false ≡ true
+ends_dark first middle last e =
+    rw (reverse-append first (middle ++ last), reverse-append middle last)
+    (starts_dark (reverse last) (reverse middle) (reverse first) e)
 
 -- ---- EAN
 
@@ -96,6 +112,10 @@ symbol_is n sets bytes count s a d =
           (omega (arith, front.long)) a left;
       backwards = ap (λ row. begins_in_a (reverse row)) whole
           ∙ last_in_b before (slice_index rs n) (back.digits n 0 (omega (arith, back.long)));
+      some = omega arith;
+      starts = refl;
+      ends = ap (λ row. get_or (reverse row) 0 false) whole
+          ∙ ends_dark before (pattern C value) normal_guard refl;
     }
 
 ean8_is : (row : List Bool) (full : List ℕ) → read_ean8 row ≡ Some full → IsOneWay 1 begins_in_a row
@@ -136,6 +156,12 @@ no_character : (row : List Bool)
 unfolding all_characters
 no_character row = refl
 
+character_dark : (value : ℕ) → value < 107 → get_or (character_modules value) 0 false ≡ true
+unfolding all_characters
+character_dark value h =
+    subst (λ row. get_or row 0 false ≡ true) (ap (λ table. get_or table value []) (sym characters-all_characters))
+    (passes_at (λ value. get_or (get_or all_characters value []) 0 false) 107 value refl h)
+
 code128_is : (row : List Bool) (full : List ℕ) → read_code128 row ≡ Some full
     → IsOneWay 2 begins_in_character row
 code128_is row full read =
@@ -162,6 +188,11 @@ code128_is row full read =
               ∙ ap (λ table. is_some (position (same_modules (take 11 (reverse STOP
               ++ reverse (character_modules value ++ rest)))) table)) characters-all_characters
               ∙ no_character (reverse (character_modules value ++ rest));
+          some = omega (arith, length-row (value ∷ values) known);
+          starts = starts_dark (character_modules value) rest (character_modules 106)
+              (character_dark value (omega (arith, known.0)));
+          ends = ends_dark (character_modules value ++ rest) [] (character_modules 106)
+              (subst (λ stop. get_or (reverse stop) 0 false ≡ true) stop_character refl);
         }
 
 -- ---- one reading
@@ -203,3 +234,76 @@ has_one_reading row =
       length-append b (c ++ []),
       length-append c [],
     )
+
+-- ---- the ends of what is read
+
+-- a row that begins and ends dark
+pub record IsBounded (row : List Bool) : Type 0 where
+  pub some : 0 < length row
+  pub first : get_or row 0 false ≡ true
+  pub last : get_or row (length row - 1) false ≡ true
+
+last_module : (row : List Bool) → 0 < length row → get_or row (length row - 1) false ≡ get_or (reverse row) 0 false
+last_module row some =
+    let same : length row - 1 ≡ length row - 1 - 0 = omega arith in
+    ap (λ i. get_or row i false) same ∙ sym (get_or-reverse row 0 false some)
+
+IsBounded-one_way : (kind : ℕ) (begins : List Bool → Bool) (row : List Bool) → IsOneWay kind begins row → IsBounded row
+IsBounded-one_way kind begins row is = record {
+  some = is.some;
+  first = is.starts;
+  last = last_module row is.some ∙ is.ends;
+}
+
+IsBounded-reverse : (row : List Bool) → IsBounded (reverse row) → IsBounded row
+IsBounded-reverse row is =
+    let same = length-reverse row in
+    let some : 0 < length row = omega (arith, is.some, same) in
+    let back : length row - 1 - (length (reverse row) - 1) ≡ 0 = omega (arith, same) in
+    record {
+      some = some;
+      first = ap (λ i. get_or row i false) (sym back)
+          ∙ sym (get_or-reverse row (length (reverse row) - 1) false (omega (arith, some, same))) ∙ is.last;
+      last = last_module row some ∙ is.first;
+    }
+
+read_bounded : (kind : ℕ) (begins : List Bool → Bool) (reading : List Bool → Option (List ℕ))
+    → ((row : List Bool) (full : List ℕ) → reading row ≡ Some full → IsOneWay kind begins row) → (row : List Bool)
+    → (readings_by reading row ≡ []) ⊎ IsBounded row
+unfolding readings_by
+read_bounded kind begins reading is row = at (reading row) (reading (reverse row)) refl refl
+  where
+    at : (o p : Option (List ℕ)) → reading row ≡ o → reading (reverse row) ≡ p
+        → (option_to_list o ++ option_to_list p ≡ []) ⊎ IsBounded row
+    at None None e f = inl refl
+    at (Some x) p e f = inr (IsBounded-one_way kind begins row (is row x e))
+    at None (Some y) e f =
+        inr (IsBounded-reverse row (IsBounded-one_way kind begins (reverse row) (is (reverse row) y f)))
+
+-- what is read, forwards or backwards, begins and ends dark
+pub bounded : (row : List Bool) → (readings row ≡ []) ⊎ IsBounded row
+unfolding readings_by
+bounded row =
+    elim (read_bounded 7 begins_in_a read_ean13 ean13_is row) [
+      | inr is ↦ inr is
+      | inl none_13 ↦ elim (read_bounded 1 begins_in_a read_ean8 ean8_is row) [
+        | inr is ↦ inr is
+        | inl none_8 ↦ elim (read_bounded 2 begins_in_character read_code128 code128_is row) [
+          | inr is ↦ inr is
+          | inl none_128 ↦ inl (rw (none_13, none_8, none_128) refl)
+        ]
+      ]
+    ]
+
+pub ean13_bounded : (row : List Bool) (full : List ℕ) → read_ean13 row ≡ Some full → IsBounded row
+ean13_bounded row full read = IsBounded-one_way 7 begins_in_a row (ean13_is row full read)
+
+pub upca_bounded : (row : List Bool) (full : List ℕ) → read_upca row ≡ Some full → IsBounded row
+upca_bounded row full read =
+    option_and_then_some _ (read_ean13 row) full read (λ found is after. ean13_bounded row found is)
+
+pub ean8_bounded : (row : List Bool) (full : List ℕ) → read_ean8 row ≡ Some full → IsBounded row
+ean8_bounded row full read = IsBounded-one_way 1 begins_in_a row (ean8_is row full read)
+
+pub code128_bounded : (row : List Bool) (full : List ℕ) → read_code128 row ≡ Some full → IsBounded row
+code128_bounded row full read = IsBounded-one_way 2 begins_in_character row (code128_is row full read)
