@@ -1,7 +1,7 @@
 -- What an image shows is read in no other way, whoever computes it.
 use Rattle.filter.proofs.Words.{◌≡◌, ◌∙◌, ℕ, Bool, true, false, List, Option, Some, None, refl, sym, ap, length}
 use Rattle.filter.proofs.Words.{arith, false≢true, get_or, option_and_then, Symbol, Ean13, Ean8, UpcA, Code128, Qr}
-use Rattle.filter.proofs.Words.{IfSome}
+use Rattle.filter.proofs.Words.{IfSome, [], ◌∷◌, ◌++◌, ◌+◌, ◌≤◌, length-append}
 use Rattle.std.proofs.lemmas.Option.{option_and_then_some}
 use Rattle.labelcore.specs.declared.options.Format.{Format}
 use Rattle.labelcore.specs.declared.symbology.Symbology.{Symbology}
@@ -12,11 +12,15 @@ use Rattle.linear.proofs.GapLaws.{code128_gap, ean13_gap, ean8_gap, upca_gap}
 use Rattle.linear.proofs.OneReadingLaws.{IsBounded, code128_bounded, ean13_bounded, ean8_bounded, has_one_reading}
 use Rattle.linear.proofs.OneReadingLaws.{upca_bounded}
 use Rattle.linear.proofs.PartLaws.{HasNoPart-of}
+use Rattle.linear.proofs.ReadLengthLaws.{code128_long, ean13_long, ean8_long, upca_long}
+use Rattle.qrmatrix.proofs.FoundLaws.{IsReading-of}
+use Rattle.std.specs.Prelude.{replicate}
+use Rattle.std.proofs.lemmas.List.{length-replicate}
 use Rattle.picture.specs.Reading.{common_row}
 use Rattle.qrmatrix.specs.Reading.{IsUpright, Reading, read_matrix}
 use Rattle.qrmatrix.specs.Square.{value_at}
 use Rattle.qrmatrix.proofs.TurnLaws.{IsUpright-read, first_rows_differ}
-use Rattle.filter.specs.OneReading.{IsAlone}
+use Rattle.filter.specs.OneReading.{HoldsNoBars, IsAlone}
 use Rattle.filter.specs.Reading.{modules_in, read_image, read_modules}
 use Rattle.filter.proofs.FoundLaws.{common_rows, square_read}
 
@@ -49,12 +53,53 @@ row_alone reading gap bounded rows full read = (
         option_and_then_some reading (common_row rows) full read (λ row is rest.
         absurd (false≢true (one_row rows row square.0 is square.1)))
 
+-- ---- no bars within a line of a square
+
+-- what is beside a part fits the line
+fits : (line before part after : List Bool) (left right : ℕ)
+    → line ≡ before ++ (replicate left false ++ (part ++ (replicate right false ++ after)))
+    → left + length part + right ≤ length line
+fits line before part after left right e =
+    let last = replicate right false ++ after in
+    omega (
+      arith,
+      ap length e,
+      length-append before (replicate left false ++ (part ++ last)),
+      length-append (replicate left false) (part ++ last),
+      length-append part last,
+      length-append (replicate right false) after,
+      length-replicate left false,
+      length-replicate right false,
+    )
+
+-- a square has 57 modules a side at most, and none has one
+side_range : (n : ℕ) (m : ℕ → ℕ → Bool) (r : Reading) → read_matrix n m ≡ Some r → (21 ≤ n) × (n ≤ 57)
+side_range n m r read =
+    let is = IsReading-of n m r read in
+    (omega (arith, is.side, is.least), omega (arith, is.side, is.most))
+
+holds_no_bars : (line : List Bool) → length line ≤ 65 → HoldsNoBars line
+holds_no_bars line short Ean13 before part after byte bytes e read =
+    omega (arith, short, fits line before part after 11 7 e, ean13_long part (byte ∷ bytes) read)
+holds_no_bars line short Ean8 before part after byte bytes e read =
+    omega (arith, short, fits line before part after 7 7 e, ean8_long part (byte ∷ bytes) read)
+holds_no_bars line short UpcA before part after byte bytes e read =
+    omega (arith, short, fits line before part after 9 9 e, upca_long part (byte ∷ bytes) read)
+holds_no_bars line short Code128 before part after byte bytes e read =
+    omega (arith, short, fits line before part after 10 10 e, code128_long part byte bytes read)
+holds_no_bars line short Qr before part after byte bytes e read =
+    let square = square_read (part ∷ []) (byte ∷ bytes) read in
+    omega (arith, (side_range 1 (value_at (part ∷ [])) square.0 square.1).0)
+
 square_alone : (rows : List (List Bool)) (full : List ℕ) → read_modules Qr rows ≡ Some full
     → (common_row rows ≡ None) × IsUpright (length rows) (value_at rows)
+    × ((line : List Bool) → length line ≡ 4 + length rows + 4 → HoldsNoBars line)
 square_alone rows full read =
     let square = square_read rows full read in (
       at square.0 square.1 (common_row rows) refl,
       IsUpright-read (length rows) (value_at rows) square.0 square.1,
+      λ line wide. holds_no_bars line
+          (omega (arith, wide, (side_range (length rows) (value_at rows) square.0 square.1).1)),
     )
   where
     at : (r : Reading) → read_matrix (length rows) (value_at rows) ≡ Some r → (o : Option (List Bool))

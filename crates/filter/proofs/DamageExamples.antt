@@ -11,6 +11,7 @@ use Rattle.gf256.specs.BinaryPolynomial.{binary_product, binary_remainder}
 use Rattle.gf256.specs.Field.{field_product, field_power}
 use Rattle.gf256.specs.Polynomial.{evaluate}
 use Rattle.labelcore.specs.declared.symbology.Symbology.TheVariants.{Ean13, Ean8, UpcA, Code128, Qr}
+use Rattle.linear.specs.Code128.{code128_row}
 use Rattle.linear.specs.Modules.{modules, turned_modules}
 use Rattle.linear.specs.Tables.{number_set_a, left_half_sets, character_widths}
 use Rattle.picture.specs.Reading.{Raster}
@@ -27,7 +28,7 @@ use Rattle.qrmatrix.specs.Reading.{shows_version, walk}
 use Rattle.qrmatrix.specs.Square.{value_at}
 use Rattle.qrmatrix.proofs.PlaceLaws.{agree_but, apart_by_key, differs, few_differ, row_same, rows_same}
 use Rattle.filter.specs.Damage.{AreClose, AreNear, pixel_limit, turned_limit}
-use Rattle.filter.specs.OneReading.{IsAlone}
+use Rattle.filter.specs.OneReading.{HoldsNoBars, IsAlone}
 use Rattle.filter.specs.Reading.{read_modules}
 
 -- two rows of modules, as of a symbol that is two modules high
@@ -304,3 +305,18 @@ not_alone_qr alone = none-some (modules first_8) (sym alone.0)
 
 not_alone_8 : IsAlone Ean8 (modules (codes "1000001") ∷ []) → ⊥
 not_alone_8 alone = (alone.1 (modules (codes "1000001")) refl).1 (true ∷ []) (true ∷ []) refl
+
+-- The line of an EAN-8 with its quiet zones, 81 modules, holds a bar code; so does the shortest that any rule reads as
+-- data, a Code 128 of one character, of 66.
+line_8 : HoldsNoBars (replicate 7 false ++ (modules first_8 ++ replicate 7 false)) → ⊥
+unfolding first_8 number_set_a
+line_8 holds = holds Ean8 [] (modules first_8) [] 48 (codes "2000008") refl refl
+
+line_128 : (length (replicate 10 false ++ (code128_row (codes "A") ++ replicate 10 false)) ≡ 66)
+    × (HoldsNoBars (replicate 10 false ++ (code128_row (codes "A") ++ replicate 10 false)) → ⊥)
+unfolding character_widths
+line_128 = (refl, λ holds. holds Code128 [] (code128_row (codes "A")) [] 65 [] refl refl)
+
+-- a line of a square of 57 modules has 65
+line_57 : IsAlone Qr (replicate 57 []) → HoldsNoBars (replicate 65 false)
+line_57 alone = alone.2 (replicate 65 false) refl

@@ -1,6 +1,6 @@
 -- In what other way an image could be read, and is not.
--- Why: `IsAlone`: a scanner is told neither the symbology nor the direction, nor where a symbol begins.
-use Rattle.std.specs.Prelude.{◌≡◌, Bool, List, length, None, Some}
+-- Why: `HoldsNoBars`, `IsAlone`: a scanner is told neither the symbology nor the direction, nor where a symbol begins.
+use Rattle.std.specs.Prelude.{◌≡◌, ◌≢◌, ℕ, ◌+◌, Bool, false, List, [], ◌∷◌, ◌++◌, length, replicate, None, Some}
 use Rattle.labelcore.specs.declared.symbology.Symbology.{Symbology}
 use Rattle.labelcore.specs.declared.symbology.Symbology.TheVariants.{Qr}
 use Rattle.linear.specs.Scanning.{HasNoGap, HasNoPart, HasOneReading}
@@ -8,12 +8,22 @@ use Rattle.qrmatrix.specs.Reading.{IsUpright}
 use Rattle.qrmatrix.specs.Square.{value_at}
 use Rattle.picture.specs.Reading.{common_row}
 use Rattle.filter.specs.Reading.{read_modules}
+use Rattle.filter.specs.Symbol.{quiet_zone}
 
--- A linear symbol is not read as a QR symbol, and its row has no second reading, no gap and no part that reads. A QR symbol is not read as
--- a linear one, in a mirror, or turned.
+-- nothing in a line of modules, with the quiet zone of its symbology on either side, is read as data
+abbrev pub HoldsNoBars : List Bool → Type 0
+HoldsNoBars line =
+    (symbology : Symbology) (before part after : List Bool) (byte : ℕ) (bytes : List ℕ)
+    → line ≡ before ++ (replicate (quiet_zone symbology).left false
+    ++ (part ++ (replicate (quiet_zone symbology).right false ++ after)))
+    → read_modules symbology (part ∷ []) ≢ Some (byte ∷ bytes)
+
+-- A linear symbol is not read as a QR symbol, and its row has no second reading, no gap and no part that is read. A QR
+-- symbol is not read as a linear one, in a mirror, or turned, and no line as long as its image is wide holds a bar code.
 abbrev pub IsAlone : Symbology → List (List Bool) → Type 0
 IsAlone Qr rows =
     (common_row rows ≡ None) × IsUpright (length rows) (value_at rows)
+    × ((line : List Bool) → length line ≡ 4 + length rows + 4 → HoldsNoBars line)
 IsAlone linear rows =
     (read_modules Qr rows ≡ None)
     × ((row : List Bool) → common_row rows ≡ Some row → HasOneReading row × HasNoGap row × HasNoPart row)

@@ -22,4 +22,5 @@ pub mod Theorems
 pub mod GapLaws
 pub mod OneReadingLaws
 pub mod PartLaws
+pub mod ReadLengthLaws
 pub mod EncodingLaws

@@ -79,7 +79,7 @@ module _ {Y : Type 0} (found : List Bool → Option Y) (drawn : Y → List Bool)
           count_is = ap suc more.count_is;
         })))
 
-if_some : {X : Type 0} (b : Bool) (o : Option X) (x : X) → (if b then o else None) ≡ Some x → (b ≡ true) × (o ≡ Some x)
+pub if_some : {X : Type 0} (b : Bool) (o : Option X) (x : X) → (if b then o else None) ≡ Some x → (b ≡ true) × (o ≡ Some x)
 if_some true o x e = (refl, e)
 if_some false o x e = absurd (none-some x e)
 
