@@ -1,7 +1,9 @@
 -- Worked rows and the limits of a run, computed.
 use mathlib.Core.Bool.{xor}
 use Rattle.std.proofs.Common.{◌≡◌, ℕ, List, [], ◌∷◌, map, refl, None, Some, Err, codes, false, Bool, ◌++◌, drop}
-use Rattle.std.proofs.Common.{arith, replicate, reverse, sym}
+use Rattle.std.proofs.Common.{Ok, arith, replicate, reverse, sym, true}
+use Rattle.std.specs.List.{filter_map}
+use Rattle.labelcore.specs.declared.symbology.Symbology.{Symbology}
 use Rattle.std.specs.Prelude.{◌==◌, slice_set, slice_index_or}
 use Rattle.labelcore.specs.Lines.{lines, ended_lines, open_line}
 use Rattle.gf256.specs.BinaryPolynomial.{binary_product, binary_remainder}
@@ -28,13 +30,14 @@ use Rattle.std.specs.Fmt.{digits}
 use Rattle.labelcore.specs.LineItem.{request, head_read, symbology_named}
 use Rattle.labelcore.specs.HeldLine.{line_limit}
 use Rattle.linear.specs.Tables.{number_set_a}
-use Rattle.labelcore.specs.declared.fault.Fault.TheVariants.{WrongNumberOfDigits}
+use Rattle.labelcore.specs.declared.fault.Fault.TheVariants.{NoData, WrongNumberOfDigits}
 use Rattle.labelcore.specs.declared.symbology.Symbology.TheVariants.{Ean13, Ean8, UpcA, Code128, Qr}
 use Rattle.picture.specs.declared.quiet_zone.QuietZone.{QuietZone}
 use Rattle.filter.specs.declared.status.Status.TheVariants.{Clean, Refused}
 use Rattle.filter.specs.Symbol.{Symbol, symbol_of, quiet_zone}
 use Rattle.filter.specs.Output.{Images, Messages, drawn_symbols, ended_script, events_after, line_number, outcome}
 use Rattle.filter.specs.Output.{script, sent, status_of}
+use Rattle.filter.specs.Shown.{full_data, image as sent_image, image_in, is_told, messages_after, nothing, told}
 use Rattle.filter.specs.Reading.{modules_in, read_image, read_modules}
 
 abbrev settings : Options
@@ -97,6 +100,21 @@ statuses : map (λ lines. status_of (events_after settings 0 lines)) ([] ∷ (co
     ∷ (codes "#" ∷ codes "pdf x" ∷ []) ∷ []) ≡ Clean ∷ Clean ∷ Refused ∷ Refused ∷ []
 unfolding status_of events_after outcome symbol_of request head_read symbology_named line_limit
 statuses = refl
+
+-- the full data of each symbology, and a digit too few; what is told of a line after two that are skipped or drawn
+full_data_of : map (λ (asked : Symbology × List ℕ). full_data asked.0 asked.1) ((Ean13, codes "400638133393")
+    ∷ (Ean8, codes "7351353") ∷ (UpcA, codes "03600029145") ∷ (Code128, codes "PJJ123C") ∷ (Qr, codes "x")
+    ∷ (Ean13, codes "40063813339") ∷ (Ean8, codes "735135") ∷ (UpcA, codes "0360002914") ∷ [])
+    ≡ Ok (codes "4006381333931") ∷ Ok (codes "73513537") ∷ Ok (codes "036000291452") ∷ Ok (codes "PJJ123C")
+    ∷ Ok (codes "x") ∷ Err (WrongNumberOfDigits 11) ∷ Err (WrongNumberOfDigits 6) ∷ Err (WrongNumberOfDigits 10) ∷ []
+full_data_of = refl
+
+told_of : (messages_after 0 (nothing ∷ sent_image (codes "P1\n") ∷ told NoData ∷ told NoData ∷ [])
+    ≡ codes "line 3: no data\nline 4: no data\n")
+    × (filter_map image_in (nothing ∷ sent_image (codes "P1\n") ∷ told NoData ∷ []) ≡ codes "P1\n" ∷ [])
+    × (map is_told (nothing ∷ sent_image [] ∷ told NoData ∷ []) ≡ false ∷ false ∷ true ∷ [])
+unfolding digits
+told_of = (refl, refl, refl)
 
 -- ---- reading
 

@@ -9,5 +9,6 @@ pub mod ReadLaws
 pub mod ResumeLaws
 pub mod RunLaws
 pub mod ScriptLaws
+pub mod ShownLaws
 pub mod Theorems
 pub mod Words

@@ -1,10 +1,11 @@
 //! A run from a reader to a writer, as the program makes it.
-ghost use Rattle.std.specs.Prelude.{◌≡◌, true, [], ◌++◌, IfSome, OnOk};
+ghost use Rattle.std.specs.Prelude.{◌≡◌, true, [], ◌++◌, IfOk, IfSome, OnOk};
 ghost use Rattle.std.specs.Io.KnownBytes.{Appends};
 ghost use Rattle.device.specs.Buffered.{buffered_bytes, sink_of};
 ghost use Rattle.device.specs.Streams.{reader_of, writer_of};
 ghost use Rattle.filter.specs.Run.{Produces, Runs};
 ghost use Rattle.filter.specs.Filter.{taken};
+ghost use Rattle.filter.specs.Shown.{Shows};
 
 use crate::read_loop::run;
 use crate::status::{RunFault, Status};
@@ -34,6 +35,11 @@ pub fn run_streams<R: Read, W: Write, E: Sink>(
         (taken (λ stream. Appends (W.contents (writer_of (sink_of out.old)))
         (W.contents (writer_of (sink_of out.new))) (buffered_bytes out.old ++ stream))
         (E.took err.old err.new)) result) }
+    ensures shows { IfOk result (λ status. Shows options
+        (λ text. IfSome (R.remaining (reader_of source.old)) (λ bytes. text ≡ bytes))
+        (taken (λ stream. Appends (W.contents (writer_of (sink_of out.old)))
+        (W.contents (writer_of (sink_of out.new))) (buffered_bytes out.old ++ stream))
+        (E.took err.old err.new)) status) }
     ensures reaches { OnOk result ((buffered_bytes out.new ≡ [])
         × (⟦<StdSink<W> as Sink>⟧.is_flushed (sink_of out.new) ≡ true)) }
 {

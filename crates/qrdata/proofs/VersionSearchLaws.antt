@@ -1,5 +1,8 @@
 -- A search in rising order finds the smallest version in which the best segments fit.
 use Rattle.std.proofs.Common.{◌≡◌, ℕ, zero, suc, ◌+◌, ◌-◌, ◌<◌, ◌≤◌, List, arith, Bool, true, false, inl, inr, refl}
+use Rattle.std.proofs.Common.{sym}
+use Rattle.std.proofs.lemmas.Bool.Decides.{nat_tests}
+use Rattle.std.proofs.lemmas.Option.{none-some}
 use Rattle.std.specs.Prelude.{nat_le, None, Some}
 use Rattle.std.specs.List.{find, range_with_len}
 use Rattle.std.proofs.lemmas.Bool.{cases_lt, cond_both, le-leb, leb-true, lt-leb}
@@ -67,3 +70,26 @@ pub NoneFits-from_chosen : (version : ℕ) (level : Level) (bytes : List ℕ) �
     → NoneFits version level bytes
 NoneFits-from_chosen version level bytes long segments cut =
     omega (arith, long, chosen_segments-le_cost version bytes segments cut)
+
+find_none_from : (p : ℕ → Bool) (n low : ℕ) → find p (range_with_len low n) ≡ None → (u : ℕ) → low ≤ u → u < low + n
+    → p u ≡ false
+find_none_from p zero low e u from below = absurd (omega arith)
+find_none_from p (suc n) low e u from below =
+    cond_both (p low) (Some low) (find p (range_with_len (low + 1) n)) (λ found. found ≡ None → p u ≡ false)
+    (λ passes here. absurd (none-some low (sym here)))
+    (λ fails later. elim (cases_lt low u) [
+      | inl more ↦ find_none_from p n (low + 1) later u (omega arith) (omega arith)
+      | inr here ↦ let same : u ≡ low = omega arith in rw same fails
+    ]) e
+
+above_from : (a b : ℕ) → nat_le a b ≡ false → b < a
+above_from a b e = grind (arith, nat_tests)
+
+-- where no version is chosen, no list of segments fits
+pub NoneFits-chosen_none : (lowest : ℕ) (level : Level) (bytes : List ℕ) → chosen_version lowest level bytes ≡ None
+    → (v : ℕ) → lowest ≤ v → v ≤ 10 → NoneFits v level bytes
+unfolding chosen_version
+NoneFits-chosen_none lowest level bytes e v from to =
+    NoneFits-from_chosen v level bytes (above_from _ _ (find_none_from
+    (λ version. nat_le (cost version (chosen_segments version bytes)) (capacity version level)) (11 - lowest) lowest e v
+    from (omega (arith, from, to))))
