@@ -2,7 +2,7 @@
 ghost use Rattle.std.specs.Prelude.{◌≡◌, List, ℕ, Option, Some, IfSome, MatchResult, map, option_map, string_bytes};
 ghost use Rattle.device.specs.Streams.{reader_of};
 ghost use Rattle.command.specs.CommandLine.{invocation_of, run};
-ghost use Rattle.command.specs.Program.{EndsSo, Finishes, Helps, RunsOver, WriterTook};
+ghost use Rattle.command.specs.Program.{EndsShown, EndsSo, Finishes, Helps, RunsOver, WriterTook};
 
 use crate::arguments::{ArgumentsFault, Choice, options_of};
 use crate::end::End;
@@ -48,10 +48,15 @@ pub fn program<F: NamedFiles, R: Read + Drop, W: Write, E: Sink>(
     output: &mut Buffered<StdSink<W>>,
     errors: &mut E,
 ) -> u8
-    ensures { Finishes E.Sink (λ told end. MatchResult arguments
+    ensures runs { Finishes E.Sink (λ told end. MatchResult arguments
         (λ known. EndsSo (⟦<StdSource<R> as Source>⟧) (⟦<StdSource<F::Reader> as Source>⟧)
         (⟦<Buffered<StdSink<W>> as Sink>⟧) E.Sink (λ s. R.remaining (reader_of s))
         (λ s. F.Reader.remaining (reader_of s)) (WriterTook W.contents) (R.remaining input)
+        (F.bytes_of files.now) (F.refuses files.now) output.old output.new errors.old told end
+        (invocation_of (map string_bytes known.items)))
+        (λ early. (end ≡ early) × (output.new ≡ output.old) × (told ≡ errors.old))) errors.new result }
+    ensures shows { Finishes E.Sink (λ told end. MatchResult arguments
+        (λ known. EndsShown (⟦<Buffered<StdSink<W>> as Sink>⟧) E.Sink (WriterTook W.contents) (R.remaining input)
         (F.bytes_of files.now) (F.refuses files.now) output.old output.new errors.old told end
         (invocation_of (map string_bytes known.items)))
         (λ early. (end ≡ early) × (output.new ≡ output.old) × (told ≡ errors.old))) errors.new result }

@@ -1,16 +1,35 @@
-use Rattle.std.proofs.Common.{sym}
+use Rattle.std.proofs.Common.{map, sym}
+use Rattle.std.specs.Prelude.{string_bytes}
+use Rattle.command.specs.CommandLine.{invocation_of}
+use Rattle.command.proofs.ProgramLaws.{EndsShown-from}
 use Rattle.command.proofs.entry.program.Goals as goal
 use Rattle.command.proofs.entry.program.Goals.{in-Ok, in-Err}
 
 pub returns : goal.returns
-returns g c = record {
-  end = c.match-arguments.end;
-  told = c.match-arguments.errors;
-  ends_so = elim c.match-arguments.branch [
-    | in-Ok w ↦ rw (w.in-Ok.is, w.end-is, w.errors-is, w.output-is, sym w.as_slice.ensures.value) w.end_of-end.ensures
-    | in-Err w ↦ rw w.in-Err.is (w.end-is, w.output-is, w.errors-is)
-  ];
-  written = c.write_whole.result;
-  line = rw (sym c.line.ensures, sym c.as_bytes.ensures.value) c.write_whole.ensures;
-  status_is = c.status.ensures;
-}
+returns g c =
+    record {
+      runs = record {
+        end = c.match-arguments.end;
+        told = c.match-arguments.errors;
+        ends_so = elim c.match-arguments.branch [
+          | in-Ok w ↦ rw (w.in-Ok.is, w.end-is, w.errors-is, w.output-is, sym w.as_slice.ensures.value) w.end_of-end.ensures
+          | in-Err w ↦ rw w.in-Err.is (w.end-is, w.output-is, w.errors-is)
+        ];
+        written = c.write_whole.result;
+        line = rw (sym c.line.ensures, sym c.as_bytes.ensures.value) c.write_whole.ensures;
+        status_is = c.status.ensures;
+      };
+      shows = record {
+        end = c.match-arguments.end;
+        told = c.match-arguments.errors;
+        ends_so = elim c.match-arguments.branch [
+          | in-Ok w ↦ rw (w.in-Ok.is, w.end-is, w.errors-is, w.output-is, sym w.as_slice.ensures.value)
+              (EndsShown-from _ _ _ _ _ _ _ _ _ (g.F.NamedFiles.refuses c.args.files.now) _ _ _ _ _
+              (invocation_of (map string_bytes w.as_slice.result.now)) w.end_of-end.ensures)
+          | in-Err w ↦ rw w.in-Err.is (w.end-is, w.output-is, w.errors-is)
+        ];
+        written = c.write_whole.result;
+        line = rw (sym c.line.ensures, sym c.as_bytes.ensures.value) c.write_whole.ensures;
+        status_is = c.status.ensures;
+      };
+    }
