@@ -16,7 +16,7 @@ use Rattle.linear.specs.Modules.{modules, turned_modules}
 use Rattle.linear.specs.Tables.{number_set_a, left_half_sets, character_widths}
 use Rattle.picture.specs.Reading.{Raster}
 use Rattle.qrdata.specs.Bits.{bits_of, codewords_of, number_of}
-use Rattle.qrdata.specs.Reading.{deinterleaving, data_in}
+use Rattle.qrdata.specs.Reading.{deinterleaving, data_in, digits_at, number_at, segment_at, segments_at}
 use Rattle.qrdata.specs.Segments.{byte_bits}
 use Rattle.qrdata.specs.Versions.{total_codewords, ec_codewords_per_block, data_codewords, block_lengths, block_table}
 use Rattle.qrdata.specs.Versions.{groups_of}
@@ -201,6 +201,40 @@ unfolding rows_1 turned_at first_places read_matrix xor total_codewords read_for
     binary_remainder bits_of byte_bits ec_codewords_per_block data_codewords block_lengths groups_of block_table
     evaluate field_power field_product binary_product deinterleaving data_in
 read_qr = refl
+
+-- Thirteen turned modules are the most that never make other data. These fourteen are seven bits of the format
+-- information, in both copies: they tell level L for level H, and its codewords are a block of level L too, in which
+-- ten codewords more are data.
+
+-- 84970317737218781 in version 1-H, mask 0: it fills its data codewords but for one bit
+rows_h : List (List Bool)
+rows_h = map modules (
+    codes "111111101000101111111" ∷ codes "100000100101001000001" ∷ codes "101110100110101011101"
+    ∷ codes "101110101110101011101" ∷ codes "101110100011001011101" ∷ codes "100000100011101000001"
+    ∷ codes "111111101010101111111" ∷ codes "000000000000000000000" ∷ codes "001011101110010001001"
+    ∷ codes "010001001010110111100" ∷ codes "000001111001100010001" ∷ codes "000100010001010110100"
+    ∷ codes "011010100001101001011" ∷ codes "000000001011111010101" ∷ codes "111111100011011000111"
+    ∷ codes "100000101100011011110" ∷ codes "101110101100101001011" ∷ codes "101110100110000101010"
+    ∷ codes "101110101010111011101" ∷ codes "100000100001100000000" ∷ codes "111111100101000101101" ∷ [])
+
+format_places : List (ℕ × ℕ)
+format_places =
+    (8, 0) ∷ (8, 2) ∷ (8, 3) ∷ (8, 7) ∷ (0, 8) ∷ (1, 8) ∷ (7, 8) ∷ (14, 8) ∷ (17, 8)
+    ∷ (18, 8) ∷ (20, 8) ∷ (8, 14) ∷ (8, 19) ∷ (8, 20) ∷ []
+
+limit_h : (turned_limit Qr rows_h ≡ 13) × (length format_places ≡ 14)
+unfolding rows_h format_places read_matrix xor total_codewords read_format shows_version shows_functions
+    read_bits walk codewords_of number_of fixed_module role is_free is_flipped format_information version_information
+    binary_remainder ec_codewords_per_block groups_of block_table
+limit_h = (refl, refl)
+
+read_fourteen : map (read_modules Qr) (rows_h ∷ turned_at format_places rows_h ∷ [])
+    ≡ Some (codes "84970317737218781") ∷ Some (codes "849703177372187810434502422434802686") ∷ []
+unfolding rows_h format_places turned_at read_matrix xor total_codewords read_format shows_version shows_functions
+    read_bits walk codewords_of number_of fixed_module role is_free is_flipped format_information version_information
+    binary_remainder bits_of byte_bits ec_codewords_per_block data_codewords block_lengths groups_of block_table
+    evaluate field_power field_product binary_product deinterleaving data_in segments_at segment_at number_at digits_at
+read_fourteen = refl
 
 -- ---- pixels
 
