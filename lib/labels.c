@@ -67,6 +67,11 @@ static int refuse(labels_answer *answer) {
     return finish(answer);
 }
 
+static int refuse_symbol(labels_answer *answer, labels_symbol_info *info) {
+    *info = (labels_symbol_info){0};
+    return refuse(answer);
+}
+
 /* The proved code takes modules as truth values, so each byte that it may write has to be 0 or 1. Clears as many as a
  * symbol may have, at most. Returns how many there is room for. */
 static size_t cleared(unsigned char *modules, size_t room, size_t most) {
@@ -103,9 +108,8 @@ int labels_symbol(const labels_options *options, int symbology, const void *data
     labels_symbol_info own_info;
     answer = answer ? answer : &own;
     info = info ? info : &own_info;
-    *info = (labels_symbol_info){0};
     if (is_bad(data, size) || is_bad(modules, room))
-        return refuse(answer);
+        return refuse_symbol(answer, info);
     modules = write_to(modules);
     room = cleared(modules, room, symbology == LABELS_QR ? LABELS_MAX_MODULES : LABELS_MAX_BARS);
     labels_proved_symbol(or_defaults(options), (uint32_t)symbology, read_from(data), size, modules, room,
@@ -119,9 +123,8 @@ int labels_line(const labels_options *options, const void *text, size_t size, un
     labels_symbol_info own_info;
     answer = answer ? answer : &own;
     info = info ? info : &own_info;
-    *info = (labels_symbol_info){0};
     if (is_bad(text, size) || is_bad(modules, room))
-        return refuse(answer);
+        return refuse_symbol(answer, info);
     modules = write_to(modules);
     room = cleared(modules, room, LABELS_MAX_MODULES);
     labels_proved_line(or_defaults(options), read_from(text), size, modules, room, answer->message,

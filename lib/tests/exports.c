@@ -80,6 +80,7 @@ static void a_line_is_put_skipped_or_refused(void) {
     SEE(modules[0] == 1 && modules[1] == 0);
     labels_proved_line(&options, "# a remark", 10, modules, sizeof modules, message, sizeof message, &info, &answer);
     SEE(answer.code == LABELS_SKIPPED);
+    SEE(info.symbology == 0 && info.width == 0 && info.height == 0 && info.left == 0);
     labels_proved_draw_line(&options, "qr,leve=M x", 11, out, sizeof out, message, sizeof message, &answer);
     SEE(answer.code == LABELS_BAD_SETTING);
     SEE(begins("unknown setting 1"));

@@ -86,6 +86,13 @@ static void see_modules(const char *call, int code, const unsigned char *modules
             stop(call, "a module is neither 0 nor 1");
 }
 
+/* Of a symbol that is not drawn nothing is told. */
+static void see_info(const char *call, int code, const labels_symbol_info *info) {
+    static const labels_symbol_info none;
+    if (info && code > LABELS_NO_ROOM && memcmp(info, &none, sizeof none) != 0)
+        stop(call, "a symbol is told that is not drawn");
+}
+
 static void one_round(void) {
     labels_options options = some_options();
     const labels_options *wanted = one_in(10) ? NULL : &options;
@@ -117,8 +124,11 @@ static void one_round(void) {
     see_picture("labels_draw_line", code, out, room, answered);
     code = labels_symbol(wanted, symbology, from, size, modules_to, room, told, answered);
     see_modules("labels_symbol", code, modules, room, answered);
+    see_info("labels_symbol", code, told);
+    memset(info, MARK, sizeof *info);
     code = labels_line(wanted, line, (size_t)length, modules_to, room, told, answered);
     see_modules("labels_line", code, modules, room, answered);
+    see_info("labels_line", code, told);
 
     memset(out, MARK, room);
     labels_run_answer ran;

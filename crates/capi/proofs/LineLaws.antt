@@ -1,12 +1,16 @@
 -- The symbol of a line with the rows that are put, and that with all.
-use Rattle.std.proofs.Common.{◌≡◌, ℕ, List, refl, sym, ap, ◌∙◌}
-use Rattle.std.specs.Prelude.{Bool, Result, Ok, Err, MatchResult, IfOk, Some}
+use Rattle.std.proofs.Common.{◌≡◌, ◌<◌, ◌≤◌, ℕ, List, [], refl, sym, ap, arith, ◌∙◌}
+use Rattle.std.specs.Prelude.{Bool, true, false, Result, Ok, Err, MatchResult, IfOk, Some, if◌then◌else◌}
 use Rattle.labelcore.specs.LineItem.{Outcome, Request, drawn, item, outcome_of}
 use Rattle.labelcore.specs.declared.options.Options.{Options}
 use Rattle.filter.specs.Output.{image_of, outcome, outcome_of_item}
 use Rattle.labelcore.specs.OptionValues.{LabelValues, RunValues}
 use Rattle.labelcore.specs.Settings.{◌>>=◌}
 use Rattle.labelcore.specs.declared.fault.Fault.{Fault}
+use Rattle.labelcore.specs.declared.fault.Fault.TheVariants.{NotADigit, WrongNumberOfDigits, WrongCheckDigit}
+use Rattle.labelcore.specs.declared.fault.Fault.TheVariants.{DataTooLong, NotAscii, DoesNotFit, NoData}
+use Rattle.labelcore.specs.declared.fault.Fault.TheVariants.{LineTooLong, UnknownSymbology, UnknownSetting, BadValue}
+use Rattle.labelcore.specs.declared.fault.Fault.TheVariants.{BadEscape}
 use Rattle.labelcore.specs.declared.symbology.Symbology.{Symbology}
 use Rattle.labelcore.specs.declared.symbology.Symbology.TheVariants.{Ean13, Ean8, UpcA, Code128, Qr}
 use Rattle.linear.specs.declared.refusal.Refusal.{Refusal}
@@ -18,8 +22,8 @@ use Rattle.filter.specs.ModuleReading.{IsReadInModules}
 use Rattle.filter.specs.Readback.{IsRead}
 use Rattle.capi.specs.Calls.{AnswersSymbol, Rooms}
 use Rattle.capi.specs.Line.{AnswersOutcome, AnswersPicture, ReadsOutcome, ReadsPicture, rows_put, with_rows_put}
-use Rattle.capi.specs.Modules.{AnswersModules, IsDrawnAs, ModuleRooms, height_told, one_row}
-use Rattle.capi.specs.Numbers.{symbology_numbered}
+use Rattle.capi.specs.Modules.{AnswersModules, IsDrawnAs, IsSizeOf, ModuleRooms, height_told, one_row}
+use Rattle.capi.specs.Numbers.{code_of, symbology_numbered}
 use Rattle.capi.specs.declared.numbers.Answer.{Answer}
 use Rattle.capi.specs.declared.numbers.SymbolInfo.{SymbolInfo}
 
@@ -55,6 +59,26 @@ lowered label UpcA bytes = linear_lowered UpcA upca_row label refl (λ w. refl) 
 lowered label Code128 bytes = linear_lowered Code128 code128_row label refl (λ w. refl) (full_code128 bytes)
 lowered label Qr bytes = qr_lowered label bytes _
 
+-- the code of what is drawn
+one_at_most : (b : Bool) (n : ℕ) → n ≡ (if b then 0 else 1) → 1 < n → ⊥
+one_at_most true n e high = omega (arith, e, high)
+one_at_most false n e high = omega (arith, e, high)
+
+-- no code of a refusal is that of a symbol
+refusals_high : (fault : Fault) → 2 ≤ code_of fault
+refusals_high NoData = omega arith
+refusals_high (NotADigit place) = omega arith
+refusals_high (WrongNumberOfDigits count) = omega arith
+refusals_high (WrongCheckDigit given right) = omega arith
+refusals_high DataTooLong = omega arith
+refusals_high (NotAscii place) = omega arith
+refusals_high (DoesNotFit level) = omega arith
+refusals_high LineTooLong = omega arith
+refusals_high UnknownSymbology = omega arith
+refusals_high (UnknownSetting number) = omega arith
+refusals_high (BadValue number) = omega arith
+refusals_high (BadEscape place) = omega arith
+
 -- what is told of the symbol
 pub drawn_as : (symbology : Symbology) (height : ℕ) (low found : Result Symbol Fault)
     → IsLowered symbology height low found
@@ -70,6 +94,24 @@ drawn_as symbology height low (Ok symbol) is rooms answer before info code answe
       symbology = number ∙ ap (λ (s : Symbology). Some s) (sym is.1.0);
       height = high ∙ (ap (λ (w : ℕ). height_told symbology w height) size.1.width ∙ sym is.1.1);
     }
+
+-- where the code is not that of a symbol, there is none
+pub not_drawn : (symbology : Symbology) (height : ℕ) (low found : Result Symbol Fault)
+    → IsLowered symbology height low found
+    → (rooms : ModuleRooms) (answer : Answer) (info : SymbolInfo) (code : Fault → ℕ)
+    → AnswersModules rooms answer info low code → 1 < answer.code → (P : Symbol → Type 0) → IfOk found P
+not_drawn symbology height low (Err fault) is rooms answer info code answers high P = tt
+not_drawn symbology height low (Ok symbol) is rooms answer info code answers high P =
+    let puts = rw is.0 at answers in
+    absurd (one_at_most _ answer.code puts.0.code_is high)
+
+-- where the code is that of a symbol, there is one, and more may be told of it
+pub more_told : (rooms : ModuleRooms) (answer : Answer) (before info : SymbolInfo) (low : Result Symbol Fault)
+    → AnswersModules rooms answer before low code_of → answer.code ≤ 1
+    → ((symbol : Symbol) → IsSizeOf symbol before → IsSizeOf symbol info) → AnswersModules rooms answer info low code_of
+more_told rooms answer before info (Ok symbol) answers few same = (answers.0, same symbol answers.1)
+more_told rooms answer before info (Err fault) answers few same =
+    absurd (let code = (answers.1.1 []).code_is in let high = refusals_high fault in omega (arith, code, high, few))
 
 -- what is left of a symbol is what is left of its line
 pub outcome_answers : (symbology : Symbology) (height : ℕ) (low found : Result Symbol Fault)

@@ -47,14 +47,14 @@ with_rows_put symbol = record symbol {
 -- what is left of a line: the modules of its symbol, and what they are drawn as; or why there are none. 14 is a line
 -- that is skipped
 abbrev pub AnswersOutcome : ModuleRooms → Answer → SymbolInfo → Outcome Symbol → (Fault → ℕ) → Type 0
-AnswersOutcome rooms answer info skipped code = DeclinesModules rooms answer 14 []
-AnswersOutcome rooms answer info (refused fault) code = DeclinesModules rooms answer (code fault) (fault_text fault)
+AnswersOutcome rooms answer info skipped code = DeclinesModules rooms answer info 14 []
+AnswersOutcome rooms answer info (refused fault) code = DeclinesModules rooms answer info (code fault) (fault_text fault)
 AnswersOutcome rooms answer info (drawn symbol) code =
     AnswersModules rooms answer info (Ok (with_rows_put symbol)) code × IsDrawnAs symbol info
 
 -- the modules of the line that is asked for, or why there are none
 abbrev pub AnswersLine : ModuleRooms → Answer → SymbolInfo → Result Options ℕ → List ℕ → (Fault → ℕ) → Type 0
-AnswersLine rooms answer info (Err number) text code = DeclinesModules rooms answer number []
+AnswersLine rooms answer info (Err number) text code = DeclinesModules rooms answer info number []
 AnswersLine rooms answer info (Ok options) text code = AnswersOutcome rooms answer info (outcome options text) code
 
 -- the modules of a symbol read as its full data, and as nothing else

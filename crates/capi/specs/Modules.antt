@@ -1,5 +1,5 @@
 -- What a call of the C library leaves of a symbol's modules.
-use Rattle.std.specs.Prelude.{◌≡◌, ℕ, ◌*◌, nat_le, Bool, true, Some, Result, Ok, Err, List, [], ◌++◌, length, drop, flat_map}
+use Rattle.std.specs.Prelude.{◌≡◌, ℕ, ◌*◌, nat_le, Bool, true, Some, Result, Ok, Err, List, [], ◌∷◌, ◌++◌, length, drop, flat_map}
 use Rattle.std.specs.Prelude.{if◌then◌else◌, IfOk}
 use Rattle.labelcore.specs.Message.{fault_text}
 use Rattle.labelcore.specs.OptionValues.{LabelValues}
@@ -47,6 +47,11 @@ abbrev pub height_told : Symbology → ℕ → ℕ → ℕ
 height_told Qr width height = width
 height_told other width height = height
 
+-- whether nothing is told of a symbol: each number is 0
+unfoldable pub is_nothing : SymbolInfo → Bool
+is_nothing i = are_unused (i.symbology ∷ i.width ∷ i.rows ∷ i.height ∷ i.left ∷ i.right ∷ i.top ∷ i.bottom
+    ∷ i.version ∷ i.level ∷ i.mask ∷ i.reserved)
+
 -- the symbology of a symbol, and the height of its picture in modules
 pub record IsDrawnAs (symbol : Symbol) (info : SymbolInfo) : Type 0 where
   pub symbology : symbology_numbered info.symbology ≡ Some symbol.symbology
@@ -62,20 +67,21 @@ pub record PutsModules (rooms : ModuleRooms) (answer : Answer) (p : Picture) : T
       then modules_of p ++ drop (p.width * p.height) rooms.modules else rooms.modules)
   pub message : rooms.message_after ≡ rooms.message
 
--- no modules are put
-abbrev pub DeclinesModules : ModuleRooms → Answer → ℕ → List ℕ → Type 0
-DeclinesModules rooms answer code text = (rooms.modules_after ≡ rooms.modules)
+-- no modules are put, and nothing is told of a symbol
+abbrev pub DeclinesModules : ModuleRooms → Answer → SymbolInfo → ℕ → List ℕ → Type 0
+DeclinesModules rooms answer info code text = (rooms.modules_after ≡ rooms.modules)
+    × ((is_nothing info ≡ true)
     × ((out : List ℕ) → Declines (record {
       out = out;
       out_after = out;
       message = rooms.message;
       message_after = rooms.message_after;
-    }) answer code text)
+    }) answer code text))
 
 -- the modules of a symbol, or why there is none
 abbrev pub AnswersModules : ModuleRooms → Answer → SymbolInfo → Result Symbol Fault → (Fault → ℕ) → Type 0
 AnswersModules rooms answer info (Ok symbol) code = PutsModules rooms answer symbol.modules × IsSizeOf symbol info
-AnswersModules rooms answer info (Err fault) code = DeclinesModules rooms answer (code fault) (fault_text fault)
+AnswersModules rooms answer info (Err fault) code = DeclinesModules rooms answer info (code fault) (fault_text fault)
 
 -- the options of a symbol that has one row where it is linear
 abbrev pub one_row : LabelValues → LabelValues
@@ -83,7 +89,7 @@ one_row label = record label { height = 1 }
 
 -- the modules of what is asked for, or why there are none
 abbrev pub AnswersAsked : ModuleRooms → Answer → SymbolInfo → Result Asked ℕ → List ℕ → (Fault → ℕ) → Type 0
-AnswersAsked rooms answer info (Err number) bytes code = DeclinesModules rooms answer number []
+AnswersAsked rooms answer info (Err number) bytes code = DeclinesModules rooms answer info number []
 AnswersAsked rooms answer info (Ok a) bytes code =
     AnswersModules rooms answer info (symbol_of (one_row a.options.label) a.symbology bytes) code
 

@@ -14,7 +14,7 @@ mod text;
 pub use draw::draw_into;
 pub use draw_line::draw_line_into;
 pub use line::line_into;
-pub use numbers::{Answer, CallOptions, SymbolInfo, TextAnswer};
+pub use numbers::{Answer, CallOptions, SymbolInfo, TextAnswer, Told};
 pub use slice_sink::SliceSink;
 pub use symbol::symbol_into;
 pub use text::text_into;

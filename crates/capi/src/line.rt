@@ -8,7 +8,7 @@ ghost use Rattle.capi.specs.Numbers.{code_of as number_of};
 
 use crate::draw::{declined, refused};
 use crate::numbers::{
-    Answer, BAD_OPTION, CallOptions, NOT_ONE_LINE, SKIPPED, SymbolInfo, options_of,
+    BAD_OPTION, CallOptions, NOT_ONE_LINE, SKIPPED, Told, options_of, told_nothing,
 };
 use crate::symbol::symbol_told;
 use labelcore::{Item, LineBuf, Options, Scratch, parse};
@@ -36,52 +36,45 @@ pub fn line_into(
     text: &[u8],
     modules: &mut [bool],
     message: &mut [u8],
-    info: &mut SymbolInfo,
-) -> Answer
+) -> Told
     ensures answers { AnswersLine (record {
       modules = modules.old;
       modules_after = modules.new;
       message = message.old;
       message_after = message.new;
-    }) result info.new (line_asked options.now text.now) text.now number_of }
+    }) result.answer result.info (line_asked options.now text.now) text.now number_of }
     ensures read { ReadsLine (line_asked options.now text.now) text.now }
-    ensures numbers { NumbersLine info.new (line_asked options.now text.now) text.now }
+    ensures numbers { NumbersLine result.info (line_asked options.now text.now) text.now }
 {
     match line_options(options, text) {
-        Ok(options) => line_modules(&options, text, modules, message, info),
-        Err(code) => declined(code),
+        Ok(options) => line_modules(&options, text, modules, message),
+        Err(code) => told_nothing(declined(code)),
     }
 }
 
 /// Puts the modules of the symbol that a line draws.
-fn line_modules(
-    options: &Options,
-    text: &[u8],
-    modules: &mut [bool],
-    message: &mut [u8],
-    info: &mut SymbolInfo,
-) -> Answer
+fn line_modules(options: &Options, text: &[u8], modules: &mut [bool], message: &mut [u8]) -> Told
     ensures answers { AnswersOutcome (record {
       modules = modules.old;
       modules_after = modules.new;
       message = message.old;
       message_after = message.new;
-    }) result info.new (outcome options.now text.now) number_of }
+    }) result.answer result.info (outcome options.now text.now) number_of }
     ensures read { ReadsOutcome (outcome options.now text.now) }
-    ensures numbers { NumbersItem info.new (item options.now text.now) }
+    ensures numbers { NumbersItem result.info (item options.now text.now) }
 {
     let mut line = LineBuf::new();
     line.extend(text);
     let mut scratch = Scratch::new();
     match parse(options, &line, &mut scratch) {
-        Item::Skipped => declined(SKIPPED),
-        Item::Refused(fault) => refused(&fault, message),
+        Item::Skipped => told_nothing(declined(SKIPPED)),
+        Item::Refused(fault) => told_nothing(refused(&fault, message)),
         Item::Drawn(symbology, label, bytes) => {
             let asked = Options {
                 run: options.run,
                 label,
             };
-            symbol_told(&asked, symbology, bytes, modules, message, info)
+            symbol_told(&asked, symbology, bytes, modules, message)
         }
     }
 }

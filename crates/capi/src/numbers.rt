@@ -1,6 +1,7 @@
 //! Numbers in place of enums, as C has them.
-ghost use Rattle.std.specs.Prelude.{◌≡◌, Some};
+ghost use Rattle.std.specs.Prelude.{◌≡◌, Some, true};
 ghost use Rattle.capi.specs.Numbers.{are_in_range, are_unused, code_of, flag_numbered, level_numbered};
+ghost use Rattle.capi.specs.Modules.{is_nothing};
 ghost use Rattle.capi.specs.Numbers.{options_numbered, symbology_numbered};
 
 use labelcore::{Fault, Format, Options, Symbology};
@@ -76,6 +77,38 @@ pub struct SymbolInfo {
     pub level: u32,
     pub mask: u32,
     pub reserved: [u32; 5],
+}
+
+/// What a call for modules answers, and what it tells of the symbol: nothing where none is drawn.
+#[derive(Clone, Copy, Drop)]
+pub struct Told {
+    pub answer: Answer,
+    pub info: SymbolInfo,
+}
+
+/// Returns the answer of a call that tells nothing of a symbol.
+#[tactic(auto, unfolding(crate::specs::Modules::is_nothing))]
+pub fn told_nothing(answer: Answer) -> Told
+    ensures answer { result.answer ≡ answer }
+    ensures nothing { is_nothing result.info ≡ true }
+{
+    Told {
+        answer,
+        info: SymbolInfo {
+            symbology: 0,
+            width: 0,
+            rows: 0,
+            height: 0,
+            left: 0,
+            right: 0,
+            top: 0,
+            bottom: 0,
+            version: 0,
+            level: 0,
+            mask: 0,
+            reserved: [0; 5],
+        },
+    }
 }
 
 /// Returns the options that these numbers name.

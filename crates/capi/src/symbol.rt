@@ -16,7 +16,8 @@ ghost use Rattle.capi.specs.Numbers.{code_of as number_of};
 use crate::asked::asked_of;
 use crate::draw::{declined, refused};
 use crate::numbers::{
-    Answer, CallOptions, DONE, NO_ROOM, SymbolInfo, number_of as number_of_symbology,
+    Answer, CallOptions, DONE, NO_ROOM, SymbolInfo, Told, number_of as number_of_symbology,
+    told_nothing,
 };
 use labelcore::{Fault, LabelOptions, Options, Symbology};
 use linear::{Code128, Ean8, Ean13, Linear, Row, UpcA};
@@ -72,28 +73,20 @@ pub fn symbol_into(
     bytes: &[u8],
     modules: &mut [bool],
     message: &mut [u8],
-    info: &mut SymbolInfo,
-) -> Answer
+) -> Told
     ensures answers { AnswersAsked (record {
       modules = modules.old;
       modules_after = modules.new;
       message = message.old;
       message_after = message.new;
-    }) result info.new (asked options.now symbology bytes.now) bytes.now number_of }
+    }) result.answer result.info (asked options.now symbology bytes.now) bytes.now number_of }
     ensures read { ReadsModules (asked options.now symbology bytes.now) bytes.now }
-    ensures numbers { NumbersAsked info.new (asked options.now symbology bytes.now) bytes.now }
-    ensures told { ToldAsked info.new (asked options.now symbology bytes.now) bytes.now }
+    ensures numbers { NumbersAsked result.info (asked options.now symbology bytes.now) bytes.now }
+    ensures told { ToldAsked result.info (asked options.now symbology bytes.now) bytes.now }
 {
     match asked_of(options, symbology, bytes) {
-        Ok(asked) => symbol_told(
-            &asked.options,
-            asked.symbology,
-            bytes,
-            modules,
-            message,
-            info,
-        ),
-        Err(code) => declined(code),
+        Ok(asked) => symbol_told(&asked.options, asked.symbology, bytes, modules, message),
+        Err(code) => told_nothing(declined(code)),
     }
 }
 
@@ -104,27 +97,33 @@ pub fn symbol_told(
     bytes: &[u8],
     modules: &mut [bool],
     message: &mut [u8],
-    info: &mut SymbolInfo,
-) -> Answer
+) -> Told
     requires { bytes.now ≢ [] }
     ensures answers { AnswersModules (record {
       modules = modules.old;
       modules_after = modules.new;
       message = message.old;
       message_after = message.new;
-    }) result info.new
+    }) result.answer result.info
         (symbol_of (one_row options.now.label) symbology bytes.now) number_of }
     ensures read { IfOk (symbol_of (one_row options.now.label) symbology bytes.now) IsReadInModules }
     ensures numbers { IfOk (symbol_of (one_row options.now.label) symbology bytes.now) (λ symbol.
-        HasNumbers options.now.label symbology bytes.now info.new) }
+        HasNumbers options.now.label symbology bytes.now result.info) }
     ensures told { IfOk (symbol_of options.now.label symbology bytes.now) (λ symbol.
-        IsDrawnAs symbol info.new) }
+        IsDrawnAs symbol result.info) }
 {
     Options::prove_ranges(&options.run, &options.label);
-    let answer = symbol_asked(&options.label, symbology, bytes, modules, message, info);
+    let told = symbol_asked(&options.label, symbology, bytes, modules, message);
+    if told.answer.code > NO_ROOM {
+        return told;
+    }
+    let mut info = told.info;
     info.symbology = number_of_symbology(symbology);
     info.height = height_of(symbology, info.width, options.label.height());
-    answer
+    Told {
+        answer: told.answer,
+        info,
+    }
 }
 
 /// Returns how high a symbol is drawn, in modules.
@@ -145,39 +144,33 @@ fn symbol_asked(
     bytes: &[u8],
     modules: &mut [bool],
     message: &mut [u8],
-    info: &mut SymbolInfo,
-) -> Answer
+) -> Told
     requires { bytes.now ≢ [] }
     ensures answers { AnswersModules (record {
       modules = modules.old;
       modules_after = modules.new;
       message = message.old;
       message_after = message.new;
-    }) result info.new
+    }) result.answer result.info
         (symbol_of (one_row label.now) symbology bytes.now) number_of }
     ensures numbers { IfOk (symbol_of (one_row label.now) symbology bytes.now) (λ symbol.
-        HasNumbers label.now symbology bytes.now info.new) }
+        HasNumbers label.now symbology bytes.now result.info) }
 {
     match symbology {
-        Symbology::Ean13 => linear_symbol::<Ean13>(bytes, modules, message, info),
-        Symbology::Ean8 => linear_symbol::<Ean8>(bytes, modules, message, info),
-        Symbology::UpcA => linear_symbol::<UpcA>(bytes, modules, message, info),
-        Symbology::Code128 => linear_symbol::<Code128>(bytes, modules, message, info),
-        Symbology::Qr => qr_symbol(label, bytes, modules, message, info),
+        Symbology::Ean13 => linear_symbol::<Ean13>(bytes, modules, message),
+        Symbology::Ean8 => linear_symbol::<Ean8>(bytes, modules, message),
+        Symbology::UpcA => linear_symbol::<UpcA>(bytes, modules, message),
+        Symbology::Code128 => linear_symbol::<Code128>(bytes, modules, message),
+        Symbology::Qr => qr_symbol(label, bytes, modules, message),
     }
 }
 
 /// Puts the row of a linear symbol.
-fn linear_symbol<L: Linear>(
-    bytes: &[u8],
-    modules: &mut [bool],
-    message: &mut [u8],
-    info: &mut SymbolInfo,
-) -> Answer
+fn linear_symbol<L: Linear>(bytes: &[u8], modules: &mut [bool], message: &mut [u8]) -> Told
     requires some { bytes.now ≢ [] }
     requires narrow { L.QUIET_ZONES.left + L.QUIET_ZONES.right ≤ 20 }
     ensures zeros { IfOk (L.full_data bytes.now) (λ full.
-        (info.new.version ≡ 0) × ((info.new.level ≡ 0) × (info.new.mask ≡ 0))) }
+        (result.info.version ≡ 0) × ((result.info.level ≡ 0) × (result.info.mask ≡ 0))) }
     ensures answers { (symbology : Symbologies) (label : LabelValues) → label.height ≡ 1
         → quiet_zone symbology ≡ beside L.QUIET_ZONES
         → AnswersModules (record {
@@ -185,13 +178,13 @@ fn linear_symbol<L: Linear>(
           modules_after = modules.new;
           message = message.old;
           message_after = message.new;
-        }) result info.new
+        }) result.answer result.info
         (linear_symbol_of symbology L.row_of label (L.full_data bytes.now)) number_of }
 {
     let mut row = Row::new();
     match L::encode(bytes, &mut row) {
         Ok(()) => {
-            *info = SymbolInfo {
+            let info = SymbolInfo {
                 symbology: 0,
                 width: row.len() as u32,
                 rows: 1,
@@ -205,34 +198,31 @@ fn linear_symbol<L: Linear>(
                 mask: 0,
                 reserved: [0; 5],
             };
-            offer_grid(&Bars::new(row.as_slice(), 1), modules)
+            Told {
+                answer: offer_grid(&Bars::new(row.as_slice(), 1), modules),
+                info,
+            }
         }
-        Err(refusal) => refused(&Fault::from(refusal), message),
+        Err(refusal) => told_nothing(refused(&Fault::from(refusal), message)),
     }
 }
 
 /// Puts the modules of a QR symbol.
 #[tactic(auto, unfolding(filter::specs::Symbol::symbol_of))]
-fn qr_symbol(
-    label: &LabelOptions,
-    bytes: &[u8],
-    modules: &mut [bool],
-    message: &mut [u8],
-    info: &mut SymbolInfo,
-) -> Answer
+fn qr_symbol(label: &LabelOptions, bytes: &[u8], modules: &mut [bool], message: &mut [u8]) -> Told
     ensures numbers { IfOk (symbol_of label.now Qr bytes.now) (λ symbol.
-        HasQrNumbers label.now bytes.now info.new) }
+        HasQrNumbers label.now bytes.now result.info) }
     ensures answers { AnswersModules (record {
       modules = modules.old;
       modules_after = modules.new;
       message = message.old;
       message_after = message.new;
-    }) result info.new (symbol_of label.now Qr bytes.now) number_of }
+    }) result.answer result.info (symbol_of label.now Qr bytes.now) number_of }
 {
     match matrix_of(label, bytes) {
         Ok(matrix) => {
             let side = matrix.side() as u32;
-            *info = SymbolInfo {
+            let info = SymbolInfo {
                 symbology: 0,
                 width: side,
                 rows: side,
@@ -251,9 +241,12 @@ fn qr_symbol(
                 mask: u32::from(matrix.mask().number()),
                 reserved: [0; 5],
             };
-            offer_grid(&matrix, modules)
+            Told {
+                answer: offer_grid(&matrix, modules),
+                info,
+            }
         }
-        Err(fault) => refused(&fault, message),
+        Err(fault) => told_nothing(refused(&fault, message)),
     }
 }
 

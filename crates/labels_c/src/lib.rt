@@ -55,7 +55,9 @@ pub extern "C" fn labels_proved_symbol(
     ensures numbers { NumbersAsked info.new (asked options.now symbology bytes.now) bytes.now }
     ensures told { ToldAsked info.new (asked options.now symbology bytes.now) bytes.now }
 {
-    *answer = capi::symbol_into(options, symbology, bytes, modules, message, info);
+    let told = capi::symbol_into(options, symbology, bytes, modules, message);
+    *info = told.info;
+    *answer = told.answer;
 }
 
 /// Puts the modules of the symbol that a line of text draws into `modules`, or the reason why there is none into
@@ -78,7 +80,9 @@ pub extern "C" fn labels_proved_line(
     ensures read { ReadsLine (line_asked options.now text.now) text.now }
     ensures numbers { NumbersLine info.new (line_asked options.now text.now) text.now }
 {
-    *answer = capi::line_into(options, text, modules, message, info);
+    let told = capi::line_into(options, text, modules, message);
+    *info = told.info;
+    *answer = told.answer;
 }
 
 /// Draws what a line of text asks for into `out`, or puts the reason why there is no picture into `message`.

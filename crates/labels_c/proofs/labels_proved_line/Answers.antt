@@ -1,10 +1,10 @@
 use Rattle.labels_c.proofs.labels_proved_line.Goals as goal
 
 pub returns-clause-answers : goal.returns-clause-answers
-returns-clause-answers c = c.line_into.ensures.answers
+returns-clause-answers c = c.line_into-told.ensures.answers
 
 pub returns-clause-read : goal.returns-clause-read
-returns-clause-read c = c.line_into.ensures.read
+returns-clause-read c = c.line_into-told.ensures.read
 
 pub returns-clause-numbers : goal.returns-clause-numbers
-returns-clause-numbers c = c.line_into.ensures.numbers
+returns-clause-numbers c = c.line_into-told.ensures.numbers

@@ -8,7 +8,7 @@ returns-in-Skipped-clause-answers c =
     let text = c.args.text.now in
     let seen = c.parse.ensures.item text (c.extend.ensures [] c.new-line.ensures) in
     rw (outcome_seen options text _ seen, c.in-Skipped.is)
-    (refl, λ out. c.declined.ensures out c.args.message.now)
+    (refl, (c.told_nothing.ensures.nothing, rw c.told_nothing.ensures.answer (λ out. c.declined.ensures out c.args.message.now)))
 
 pub returns-in-Skipped-clause-read : goal.returns-in-Skipped-clause-read
 returns-in-Skipped-clause-read c =
@@ -22,7 +22,7 @@ returns-in-Refused-clause-answers c =
     let options = c.args.options.now in
     let text = c.args.text.now in
     let seen = c.parse.ensures.item text (c.extend.ensures [] c.new-line.ensures) in
-    rw (outcome_seen options text _ seen, c.in-Refused.is) (refl, c.refused.ensures)
+    rw (outcome_seen options text _ seen, c.in-Refused.is) (refl, (c.told_nothing-in-Refused.ensures.nothing, rw c.told_nothing-in-Refused.ensures.answer c.refused.ensures))
 
 pub returns-in-Refused-clause-read : goal.returns-in-Refused-clause-read
 returns-in-Refused-clause-read c =

@@ -62,4 +62,4 @@ returns-in-Err-clause-answers g c = λ symbology label one zone.
     let found = found_refused symbology g.L.Linear.row_of g.L.Linear.reading g.L.Linear.turned_limit label one
     g.L.Linear.QUIET_ZONES zone (g.L.Linear.full_data c.args.bytes.now) c.in-Err.refusal c.encode.new.row.items c.in-Err.ensures.drawn
     c.in-Err.ensures.refused in
-    rw (found, ← c.from.ensures) (refl, c.refused.ensures)
+    rw (found, ← c.from.ensures) (refl, (c.told_nothing.ensures.nothing, rw c.told_nothing.ensures.answer c.refused.ensures))

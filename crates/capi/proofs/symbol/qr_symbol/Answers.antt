@@ -14,3 +14,7 @@ returns-after-level-clause-answers c = rw c.in-Ok.ensures.symbol (
     unused = refl;
   },
 )
+
+pub returns-in-Err-clause-answers : goal.returns-in-Err-clause-answers
+returns-in-Err-clause-answers c =
+    rw c.in-Err.ensures.refusal (refl, (c.told_nothing.ensures.nothing, rw c.told_nothing.ensures.answer c.refused.ensures))

@@ -1,6 +1,6 @@
 use Rattle.std.proofs.Common.{arith}
 use Rattle.filter.proofs.ReadLaws.{modules_of_data_read}
-use Rattle.capi.proofs.LineLaws.{drawn_as, lowered}
+use Rattle.capi.proofs.LineLaws.{drawn_as, lowered, more_told, not_drawn}
 use Rattle.capi.specs.Modules.{one_row}
 use Rattle.capi.proofs.symbol.symbol_told.Goals as goal
 
@@ -23,5 +23,24 @@ pub returns-clause-told : goal.returns-clause-told
 returns-clause-told c =
     let label = c.args.options.now.label in
     drawn_as c.args.symbology label.height _ _ (lowered label c.args.symbology c.args.bytes.now) _ _
-    c.symbol_asked-answer.new.info _ _ c.symbol_asked-answer.ensures.answers
-    c.number_of-info.ensures (rw c.height.ensures.value at c.height_of-info.ensures)
+    c.symbol_asked-told.result.info _ _ c.symbol_asked-told.ensures.answers
+    c.number_of.ensures (rw c.height.ensures.value at c.height_of.ensures)
+
+pub returns-then-told-gt-NO_ROOM-clause-told : goal.returns-then-told-gt-NO_ROOM-clause-told
+returns-then-told-gt-NO_ROOM-clause-told c =
+    let label = c.args.options.now.label in
+    not_drawn c.args.symbology label.height _ _ (lowered label c.args.symbology c.args.bytes.now) _ _ _ _
+    c.symbol_asked-told.ensures.answers (omega (arith, c.if-told-gt-NO_ROOM.true)) _
+
+pub returns-clause-answers : goal.returns-clause-answers
+returns-clause-answers c =
+    more_told _ _ c.symbol_asked-told.result.info _ _ c.symbol_asked-told.ensures.answers
+    (omega (arith, c.if-told-gt-NO_ROOM.false)) (λ symbol size. record {
+      width = size.width;
+      rows = size.rows;
+      left = size.left;
+      right = size.right;
+      top = size.top;
+      bottom = size.bottom;
+      unused = size.unused;
+    })
