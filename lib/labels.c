@@ -4,6 +4,7 @@
 #include <string.h>
 
 enum { MESSAGE_ROOM = sizeof(((labels_answer *)0)->message) - 1 };
+enum { DATA_ROOM = sizeof(((labels_symbol_info *)0)->data) - 1 };
 
 static const labels_options defaults = LABELS_DEFAULTS;
 static char nothing; /* what a pointer to no bytes points to: it is not read or written */
@@ -67,6 +68,12 @@ static int refuse(labels_answer *answer) {
     return finish(answer);
 }
 
+/* Ends the data of a symbol, and the answer. */
+static int finish_symbol(labels_answer *answer, labels_symbol_info *info) {
+    info->data[info->data_length < DATA_ROOM ? info->data_length : DATA_ROOM] = 0;
+    return finish(answer);
+}
+
 static int refuse_symbol(labels_answer *answer, labels_symbol_info *info) {
     *info = (labels_symbol_info){0};
     return refuse(answer);
@@ -113,8 +120,8 @@ int labels_symbol(const labels_options *options, int symbology, const void *data
     modules = write_to(modules);
     room = cleared(modules, room, symbology == LABELS_QR ? LABELS_MAX_MODULES : LABELS_MAX_BARS);
     labels_proved_symbol(or_defaults(options), (uint32_t)symbology, read_from(data), size, modules, room,
-                         answer->message, MESSAGE_ROOM, info, answer);
-    return finish(answer);
+                         answer->message, MESSAGE_ROOM, info->data, DATA_ROOM, info, answer);
+    return finish_symbol(answer, info);
 }
 
 int labels_line(const labels_options *options, const void *text, size_t size, unsigned char *modules, size_t room,
@@ -128,8 +135,8 @@ int labels_line(const labels_options *options, const void *text, size_t size, un
     modules = write_to(modules);
     room = cleared(modules, room, LABELS_MAX_MODULES);
     labels_proved_line(or_defaults(options), read_from(text), size, modules, room, answer->message,
-                       MESSAGE_ROOM, info, answer);
-    return finish(answer);
+                       MESSAGE_ROOM, info->data, DATA_ROOM, info, answer);
+    return finish_symbol(answer, info);
 }
 
 int labels_run(const labels_options *options, const void *text, size_t size, char *images, size_t images_room,

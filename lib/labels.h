@@ -36,6 +36,7 @@ enum labels_level { LABELS_LEVEL_L, LABELS_LEVEL_M, LABELS_LEVEL_Q, LABELS_LEVEL
 enum { LABELS_MASK_AUTO = 8 };      /* the mask with the lowest penalty */
 enum { LABELS_MAX_BARS = 1795 };    /* no linear symbol has more modules */
 enum { LABELS_MAX_MODULES = 3249 }; /* no symbol has more: QR version 10 has 57 rows of 57 */
+enum { LABELS_MAX_DATA = 652 };     /* no symbol has more bytes: QR version 10-L has 652 digits */
 
 /* What a call returns. */
 enum labels_code {
@@ -90,6 +91,8 @@ typedef struct labels_symbol_info {
     uint32_t left, right, top, bottom; /* in modules, the quiet zones that a reader needs */
     uint32_t version, level, mask;     /* of QR, as used; 0 of others */
     uint32_t reserved[5];
+    size_t data_length; /* bytes of the data */
+    char data[656];     /* what the symbol says: of EAN and UPC with the check digit; ended by NUL, which it may have too */
 } labels_symbol_info;
 
 /* What labels_run() answers. */
@@ -120,7 +123,8 @@ LABELS_API int labels_draw(const labels_options *options, int symbology, const v
 
 /* Draws one symbol as modules. Puts them into `modules` where there is room for all, row by row from the top, a byte
  * each, 1 where dark, else 0, without quiet zones. Room that they do not take may be set to 0, up to LABELS_MAX_MODULES
- * bytes in all. `info` is set where the code is LABELS_OK or LABELS_NO_ROOM, else it is all 0. */
+ * bytes in all. `info` is set where the code is LABELS_OK or LABELS_NO_ROOM; else each number in it is 0, and its data
+ * is "". What is behind the NUL of the data is left as it was. */
 LABELS_API int labels_symbol(const labels_options *options, int symbology, const void *data, size_t size,
                              unsigned char *modules, size_t room, labels_symbol_info *info, labels_answer *answer);
 

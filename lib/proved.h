@@ -1,5 +1,6 @@
 /* The proved calls of crates/labels_c, as labels.c and the tests make them. Nobody else does: it is not installed. No
- * pointer is NULL; of an answer they write what is before its message. */
+ * pointer is NULL; of an answer they write what is before its message, of an
+ * info what is before its data. */
 #ifndef LABELS_PROVED_H
 #define LABELS_PROVED_H
 
@@ -8,13 +9,13 @@
 void labels_proved_draw(const labels_options *options, uint32_t symbology, const void *data, size_t size, char *out,
                         size_t room, char *message, size_t message_room, labels_answer *answer);
 void labels_proved_symbol(const labels_options *options, uint32_t symbology, const void *data, size_t size,
-                          unsigned char *modules, size_t room, char *message, size_t message_room,
-                          labels_symbol_info *info, labels_answer *answer);
+                          unsigned char *modules, size_t room, char *message, size_t message_room, char *full,
+                          size_t full_room, labels_symbol_info *info, labels_answer *answer);
 void labels_proved_draw_line(const labels_options *options, const void *text, size_t size, char *out, size_t room,
                              char *message, size_t message_room, labels_answer *answer);
 void labels_proved_line(const labels_options *options, const void *text, size_t size, unsigned char *modules,
-                        size_t room, char *message, size_t message_room, labels_symbol_info *info,
-                        labels_answer *answer);
+                        size_t room, char *message, size_t message_room, char *full, size_t full_room,
+                        labels_symbol_info *info, labels_answer *answer);
 void labels_proved_run(const labels_options *options, const void *text, size_t size, char *images, size_t images_room,
                        char *messages, size_t messages_room, labels_run_answer *answer);
 

@@ -77,6 +77,8 @@ class _Info(ctypes.Structure):
     version: int
     level: int
     mask: int
+    data_length: int
+    data: ctypes.Array[ctypes.c_ubyte]
 
     _fields_ = [
         ("symbology", ctypes.c_uint32),
@@ -91,6 +93,8 @@ class _Info(ctypes.Structure):
         ("level", ctypes.c_uint32),
         ("mask", ctypes.c_uint32),
         ("reserved", ctypes.c_uint32 * 5),
+        ("data_length", ctypes.c_size_t),
+        ("data", ctypes.c_ubyte * 656),
     ]
 
 
@@ -135,6 +139,7 @@ class Symbol:
         level: of QR, one of LEVELS.
         mask: of QR, 0 to 7.
         modules: a byte for each module, row by row from the top: 1 where dark, else 0.
+        data: what the symbol says: of EAN and UPC with the check digit, of a line without its escapes.
     """
 
     symbology: str
@@ -146,6 +151,7 @@ class Symbol:
     level: str | None
     mask: int | None
     modules: bytes
+    data: bytes
 
     def packed(self, quiet_zones: bool = False) -> bytes:
         """Returns the modules as bits, 1 where dark, in rows of whole bytes, as binary PBM has them.
@@ -274,6 +280,7 @@ def _symbol(call: Callable[..., int], *asked: object) -> Symbol | None:
         level=LEVELS[info.level] if is_qr else None,
         mask=info.mask if is_qr else None,
         modules=ctypes.string_at(modules, info.width * info.rows),
+        data=ctypes.string_at(info.data, info.data_length),
     )
 
 
@@ -320,8 +327,8 @@ def symbol(
 
     Raises Refused where the data has no symbol; ValueError for an option out of its range.
 
-    >>> symbol("ean13", "400638133393").quiet_zones
-    (11, 7, 0, 0)
+    >>> symbol("ean13", "400638133393").data
+    b'4006381333931'
     """
     options = _options("pbm", 1, height, level, min_version, mask, False)
     number = _index(SYMBOLOGIES, "symbology", symbology)

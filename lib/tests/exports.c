@@ -14,7 +14,7 @@ enum { UNTOUCHED = 7, ROOM = 400 };
 static labels_options options;
 static labels_answer answer;
 static labels_symbol_info info;
-static char out[ROOM], message[63];
+static char out[ROOM], message[63], full[16];
 static unsigned char modules[LABELS_MAX_MODULES];
 
 #define SEE(fact) see(fact, #fact, __LINE__)
@@ -35,6 +35,7 @@ static void begin(void) {
     memset(&info, 9, sizeof info);
     memset(out, UNTOUCHED, sizeof out);
     memset(message, 0, sizeof message);
+    memset(full, UNTOUCHED, sizeof full);
     memset(modules, 0, sizeof modules);
 }
 
@@ -57,13 +58,14 @@ static void modules_are_put_row_by_row(void) {
     begin();
     options.mask = 0;
     labels_proved_symbol(&options, LABELS_QR, "HELLO WORLD", 11, modules, sizeof modules, message, sizeof message,
-                         &info, &answer);
+                         full, sizeof full, &info, &answer);
     SEE(answer.code == LABELS_OK);
     SEE(answer.length == 441);
     SEE(info.width == 21);
     SEE(info.version == 1);
     SEE(info.mask == 0);
     SEE(info.level == LABELS_LEVEL_M);
+    SEE(info.data_length == 11 && memcmp(full, "HELLO WORLD", 11) == 0 && full[11] == UNTOUCHED);
     SEE(modules[0] == 1 && modules[7] == 0);
     SEE(modules[6 * 21 + 8] == 1 && modules[6 * 21 + 9] == 0);
 }
@@ -72,13 +74,16 @@ static void a_line_is_put_skipped_or_refused(void) {
     const char line[] = "ean8,height=20 735\\x31353";
     begin();
     options.escapes = 1;
-    labels_proved_line(&options, line, strlen(line), modules, sizeof modules, message, sizeof message, &info, &answer);
+    labels_proved_line(&options, line, strlen(line), modules, sizeof modules, message, sizeof message, full, sizeof full,
+                       &info, &answer);
     SEE(answer.code == LABELS_OK);
     SEE(answer.length == 67);
     SEE(info.symbology == LABELS_EAN8);
     SEE(info.rows == 1 && info.height == 20 && info.left == 7);
+    SEE(info.data_length == 8 && memcmp(full, "73513537", 8) == 0 && full[8] == UNTOUCHED);
     SEE(modules[0] == 1 && modules[1] == 0);
-    labels_proved_line(&options, "# a remark", 10, modules, sizeof modules, message, sizeof message, &info, &answer);
+    labels_proved_line(&options, "# a remark", 10, modules, sizeof modules, message, sizeof message, full, sizeof full,
+                       &info, &answer);
     SEE(answer.code == LABELS_SKIPPED);
     SEE(info.symbology == 0 && info.width == 0 && info.height == 0 && info.left == 0);
     labels_proved_draw_line(&options, "qr,leve=M x", 11, out, sizeof out, message, sizeof message, &answer);

@@ -86,11 +86,17 @@ static void see_modules(const char *call, int code, const unsigned char *modules
             stop(call, "a module is neither 0 nor 1");
 }
 
-/* Of a symbol that is not drawn nothing is told. */
+/* Of a symbol that is not drawn nothing is told, and of data nothing is written after its NUL. */
 static void see_info(const char *call, int code, const labels_symbol_info *info) {
     static const labels_symbol_info none;
-    if (info && code > LABELS_NO_ROOM && memcmp(info, &none, sizeof none) != 0)
+    if (!info)
+        return;
+    if (code > LABELS_NO_ROOM && memcmp(info, &none, offsetof(labels_symbol_info, data) + 1) != 0)
         stop(call, "a symbol is told that is not drawn");
+    if (info->data_length >= sizeof info->data || info->data[info->data_length] != 0)
+        stop(call, "data without its end");
+    if (code != LABELS_NULL)
+        see_untouched(call, info->data, sizeof info->data, info->data_length + 1);
 }
 
 static void one_round(void) {

@@ -38,6 +38,10 @@ class Calls(WithLibrary):
             (TAKE_ROOM, TAKE_ROOM.replace("room,", "room + 1,")),
             ("    memset(modules, 0, used);\n", "    memset(modules, 0, most);\n"),
             ("    answer->message[end] = 0;\n", ""),
+            (
+                "    info->data[info->data_length < DATA_ROOM ? info->data_length : DATA_ROOM] = 0;\n",
+                "    (void)info;\n",
+            ),
             ("    *info = (labels_symbol_info){0};\n", "    (void)info;\n"),
             ("    *answer = (labels_run_answer){.code = LABELS_NULL};\n", "    answer->code = 99;\n"),
         ):

@@ -36,7 +36,7 @@ static uint64_t sum_of(int job, char *out) {
     sum ^= (uint64_t)labels_draw(&options, symbology, data, strlen(data), out, ROOM, &answer);
     sum = hash_of(out, answer.length, hash_of(answer.message, answer.message_length, sum));
     sum ^= (uint64_t)labels_symbol(&options, symbology, data, strlen(data), modules, sizeof modules, &info, NULL);
-    sum = hash_of(modules, info.width * info.rows, hash_of(&info, sizeof info, sum));
+    sum = hash_of(modules, info.width * info.rows, hash_of(&info, offsetof(labels_symbol_info, data) + info.data_length, sum));
     sum ^= (uint64_t)labels_line(&options, line, (size_t)size, modules, sizeof modules, NULL, &answer);
     sum = hash_of(modules, answer.length, hash_of(answer.message, answer.message_length, sum));
     sum ^= (uint64_t)labels_draw_line(&options, line, (size_t)size, out, ROOM, &answer);

@@ -21,6 +21,7 @@ use Rattle.filter.specs.Symbol.{Symbol, linear_symbol, qr_modules, symbol_of}
 use Rattle.filter.specs.ModuleReading.{IsReadInModules}
 use Rattle.filter.specs.Readback.{IsRead}
 use Rattle.capi.specs.Calls.{AnswersSymbol, Rooms}
+use Rattle.capi.specs.Full.{IsFullPut, PutsFull, PutsFullOutcome}
 use Rattle.capi.specs.Line.{AnswersOutcome, AnswersPicture, ReadsOutcome, ReadsPicture, rows_put, with_rows_put}
 use Rattle.capi.specs.Modules.{AnswersModules, IsDrawnAs, IsSizeOf, ModuleRooms, height_told, one_row}
 use Rattle.capi.specs.Numbers.{code_of, symbology_numbered}
@@ -112,6 +113,33 @@ pub more_told : (rooms : ModuleRooms) (answer : Answer) (before info : SymbolInf
 more_told rooms answer before info (Ok symbol) answers few same = (answers.0, same symbol answers.1)
 more_told rooms answer before info (Err fault) answers few same =
     absurd (let code = (answers.1.1 []).code_is in let high = refusals_high fault in omega (arith, code, high, few))
+
+-- where the code is not that of a symbol, no full data has to be put
+pub none_put : (symbology : Symbology) (height : ℕ) (low found : Result Symbol Fault)
+    → IsLowered symbology height low found
+    → (rooms : ModuleRooms) (answer : Answer) (info : SymbolInfo) (code : Fault → ℕ)
+    → AnswersModules rooms answer info low code → 1 < answer.code
+    → (room : List ℕ) (told : ℕ) → PutsFull room room told found
+none_put symbology height low (Err fault) is rooms answer info code answers high room told = refl
+none_put symbology height low (Ok symbol) is rooms answer info code answers high room told =
+    absurd (not_drawn symbology height low (Ok symbol) is rooms answer info code answers high (λ s. ⊥))
+
+-- where the code is that of a symbol, its full data was put
+pub some_put : (symbology : Symbology) (height : ℕ) (low found : Result Symbol Fault)
+    → IsLowered symbology height low found
+    → (rooms : ModuleRooms) (answer : Answer) (info : SymbolInfo)
+    → AnswersModules rooms answer info low code_of → answer.code ≤ 1
+    → (room room_after : List ℕ) (told : ℕ) → IfOk found (λ symbol. IsFullPut symbol.full room room_after told)
+    → PutsFull room room_after told found
+some_put symbology height low (Ok symbol) is rooms answer info answers few room room_after told put = put
+some_put symbology height low (Err fault) is rooms answer info answers few room room_after told put =
+    absurd (let why = rw is at answers in let code = (why.1.1 []).code_is in let high = refusals_high fault in omega (arith, code, high, few))
+
+-- the full data of a symbol is that of its line
+pub outcome_full : (found : Result Symbol Fault) (room room_after : List ℕ) (told : ℕ)
+    → PutsFull room room_after told found → PutsFullOutcome room room_after told (outcome_of found)
+outcome_full (Ok symbol) room room_after told put = put
+outcome_full (Err fault) room room_after told put = put
 
 -- what is left of a symbol is what is left of its line
 pub outcome_answers : (symbology : Symbology) (height : ℕ) (low found : Result Symbol Fault)

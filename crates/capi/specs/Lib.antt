@@ -1,4 +1,5 @@
 pub mod Calls
+pub mod Full
 pub mod Line
 pub mod Modules
 pub mod Numbers

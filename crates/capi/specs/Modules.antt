@@ -50,7 +50,7 @@ height_told other width height = height
 -- whether nothing is told of a symbol: each number is 0
 unfoldable pub is_nothing : SymbolInfo → Bool
 is_nothing i = are_unused (i.symbology ∷ i.width ∷ i.rows ∷ i.height ∷ i.left ∷ i.right ∷ i.top ∷ i.bottom
-    ∷ i.version ∷ i.level ∷ i.mask ∷ i.reserved)
+    ∷ i.version ∷ i.level ∷ i.mask ∷ i.data_length ∷ i.reserved)
 
 -- the symbology of a symbol, and the height of its picture in modules
 pub record IsDrawnAs (symbol : Symbol) (info : SymbolInfo) : Type 0 where

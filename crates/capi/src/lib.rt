@@ -4,6 +4,7 @@
 mod asked;
 mod draw;
 mod draw_line;
+mod full;
 mod line;
 mod numbers;
 mod room;

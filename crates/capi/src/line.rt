@@ -2,6 +2,7 @@
 ghost use Rattle.std.specs.Prelude.{◌≡◌};
 ghost use Rattle.labelcore.specs.LineItem.{item};
 ghost use Rattle.filter.specs.Output.{outcome};
+ghost use Rattle.capi.specs.Full.{PutsFullLine, PutsFullOutcome};
 ghost use Rattle.capi.specs.Line.{AnswersLine, AnswersOutcome, NumbersItem, NumbersLine, ReadsLine, ReadsOutcome};
 ghost use Rattle.capi.specs.Line.{line_asked};
 ghost use Rattle.capi.specs.Numbers.{code_of as number_of};
@@ -29,13 +30,15 @@ pub fn line_options(options: &CallOptions, text: &[u8]) -> Result<Options, u32>
     Ok(options)
 }
 
-/// Puts the modules of the symbol that a line draws into `modules`, or the reason why there is none into `message`. Of a
-/// linear symbol it puts one row. Format and scale are of no matter. A text with an LF is refused.
+/// Puts the modules of the symbol that a line draws into `modules` and its full data into `full`, or the reason why there
+/// is none into `message`. Of a linear symbol it puts one row. Format and scale are of no matter. A text with an LF is
+/// refused.
 pub fn line_into(
     options: &CallOptions,
     text: &[u8],
     modules: &mut [bool],
     message: &mut [u8],
+    full: &mut [u8],
 ) -> Told
     ensures answers { AnswersLine (record {
       modules = modules.old;
@@ -45,15 +48,22 @@ pub fn line_into(
     }) result.answer result.info (line_asked options.now text.now) text.now number_of }
     ensures read { ReadsLine (line_asked options.now text.now) text.now }
     ensures numbers { NumbersLine result.info (line_asked options.now text.now) text.now }
+    ensures full { PutsFullLine full.old full.new result.info.data_length (line_asked options.now text.now) text.now }
 {
     match line_options(options, text) {
-        Ok(options) => line_modules(&options, text, modules, message),
+        Ok(options) => line_modules(&options, text, modules, message, full),
         Err(code) => told_nothing(declined(code)),
     }
 }
 
 /// Puts the modules of the symbol that a line draws.
-fn line_modules(options: &Options, text: &[u8], modules: &mut [bool], message: &mut [u8]) -> Told
+fn line_modules(
+    options: &Options,
+    text: &[u8],
+    modules: &mut [bool],
+    message: &mut [u8],
+    full: &mut [u8],
+) -> Told
     ensures answers { AnswersOutcome (record {
       modules = modules.old;
       modules_after = modules.new;
@@ -62,6 +72,7 @@ fn line_modules(options: &Options, text: &[u8], modules: &mut [bool], message: &
     }) result.answer result.info (outcome options.now text.now) number_of }
     ensures read { ReadsOutcome (outcome options.now text.now) }
     ensures numbers { NumbersItem result.info (item options.now text.now) }
+    ensures full { PutsFullOutcome full.old full.new result.info.data_length (outcome options.now text.now) }
 {
     let mut line = LineBuf::new();
     line.extend(text);
@@ -74,7 +85,7 @@ fn line_modules(options: &Options, text: &[u8], modules: &mut [bool], message: &
                 run: options.run,
                 label,
             };
-            symbol_told(&asked, symbology, bytes, modules, message)
+            symbol_told(&asked, symbology, bytes, modules, message, full)
         }
     }
 }

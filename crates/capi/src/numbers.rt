@@ -61,7 +61,8 @@ pub struct TextAnswer {
 }
 
 /// A symbol's symbology, its width, the rows that were put and how high they are drawn, in modules, its quiet zones, and
-/// of a QR symbol its version, level and mask: `labels_symbol_info`. The spare words are 0.
+/// of a QR symbol its version, level and mask; and the length of its full data: the head of `labels_symbol_info`. The
+/// spare words are 0.
 #[repr(C)]
 #[derive(Clone, Copy, Drop)]
 pub struct SymbolInfo {
@@ -77,6 +78,7 @@ pub struct SymbolInfo {
     pub level: u32,
     pub mask: u32,
     pub reserved: [u32; 5],
+    pub data_length: usize,
 }
 
 /// What a call for modules answers, and what it tells of the symbol: nothing where none is drawn.
@@ -107,6 +109,7 @@ pub fn told_nothing(answer: Answer) -> Told
             level: 0,
             mask: 0,
             reserved: [0; 5],
+            data_length: 0,
         },
     }
 }

@@ -8,6 +8,7 @@ ghost use Rattle.labelcore.specs.declared.symbology.Symbology.TheVariants.{Qr};
 ghost use Rattle.labelcore.specs.declared.symbology.Symbology.{Symbology as Symbologies};
 ghost use Rattle.picture.specs.Picture.{symbol_picture};
 ghost use Rattle.capi.specs.Calls.{asked};
+ghost use Rattle.capi.specs.Full.{PutsFull, PutsFullAsked};
 ghost use Rattle.capi.specs.Modules.{AnswersAsked, AnswersModules, HasNumbers, HasQrNumbers, IsDrawnAs, IsMatrixOf};
 ghost use Rattle.capi.specs.Modules.{NumbersAsked, PutsModules, ReadsModules, ToldAsked};
 ghost use Rattle.capi.specs.Modules.{height_told, modules_of, one_row};
@@ -15,6 +16,7 @@ ghost use Rattle.capi.specs.Numbers.{code_of as number_of};
 
 use crate::asked::asked_of;
 use crate::draw::{declined, refused};
+use crate::full::put_full;
 use crate::numbers::{
     Answer, CallOptions, DONE, NO_ROOM, SymbolInfo, Told, number_of as number_of_symbology,
     told_nothing,
@@ -65,14 +67,15 @@ fn offer_grid<G: Grid>(grid: &G, modules: &mut [bool]) -> Answer
     }
 }
 
-/// Puts the modules of one symbol into `modules`, or the reason why there is none into `message`. A linear symbol has
-/// one row, so the height is of no matter, nor are format and scale.
+/// Puts the modules of one symbol into `modules` and its full data into `full`, or the reason why there is none into
+/// `message`. A linear symbol has one row, so the height is of no matter, nor are format and scale.
 pub fn symbol_into(
     options: &CallOptions,
     symbology: u32,
     bytes: &[u8],
     modules: &mut [bool],
     message: &mut [u8],
+    full: &mut [u8],
 ) -> Told
     ensures answers { AnswersAsked (record {
       modules = modules.old;
@@ -83,20 +86,30 @@ pub fn symbol_into(
     ensures read { ReadsModules (asked options.now symbology bytes.now) bytes.now }
     ensures numbers { NumbersAsked result.info (asked options.now symbology bytes.now) bytes.now }
     ensures told { ToldAsked result.info (asked options.now symbology bytes.now) bytes.now }
+    ensures full { PutsFullAsked full.old full.new result.info.data_length
+        (asked options.now symbology bytes.now) bytes.now }
 {
     match asked_of(options, symbology, bytes) {
-        Ok(asked) => symbol_told(&asked.options, asked.symbology, bytes, modules, message),
+        Ok(asked) => symbol_told(
+            &asked.options,
+            asked.symbology,
+            bytes,
+            modules,
+            message,
+            full,
+        ),
         Err(code) => told_nothing(declined(code)),
     }
 }
 
-/// Puts the modules of one symbol, and tells its symbology and how high it is drawn.
+/// Puts the modules of one symbol, tells its symbology and how high it is drawn, and puts its full data into `full`.
 pub fn symbol_told(
     options: &Options,
     symbology: Symbology,
     bytes: &[u8],
     modules: &mut [bool],
     message: &mut [u8],
+    full: &mut [u8],
 ) -> Told
     requires { bytes.now ≢ [] }
     ensures answers { AnswersModules (record {
@@ -111,6 +124,8 @@ pub fn symbol_told(
         HasNumbers options.now.label symbology bytes.now result.info) }
     ensures told { IfOk (symbol_of options.now.label symbology bytes.now) (λ symbol.
         IsDrawnAs symbol result.info) }
+    ensures full { PutsFull full.old full.new result.info.data_length
+        (symbol_of options.now.label symbology bytes.now) }
 {
     Options::prove_ranges(&options.run, &options.label);
     let told = symbol_asked(&options.label, symbology, bytes, modules, message);
@@ -120,6 +135,7 @@ pub fn symbol_told(
     let mut info = told.info;
     info.symbology = number_of_symbology(symbology);
     info.height = height_of(symbology, info.width, options.label.height());
+    info.data_length = put_full(symbology, bytes, full);
     Told {
         answer: told.answer,
         info,
@@ -197,6 +213,7 @@ fn linear_symbol<L: Linear>(bytes: &[u8], modules: &mut [bool], message: &mut [u
                 level: 0,
                 mask: 0,
                 reserved: [0; 5],
+                data_length: 0,
             };
             Told {
                 answer: offer_grid(&Bars::new(row.as_slice(), 1), modules),
@@ -240,6 +257,7 @@ fn qr_symbol(label: &LabelOptions, bytes: &[u8], modules: &mut [bool], message: 
                 },
                 mask: u32::from(matrix.mask().number()),
                 reserved: [0; 5],
+                data_length: 0,
             };
             Told {
                 answer: offer_grid(&matrix, modules),

@@ -5,6 +5,7 @@
 #![tactic(auto)]
 
 ghost use Rattle.capi.specs.Calls.{Answers, ReadsAsked, asked};
+ghost use Rattle.capi.specs.Full.{PutsFullAsked, PutsFullLine};
 ghost use Rattle.capi.specs.Line.{AnswersDrawnLine, AnswersLine, NumbersLine, ReadsDrawnLine, ReadsLine, line_asked};
 ghost use Rattle.capi.specs.Modules.{AnswersAsked, NumbersAsked, ReadsModules, ToldAsked};
 ghost use Rattle.capi.specs.Numbers.{code_of, options_numbered};
@@ -41,6 +42,7 @@ pub extern "C" fn labels_proved_symbol(
     bytes: &[u8],
     modules: &mut [bool],
     message: &mut [u8],
+    full: &mut [u8],
     info: &mut SymbolInfo,
     answer: &mut Answer,
 )
@@ -54,8 +56,10 @@ pub extern "C" fn labels_proved_symbol(
     ensures read { ReadsModules (asked options.now symbology bytes.now) bytes.now }
     ensures numbers { NumbersAsked info.new (asked options.now symbology bytes.now) bytes.now }
     ensures told { ToldAsked info.new (asked options.now symbology bytes.now) bytes.now }
+    ensures full { PutsFullAsked full.old full.new info.new.data_length
+        (asked options.now symbology bytes.now) bytes.now }
 {
-    let told = capi::symbol_into(options, symbology, bytes, modules, message);
+    let told = capi::symbol_into(options, symbology, bytes, modules, message, full);
     *info = told.info;
     *answer = told.answer;
 }
@@ -68,6 +72,7 @@ pub extern "C" fn labels_proved_line(
     text: &[u8],
     modules: &mut [bool],
     message: &mut [u8],
+    full: &mut [u8],
     info: &mut SymbolInfo,
     answer: &mut Answer,
 )
@@ -79,8 +84,9 @@ pub extern "C" fn labels_proved_line(
     }) answer.new info.new (line_asked options.now text.now) text.now code_of }
     ensures read { ReadsLine (line_asked options.now text.now) text.now }
     ensures numbers { NumbersLine info.new (line_asked options.now text.now) text.now }
+    ensures full { PutsFullLine full.old full.new info.new.data_length (line_asked options.now text.now) text.now }
 {
-    let told = capi::line_into(options, text, modules, message);
+    let told = capi::line_into(options, text, modules, message, full);
     *info = told.info;
     *answer = told.answer;
 }

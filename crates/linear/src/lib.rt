@@ -15,6 +15,7 @@ mod switching;
 mod tables;
 
 pub use code128::Code128;
+pub use digits::full_digits;
 pub use ean::{Ean8, Ean13, UpcA};
 pub use limits::MAX_MODULES;
 pub use linear::{Linear, QuietZones};

@@ -8,3 +8,6 @@ returns-clause-read c = c.line_into-told.ensures.read
 
 pub returns-clause-numbers : goal.returns-clause-numbers
 returns-clause-numbers c = c.line_into-told.ensures.numbers
+
+pub returns-clause-full : goal.returns-clause-full
+returns-clause-full c = c.line_into-told.ensures.full

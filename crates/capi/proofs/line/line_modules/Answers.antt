@@ -1,5 +1,5 @@
 use Rattle.std.proofs.Common.{refl, []}
-use Rattle.capi.proofs.LineLaws.{lowered, numbers_lowered, outcome_answers, outcome_seen, reads_lowered}
+use Rattle.capi.proofs.LineLaws.{lowered, numbers_lowered, outcome_answers, outcome_full, outcome_seen, reads_lowered}
 use Rattle.capi.proofs.line.line_modules.Goals as goal
 
 pub returns-in-Skipped-clause-answers : goal.returns-in-Skipped-clause-answers
@@ -60,3 +60,24 @@ returns-in-Drawn-clause-numbers c =
     let low = lowered label c.in-Drawn.symbology c.in-Drawn.bytes.now in
     rw (← seen, c.in-Drawn.is)
     (numbers_lowered c.in-Drawn.symbology label.height _ _ _ low c.symbol_told.ensures.numbers)
+
+pub returns-in-Skipped-clause-full : goal.returns-in-Skipped-clause-full
+returns-in-Skipped-clause-full c =
+    let options = c.args.options.now in
+    let text = c.args.text.now in
+    let seen = c.parse.ensures.item text (c.extend.ensures [] c.new-line.ensures) in
+    rw (outcome_seen options text _ seen, c.in-Skipped.is) refl
+
+pub returns-in-Refused-clause-full : goal.returns-in-Refused-clause-full
+returns-in-Refused-clause-full c =
+    let options = c.args.options.now in
+    let text = c.args.text.now in
+    let seen = c.parse.ensures.item text (c.extend.ensures [] c.new-line.ensures) in
+    rw (outcome_seen options text _ seen, c.in-Refused.is) refl
+
+pub returns-in-Drawn-clause-full : goal.returns-in-Drawn-clause-full
+returns-in-Drawn-clause-full c =
+    let options = c.args.options.now in
+    let text = c.args.text.now in
+    let seen = c.parse.ensures.item text (c.extend.ensures [] c.new-line.ensures) in
+    rw (outcome_seen options text _ seen, c.in-Drawn.is) (outcome_full _ _ _ _ c.symbol_told.ensures.full)

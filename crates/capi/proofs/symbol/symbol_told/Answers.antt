@@ -1,6 +1,6 @@
 use Rattle.std.proofs.Common.{arith}
 use Rattle.filter.proofs.ReadLaws.{modules_of_data_read}
-use Rattle.capi.proofs.LineLaws.{drawn_as, lowered, more_told, not_drawn}
+use Rattle.capi.proofs.LineLaws.{drawn_as, lowered, more_told, none_put, not_drawn, some_put}
 use Rattle.capi.specs.Modules.{one_row}
 use Rattle.capi.proofs.symbol.symbol_told.Goals as goal
 
@@ -44,3 +44,15 @@ returns-clause-answers c =
       bottom = size.bottom;
       unused = size.unused;
     })
+
+pub returns-then-told-gt-NO_ROOM-clause-full : goal.returns-then-told-gt-NO_ROOM-clause-full
+returns-then-told-gt-NO_ROOM-clause-full c =
+    let label = c.args.options.now.label in
+    none_put c.args.symbology label.height _ _ (lowered label c.args.symbology c.args.bytes.now) _ _ _ _
+    c.symbol_asked-told.ensures.answers (omega (arith, c.if-told-gt-NO_ROOM.true)) _ _
+
+pub returns-clause-full : goal.returns-clause-full
+returns-clause-full c =
+    let label = c.args.options.now.label in
+    some_put c.args.symbology label.height _ _ (lowered label c.args.symbology c.args.bytes.now) _ _ _
+    c.symbol_asked-told.ensures.answers (omega (arith, c.if-told-gt-NO_ROOM.false)) _ _ _ (c.put_full.ensures label)
