@@ -139,6 +139,34 @@ int labels_line(const labels_options *options, const void *text, size_t size, un
     return finish_symbol(answer, info);
 }
 
+int labels_bitmap(const labels_options *options, int symbology, const void *data, size_t size, unsigned char *bits,
+                  size_t stride, size_t room, labels_dots *dots, labels_answer *answer) {
+    labels_answer own;
+    labels_dots own_dots;
+    answer = answer ? answer : &own;
+    dots = dots ? dots : &own_dots;
+    *dots = (labels_dots){0};
+    if (is_bad(data, size) || is_bad(bits, room))
+        return refuse(answer);
+    labels_proved_bitmap(or_defaults(options), (uint32_t)symbology, read_from(data), size, write_to(bits), room, stride,
+                         answer->message, MESSAGE_ROOM, &dots->width, &dots->height, answer);
+    return finish(answer);
+}
+
+int labels_bitmap_line(const labels_options *options, const void *text, size_t size, unsigned char *bits,
+                       size_t stride, size_t room, labels_dots *dots, labels_answer *answer) {
+    labels_answer own;
+    labels_dots own_dots;
+    answer = answer ? answer : &own;
+    dots = dots ? dots : &own_dots;
+    *dots = (labels_dots){0};
+    if (is_bad(text, size) || is_bad(bits, room))
+        return refuse(answer);
+    labels_proved_bitmap_line(or_defaults(options), read_from(text), size, write_to(bits), room, stride, answer->message,
+                              MESSAGE_ROOM, &dots->width, &dots->height, answer);
+    return finish(answer);
+}
+
 int labels_run(const labels_options *options, const void *text, size_t size, char *images, size_t images_room,
                char *messages, size_t messages_room, labels_run_answer *answer) {
     labels_run_answer own;

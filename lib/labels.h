@@ -92,8 +92,14 @@ typedef struct labels_symbol_info {
     uint32_t version, level, mask;     /* of QR, as used; 0 of others */
     uint32_t reserved[5];
     size_t data_length; /* bytes of the data */
-    char data[656];     /* what the symbol says: of EAN and UPC with the check digit; ended by NUL, which it may have too */
+    char data[656];     /* what the symbol says, of EAN and UPC with the check digit; ended by NUL, and may have some */
 } labels_symbol_info;
+
+/* The size of a bitmap. */
+typedef struct labels_dots {
+    uint32_t width, height; /* in dots, with the quiet zones; 0 where there is no symbol */
+    uint32_t reserved[2];
+} labels_dots;
 
 /* What labels_run() answers. */
 typedef struct labels_run_answer {
@@ -112,9 +118,9 @@ LABELS_API const char *labels_code_text(int code);
 /* Sets the options to their defaults: those of LABELS_DEFAULTS. With NULL it does nothing. */
 LABELS_API void labels_defaults(labels_options *options);
 
-/* All calls below return a code, which is in the answer too. `options` may be NULL for the defaults, `info` and `answer`
- * where they are not wanted; `data` and `text` where their size is 0, and `out`, `modules`, `images` and `messages`
- * where their room is 0. */
+/* All calls below return a code, which is in the answer too. `options` may be NULL for the defaults, `info`, `dots` and
+ * `answer` where they are not wanted; `data` and `text` where their size is 0, and `out`, `modules`, `bits`, `images` and
+ * `messages` where their room is 0. */
 
 /* Draws one symbol as a picture. Puts its bytes into `out`, as many as there is room for, and nothing after them; the
  * picture has no NUL at its end. `answer->length` is that of the whole picture: a call without room asks for it. */
@@ -135,6 +141,20 @@ LABELS_API int labels_draw_line(const labels_options *options, const void *text,
 /* Draws the same line as modules, as labels_symbol() puts them. */
 LABELS_API int labels_line(const labels_options *options, const void *text, size_t size, unsigned char *modules,
                            size_t room, labels_symbol_info *info, labels_answer *answer);
+
+/* Draws one symbol as bits: the picture of labels_draw(), scale and quiet zones included, bars in all their rows. A dot is
+ * a bit, 1 where dark; the first of a row is the highest bit of its first byte. A row is (dots->width + 7) / 8 bytes, and
+ * its last bits are 0 where it has no dots for them; the next row begins `stride` bytes after it. Nothing else is
+ * written, also between the rows: a bitmap can be put into a larger one, at any byte. Where the room is less than
+ * `answer->length`, or `stride` less than a row, nothing is put and the code is LABELS_NO_ROOM; the length is that for the
+ * given stride. So a call without room asks for `dots`, of which stride and room follow. `height` 1 gives bars in `scale`
+ * rows. For a format in which 0 is dark, turn each byte: ~byte. */
+LABELS_API int labels_bitmap(const labels_options *options, int symbology, const void *data, size_t size,
+                             unsigned char *bits, size_t stride, size_t room, labels_dots *dots, labels_answer *answer);
+
+/* Draws a line as bits, as labels_bitmap() puts them. */
+LABELS_API int labels_bitmap_line(const labels_options *options, const void *text, size_t size, unsigned char *bits,
+                                  size_t stride, size_t room, labels_dots *dots, labels_answer *answer);
 
 /* Draws a whole text of lines, as labels(1) does: the pictures into `images`, and a message for each refused line into
  * `messages`, each as much as there is room for. Returns LABELS_REFUSED where a line is refused. */

@@ -16,6 +16,12 @@ void labels_proved_draw_line(const labels_options *options, const void *text, si
 void labels_proved_line(const labels_options *options, const void *text, size_t size, unsigned char *modules,
                         size_t room, char *message, size_t message_room, char *full, size_t full_room,
                         labels_symbol_info *info, labels_answer *answer);
+void labels_proved_bitmap(const labels_options *options, uint32_t symbology, const void *data, size_t size,
+                          unsigned char *bits, size_t room, size_t stride, char *message, size_t message_room,
+                          uint32_t *width, uint32_t *height, labels_answer *answer);
+void labels_proved_bitmap_line(const labels_options *options, const void *text, size_t size, unsigned char *bits,
+                               size_t room, size_t stride, char *message, size_t message_room, uint32_t *width,
+                               uint32_t *height, labels_answer *answer);
 void labels_proved_run(const labels_options *options, const void *text, size_t size, char *images, size_t images_room,
                        char *messages, size_t messages_room, labels_run_answer *answer);
 

@@ -25,7 +25,20 @@ from collections.abc import Callable
 from dataclasses import dataclass
 from functools import lru_cache
 
-__all__ = ["Refused", "Run", "Symbol", "draw", "draw_line", "line", "run", "symbol", "version"]
+__all__ = [
+    "Bitmap",
+    "Refused",
+    "Run",
+    "Symbol",
+    "bitmap",
+    "bitmap_line",
+    "draw",
+    "draw_line",
+    "line",
+    "run",
+    "symbol",
+    "version",
+]
 
 SYMBOLOGIES = ("ean13", "ean8", "upca", "code128", "qr")
 FORMATS = ("pbm", "ascii")
@@ -95,6 +108,19 @@ class _Info(ctypes.Structure):
         ("reserved", ctypes.c_uint32 * 5),
         ("data_length", ctypes.c_size_t),
         ("data", ctypes.c_ubyte * 656),
+    ]
+
+
+class _Dots(ctypes.Structure):
+    """labels_dots."""
+
+    width: int
+    height: int
+
+    _fields_ = [
+        ("width", ctypes.c_uint32),
+        ("height", ctypes.c_uint32),
+        ("reserved", ctypes.c_uint32 * 2),
     ]
 
 
@@ -173,6 +199,21 @@ class Symbol:
 
 
 @dataclass(frozen=True)
+class Bitmap:
+    """A picture as bits, 1 where dark, in rows of whole bytes, as binary PBM has them.
+
+    Attributes:
+        width: dots in a row, with the quiet zones.
+        height: rows of dots.
+        bits: the rows, each (width + 7) // 8 bytes, the first dot in the highest bit.
+    """
+
+    width: int
+    height: int
+    bits: bytes
+
+
+@dataclass(frozen=True)
 class Run:
     """What labels(1) writes for a text of lines.
 
@@ -195,6 +236,9 @@ def _load() -> ctypes.CDLL:
     library.labels_draw.argtypes = [*options, ctypes.c_int, *data, *room, *answer]
     library.labels_symbol.argtypes = [*options, ctypes.c_int, *data, *room, *answer, *answer]
     library.labels_draw_line.argtypes = [*options, *data, *room, *answer]
+    bits = [ctypes.c_void_p, size, size]
+    library.labels_bitmap.argtypes = [*options, ctypes.c_int, *data, *bits, *answer, *answer]
+    library.labels_bitmap_line.argtypes = [*options, *data, *bits, *answer, *answer]
     library.labels_line.argtypes = [*options, *data, *room, *answer, *answer]
     library.labels_run.argtypes = [*options, *data, *room, *room, *answer]
     library.labels_version.restype = ctypes.c_char_p
@@ -284,6 +328,23 @@ def _symbol(call: Callable[..., int], *asked: object) -> Symbol | None:
     )
 
 
+def _bitmap(call: Callable[..., int], *asked: object) -> Bitmap | None:
+    """The bitmap that a call draws, or None for a line that is skipped."""
+    answer = _Answer()
+    dots = _Dots()
+    code = call(*asked, None, 0, 0, ctypes.byref(dots), ctypes.byref(answer))
+    if code == _SKIPPED:
+        return None
+    if code != _NO_ROOM:
+        _expect_drawn(answer)
+    stride = (dots.width + 7) // 8
+    room = stride * dots.height
+    bits = ctypes.create_string_buffer(room)
+    call(*asked, bits, stride, room, ctypes.byref(dots), ctypes.byref(answer))
+    _expect_drawn(answer)
+    return Bitmap(dots.width, dots.height, bits.raw)
+
+
 def line(
     text: str | bytes,
     *,
@@ -363,6 +424,50 @@ def draw(
     picture = _picture(_LIBRARY.labels_draw, options, number, raw, len(raw))
     assert picture is not None  # no data is a line that is skipped
     return picture
+
+
+def bitmap(
+    symbology: str,
+    data: str | bytes,
+    *,
+    scale: int = 1,
+    height: int = 50,
+    level: str = "M",
+    min_version: int = 1,
+    mask: int | None = None,
+) -> Bitmap:
+    """Returns the picture of some data as bits, with its quiet zones. The options are those of `draw`.
+
+    Raises what `symbol` raises.
+
+    >>> bitmap("ean8", "7351353", height=1).bits.hex()
+    '015dbd626550a742894000'
+    """
+    options = _options("pbm", scale, height, level, min_version, mask, False)
+    number = _index(SYMBOLOGIES, "symbology", symbology)
+    raw = _encoded(data)
+    picture = _bitmap(_LIBRARY.labels_bitmap, options, number, raw, len(raw))
+    assert picture is not None  # no data is a line that is skipped
+    return picture
+
+
+def bitmap_line(
+    text: str | bytes,
+    *,
+    scale: int = 1,
+    height: int = 50,
+    level: str = "M",
+    min_version: int = 1,
+    mask: int | None = None,
+    escapes: bool = False,
+) -> Bitmap | None:
+    """Returns the picture of one line as bits, or None for an empty line or a comment.
+
+    The options are those of `draw_line`. Raises what `line` raises.
+    """
+    options = _options("pbm", scale, height, level, min_version, mask, escapes)
+    raw = _line_of(text)
+    return _bitmap(_LIBRARY.labels_bitmap_line, options, raw, len(raw))
 
 
 def draw_line(

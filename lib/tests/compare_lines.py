@@ -45,6 +45,7 @@ class Found:
     symbols: list[liblabels.Symbol] = field(default_factory=list)
     messages: list[bytes] = field(default_factory=list)
     skipped: int = 0
+    wrong_bits: int = 0
 
 
 def some_options(rng: random.Random) -> Options:
@@ -77,6 +78,15 @@ def by_module(lines: list[bytes], given: Options) -> Found:
                 mask=given.mask,
                 escapes=given.escapes,
             )
+            bits = liblabels.bitmap_line(
+                line,
+                scale=given.scale,
+                height=given.height,
+                level=given.level,
+                min_version=given.min_version,
+                mask=given.mask,
+                escapes=given.escapes,
+            )
             picture = liblabels.draw_line(
                 line,
                 format=given.format,
@@ -95,7 +105,18 @@ def by_module(lines: list[bytes], given: Options) -> Found:
         else:
             found.symbols.append(symbol)
             found.pictures.append(picture)
+            found.wrong_bits += bits is None or (given.format == "pbm" and not is_same(bits, picture))
     return found
+
+
+def is_same(bits: liblabels.Bitmap, picture: bytes) -> bool:
+    """Whether bits show the dots of a plain PBM picture."""
+    _, size, dots = picture.split(b"\n", 2)
+    pixels = dots.replace(b"\n", b"")
+    rows = [pixels[at : at + bits.width] for at in range(0, len(pixels), bits.width)]
+    stride = (bits.width + 7) // 8
+    packed = b"".join(int(row.ljust(stride * 8, b"0"), 2).to_bytes(stride, "big") for row in rows)
+    return size == b"%d %d" % (bits.width, bits.height) and packed == bits.bits
 
 
 def is_shown(symbol: liblabels.Symbol, text: bytes) -> bool:
@@ -128,6 +149,7 @@ def compare_group(program: str, rng: random.Random, count: int, more: list[str],
     counts["skipped"] += found.skipped
     counts["differ"] += b"".join(found.pictures) != images or ran.images != images
     counts["differ"] += b"".join(found.messages) != messages or ran.messages.encode() != messages
+    counts["differ"] += found.wrong_bits
     counts["differ"] += len(shown) != len(found.symbols)
     counts["differ"] += sum(not is_shown(symbol, one) for symbol, one in zip(found.symbols, shown))
 

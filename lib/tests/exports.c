@@ -92,6 +92,33 @@ static void a_line_is_put_skipped_or_refused(void) {
     SEE(out[0] == UNTOUCHED);
 }
 
+static void dots_are_put_in_rows(void) {
+    unsigned char bits[2 * 12];
+    uint32_t width = 9, height = 9;
+    begin();
+    options.height = 2;
+    memset(bits, UNTOUCHED, sizeof bits);
+    labels_proved_bitmap(&options, LABELS_EAN8, "7351353", 7, bits, sizeof bits, 12, message, sizeof message, &width,
+                         &height, &answer);
+    SEE(answer.code == LABELS_OK && answer.length == 12 + 11);
+    SEE(width == 81 && height == 2);
+    SEE(bits[0] == 0x01 && bits[1] == 0x5d && bits[11] == UNTOUCHED);
+    SEE(memcmp(bits, bits + 12, 11) == 0 && bits[23] == UNTOUCHED);
+    memset(bits, UNTOUCHED, sizeof bits);
+    labels_proved_bitmap_line(&options, "ean8 7351353", 12, bits, 22, 12, message, sizeof message, &width, &height,
+                              &answer);
+    SEE(answer.code == LABELS_NO_ROOM && answer.length == 23 && bits[0] == UNTOUCHED);
+    labels_proved_bitmap_line(&options, "ean8 7351353", 12, bits, sizeof bits, 10, message, sizeof message, &width,
+                              &height, &answer);
+    SEE(answer.code == LABELS_NO_ROOM && width == 81 && bits[0] == UNTOUCHED);
+    labels_proved_bitmap_line(&options, "ean8 7351353", 12, bits, sizeof bits, 11, message, sizeof message, &width,
+                              &height, &answer);
+    SEE(answer.code == LABELS_OK && answer.length == 22 && bits[11] == 0x01 && bits[22] == UNTOUCHED);
+    labels_proved_bitmap_line(&options, "# a remark", 10, bits, sizeof bits, 11, message, sizeof message, &width,
+                              &height, &answer);
+    SEE(answer.code == LABELS_SKIPPED && width == 0 && height == 0);
+}
+
 static void a_text_is_drawn_and_its_refusals_put(void) {
     const char text[] = "ean8 7351353\n# a remark\npdf x\nean8 7351353";
     labels_run_answer ran;
@@ -114,6 +141,7 @@ int main(void) {
     a_picture_is_put_and_its_length_answered();
     modules_are_put_row_by_row();
     a_line_is_put_skipped_or_refused();
+    dots_are_put_in_rows();
     a_text_is_drawn_and_its_refusals_put();
     return 0;
 }

@@ -99,6 +99,25 @@ static void see_info(const char *call, int code, const labels_symbol_info *info)
         see_untouched(call, info->data, sizeof info->data, info->data_length + 1);
 }
 
+/* Of a bitmap nothing is written between its rows, nor behind the last one. */
+static void see_bits(const char *call, int code, const char *bits, size_t stride, size_t room, const labels_dots *dots,
+                     const labels_answer *answer) {
+    see_code(call, code, answer);
+    if (code != LABELS_OK)
+        see_untouched(call, bits, room, 0);
+    if (dots && (dots->reserved[0] || dots->reserved[1] || (code > LABELS_NO_ROOM && (dots->width || dots->height))))
+        stop(call, "dots are told that are not drawn");
+    if (code != LABELS_OK || !dots)
+        return;
+    size_t row = (dots->width + 7) / 8;
+    if (row > stride || stride * (dots->height - 1) + row > room)
+        stop(call, "there was no room");
+    for (size_t y = 0; y < dots->height; y++)
+        see_untouched(call, bits, y + 1 < dots->height ? stride * (y + 1) : room, stride * y + row);
+    if (dots->width % 8 && bits[row - 1] & (0xff >> dots->width % 8))
+        stop(call, "a dot behind the row");
+}
+
 static void one_round(void) {
     labels_options options = some_options();
     const labels_options *wanted = one_in(10) ? NULL : &options;
@@ -135,6 +154,15 @@ static void one_round(void) {
     code = labels_line(wanted, line, (size_t)length, modules_to, room, told, answered);
     see_modules("labels_line", code, modules, room, answered);
     see_info("labels_line", code, told);
+
+    labels_dots dots, *sized = one_in(20) ? NULL : &dots;
+    size_t stride = one_in(30) ? (size_t)-1 >> next() % 64 : next() % 200;
+    memset(out, MARK, room);
+    code = labels_bitmap(wanted, symbology, from, size, (unsigned char *)to, stride, room, sized, answered);
+    see_bits("labels_bitmap", code, out, stride, room, sized, answered);
+    memset(out, MARK, room);
+    code = labels_bitmap_line(wanted, line, (size_t)length, (unsigned char *)to, stride, room, sized, answered);
+    see_bits("labels_bitmap_line", code, out, stride, room, sized, answered);
 
     memset(out, MARK, room);
     labels_run_answer ran;

@@ -35,6 +35,8 @@ static void *draw(void *given) {
     labels_draw(&options, job->symbology, data, size, out, sizeof out, &answer);
     labels_draw(&options, job->symbology, "12x", 3, out, sizeof out, &answer);
     labels_symbol(&options, job->symbology, data, size, modules, sizeof modules, &info, &answer);
+    labels_bitmap(&options, job->symbology, data, size, (unsigned char *)out, 1815, sizeof out, NULL, &answer);
+    labels_bitmap_line(&options, line, 3 + size, (unsigned char *)out, 1815, sizeof out, NULL, &answer);
     labels_line(&options, line, 3 + size, modules, sizeof modules, &info, &answer);
     labels_draw_line(&options, line, 3 + size, out, sizeof out, &answer);
     labels_run(&options, line, 3 + size, out, sizeof out, messages, sizeof messages, &ran);

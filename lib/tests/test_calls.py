@@ -37,6 +37,8 @@ class Calls(WithLibrary):
         for old, new in (
             (TAKE_ROOM, TAKE_ROOM.replace("room,", "room + 1,")),
             ("    memset(modules, 0, used);\n", "    memset(modules, 0, most);\n"),
+            ("size, write_to(bits), room, stride,", "size, write_to(bits), room + 1, stride,"),
+            ("    *dots = (labels_dots){0};\n", ""),
             ("    answer->message[end] = 0;\n", ""),
             (
                 "    info->data[info->data_length < DATA_ROOM ? info->data_length : DATA_ROOM] = 0;\n",

@@ -1,3 +1,4 @@
+pub mod BitLaws
 pub mod FullLaws
 pub mod SliceLaws
 pub mod LineLaws

@@ -1,3 +1,4 @@
+pub mod Bits
 pub mod Calls
 pub mod Full
 pub mod Line

@@ -1,2 +1,3 @@
 -- Lemmas that the laws of a sink cite: nothing here has to be believed.
 pub mod Puts
+pub mod BitRows

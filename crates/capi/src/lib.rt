@@ -2,6 +2,9 @@
 #![tactic(auto)]
 
 mod asked;
+mod bits;
+mod bits_line;
+mod dots;
 mod draw;
 mod draw_line;
 mod full;
@@ -12,10 +15,12 @@ mod slice_sink;
 mod symbol;
 mod text;
 
+pub use bits::bits_into;
+pub use bits_line::bits_line_into;
 pub use draw::draw_into;
 pub use draw_line::draw_line_into;
 pub use line::line_into;
-pub use numbers::{Answer, CallOptions, SymbolInfo, TextAnswer, Told};
+pub use numbers::{Answer, CallOptions, Dots, SymbolInfo, TextAnswer, Told};
 pub use slice_sink::SliceSink;
 pub use symbol::symbol_into;
 pub use text::text_into;

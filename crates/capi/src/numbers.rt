@@ -88,6 +88,16 @@ pub struct Told {
     pub info: SymbolInfo,
 }
 
+/// What a call for dots answers, and how many columns and rows of dots there are: 0 where none is drawn. It is
+/// `labels_dots`.
+#[repr(C)]
+#[derive(Clone, Copy, Drop)]
+pub struct Dots {
+    pub answer: Answer,
+    pub width: u32,
+    pub height: u32,
+}
+
 /// Returns the answer of a call that tells nothing of a symbol.
 #[tactic(auto, unfolding(crate::specs::Modules::is_nothing))]
 pub fn told_nothing(answer: Answer) -> Told

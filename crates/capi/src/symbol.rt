@@ -270,7 +270,7 @@ fn qr_symbol(label: &LabelOptions, bytes: &[u8], modules: &mut [bool], message: 
 
 /// Returns the QR symbol of the bytes.
 #[tactic(auto, unfolding(filter::specs::Symbol::symbol_of, filter::specs::Symbol::qr_modules))]
-fn matrix_of(label: &LabelOptions, bytes: &[u8]) -> Result<Matrix, Fault>
+pub fn matrix_of(label: &LabelOptions, bytes: &[u8]) -> Result<Matrix, Fault>
     ensures symbol { IfOk result (λ matrix. symbol_of label.now Qr bytes.now
         ≡ Ok (record { symbology = Qr; full = bytes.now; modules = symbol_picture matrix })) }
     ensures refusal { IfErr result (λ fault. symbol_of label.now Qr bytes.now ≡ Err fault) }

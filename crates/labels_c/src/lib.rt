@@ -4,6 +4,7 @@
 //! written overlaps nothing else that is passed; each byte of `modules` is 0 or 1 when the call begins.
 #![tactic(auto)]
 
+ghost use Rattle.capi.specs.Bits.{AnswersBitsAsked, AnswersBitsLine};
 ghost use Rattle.capi.specs.Calls.{Answers, ReadsAsked, asked};
 ghost use Rattle.capi.specs.Full.{PutsFullAsked, PutsFullLine};
 ghost use Rattle.capi.specs.Line.{AnswersDrawnLine, AnswersLine, NumbersLine, ReadsDrawnLine, ReadsLine, line_asked};
@@ -64,6 +65,33 @@ pub extern "C" fn labels_proved_symbol(
     *answer = told.answer;
 }
 
+/// Puts the dots of one symbol into `bits`, or the reason why there are none into `message`.
+#[unsafe(no_mangle)]
+pub extern "C" fn labels_proved_bitmap(
+    options: &CallOptions,
+    symbology: u32,
+    bytes: &[u8],
+    bits: &mut [u8],
+    stride: usize,
+    message: &mut [u8],
+    width: &mut u32,
+    height: &mut u32,
+    answer: &mut Answer,
+)
+    ensures { AnswersBitsAsked (record {
+      out = bits.old;
+      out_after = bits.new;
+      message = message.old;
+      message_after = message.new;
+    }) stride (record { answer = answer.new; width = width.new; height = height.new })
+        (asked options.now symbology bytes.now) bytes.now }
+{
+    let dots = capi::bits_into(options, symbology, bytes, bits, stride, message);
+    *width = dots.width;
+    *height = dots.height;
+    *answer = dots.answer;
+}
+
 /// Puts the modules of the symbol that a line of text draws into `modules`, or the reason why there is none into
 /// `message`.
 #[unsafe(no_mangle)]
@@ -109,6 +137,32 @@ pub extern "C" fn labels_proved_draw_line(
     ensures read { ReadsDrawnLine (line_asked options.now text.now) text.now }
 {
     *answer = capi::draw_line_into(options, text, out, message);
+}
+
+/// Puts the dots of what a line of text asks for into `bits`, or the reason why there are none into `message`.
+#[unsafe(no_mangle)]
+pub extern "C" fn labels_proved_bitmap_line(
+    options: &CallOptions,
+    text: &[u8],
+    bits: &mut [u8],
+    stride: usize,
+    message: &mut [u8],
+    width: &mut u32,
+    height: &mut u32,
+    answer: &mut Answer,
+)
+    ensures { AnswersBitsLine (record {
+      out = bits.old;
+      out_after = bits.new;
+      message = message.old;
+      message_after = message.new;
+    }) stride (record { answer = answer.new; width = width.new; height = height.new })
+        (line_asked options.now text.now) text.now }
+{
+    let dots = capi::bits_line_into(options, text, bits, stride, message);
+    *width = dots.width;
+    *height = dots.height;
+    *answer = dots.answer;
 }
 
 /// Draws the labels of a text of lines into `images`, and puts a message for each line that is refused into `messages`.

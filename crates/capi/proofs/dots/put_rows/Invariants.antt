@@ -1,0 +1,17 @@
+use Rattle.std.proofs.Common.{◌≡◌, ◌-◌, ◌≤◌, length}
+use Rattle.capi.specs.Bits.{put_bit_rows}
+use Rattle.capi.proofs.dots.put_rows.Given as goal
+
+-- the rows so far were put
+abbrev pub invariant-loop-y : goal.invariant-loop-y
+invariant-loop-y g l =
+    let p = g.G.Grid.picture l.picture in
+    record {
+      inside : l.y ≤ p.height;
+      dots : length l.dots ≡ length l.initial.dots;
+      row : length l.row ≡ length l.initial.row;
+      rows : l.bits ≡ put_bit_rows p l.stride l.initial.bits l.y;
+    }
+
+abbrev pub decreases-loop-y : goal.decreases-loop-y
+decreases-loop-y g l = l.height - l.y

@@ -1,0 +1,88 @@
+-- What a call of the C library leaves of a symbol's dots as bits.
+use Rattle.std.specs.Prelude.{◌≡◌, ℕ, zero, suc, ◌+◌, ◌-◌, ◌*◌, ◌^◌, ◌&&◌, nat_le, min, Bool, false, Result, Ok, Err, List, [], length}
+use Rattle.std.specs.Prelude.{if◌then◌else◌, map, slice_index_or}
+use Rattle.std.specs.Int.{div_ceil}
+use Rattle.labelcore.specs.LineItem.{Outcome, skipped, refused, drawn}
+use Rattle.labelcore.specs.Message.{fault_text}
+use Rattle.labelcore.specs.OptionValues.{RunValues}
+use Rattle.labelcore.specs.declared.fault.Fault.{Fault}
+use Rattle.labelcore.specs.declared.options.Options.{Options}
+use Rattle.picture.specs.Picture.{Picture}
+use Rattle.picture.specs.Text.{below, pixel_row}
+use Rattle.filter.specs.Output.{outcome, picture_of}
+use Rattle.filter.specs.Symbol.{Symbol, symbol_of}
+use Rattle.capi.specs.Calls.{Declines, Rooms}
+use Rattle.capi.specs.Numbers.{code_of}
+use Rattle.capi.specs.Room.{put_text}
+use Rattle.capi.specs.declared.asked.Asked.{Asked}
+use Rattle.capi.specs.declared.numbers.Dots.{Dots}
+
+-- 1 where the dot is dark; a dot past the end of the row is light
+abbrev pub dot_at : List Bool → ℕ → ℕ
+dot_at dots x = if slice_index_or dots x false then 1 else 0
+
+-- eight dots from a place on, the first in the highest bit
+abbrev pub byte_at : List Bool → ℕ → ℕ
+byte_at dots x =
+    128 * dot_at dots x + 64 * dot_at dots (x + 1) + 32 * dot_at dots (x + 2) + 16 * dot_at dots (x + 3)
+    + 8 * dot_at dots (x + 4) + 4 * dot_at dots (x + 5) + 2 * dot_at dots (x + 6) + dot_at dots (x + 7)
+
+-- the bytes of a row of dots
+abbrev pub bytes_of : List Bool → ℕ → List ℕ
+bytes_of dots count = map (λ j. byte_at dots (8 * j)) (below count)
+
+-- how many bytes a row has
+abbrev pub row_size : Picture → ℕ
+row_size p = div_ceil p.width 8
+
+-- the room after the first rows of a picture were put, each `stride` bytes after the one before; the rest is as it was
+unfoldable pub put_bit_rows : Picture → ℕ → List ℕ → ℕ → List ℕ
+put_bit_rows p stride room zero = room
+put_bit_rows p stride room (suc y) =
+    put_text (put_bit_rows p stride room y) (y * stride) (bytes_of (pixel_row p y) (row_size p))
+
+-- the bytes from the first row to the end of the last one
+abbrev pub bits_size : Picture → ℕ → ℕ
+bits_size p stride = (p.height - 1) * stride + row_size p
+
+-- whether rows do not overlap, and there is room for all
+abbrev pub bits_fit : Picture → ℕ → List ℕ → Bool
+bits_fit p stride room = nat_le (row_size p) stride && nat_le (bits_size p stride) (length room)
+
+-- the dots of a picture are put where there is room for all, and nothing else is written
+pub record PutsBits (rooms : Rooms) (stride : ℕ) (dots : Dots) (p : Picture) : Type 0 where
+  pub code_is : dots.answer.code ≡ (if bits_fit p stride rooms.out then 0 else 1)
+  pub unused : dots.answer.reserved ≡ 0
+  pub size : dots.answer.length ≡ min (bits_size p stride) (2 ^ 64 - 1)
+  pub no_message : dots.answer.message_length ≡ 0
+  pub width : dots.width ≡ p.width
+  pub height : dots.height ≡ p.height
+  pub out : rooms.out_after ≡ (if bits_fit p stride rooms.out then put_bit_rows p stride rooms.out p.height else rooms.out)
+  pub message : rooms.message_after ≡ rooms.message
+
+-- nothing is drawn, and has no size
+abbrev pub DeclinesBits : Rooms → Dots → ℕ → List ℕ → Type 0
+DeclinesBits rooms dots code text = (dots.width ≡ 0) × ((dots.height ≡ 0) × Declines rooms dots.answer code text)
+
+-- the dots of a symbol in its quiet zone, or why there are none
+abbrev pub AnswersBits : Rooms → ℕ → Dots → RunValues → Result Symbol Fault → Type 0
+AnswersBits rooms stride dots run (Ok symbol) = PutsBits rooms stride dots (picture_of run symbol)
+AnswersBits rooms stride dots run (Err fault) = DeclinesBits rooms dots (code_of fault) (fault_text fault)
+
+-- the dots of what is asked for, or why there are none
+abbrev pub AnswersBitsAsked : Rooms → ℕ → Dots → Result Asked ℕ → List ℕ → Type 0
+AnswersBitsAsked rooms stride dots (Err code) bytes = DeclinesBits rooms dots code []
+AnswersBitsAsked rooms stride dots (Ok a) bytes =
+    AnswersBits rooms stride dots a.options.run (symbol_of a.options.label a.symbology bytes)
+
+-- the dots of the symbol of a line, or why there are none; 14 is a line that is skipped
+abbrev pub AnswersBitsOutcome : Rooms → ℕ → Dots → RunValues → Outcome Symbol → Type 0
+AnswersBitsOutcome rooms stride dots run skipped = DeclinesBits rooms dots 14 []
+AnswersBitsOutcome rooms stride dots run (refused fault) = DeclinesBits rooms dots (code_of fault) (fault_text fault)
+AnswersBitsOutcome rooms stride dots run (drawn symbol) = PutsBits rooms stride dots (picture_of run symbol)
+
+-- the dots of the line that is asked for, or why there are none
+abbrev pub AnswersBitsLine : Rooms → ℕ → Dots → Result Options ℕ → List ℕ → Type 0
+AnswersBitsLine rooms stride dots (Err code) text = DeclinesBits rooms dots code []
+AnswersBitsLine rooms stride dots (Ok options) text =
+    AnswersBitsOutcome rooms stride dots options.run (outcome options text)
