@@ -27,7 +27,6 @@ static const char *const texts[] = {
     "an empty line or a comment",
     "the line has a line feed",
     "a pointer is NULL",
-    "a line is refused",
 };
 
 const char *labels_version(void) { return LABELS_VERSION; }
@@ -165,15 +164,4 @@ int labels_bitmap_line(const labels_options *options, const void *text, size_t s
     labels_proved_bitmap_line(or_defaults(options), read_from(text), size, write_to(bits), room, stride, answer->message,
                               MESSAGE_ROOM, &dots->width, &dots->height, answer);
     return finish(answer);
-}
-
-int labels_run(const labels_options *options, const void *text, size_t size, char *images, size_t images_room,
-               char *messages, size_t messages_room, labels_run_answer *answer) {
-    labels_run_answer own;
-    answer = answer ? answer : &own;
-    *answer = (labels_run_answer){.code = LABELS_NULL};
-    if (!is_bad(text, size) && !is_bad(images, images_room) && !is_bad(messages, messages_room))
-        labels_proved_run(or_defaults(options), read_from(text), size, write_to(images), images_room,
-                          write_to(messages), messages_room, answer);
-    return (int)answer->code;
 }

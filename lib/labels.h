@@ -1,7 +1,7 @@
 /* liblabels: bar codes and QR codes, drawn by proved code.
  *
- * EAN-13, EAN-8, UPC-A, Code 128 and QR versions 1 to 10, as a picture (plain PBM or text), as modules of a byte each,
- * or as a run over a whole text of lines. The manual is labels(3); lines and options are those of labels(1).
+ * EAN-13, EAN-8, UPC-A, Code 128 and QR versions 1 to 10, as a picture (plain PBM or text), as bits, or as modules of a
+ * byte each, of data or of a line of text. The manual is labels(3); lines and options are those of labels(1).
  *
  * No call takes memory from the heap, keeps state, prints or aborts. All are reentrant: any number of threads may call
  * at once. A call uses at most 40 KB of stack.
@@ -56,8 +56,7 @@ enum labels_code {
     LABELS_BAD_ESCAPE,             /* line: an escape is bad */
     LABELS_SKIPPED,                /* line: it is empty or a comment, and has no symbol */
     LABELS_NOT_ONE_LINE,           /* line: it has a line feed */
-    LABELS_NULL,                   /* a pointer is NULL where it must not be, or a size is above PTRDIFF_MAX */
-    LABELS_REFUSED                 /* text: one line or more is refused; the others are drawn */
+    LABELS_NULL                    /* a pointer is NULL where it must not be, or a size is above PTRDIFF_MAX */
 };
 
 /* How labels are drawn. A call tests all of them, also those that it does not use. */
@@ -101,14 +100,6 @@ typedef struct labels_dots {
     uint32_t reserved[2];
 } labels_dots;
 
-/* What labels_run() answers. */
-typedef struct labels_run_answer {
-    uint32_t code; /* as the call returns it: enum labels_code */
-    uint32_t reserved[3];
-    size_t images_length;   /* bytes of all pictures */
-    size_t messages_length; /* bytes of all messages; 0 where no line is refused */
-} labels_run_answer;
-
 /* Returns the version of the library that runs, as "1.0.0". */
 LABELS_API const char *labels_version(void);
 
@@ -119,8 +110,8 @@ LABELS_API const char *labels_code_text(int code);
 LABELS_API void labels_defaults(labels_options *options);
 
 /* All calls below return a code, which is in the answer too. `options` may be NULL for the defaults, `info`, `dots` and
- * `answer` where they are not wanted; `data` and `text` where their size is 0, and `out`, `modules`, `bits`, `images` and
- * `messages` where their room is 0. */
+ * `answer` where they are not wanted; `data` and `text` where their size is 0, and `out`, `modules` and `bits` where their
+ * room is 0. */
 
 /* Draws one symbol as a picture. Puts its bytes into `out`, as many as there is room for, and nothing after them; the
  * picture has no NUL at its end. `answer->length` is that of the whole picture: a call without room asks for it. */
@@ -155,11 +146,6 @@ LABELS_API int labels_bitmap(const labels_options *options, int symbology, const
 /* Draws a line as bits, as labels_bitmap() puts them. */
 LABELS_API int labels_bitmap_line(const labels_options *options, const void *text, size_t size, unsigned char *bits,
                                   size_t stride, size_t room, labels_dots *dots, labels_answer *answer);
-
-/* Draws a whole text of lines, as labels(1) does: the pictures into `images`, and a message for each refused line into
- * `messages`, each as much as there is room for. Returns LABELS_REFUSED where a line is refused. */
-LABELS_API int labels_run(const labels_options *options, const void *text, size_t size, char *images,
-                          size_t images_room, char *messages, size_t messages_room, labels_run_answer *answer);
 
 #ifdef __cplusplus
 }

@@ -22,7 +22,5 @@ void labels_proved_bitmap(const labels_options *options, uint32_t symbology, con
 void labels_proved_bitmap_line(const labels_options *options, const void *text, size_t size, unsigned char *bits,
                                size_t room, size_t stride, char *message, size_t message_room, uint32_t *width,
                                uint32_t *height, labels_answer *answer);
-void labels_proved_run(const labels_options *options, const void *text, size_t size, char *images, size_t images_room,
-                       char *messages, size_t messages_room, labels_run_answer *answer);
 
 #endif

@@ -25,20 +25,7 @@ from collections.abc import Callable
 from dataclasses import dataclass
 from functools import lru_cache
 
-__all__ = [
-    "Bitmap",
-    "Refused",
-    "Run",
-    "Symbol",
-    "bitmap",
-    "bitmap_line",
-    "draw",
-    "draw_line",
-    "line",
-    "run",
-    "symbol",
-    "version",
-]
+__all__ = ["Bitmap", "Refused", "Symbol", "bitmap", "bitmap_line", "draw", "draw_line", "line", "symbol", "version"]
 
 SYMBOLOGIES = ("ean13", "ean8", "upca", "code128", "qr")
 FORMATS = ("pbm", "ascii")
@@ -124,20 +111,6 @@ class _Dots(ctypes.Structure):
     ]
 
 
-class _RunAnswer(ctypes.Structure):
-    """labels_run_answer."""
-
-    images_length: int
-    messages_length: int
-
-    _fields_ = [
-        ("code", ctypes.c_uint32),
-        ("reserved", ctypes.c_uint32 * 3),
-        ("images_length", ctypes.c_size_t),
-        ("messages_length", ctypes.c_size_t),
-    ]
-
-
 class Refused(ValueError):
     """Data or a line that has no symbol: `code` is the number that labels.h has for the reason.
 
@@ -213,19 +186,6 @@ class Bitmap:
     bits: bytes
 
 
-@dataclass(frozen=True)
-class Run:
-    """What labels(1) writes for a text of lines.
-
-    Attributes:
-        images: the pictures, one after the other.
-        messages: a line for each line that is refused: `line 2: unknown symbology`.
-    """
-
-    images: bytes
-    messages: str
-
-
 def _load() -> ctypes.CDLL:
     library = ctypes.CDLL(os.environ.get("LABELS_LIBRARY", "liblabels.so.1"))
     size = ctypes.c_size_t
@@ -240,7 +200,6 @@ def _load() -> ctypes.CDLL:
     library.labels_bitmap.argtypes = [*options, ctypes.c_int, *data, *bits, *answer, *answer]
     library.labels_bitmap_line.argtypes = [*options, *data, *bits, *answer, *answer]
     library.labels_line.argtypes = [*options, *data, *room, *answer, *answer]
-    library.labels_run.argtypes = [*options, *data, *room, *room, *answer]
     library.labels_version.restype = ctypes.c_char_p
     return library
 
@@ -491,40 +450,6 @@ def draw_line(
     options = _options(format, scale, height, level, min_version, mask, escapes)
     raw = _line_of(text)
     return _picture(_LIBRARY.labels_draw_line, options, raw, len(raw))
-
-
-def run(
-    text: str | bytes,
-    *,
-    format: str = "pbm",
-    scale: int = 1,
-    height: int = 50,
-    level: str = "M",
-    min_version: int = 1,
-    mask: int | None = None,
-    escapes: bool = False,
-) -> Run:
-    """Returns what labels(1) writes for a text of lines. A line that is refused gives a message, and raises nothing.
-
-    The options are those of `draw` and `line`. Raises ValueError for an option out of its range.
-
-    >>> run("ean8 7351353\\npdf x\\n").messages
-    'line 2: unknown symbology\\n'
-    """
-    options = _options(format, scale, height, level, min_version, mask, escapes)
-    raw = _encoded(text)
-    answer = _RunAnswer(images_length=_ROOM, messages_length=_ROOM)
-    while True:
-        images_room = answer.images_length
-        messages_room = answer.messages_length
-        images = ctypes.create_string_buffer(images_room)
-        messages = ctypes.create_string_buffer(messages_room)
-        code = _LIBRARY.labels_run(
-            options, raw, len(raw), images, images_room, messages, messages_room, ctypes.byref(answer)
-        )
-        if code != _NO_ROOM:
-            text_of_messages = messages.raw[: answer.messages_length].decode("ascii")
-            return Run(images.raw[: answer.images_length], text_of_messages)
 
 
 def version() -> str:

@@ -142,13 +142,12 @@ def compare_group(program: str, rng: random.Random, count: int, more: list[str],
     of_picture = ["--format", given.format, "--scale", str(given.scale)]
     images, messages = by_program(program, [*given.words(), *of_picture, *more], text)
     in_text, _ = by_program(program, [*given.words(), "--format", "ascii", *more], text)
-    ran = liblabels.run(text, **vars(given))
     shown = in_text.split(b"\n\n")[:-1]
     counts["drawn"] += len(found.pictures)
     counts["refused"] += len(found.messages)
     counts["skipped"] += found.skipped
-    counts["differ"] += b"".join(found.pictures) != images or ran.images != images
-    counts["differ"] += b"".join(found.messages) != messages or ran.messages.encode() != messages
+    counts["differ"] += b"".join(found.pictures) != images
+    counts["differ"] += b"".join(found.messages) != messages
     counts["differ"] += found.wrong_bits
     counts["differ"] += len(shown) != len(found.symbols)
     counts["differ"] += sum(not is_shown(symbol, one) for symbol, one in zip(found.symbols, shown))

@@ -119,29 +119,10 @@ static void dots_are_put_in_rows(void) {
     SEE(answer.code == LABELS_SKIPPED && width == 0 && height == 0);
 }
 
-static void a_text_is_drawn_and_its_refusals_put(void) {
-    const char text[] = "ean8 7351353\n# a remark\npdf x\nean8 7351353";
-    labels_run_answer ran;
-    begin();
-    memset(&ran, 9, sizeof ran);
-    labels_proved_run(&options, text, strlen(text), out, sizeof out, message, sizeof message, &ran);
-    SEE(ran.code == LABELS_REFUSED);
-    SEE(ran.images_length == 2 * EAN8_LENGTH);
-    SEE(out[EAN8_LENGTH - 1] == '\n');
-    SEE(out[2 * EAN8_LENGTH] == UNTOUCHED);
-    SEE(begins("line 3: unknown symbology\n"));
-    SEE(ran.messages_length == 26);
-    SEE(message[26] == 0);
-    labels_proved_run(&options, text, strlen(text), out, sizeof out, message, 10, &ran);
-    SEE(ran.code == LABELS_NO_ROOM);
-    SEE(ran.messages_length == 26);
-}
-
 int main(void) {
     a_picture_is_put_and_its_length_answered();
     modules_are_put_row_by_row();
     a_line_is_put_skipped_or_refused();
     dots_are_put_in_rows();
-    a_text_is_drawn_and_its_refusals_put();
     return 0;
 }

@@ -5,7 +5,7 @@
 #include <stdio.h>
 #include <stdlib.h>
 
-enum { MARK = 0x5a, CODES = LABELS_REFUSED + 1 };
+enum { MARK = 0x5a, CODES = LABELS_NULL + 1 };
 
 static unsigned seed = 12345;
 static long codes[CODES];
@@ -163,18 +163,6 @@ static void one_round(void) {
     memset(out, MARK, room);
     code = labels_bitmap_line(wanted, line, (size_t)length, (unsigned char *)to, stride, room, sized, answered);
     see_bits("labels_bitmap_line", code, out, stride, room, sized, answered);
-
-    memset(out, MARK, room);
-    labels_run_answer ran;
-    size_t half = room / 2;
-    char *messages = one_in(50) ? NULL : out + half;
-    code = labels_run(wanted, line, (size_t)length, out, half, messages, room - half, one_in(40) ? NULL : &ran);
-    see_code("labels_run", code, NULL);
-    if (code == LABELS_OK || code == LABELS_REFUSED) {
-        labels_run(wanted, line, (size_t)length, out, half, messages, room - half, &ran);
-        see_untouched("labels_run", out, half, ran.images_length);
-        see_untouched("labels_run", out + half, room - half, ran.messages_length);
-    }
     free(info);
     free(answer);
     free(modules);

@@ -7,7 +7,6 @@ enum { STACK = 1 << 20, ROOM = 8 << 20, PAINT = 0xa5 };
 
 static unsigned char stack[STACK] __attribute__((aligned(4096)));
 static char out[ROOM];
-static char messages[4096];
 static unsigned char modules[LABELS_MAX_MODULES];
 static char line[300];
 
@@ -22,7 +21,6 @@ static void *draw(void *given) {
     labels_options options = LABELS_DEFAULTS;
     labels_answer answer;
     labels_symbol_info info;
-    labels_run_answer ran;
     if (job->symbology < 0)
         return NULL;
     options.format = job->format;
@@ -39,8 +37,6 @@ static void *draw(void *given) {
     labels_bitmap_line(&options, line, 3 + size, (unsigned char *)out, 1815, sizeof out, NULL, &answer);
     labels_line(&options, line, 3 + size, modules, sizeof modules, &info, &answer);
     labels_draw_line(&options, line, 3 + size, out, sizeof out, &answer);
-    labels_run(&options, line, 3 + size, out, sizeof out, messages, sizeof messages, &ran);
-    labels_run(&options, "ean13 400638133393", 18, out, sizeof out, messages, sizeof messages, &ran);
     return NULL;
 }
 

@@ -21,7 +21,7 @@ LAST = "const char *labels_version(void) { return LABELS_VERSION; }"
 WRONG = {
     "exports other names": (
         ("labels.c", LAST, LAST + "\nLABELS_API int labels_more(void);\nint labels_more(void) { return 0; }"),
-        ("labels.map", "        labels_run;", "        labels_run;\n        labels_more;"),
+        ("labels.map", "        labels_line;", "        labels_line;\n        labels_more;"),
     ),
     "needs other names": (
         (

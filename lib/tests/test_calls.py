@@ -45,7 +45,6 @@ class Calls(WithLibrary):
                 "    (void)info;\n",
             ),
             ("    *info = (labels_symbol_info){0};\n", "    (void)info;\n"),
-            ("    *answer = (labels_run_answer){.code = LABELS_NULL};\n", "    answer->code = 99;\n"),
         ):
             with self.subTest(new):
                 self.assert_fails(self.wrong("hostile", ADDRESS, old, new), ROUNDS)

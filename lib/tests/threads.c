@@ -30,7 +30,6 @@ static uint64_t sum_of(int job, char *out) {
     unsigned char modules[LABELS_MAX_MODULES];
     labels_symbol_info info;
     labels_answer answer;
-    labels_run_answer ran;
     uint64_t sum = UINT64_C(14695981039346656037);
 
     sum ^= (uint64_t)labels_draw(&options, symbology, data, strlen(data), out, ROOM, &answer);
@@ -40,9 +39,7 @@ static uint64_t sum_of(int job, char *out) {
     sum ^= (uint64_t)labels_line(&options, line, (size_t)size, modules, sizeof modules, NULL, &answer);
     sum = hash_of(modules, answer.length, hash_of(answer.message, answer.message_length, sum));
     sum ^= (uint64_t)labels_draw_line(&options, line, (size_t)size, out, ROOM, &answer);
-    sum = hash_of(out, answer.length, sum);
-    labels_run(&options, line, (size_t)size, out, ROOM / 2, out + ROOM / 2, ROOM / 2, &ran);
-    return hash_of(out, ran.images_length, hash_of(&ran, sizeof ran, sum));
+    return hash_of(out, answer.length, sum);
 }
 
 static void *draw_all(void *number) {

@@ -2,4 +2,3 @@ pub mod BitLaws
 pub mod FullLaws
 pub mod SliceLaws
 pub mod LineLaws
-pub mod TextLaws

@@ -7,4 +7,3 @@ pub mod Numbers
 pub mod Private
 pub mod Room
 pub mod Slice
-pub mod Text

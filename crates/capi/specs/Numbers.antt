@@ -63,7 +63,7 @@ options_numbered o = do
   })
 
 -- the code of a refusal: of those without a number of their own here, 0 is done, 1 no room, 2 a bad option, 14 a skipped
--- line, 15 a text of more than one line, 17 a text of which a line is refused
+-- line, 15 a text of more than one line
 abbrev pub code_of : Fault → ℕ
 code_of NoData = 4
 code_of (NotADigit place) = 5

@@ -13,14 +13,12 @@ mod numbers;
 mod room;
 mod slice_sink;
 mod symbol;
-mod text;
 
 pub use bits::bits_into;
 pub use bits_line::bits_line_into;
 pub use draw::draw_into;
 pub use draw_line::draw_line_into;
 pub use line::line_into;
-pub use numbers::{Answer, CallOptions, Dots, SymbolInfo, TextAnswer, Told};
+pub use numbers::{Answer, CallOptions, Dots, SymbolInfo, Told};
 pub use slice_sink::SliceSink;
 pub use symbol::symbol_into;
-pub use text::text_into;

@@ -21,8 +21,6 @@ pub const NO_DATA: u32 = 4;
 pub const SKIPPED: u32 = 14;
 /// The text is more than one line.
 pub const NOT_ONE_LINE: u32 = 15;
-/// A line of a text is refused.
-pub const REFUSED: u32 = 17;
 
 /// The options of a call: `labels_options` of `lib/labels.h`. The spare words are 0.
 #[repr(C)]
@@ -47,17 +45,6 @@ pub struct Answer {
     pub reserved: u32,
     pub length: usize,
     pub message_length: usize,
-}
-
-/// What a call for a whole text answers: a code, and how many bytes its images and its messages have. It is
-/// `labels_run_answer`. The spare words are 0.
-#[repr(C)]
-#[derive(Clone, Copy, Drop)]
-pub struct TextAnswer {
-    pub code: u32,
-    pub reserved: [u32; 3],
-    pub images_length: usize,
-    pub messages_length: usize,
 }
 
 /// A symbol's symbology, its width, the rows that were put and how high they are drawn, in modules, its quiet zones, and

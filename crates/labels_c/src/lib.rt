@@ -9,10 +9,9 @@ ghost use Rattle.capi.specs.Calls.{Answers, ReadsAsked, asked};
 ghost use Rattle.capi.specs.Full.{PutsFullAsked, PutsFullLine};
 ghost use Rattle.capi.specs.Line.{AnswersDrawnLine, AnswersLine, NumbersLine, ReadsDrawnLine, ReadsLine, line_asked};
 ghost use Rattle.capi.specs.Modules.{AnswersAsked, NumbersAsked, ReadsModules, ToldAsked};
-ghost use Rattle.capi.specs.Numbers.{code_of, options_numbered};
-ghost use Rattle.capi.specs.Text.{AnswersText, ReadsText};
+ghost use Rattle.capi.specs.Numbers.{code_of};
 
-use capi::{Answer, CallOptions, SymbolInfo, TextAnswer};
+use capi::{Answer, CallOptions, SymbolInfo};
 
 /// Draws one symbol into `out`, or puts the reason why there is none into `message`.
 #[unsafe(no_mangle)]
@@ -163,24 +162,4 @@ pub extern "C" fn labels_proved_bitmap_line(
     *width = dots.width;
     *height = dots.height;
     *answer = dots.answer;
-}
-
-/// Draws the labels of a text of lines into `images`, and puts a message for each line that is refused into `messages`.
-#[unsafe(no_mangle)]
-pub extern "C" fn labels_proved_run(
-    options: &CallOptions,
-    text: &[u8],
-    images: &mut [u8],
-    messages: &mut [u8],
-    answer: &mut TextAnswer,
-)
-    ensures answers { AnswersText (record {
-      images = images.old;
-      images_after = images.new;
-      messages = messages.old;
-      messages_after = messages.new;
-    }) answer.new (options_numbered options.now) text.now }
-    ensures read { ReadsText (options_numbered options.now) text.now }
-{
-    *answer = capi::text_into(options, text, images, messages);
 }

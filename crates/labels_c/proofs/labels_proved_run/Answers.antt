@@ -1,7 +1,0 @@
-use Rattle.labels_c.proofs.labels_proved_run.Goals as goal
-
-pub returns-clause-answers : goal.returns-clause-answers
-returns-clause-answers c = c.text_into.ensures.answers
-
-pub returns-clause-read : goal.returns-clause-read
-returns-clause-read c = c.text_into.ensures.read
