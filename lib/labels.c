@@ -26,7 +26,7 @@ static const char *const texts[] = {
     "bad escape",
     "an empty line or a comment",
     "the line has a line feed",
-    "a pointer is NULL",
+    "a pointer is NULL or a size is too large",
 };
 
 const char *labels_version(void) { return LABELS_VERSION; }
@@ -60,9 +60,10 @@ static int finish(labels_answer *answer) {
 }
 
 static int refuse(labels_answer *answer) {
-    answer->code = LABELS_NULL;
+    answer->code = LABELS_BAD_ARGUMENT;
     answer->reserved = 0;
     answer->length = 0;
+    answer->at = 0;
     answer->message_length = 0;
     return finish(answer);
 }

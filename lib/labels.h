@@ -28,7 +28,8 @@ extern "C" {
 #define LABELS_API
 #endif
 
-#define LABELS_VERSION "1.0.0"
+#define LABELS_VERSION "1.1.0"
+#define LABELS_VERSION_NUMBER 0x010100 /* for #if: two digits each of major, minor and patch */
 
 enum labels_symbology { LABELS_EAN13, LABELS_EAN8, LABELS_UPCA, LABELS_CODE128, LABELS_QR };
 enum labels_format { LABELS_PBM, LABELS_ASCII };
@@ -37,6 +38,10 @@ enum { LABELS_MASK_AUTO = 8 };      /* the mask with the lowest penalty */
 enum { LABELS_MAX_BARS = 1795 };    /* no linear symbol has more modules */
 enum { LABELS_MAX_MODULES = 3249 }; /* no symbol has more: QR version 10 has 57 rows of 57 */
 enum { LABELS_MAX_DATA = 652 };     /* no symbol has more bytes: QR version 10-L has 652 digits */
+enum { LABELS_MESSAGE_ROOM = 96 };  /* bytes of a message, its NUL among them */
+
+/* Bytes that are enough for the plain PBM of a picture w pixels wide and h high. */
+#define LABELS_PICTURE_ROOM(w, h) (14 + (size_t)(h) * ((size_t)(w) + ((size_t)(w) + 69) / 70))
 
 /* What a call returns. */
 enum labels_code {
@@ -56,7 +61,7 @@ enum labels_code {
     LABELS_BAD_ESCAPE,             /* line: an escape is bad */
     LABELS_SKIPPED,                /* line: it is empty or a comment, and has no symbol */
     LABELS_NOT_ONE_LINE,           /* line: it has a line feed */
-    LABELS_NULL                    /* a pointer is NULL where it must not be, or a size is above PTRDIFF_MAX */
+    LABELS_BAD_ARGUMENT            /* a pointer is NULL where it must not be, or a size is above PTRDIFF_MAX */
 };
 
 /* How labels are drawn. A call tests all of them, also those that it does not use. */
@@ -78,8 +83,9 @@ typedef struct labels_answer {
     uint32_t code;         /* as the call returns it: enum labels_code */
     uint32_t reserved;
     size_t length;         /* bytes of the whole picture, or modules of the symbol; 0 where there is none */
+    size_t at;             /* the byte of the data that is wrong, or the setting of the line, from 1 on; 0 where none is */
     size_t message_length; /* bytes of the message */
-    char message[104];     /* why there is no symbol, as labels(1) prints it, ended by NUL; "" where there is one */
+    char message[LABELS_MESSAGE_ROOM]; /* why there is no symbol, as labels(1) prints it, ended by NUL, or "" */
 } labels_answer;
 
 /* A symbol as its modules show it. A linear symbol has one row of modules. */
@@ -100,7 +106,7 @@ typedef struct labels_dots {
     uint32_t reserved[2];
 } labels_dots;
 
-/* Returns the version of the library that runs, as "1.0.0". */
+/* Returns the version of the library that runs, as "1.1.0". */
 LABELS_API const char *labels_version(void);
 
 /* Returns what a code means, in English: never NULL, and not to be freed. */

@@ -9,8 +9,9 @@ struct Answer {
     code: u32,
     reserved: u32,
     length: usize,
+    at: usize,
     message_length: usize,
-    message: [c_char; 104],
+    message: [c_char; 96],
 }
 
 const NO_ROOM: c_int = 1;
@@ -34,7 +35,7 @@ extern "C" {
 /// Why the line is refused.
 fn draw_line(line: &str) -> Result<Option<Vec<u8>>, String> {
     let mut picture = vec![0; 16384];
-    let mut answer = Answer { code: 0, reserved: 0, length: 0, message_length: 0, message: [0; 104] };
+    let mut answer = Answer { code: 0, reserved: 0, length: 0, at: 0, message_length: 0, message: [0; 96] };
     loop {
         // The pointers point to as many bytes as the lengths say, and no two of them overlap.
         let code = unsafe {

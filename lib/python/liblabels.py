@@ -52,14 +52,16 @@ class _Answer(ctypes.Structure):
 
     code: int
     length: int
+    at: int
     message: bytes
 
     _fields_ = [
         ("code", ctypes.c_uint32),
         ("reserved", ctypes.c_uint32),
         ("length", ctypes.c_size_t),
+        ("at", ctypes.c_size_t),
         ("message_length", ctypes.c_size_t),
-        ("message", ctypes.c_char * 104),
+        ("message", ctypes.c_char * 96),
     ]
 
 
@@ -114,14 +116,17 @@ class _Dots(ctypes.Structure):
 class Refused(ValueError):
     """Data or a line that has no symbol: `code` is the number that labels.h has for the reason.
 
+    `at` is the byte of the data that is wrong, or the setting of the line, from 1 on; 0 where none is.
+
     >>> draw("ean13", "4006381333930")
     Traceback (most recent call last):
     liblabels.Refused: check digit is 0, should be 1
     """
 
-    def __init__(self, code: int, text: str) -> None:
+    def __init__(self, code: int, text: str, at: int = 0) -> None:
         super().__init__(text)
         self.code = code
+        self.at = at
 
 
 @dataclass(frozen=True)
@@ -245,7 +250,7 @@ def _line_of(text: str | bytes) -> bytes:
 
 def _expect_drawn(answer: _Answer) -> None:
     if answer.code != _OK:
-        raise Refused(answer.code, answer.message.decode("ascii"))
+        raise Refused(answer.code, answer.message.decode("ascii"), answer.at)
 
 
 def _picture(call: Callable[..., int], *asked: object) -> bytes | None:
@@ -456,7 +461,7 @@ def version() -> str:
     """Returns the version of the library.
 
     >>> version()
-    '1.0.0'
+    '1.1.0'
     """
     number: bytes = _LIBRARY.labels_version()
     return number.decode("ascii")

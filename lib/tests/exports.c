@@ -51,7 +51,9 @@ static void a_picture_is_put_and_its_length_answered(void) {
     labels_proved_draw(&options, LABELS_EAN13, "4006381333930", 13, out, sizeof out, message, sizeof message, &answer);
     SEE(answer.code == LABELS_WRONG_CHECK_DIGIT);
     SEE(begins("check digit is 0, should be 1"));
-    SEE(answer.message_length == 29);
+    SEE(answer.message_length == 29 && answer.at == 0);
+    labels_proved_draw(&options, LABELS_EAN8, "73x1353", 7, out, sizeof out, message, sizeof message, &answer);
+    SEE(answer.code == LABELS_NOT_A_DIGIT && answer.at == 3);
 }
 
 static void modules_are_put_row_by_row(void) {

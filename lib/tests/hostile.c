@@ -5,7 +5,7 @@
 #include <stdio.h>
 #include <stdlib.h>
 
-enum { MARK = 0x5a, CODES = LABELS_NULL + 1 };
+enum { MARK = 0x5a, CODES = LABELS_BAD_ARGUMENT + 1 };
 
 static unsigned seed = 12345;
 static long codes[CODES];
@@ -54,6 +54,9 @@ static void see_code(const char *call, int code, const labels_answer *answer) {
         return;
     if (answer->code != (uint32_t)code || answer->reserved != 0)
         stop(call, "another code in the answer, or a spare word that is not 0");
+    if (answer->at && code != LABELS_NOT_A_DIGIT && code != LABELS_NOT_ASCII && code != LABELS_BAD_SETTING &&
+        code != LABELS_BAD_ESCAPE)
+        stop(call, "a place of what has none");
     if (answer->message_length != strlen(answer->message))
         stop(call, "a message without its end");
     if ((code == LABELS_OK) != (answer->message_length == 0))
@@ -95,7 +98,7 @@ static void see_info(const char *call, int code, const labels_symbol_info *info)
         stop(call, "a symbol is told that is not drawn");
     if (info->data_length >= sizeof info->data || info->data[info->data_length] != 0)
         stop(call, "data without its end");
-    if (code != LABELS_NULL)
+    if (code != LABELS_BAD_ARGUMENT)
         see_untouched(call, info->data, sizeof info->data, info->data_length + 1);
 }
 

@@ -12,7 +12,7 @@ FILES = {
     f"{LIBDIR}/liblabels.a",
     f"{LIBDIR}/liblabels.so",
     f"{LIBDIR}/liblabels.so.1",
-    f"{LIBDIR}/liblabels.so.1.0.0",
+    f"{LIBDIR}/liblabels.so.1.1.0",
     f"{LIBDIR}/pkgconfig/labels.pc",
     f"{PYTHONDIR}/liblabels.py",
     "usr/share/man/man3/labels.3",
@@ -48,7 +48,7 @@ class Built(WithLibrary):
         root = self.library.root
         found = {str(path.relative_to(root)) for path in root.rglob("*") if not path.is_dir()}
         self.assertEqual(found, FILES)
-        self.assertEqual((root / LIBDIR / "liblabels.so").resolve(), (root / LIBDIR / "liblabels.so.1.0.0").resolve())
+        self.assertEqual((root / LIBDIR / "liblabels.so").resolve(), (root / LIBDIR / "liblabels.so.1.1.0").resolve())
 
     def test_one_version(self) -> None:
         code = "import liblabels; print(liblabels.version())"

@@ -12,7 +12,7 @@ use Rattle.picture.specs.Text.{below, pixel_row}
 use Rattle.filter.specs.Output.{outcome, picture_of}
 use Rattle.filter.specs.Symbol.{Symbol, symbol_of}
 use Rattle.capi.specs.Calls.{Declines, Rooms}
-use Rattle.capi.specs.Numbers.{code_of}
+use Rattle.capi.specs.Numbers.{code_of, place_of}
 use Rattle.capi.specs.Room.{put_text}
 use Rattle.capi.specs.declared.asked.Asked.{Asked}
 use Rattle.capi.specs.declared.numbers.Dots.{Dots}
@@ -54,6 +54,7 @@ pub record PutsBits (rooms : Rooms) (stride : ℕ) (dots : Dots) (p : Picture) :
   pub code_is : dots.answer.code ≡ (if bits_fit p stride rooms.out then 0 else 1)
   pub unused : dots.answer.reserved ≡ 0
   pub size : dots.answer.length ≡ min (bits_size p stride) (2 ^ 64 - 1)
+  pub no_place : dots.answer.at ≡ 0
   pub no_message : dots.answer.message_length ≡ 0
   pub width : dots.width ≡ p.width
   pub height : dots.height ≡ p.height
@@ -61,28 +62,28 @@ pub record PutsBits (rooms : Rooms) (stride : ℕ) (dots : Dots) (p : Picture) :
   pub message : rooms.message_after ≡ rooms.message
 
 -- nothing is drawn, and has no size
-abbrev pub DeclinesBits : Rooms → Dots → ℕ → List ℕ → Type 0
-DeclinesBits rooms dots code text = (dots.width ≡ 0) × ((dots.height ≡ 0) × Declines rooms dots.answer code text)
+abbrev pub DeclinesBits : Rooms → Dots → ℕ → ℕ → List ℕ → Type 0
+DeclinesBits rooms dots code place text = (dots.width ≡ 0) × ((dots.height ≡ 0) × Declines rooms dots.answer code place text)
 
 -- the dots of a symbol in its quiet zone, or why there are none
 abbrev pub AnswersBits : Rooms → ℕ → Dots → RunValues → Result Symbol Fault → Type 0
 AnswersBits rooms stride dots run (Ok symbol) = PutsBits rooms stride dots (picture_of run symbol)
-AnswersBits rooms stride dots run (Err fault) = DeclinesBits rooms dots (code_of fault) (fault_text fault)
+AnswersBits rooms stride dots run (Err fault) = DeclinesBits rooms dots (code_of fault) (place_of fault) (fault_text fault)
 
 -- the dots of what is asked for, or why there are none
 abbrev pub AnswersBitsAsked : Rooms → ℕ → Dots → Result Asked ℕ → List ℕ → Type 0
-AnswersBitsAsked rooms stride dots (Err code) bytes = DeclinesBits rooms dots code []
+AnswersBitsAsked rooms stride dots (Err code) bytes = DeclinesBits rooms dots code 0 []
 AnswersBitsAsked rooms stride dots (Ok a) bytes =
     AnswersBits rooms stride dots a.options.run (symbol_of a.options.label a.symbology bytes)
 
 -- the dots of the symbol of a line, or why there are none; 14 is a line that is skipped
 abbrev pub AnswersBitsOutcome : Rooms → ℕ → Dots → RunValues → Outcome Symbol → Type 0
-AnswersBitsOutcome rooms stride dots run skipped = DeclinesBits rooms dots 14 []
-AnswersBitsOutcome rooms stride dots run (refused fault) = DeclinesBits rooms dots (code_of fault) (fault_text fault)
+AnswersBitsOutcome rooms stride dots run skipped = DeclinesBits rooms dots 14 0 []
+AnswersBitsOutcome rooms stride dots run (refused fault) = DeclinesBits rooms dots (code_of fault) (place_of fault) (fault_text fault)
 AnswersBitsOutcome rooms stride dots run (drawn symbol) = PutsBits rooms stride dots (picture_of run symbol)
 
 -- the dots of the line that is asked for, or why there are none
 abbrev pub AnswersBitsLine : Rooms → ℕ → Dots → Result Options ℕ → List ℕ → Type 0
-AnswersBitsLine rooms stride dots (Err code) text = DeclinesBits rooms dots code []
+AnswersBitsLine rooms stride dots (Err code) text = DeclinesBits rooms dots code 0 []
 AnswersBitsLine rooms stride dots (Ok options) text =
     AnswersBitsOutcome rooms stride dots options.run (outcome options text)

@@ -10,7 +10,7 @@ use Rattle.labelcore.specs.declared.symbology.Symbology.{Symbology}
 use Rattle.filter.specs.Output.{image_of}
 use Rattle.filter.specs.Readback.{IsRead}
 use Rattle.filter.specs.Symbol.{Symbol, symbol_of}
-use Rattle.capi.specs.Numbers.{code_of, options_numbered, symbology_numbered}
+use Rattle.capi.specs.Numbers.{code_of, options_numbered, place_of, symbology_numbered}
 use Rattle.capi.specs.Room.{put_text}
 use Rattle.capi.specs.declared.numbers.Answer.{Answer}
 use Rattle.capi.specs.declared.asked.Asked.{Asked}
@@ -35,9 +35,10 @@ pub record Rooms : Type 0 where
   pub message_after : List ℕ
 
 -- nothing is drawn, for the reason with this code and this text
-pub record Declines (rooms : Rooms) (answer : Answer) (code : ℕ) (text : List ℕ) : Type 0 where
+pub record Declines (rooms : Rooms) (answer : Answer) (code place : ℕ) (text : List ℕ) : Type 0 where
   pub code_is : answer.code ≡ code
   pub unused : answer.reserved ≡ 0
+  pub at : answer.at ≡ place
   pub nothing : answer.length ≡ 0
   pub size : answer.message_length ≡ min (length text) (2 ^ 64 - 1)
   pub out : rooms.out_after ≡ rooms.out
@@ -48,6 +49,7 @@ pub record PutsWhole (rooms : Rooms) (answer : Answer) (text : List ℕ) : Type 
   pub code_is : answer.code ≡ (if nat_le (length text) (length rooms.out) then 0 else 1)
   pub unused : answer.reserved ≡ 0
   pub size : answer.length ≡ min (length text) (2 ^ 64 - 1)
+  pub no_place : answer.at ≡ 0
   pub no_message : answer.message_length ≡ 0
   pub out : rooms.out_after ≡ put_text rooms.out 0 text
   pub message : rooms.message_after ≡ rooms.message
@@ -55,11 +57,11 @@ pub record PutsWhole (rooms : Rooms) (answer : Answer) (text : List ℕ) : Type 
 -- the image of a symbol, or why there is none
 abbrev pub AnswersSymbol : Rooms → Answer → RunValues → Result Symbol Fault → Type 0
 AnswersSymbol rooms answer run (Ok symbol) = PutsWhole rooms answer (image_of run (drawn symbol))
-AnswersSymbol rooms answer run (Err fault) = Declines rooms answer (code_of fault) (fault_text fault)
+AnswersSymbol rooms answer run (Err fault) = Declines rooms answer (code_of fault) (place_of fault) (fault_text fault)
 
 -- the image of what is asked for, or why there is none
 abbrev pub Answers : Rooms → Answer → Result Asked ℕ → List ℕ → Type 0
-Answers rooms answer (Err code) bytes = Declines rooms answer code []
+Answers rooms answer (Err code) bytes = Declines rooms answer code 0 []
 Answers rooms answer (Ok a) bytes =
     AnswersSymbol rooms answer a.options.run (symbol_of a.options.label a.symbology bytes)
 

@@ -15,7 +15,7 @@ use Rattle.filter.specs.Readback.{IsRead}
 use Rattle.filter.specs.Symbol.{Symbol, symbol_of}
 use Rattle.capi.specs.Calls.{Declines, PutsWhole, Rooms}
 use Rattle.capi.specs.Modules.{AnswersModules, DeclinesModules, HasNumbers, IsDrawnAs, ModuleRooms}
-use Rattle.capi.specs.Numbers.{code_of, options_numbered}
+use Rattle.capi.specs.Numbers.{code_of, options_numbered, place_of}
 use Rattle.capi.specs.declared.numbers.Answer.{Answer}
 use Rattle.capi.specs.declared.numbers.CallOptions.{CallOptions}
 use Rattle.capi.specs.declared.numbers.SymbolInfo.{SymbolInfo}
@@ -47,14 +47,14 @@ with_rows_put symbol = record symbol {
 -- what is left of a line: the modules of its symbol, and what they are drawn as; or why there are none. 14 is a line
 -- that is skipped
 abbrev pub AnswersOutcome : ModuleRooms → Answer → SymbolInfo → Outcome Symbol → (Fault → ℕ) → Type 0
-AnswersOutcome rooms answer info skipped code = DeclinesModules rooms answer info 14 []
-AnswersOutcome rooms answer info (refused fault) code = DeclinesModules rooms answer info (code fault) (fault_text fault)
+AnswersOutcome rooms answer info skipped code = DeclinesModules rooms answer info 14 0 []
+AnswersOutcome rooms answer info (refused fault) code = DeclinesModules rooms answer info (code fault) (place_of fault) (fault_text fault)
 AnswersOutcome rooms answer info (drawn symbol) code =
     AnswersModules rooms answer info (Ok (with_rows_put symbol)) code × IsDrawnAs symbol info
 
 -- the modules of the line that is asked for, or why there are none
 abbrev pub AnswersLine : ModuleRooms → Answer → SymbolInfo → Result Options ℕ → List ℕ → (Fault → ℕ) → Type 0
-AnswersLine rooms answer info (Err number) text code = DeclinesModules rooms answer info number []
+AnswersLine rooms answer info (Err number) text code = DeclinesModules rooms answer info number 0 []
 AnswersLine rooms answer info (Ok options) text code = AnswersOutcome rooms answer info (outcome options text) code
 
 -- the modules of a symbol read as its full data, and as nothing else
@@ -78,13 +78,13 @@ NumbersLine info found text = IfOk found (λ options. NumbersItem info (item opt
 
 -- what is left of a line: its picture, or why there is none
 abbrev pub AnswersPicture : Rooms → Answer → RunValues → Outcome Symbol → Type 0
-AnswersPicture rooms answer run skipped = Declines rooms answer 14 []
-AnswersPicture rooms answer run (refused fault) = Declines rooms answer (code_of fault) (fault_text fault)
+AnswersPicture rooms answer run skipped = Declines rooms answer 14 0 []
+AnswersPicture rooms answer run (refused fault) = Declines rooms answer (code_of fault) (place_of fault) (fault_text fault)
 AnswersPicture rooms answer run (drawn symbol) = PutsWhole rooms answer (image_of run (drawn symbol))
 
 -- the picture of the line that is asked for, or why there is none
 abbrev pub AnswersDrawnLine : Rooms → Answer → Result Options ℕ → List ℕ → Type 0
-AnswersDrawnLine rooms answer (Err code) text = Declines rooms answer code []
+AnswersDrawnLine rooms answer (Err code) text = Declines rooms answer code 0 []
 AnswersDrawnLine rooms answer (Ok options) text = AnswersPicture rooms answer options.run (outcome options text)
 
 -- the picture of a symbol reads as its full data

@@ -14,7 +14,7 @@ use Rattle.qrdata.specs.Fewest.{chosen_segments, chosen_version}
 use Rattle.qrdata.specs.Versions.{side_of}
 use Rattle.qrmatrix.specs.MaskChoice.{chosen_mask}
 use Rattle.qrmatrix.specs.Symbol.{Symbol as Matrix}
-use Rattle.capi.specs.Numbers.{are_unused, level_numbered, symbology_numbered}
+use Rattle.capi.specs.Numbers.{are_unused, level_numbered, place_of, symbology_numbered}
 use Rattle.picture.specs.Text.{below, pixel_row}
 use Rattle.capi.specs.Calls.{Declines}
 use Rattle.capi.specs.declared.asked.Asked.{Asked}
@@ -62,26 +62,27 @@ pub record PutsModules (rooms : ModuleRooms) (answer : Answer) (p : Picture) : T
   pub code_is : answer.code ≡ (if nat_le (p.width * p.height) (length rooms.modules) then 0 else 1)
   pub unused : answer.reserved ≡ 0
   pub size : answer.length ≡ p.width * p.height
+  pub no_place : answer.at ≡ 0
   pub no_message : answer.message_length ≡ 0
   pub modules : rooms.modules_after ≡ (if nat_le (p.width * p.height) (length rooms.modules)
       then modules_of p ++ drop (p.width * p.height) rooms.modules else rooms.modules)
   pub message : rooms.message_after ≡ rooms.message
 
 -- no modules are put, and nothing is told of a symbol
-abbrev pub DeclinesModules : ModuleRooms → Answer → SymbolInfo → ℕ → List ℕ → Type 0
-DeclinesModules rooms answer info code text = (rooms.modules_after ≡ rooms.modules)
+abbrev pub DeclinesModules : ModuleRooms → Answer → SymbolInfo → ℕ → ℕ → List ℕ → Type 0
+DeclinesModules rooms answer info code place text = (rooms.modules_after ≡ rooms.modules)
     × ((is_nothing info ≡ true)
     × ((out : List ℕ) → Declines (record {
       out = out;
       out_after = out;
       message = rooms.message;
       message_after = rooms.message_after;
-    }) answer code text))
+    }) answer code place text))
 
 -- the modules of a symbol, or why there is none
 abbrev pub AnswersModules : ModuleRooms → Answer → SymbolInfo → Result Symbol Fault → (Fault → ℕ) → Type 0
 AnswersModules rooms answer info (Ok symbol) code = PutsModules rooms answer symbol.modules × IsSizeOf symbol info
-AnswersModules rooms answer info (Err fault) code = DeclinesModules rooms answer info (code fault) (fault_text fault)
+AnswersModules rooms answer info (Err fault) code = DeclinesModules rooms answer info (code fault) (place_of fault) (fault_text fault)
 
 -- the options of a symbol that has one row where it is linear
 abbrev pub one_row : LabelValues → LabelValues
@@ -89,7 +90,7 @@ one_row label = record label { height = 1 }
 
 -- the modules of what is asked for, or why there are none
 abbrev pub AnswersAsked : ModuleRooms → Answer → SymbolInfo → Result Asked ℕ → List ℕ → (Fault → ℕ) → Type 0
-AnswersAsked rooms answer info (Err number) bytes code = DeclinesModules rooms answer info number []
+AnswersAsked rooms answer info (Err number) bytes code = DeclinesModules rooms answer info number 0 []
 AnswersAsked rooms answer info (Ok a) bytes code =
     AnswersModules rooms answer info (symbol_of (one_row a.options.label) a.symbology bytes) code
 

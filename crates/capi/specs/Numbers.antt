@@ -62,6 +62,15 @@ options_numbered o = do
     label = record { height = o.height; level = level; min_version = o.min_version; mask = mask_numbered o.mask };
   })
 
+-- the place of the wrong byte of a refusal, or of the wrong setting, from 1 on; 0 of others
+abbrev pub place_of : Fault → ℕ
+place_of (NotADigit place) = place
+place_of (NotAscii place) = place
+place_of (BadEscape place) = place
+place_of (UnknownSetting number) = number
+place_of (BadValue number) = number
+place_of other = 0
+
 -- the code of a refusal: of those without a number of their own here, 0 is done, 1 no room, 2 a bad option, 14 a skipped
 -- line, 15 a text of more than one line
 abbrev pub code_of : Fault → ℕ

@@ -42,6 +42,7 @@ pub fn offer_bits<G: Grid>(picture: &G, stride: usize, bits: &mut [u8]) -> Dots
             code,
             reserved: 0,
             length,
+            at: 0,
             message_length: 0,
         },
         width: width as u32,

@@ -8,10 +8,10 @@ ghost use Rattle.filter.specs.Readback.{IsRead};
 ghost use Rattle.filter.specs.Output.{image_of};
 ghost use Rattle.std.specs.Prelude.{IfOk, List, ℕ};
 ghost use Rattle.capi.specs.Calls.{Answers, AnswersSymbol, Declines, ReadsAsked, asked};
-ghost use Rattle.capi.specs.Numbers.{code_of as number_of};
+ghost use Rattle.capi.specs.Numbers.{code_of as number_of, place_of as place_told};
 
 use crate::asked::asked_of;
-use crate::numbers::{Answer, CallOptions, DONE, NO_ROOM, code_of};
+use crate::numbers::{Answer, CallOptions, DONE, NO_ROOM, code_of, place_of};
 use crate::slice_sink::SliceSink;
 use filter::draw;
 use labelcore::{Fault, LabelOptions, RunOptions, Symbology, write_reason};
@@ -53,12 +53,13 @@ pub fn declined(code: u32) -> Answer
       out_after = out;
       message = message;
       message_after = message;
-    }) result code [] }
+    }) result code 0 [] }
 {
     Answer {
         code,
         reserved: 0,
         length: 0,
+        at: 0,
         message_length: 0,
     }
 }
@@ -89,6 +90,7 @@ pub fn draw_asked(
             code: if length <= room { DONE } else { NO_ROOM },
             reserved: 0,
             length,
+            at: 0,
             message_length: 0,
         },
         Err(fault) => refused(&fault, message),
@@ -126,7 +128,7 @@ fn put_picture(
 /// Puts the reason of a refusal.
 pub fn refused(fault: &Fault, message: &mut [u8]) -> Answer
     ensures { (out : List ℕ) → Declines (record { out = out; out_after = out; message = message.old; message_after = message.new })
-        result (number_of fault.now) (fault_text fault.now) }
+        result (number_of fault.now) (place_told fault.now) (fault_text fault.now) }
 {
     let mut sink = SliceSink::new(message);
     let _ = write_reason(fault, &mut sink);
@@ -134,6 +136,7 @@ pub fn refused(fault: &Fault, message: &mut [u8]) -> Answer
         code: code_of(fault),
         reserved: 0,
         length: 0,
+        at: place_of(fault),
         message_length: sink.count(),
     }
 }

@@ -1,6 +1,6 @@
 //! Numbers in place of enums, as C has them.
 ghost use Rattle.std.specs.Prelude.{◌≡◌, Some, true};
-ghost use Rattle.capi.specs.Numbers.{are_in_range, are_unused, code_of, flag_numbered, level_numbered};
+ghost use Rattle.capi.specs.Numbers.{are_in_range, are_unused, code_of, flag_numbered, level_numbered, place_of};
 ghost use Rattle.capi.specs.Modules.{is_nothing};
 ghost use Rattle.capi.specs.Numbers.{options_numbered, symbology_numbered};
 
@@ -36,7 +36,8 @@ pub struct CallOptions {
     pub reserved: [u32; 5],
 }
 
-/// What a call answers: a code, the length of what was put or would have been, and that of the message. It is the head of
+/// What a call answers: a code, the length of what was put or would have been, the place of what is wrong, and the length
+/// of the message. It is the head of
 /// `labels_answer`. The spare word is 0.
 #[repr(C)]
 #[derive(Clone, Copy, Drop)]
@@ -44,6 +45,7 @@ pub struct Answer {
     pub code: u32,
     pub reserved: u32,
     pub length: usize,
+    pub at: usize,
     pub message_length: usize,
 }
 
@@ -213,6 +215,17 @@ pub fn code_of(fault: &Fault) -> u32
         Fault::UnknownSymbology => BAD_SYMBOLOGY,
         Fault::UnknownSetting(_) | Fault::BadValue(_) => 12,
         Fault::BadEscape(_) => 13,
+    }
+}
+
+/// Returns the place of the wrong byte of a refusal, or of the wrong setting, from 1 on; 0 of others.
+pub fn place_of(fault: &Fault) -> usize
+    ensures { result ≡ place_of fault.now }
+{
+    match fault {
+        Fault::NotADigit(place) | Fault::NotAscii(place) | Fault::BadEscape(place) => *place,
+        Fault::UnknownSetting(number) | Fault::BadValue(number) => *number,
+        _ => 0,
     }
 }
 

@@ -63,6 +63,7 @@ fn offer_grid<G: Grid>(grid: &G, modules: &mut [bool]) -> Answer
         code,
         reserved: 0,
         length,
+        at: 0,
         message_length: 0,
     }
 }

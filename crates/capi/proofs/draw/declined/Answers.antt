@@ -6,6 +6,7 @@ pub returns : goal.returns
 returns c = λ out message. record {
   code_is = refl;
   unused = refl;
+  at = refl;
   nothing = refl;
   size = omega arith;
   out = refl;

@@ -10,6 +10,7 @@ returns-in-Err-clause-answers c =
     rw found (record {
       code_is = r.code_is;
       unused = r.unused;
+      at = r.at;
       nothing = r.nothing;
       size = r.size;
       out = kept ∙ put_nothing c.args.out.now 0;
