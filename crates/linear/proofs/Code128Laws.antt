@@ -25,7 +25,7 @@ use Rattle.linear.proofs.ValueRangeLaws.{AreCharacters, AreCharacters-append, Ar
 use Rattle.linear.proofs.ValueReadingLaws.{read_values-written}
 
 -- the values between the start and the check value
-between_first_and_last : (start check : ℕ) (values : List ℕ)
+pub between_first_and_last : (start check : ℕ) (values : List ℕ)
     → slice_range (start ∷ (values ++ check ∷ [])) 1 (length (start ∷ (values ++ check ∷ [])) - 1) ≡ values
 between_first_and_last start check values =
     let long : length (values ++ check ∷ []) ≡ length values + 1 = length-append values (check ∷ []) in
