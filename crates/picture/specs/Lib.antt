@@ -1,3 +1,4 @@
+pub mod Dots
 pub mod Picture
 pub mod Private
 pub mod Reading

@@ -1,0 +1,46 @@
+-- Dots that are read as pixels.
+use Rattle.std.proofs.Common.{◌≡◌, ℕ, ◌+◌, ◌*◌, ◌<◌, ◌==◌, Bool, true, false, suc, List, [], map, take, drop, get_or, refl, ap, sym}
+use Rattle.std.proofs.Common.{◌∙◌, eqb, arith}
+use Rattle.std.specs.List.{list_all, range_with_len}
+use Rattle.std.proofs.Math.ListN.{get_or-map}
+use Rattle.std.proofs.lemmas.List.{get_or-take, get_or-drop}
+use Rattle.std.proofs.lemmas.List.FromFn.{get_or-map-range_with_len}
+use Rattle.std.specs.Bool.{beq, then_some}
+use Rattle.std.specs.Cmp.Lexicographic.{pointwise}
+use Rattle.std.proofs.lemmas.List.Folds.{list_all-map}
+use Rattle.picture.specs.Picture.{Picture}
+use Rattle.picture.specs.Reading.{common_row, raster}
+use Rattle.picture.specs.Text.{pixel_row}
+use Rattle.qrmatrix.specs.Square.{value_at}
+use Rattle.picture.specs.Dots.{rows_of}
+
+pub dot_at : (width height : ℕ) (digits : List ℕ) (x y : ℕ) → x < width → y < height
+    → eqb (get_or digits (y * width + x) 0) 49 ≡ value_at (rows_of width height digits) x y
+dot_at width height digits x y wide high =
+    let row = take width (drop (width * y) digits) in
+    let place : width * y + x ≡ y * width + x = omega arith in
+    let digit : get_or row x 0 ≡ get_or digits (y * width + x) 0 =
+    get_or-take width (drop (width * y) digits) x 0 wide ∙ get_or-drop (width * y) digits x 0
+    ∙ ap (λ n. get_or digits n 0) place in
+    ap (λ b. eqb b 49) (sym digit) ∙ sym (get_or-map (λ b. b == 49) row x 0)
+    ∙ ap (λ (row : List Bool). get_or row x false) (sym (get_or-map-range_with_len
+    (λ y. map (λ b. b == 49) (take width (drop (width * y) digits))) 0 height y y [] high (omega arith)))
+
+-- a test of numbers in turn
+pub passes_on : (test : ℕ → Bool) (a b n m : ℕ) → n ≡ suc m → b ≡ a + 1 → true ≡ test a
+    → list_all test (range_with_len a n) ≡ list_all test (range_with_len b m)
+passes_on test a b n m more next passes = rw (more, next, ← passes) refl
+
+pub fails_at : (test : ℕ → Bool) (a n m : ℕ) → n ≡ suc m → false ≡ test a
+    → list_all test (range_with_len a n) ≡ false
+fails_at test a n m more fails = rw (more, ← fails) refl
+
+-- the row that all rows are equal to is the first
+pub first_row : (p : Picture) (m : ℕ) (row : List Bool) → p.height ≡ suc m → row ≡ pixel_row p 0
+    → common_row (raster p).rows
+    ≡ then_some (list_all (λ y. pointwise beq row (pixel_row p y)) (range_with_len 1 m)) row
+first_row p m row high is =
+    ap (λ (n : ℕ). common_row (map (pixel_row p) (range_with_len 0 n))) high
+    ∙ ap (λ (b : Bool). then_some b (pixel_row p 0)) (list_all-map (pointwise beq (pixel_row p 0)) (pixel_row p)
+    (range_with_len 1 m))
+    ∙ ap (λ (r : List Bool). then_some (list_all (λ y. pointwise beq r (pixel_row p y)) (range_with_len 1 m)) r) (sym is)

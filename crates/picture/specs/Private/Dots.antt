@@ -1,0 +1,27 @@
+-- Modules that dots show, as private contracts see them.
+use Rattle.std.specs.Prelude.{ℕ, ◌+◌, ◌-◌, ◌/◌, ◌%◌, ◌==◌, ◌&&◌, nat_le, Bool}
+use Rattle.picture.specs.Reading.{Raster, are_cells, cell, is_module}
+use Rattle.picture.specs.Picture.{Picture}
+use Rattle.std.specs.Bool.{beq}
+use Rattle.qrmatrix.specs.Square.{value_at}
+use Rattle.picture.specs.declared.quiet_zone.QuietZone.{QuietZone}
+
+-- whether a pixel has the colour of its cell, which is light in the quiet zone
+abbrev pub is_of_cell : Raster → ℕ → QuietZone → ℕ → ℕ → ℕ → ℕ → Bool
+is_of_cell r scale zone columns rows x y = beq (value_at r.rows x y)
+    (is_module zone columns rows (x / scale) (y / scale) && cell r scale (x / scale) (y / scale))
+
+-- whether the pixels are those of modules inside a quiet zone, each a square
+abbrev pub are_modules : Raster → ℕ → QuietZone → Bool
+are_modules r scale zone =
+    r.width % scale == 0 && r.height % scale == 0 && nat_le (zone.left + zone.right) (r.width / scale)
+    && nat_le (zone.top + zone.bottom) (r.height / scale)
+    && are_cells r scale zone (r.width / scale) (r.height / scale)
+
+-- these modules
+abbrev pub modules_in : Raster → ℕ → QuietZone → Picture
+modules_in r scale zone = record {
+  width = r.width / scale - zone.left - zone.right;
+  height = r.height / scale - zone.top - zone.bottom;
+  dark = λ column row. cell r scale (zone.left + column) (zone.top + row);
+}
