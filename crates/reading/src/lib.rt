@@ -1,0 +1,9 @@
+//! Labels read back from their dots, by the rules that drawing is proved against, with no correction.
+//!
+//! [`read_bars`] reads a linear symbol. The README of this crate has an example. Nothing here takes memory from the
+//! heap.
+#![tactic(auto)]
+
+mod bars;
+
+pub use bars::{bars_are_read, read_bars};
