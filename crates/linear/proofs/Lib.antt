@@ -15,6 +15,7 @@ pub mod ReadRowLaws
 pub mod PatternLaws
 pub mod RowLengthLaws
 pub mod PatternTableLaws
+pub mod ScanningLaws
 pub mod SwitchingLaws
 pub mod SymbolDataLaws
 pub mod TableLaws

@@ -13,6 +13,7 @@ mod read_code128;
 mod read_ean;
 mod refusal;
 mod row;
+mod scanning;
 mod switching;
 mod tables;
 
@@ -23,3 +24,4 @@ pub use limits::{MAX_FULL_DATA, MAX_MODULES};
 pub use linear::{Linear, QuietZones};
 pub use refusal::Refusal;
 pub use row::{FullData, Row};
+pub use scanning::read_any;
