@@ -1,6 +1,7 @@
 pub mod AsciiLaws
 pub mod CutLaws
 pub mod DotLaws
+pub mod EqualDotLaws
 pub mod Examples
 pub mod GridLaws
 pub mod HeaderLaws

@@ -116,7 +116,7 @@ sample-raster p zone scale some =
       sampled p zone scale some,
     ) refl
 
-pointwise-same : (row : List Bool) → pointwise beq row row ≡ true
+pub pointwise-same : (row : List Bool) → pointwise beq row row ≡ true
 pointwise-same [] = refl
 pointwise-same (b ∷ row) = rw (beq-same b, pointwise-same row) refl
 

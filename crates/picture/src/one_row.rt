@@ -31,6 +31,9 @@ pub fn common_row<G: Grid>(grid: &G, row: &mut [bool]) -> bool
         return false;
     }
     grid.read_row(0, row);
+    if grid.equal_rows(0) == height {
+        return true;
+    }
     for y in 1..height {
         if !has_row(grid, row, y) {
             return false;

@@ -1,10 +1,10 @@
 //! Modules that dots show.
-ghost use Rattle.std.specs.Prelude.{◌≡◌, ℕ, ◌+◌, ◌-◌, ◌*◌, ◌/◌, ◌%◌, ◌<◌, ◌≤◌, ◌&&◌, ◌==◌, nat_le, Some, None, MatchOption};
+ghost use Rattle.std.specs.Prelude.{◌≡◌, ℕ, ◌+◌, ◌-◌, ◌*◌, ◌/◌, ◌%◌, ◌<◌, ◌≤◌, ◌&&◌, ◌==◌, nat_le, slice_index, true, Some, None, MatchOption};
 ghost use Rattle.std.specs.List.{list_all};
 ghost use Rattle.picture.specs.Picture.{Picture};
 ghost use Rattle.picture.specs.Reading.{are_cells, cell, is_module, raster, sample};
-ghost use Rattle.picture.specs.Dots.{raster_in};
-ghost use Rattle.picture.specs.Private.Dots.{are_modules, is_of_cell, modules_in};
+ghost use Rattle.picture.specs.Dots.{raster_in, rows_of};
+ghost use Rattle.picture.specs.Private.Dots.{AreEqualDots, IsToldByFirst, are_modules, is_of_cell, modules_in};
 ghost use Rattle.picture.specs.Text.{below};
 
 use crate::dots::Dots;
@@ -17,9 +17,12 @@ pub struct Sampled<'a> {
     dots: Dots<'a>,
     scale: usize,
     zone: QuietZone,
+    are_equal: bool,
     ghost some: { 0 < scale },
     ghost wide: { zone.left + zone.right ≤ dots.width / scale },
     ghost high: { zone.top + zone.bottom ≤ dots.height / scale },
+    ghost equal: { are_equal ≡ true
+        → AreEqualDots (rows_of dots.width dots.height dots.digits.now) dots.width dots.height },
 }
 
 /// Returns whether the cell in a column and a row is a module, and not of the quiet zone.
@@ -65,12 +68,53 @@ fn is_row_of_cells(dots: &Dots, scale: usize, zone: &QuietZone, y: usize) -> boo
     true
 }
 
-/// Returns whether each dot has the colour of its cell.
+/// Returns whether all rows of dots are equal; no `false` has to be right.
+fn are_rows_equal(dots: &Dots) -> bool
+    requires { 0 < dots.now.height }
+    ensures { result ≡ true → AreEqualDots (rows_of dots.now.width dots.now.height dots.now.digits.now)
+        dots.now.width dots.now.height }
+{
+    for y in 1..dots.height {
+        if !is_first_again(dots, y) {
+            return false;
+        }
+    }
+    true
+}
+
+/// Returns whether the row `y` of dots has the digits of the first.
+fn is_first_again(dots: &Dots, y: usize) -> bool
+    requires { y < dots.now.height }
+    ensures { result ≡ true → (x : ℕ) → x < dots.now.width
+        → slice_index dots.now.digits.now (y * dots.now.width + x) ≡ slice_index dots.now.digits.now x }
+{
+    let width = dots.width;
+    let row = &dots.digits[y * width..y * width + width];
+    row == &dots.digits[..width]
+}
+
+/// Returns whether the first row tells whether all dots have the colours of their cells.
+fn is_told_by_first(dots: &Dots, scale: usize, zone: &QuietZone) -> bool
+    requires { 0 < scale }
+    ensures { result ≡ true → IsToldByFirst dots.now.width dots.now.height dots.now.digits.now scale zone.now }
+{
+    zone.top == 0
+        && zone.bottom == 0
+        && dots.height > 0
+        && dots.height % scale == 0
+        && are_rows_equal(dots)
+}
+
+/// Returns whether each dot has the colour of its cell. Where there is no zone above and below and all rows are equal,
+/// the first row tells.
 fn are_cells(dots: &Dots, scale: usize, zone: &QuietZone) -> bool
     requires { 0 < scale }
     ensures { result ≡ are_cells (raster_in dots.now.width dots.now.height dots.now.digits.now) scale zone.now
         (dots.now.width / scale) (dots.now.height / scale) }
 {
+    if is_told_by_first(dots, scale, zone) {
+        return is_row_of_cells(dots, scale, zone, 0);
+    }
     for y in 0..dots.height {
         if !is_row_of_cells(dots, scale, zone, y) {
             return false;
@@ -116,7 +160,13 @@ impl<'a> Sampled<'a> {
         if !are_modules(&dots, scale, &zone) {
             return None;
         }
-        Some(Sampled { dots, scale, zone })
+        let are_equal = is_told_by_first(&dots, scale, &zone);
+        Some(Sampled {
+            dots,
+            scale,
+            zone,
+            are_equal,
+        })
     }
 }
 
@@ -135,5 +185,9 @@ impl<'a> Grid for Sampled<'a> {
         let column = first_dot(self.dots.width, self.scale, self.zone.left, x);
         let row = first_dot(self.dots.height, self.scale, self.zone.top, y);
         self.dots.is_dark(column, row)
+    }
+
+    fn equal_rows(&self, y: usize) -> usize {
+        if self.are_equal { self.height() - y } else { 1 }
     }
 }

@@ -1,6 +1,7 @@
 -- Modules that dots show, as private contracts see them.
-use Rattle.std.specs.Prelude.{ℕ, ◌+◌, ◌-◌, ◌/◌, ◌%◌, ◌==◌, ◌&&◌, nat_le, Bool}
+use Rattle.std.specs.Prelude.{◌≡◌, ◌<◌, List, ℕ, ◌+◌, ◌-◌, ◌/◌, ◌%◌, ◌==◌, ◌&&◌, nat_le, Bool}
 use Rattle.picture.specs.Reading.{Raster, are_cells, cell, is_module}
+use Rattle.picture.specs.Dots.{rows_of}
 use Rattle.picture.specs.Picture.{Picture}
 use Rattle.std.specs.Bool.{beq}
 use Rattle.qrmatrix.specs.Square.{value_at}
@@ -25,3 +26,15 @@ modules_in r scale zone = record {
   height = r.height / scale - zone.top - zone.bottom;
   dark = λ column row. cell r scale (zone.left + column) (zone.top + row);
 }
+
+-- each row has the pixels of the first
+abbrev pub AreEqualDots : List (List Bool) → ℕ → ℕ → Type 0
+AreEqualDots rows width height = (x y : ℕ) → x < width → y < height → value_at rows x y ≡ value_at rows x 0
+
+-- no zone above and below, and whole cells of rows that are all equal
+pub record IsToldByFirst (width height : ℕ) (digits : List ℕ) (scale : ℕ) (zone : QuietZone) : Type 0 where
+  pub above : zone.top ≡ 0
+  pub under : zone.bottom ≡ 0
+  pub some : 0 < height
+  pub whole : height % scale ≡ 0
+  pub same : AreEqualDots (rows_of width height digits) width height

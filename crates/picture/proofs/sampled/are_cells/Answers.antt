@@ -4,6 +4,7 @@ use Rattle.picture.specs.Dots.{raster_in}
 use Rattle.picture.specs.Private.Dots.{is_of_cell}
 use Rattle.picture.specs.Text.{below}
 use Rattle.picture.proofs.DotLaws.{passes_on, fails_at}
+use Rattle.picture.proofs.EqualDotLaws.{first_tells}
 use Rattle.picture.proofs.sampled.are_cells.Goals as goal
 
 pub returns-then-not-is_row_of_cells : goal.returns-then-not-is_row_of_cells
@@ -13,7 +14,7 @@ returns-then-not-is_row_of_cells c =
     let test = λ (y : ℕ). list_all (λ x. is_of_cell (raster_in dots.width dots.height dots.digits.now) c.args.scale
     c.args.zone.now (dots.width / c.args.scale) (dots.height / c.args.scale) x y) (below dots.width) in
     sym (c.loop-y.invariant ∙ fails_at test y (dots.height - y) (dots.height - (y + 1)) (omega arith)
-    (sym c.if-not-is_row_of_cells.true ∙ c.is_row_of_cells.ensures))
+    (sym c.if-not-is_row_of_cells.true ∙ c.is_row_of_cells-in-loop-y.ensures))
 
 pub loop-y-preserved : goal.loop-y-preserved
 loop-y-preserved c =
@@ -22,4 +23,12 @@ loop-y-preserved c =
     let test = λ (y : ℕ). list_all (λ x. is_of_cell (raster_in dots.width dots.height dots.digits.now) c.args.scale
     c.args.zone.now (dots.width / c.args.scale) (dots.height / c.args.scale) x y) (below dots.width) in
     c.loop-y.invariant ∙ passes_on test y (y + 1) (dots.height - y) (dots.height - (y + 1)) (omega arith) refl
-    (sym c.if-not-is_row_of_cells.false ∙ c.is_row_of_cells.ensures)
+    (sym c.if-not-is_row_of_cells.false ∙ c.is_row_of_cells-in-loop-y.ensures)
+
+pub returns-then-is_told_by_first : goal.returns-then-is_told_by_first
+returns-then-is_told_by_first c =
+    let dots = c.args.dots.now in
+    let told = c.is_told_by_first.ensures c.if-is_told_by_first.true in
+    c.is_row_of_cells.ensures
+    ∙ sym (first_tells dots.width dots.height dots.digits.now c.args.scale c.args.zone.now c.requires told.above
+    told.under told.whole told.same told.some)
