@@ -37,7 +37,7 @@ PROGRAM = "labels"
 # The crates in the order in which a reader meets them, from the headline down.
 CRATES = "filter labelcore device picture linear qrmatrix qrdata gf256 command capi testing".split()
 # The crates on whose contracts no other crate rests.
-AT_THE_TOP = {"labels", "labels_c", "examples", "tests"}
+AT_THE_TOP = {"reading", "labels", "labels_c", "examples", "tests"}
 PAGE = os.path.join("docs", "DEFINITIONS.md")
 OF_STD = "## Names of std"
 README = "README.md"

@@ -1,13 +1,12 @@
 //! Reading of Code 128 symbols (ISO/IEC 15417).
-ghost use Rattle.std.specs.Prelude.{◌≡◌, ℕ, List, ◌∷◌, ◌++◌, ◌+◌, ◌*◌, ◌≤◌, ◌<◌, ◌&&◌, ◌==◌, All, IfSome, length, option_map, find};
+ghost use Rattle.std.specs.Prelude.{◌≡◌, ℕ, List, ◌∷◌, ◌+◌, ◌*◌, ◌≤◌, ◌<◌, ◌&&◌, ◌==◌, IfSome, length, option_map};
 ghost use Rattle.std.specs.Prelude.{MatchOption, nat_eq, false, position, option_and_then, drop, if◌then◌else◌};
-ghost use Rattle.std.specs.Str.{bytes_eq};
 ghost use Rattle.linear.specs.declared.switching.CodeSet.{CodeSet as Set};
 ghost use Rattle.linear.specs.CodeSets.{start_value};
 ghost use Rattle.linear.specs.declared.limits.TheConstants.{MAX_VALUES, MAX_FULL_DATA, MAX_MODULES};
 ghost use Rattle.arrayvec.specs.ArrayVec.{array_vec_len};
 ghost use Rattle.linear.specs.declared.tables.TheConstants.{CHARACTERS};
-ghost use Rattle.linear.specs.Code128.{characters, character_modules, check_value, with_check};
+ghost use Rattle.linear.specs.Code128.{character_modules};
 ghost use Rattle.linear.specs.Code128Reading.{meaning, other_set, read_values, symbol_data, read_code128};
 ghost use Rattle.linear.specs.Modules.{each_group, same_modules};
 ghost use Rattle.linear.specs.Private.Meanings.{group_value, meant, with_values};

@@ -1,5 +1,5 @@
 //! Reading of rows of which neither the symbology nor the direction is known (ISO/IEC 15420 and 15417).
-ghost use Rattle.std.specs.Prelude.{◌≡◌, ◌≤◌, ◌++◌, [], if◌then◌else◌, length, nat_le, option_map, reverse};
+ghost use Rattle.std.specs.Prelude.{◌≡◌, ◌≤◌, [], if◌then◌else◌, length, nat_le, option_map, reverse};
 ghost use Rattle.std.specs.Option.{option_or, option_to_list};
 ghost use Rattle.linear.specs.declared.limits.TheConstants.{MAX_MODULES};
 ghost use Rattle.linear.specs.Code128Reading.{read_code128};

@@ -1,5 +1,5 @@
 //! Dots that are read as pixels.
-ghost use Rattle.std.specs.Prelude.{◌≡◌, ◌*◌, ◌/◌, ◌<◌, Some, None, MatchOption, length, ◌==◌, ◌||◌};
+ghost use Rattle.std.specs.Prelude.{◌≡◌, ◌*◌, ◌<◌, Some, None, MatchOption, length, ◌==◌, ◌||◌};
 ghost use Rattle.std.specs.List.{list_all};
 ghost use Rattle.qrmatrix.specs.Square.{value_at};
 ghost use Rattle.picture.specs.Reading.{raster_of};

@@ -1,8 +1,7 @@
 //! Modules that dots show.
-ghost use Rattle.std.specs.Prelude.{◌≡◌, ℕ, ◌+◌, ◌-◌, ◌*◌, ◌/◌, ◌%◌, ◌<◌, ◌≤◌, ◌&&◌, ◌==◌, nat_le, slice_index, true, Some, None, MatchOption};
+ghost use Rattle.std.specs.Prelude.{◌≡◌, ℕ, ◌+◌, ◌*◌, ◌/◌, ◌<◌, ◌≤◌, slice_index, true, Some, None, MatchOption};
 ghost use Rattle.std.specs.List.{list_all};
-ghost use Rattle.picture.specs.Picture.{Picture};
-ghost use Rattle.picture.specs.Reading.{are_cells, cell, is_module, raster, sample};
+ghost use Rattle.picture.specs.Reading.{are_cells, is_module, raster, sample};
 ghost use Rattle.picture.specs.Dots.{raster_in, rows_of};
 ghost use Rattle.picture.specs.Private.Dots.{AreEqualDots, IsToldByFirst, are_modules, is_of_cell, modules_in};
 ghost use Rattle.picture.specs.Text.{below};

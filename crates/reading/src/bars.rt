@@ -1,7 +1,6 @@
 //! Linear symbols read from dots.
-ghost use Rattle.std.specs.Prelude.{◌≡◌, ◌<◌, ◌≤◌, length, option_map, option_and_then};
+ghost use Rattle.std.specs.Prelude.{◌≡◌, ◌<◌, option_map, option_and_then};
 ghost use Rattle.linear.specs.Drawing.{read_row};
-ghost use Rattle.linear.specs.declared.limits.TheConstants.{MAX_MODULES};
 ghost use Rattle.picture.specs.Dots.{raster_in};
 ghost use Rattle.picture.specs.Reading.{common_row, raster};
 ghost use Rattle.reading.specs.Bars.{BarsAreRead, read_bars};
