@@ -6,6 +6,7 @@ from dataclasses import dataclass
 from itertools import islice
 from typing import Iterable, Sequence
 
+from labeltools.text import Text
 from labeltools.codes import PROGRAM_ERROR
 from labeltools.lines_file import MOST_COPIES
 from labeltools.messages import BAD_ARGUMENTS, RowError, ToolError, named, quoted
@@ -44,7 +45,7 @@ class Column:
 
     def error(self, problem: RowError) -> RowError:
         """Returns the error of a cell, with the column in front."""
-        return RowError(f"{self.title} {problem.what}", problem.hint, self.place)
+        return RowError(Text("{} {}", self.title, problem.what), problem.hint, self.place)
 
     def code(self, row: Row, is_free: bool) -> str:
         """Returns the text of a code, which is not empty; raises `RowError`."""
@@ -55,7 +56,7 @@ class Column:
             else:
                 text = cell.data() if is_free else cell.digits()
             if not text.strip():
-                raise RowError("is empty")
+                raise RowError(Text("is empty"))
             refuse_unseen(text.strip(), text, UNSEEN_CODE)
             return text
         except RowError as problem:
@@ -90,7 +91,9 @@ class Column:
             cell = row.cell(self.place)
             text = (plain_text(cell) if isinstance(cell, str) else cell.count()).strip()
             if not COPIES.fullmatch(text):
-                what = f"is {quoted(text)}: copies are a whole number from 0 to {MOST_COPIES}"
+                what = Text(
+                    "is {}: copies are a whole number from 0 to {}", quoted(text), MOST_COPIES
+                )
                 raise RowError(what)
             return int(re.split("[.,]", text)[0])
         except RowError as problem:
@@ -111,7 +114,9 @@ class Column:
         cell = row.cell(self.place)
         text = plain_text(cell) if isinstance(cell, str) else cell.printed()
         if len(text) < LONGEST_ERROR and is_error(text.strip()):
-            raise RowError(f"has {quoted(text)}, which a program writes where it has no value")
+            raise RowError(
+                Text("has {}, which a program writes where it has no value", quoted(text))
+            )
         return text
 
 
@@ -153,7 +158,7 @@ def is_error(text: str) -> bool:
 def no_value(text: str) -> RowError:
     """Returns the error of an error's name."""
     return RowError(
-        f"has {quoted(text)}, which the spreadsheet writes where it has no value to show"
+        Text("has {}, which the spreadsheet writes where it has no value to show", quoted(text))
     )
 
 
@@ -167,11 +172,11 @@ def plain_text(cell: str) -> str:
         if formula := FORMULA_OF_TEXT.fullmatch(cell.strip()):
             return formula[1].replace('""', '"')
     if "\ufffd" in cell:
-        what = f"has {quoted(cell)}, with the sign of a lost letter (U+FFFD)"
-        raise RowError(what, "export the table again")
+        what = Text("has {}, with the sign of a lost letter (U+FFFD)", quoted(cell))
+        raise RowError(what, Text("export the table again"))
     if len(cell) > LONGEST_CELL:
-        most = f"at most {LONGEST_CELL} characters of a cell are read"
-        raise RowError(f"has {quoted(cell)}, and {most}")
+        most = "has {}, and at most {} characters of a cell are read"
+        raise RowError(Text(most, quoted(cell), LONGEST_CELL))
     return cell
 
 
@@ -179,7 +184,7 @@ def refuse_special(cell: str) -> None:
     """Raises `RowError` for a formula that is no text, and for the name of an error."""
     bare = cell.strip()
     if bare.startswith("=") and not FORMULA_OF_TEXT.fullmatch(bare):
-        raise RowError(f"has {quoted(cell)}, a formula", "export its value")
+        raise RowError(Text("has {}, a formula", quoted(cell)), Text("export its value"))
     if ERROR.fullmatch(bare):
         raise no_value(cell)
 
@@ -191,7 +196,9 @@ def refuse_unseen(bare: str, text: str, unseen: re.Pattern[str]) -> None:
     for character in bare.replace(" ", ""):
         name = f"{unicodedata.category(character)} {unicodedata.name(character, '')}"
         if unseen.match(name):
-            raise RowError(f"has {named(character)} in the cell {quoted(text)}, which nobody sees")
+            raise RowError(
+                Text("has {} in the cell {}, which nobody sees", named(character), quoted(text))
+            )
 
 
 def has_html(text: str) -> bool:
@@ -221,7 +228,9 @@ def symbology_in(column: Column, row: Row, default: str) -> str:
     if plain not in known:
         listed = ", ".join(one.title for one in SYMBOLOGIES.values())
         raise column.error(
-            RowError(f"has {quoted(text)}, which is no symbology", f"it is one of {listed}")
+            RowError(
+                Text("has {}, which is no symbology", quoted(text)), Text("it is one of {}", listed)
+            )
         )
     return known[plain]
 
@@ -250,7 +259,7 @@ def columns_of(head: Head, rows: Iterable[Row], options: TableOptions) -> Column
         later = row_of_names(texts, asked.asked) if options.file.has_header is not False else 0
         if later:
             raise ToolError(
-                error.what, f"the names are in row {later}: give --header-row {later}", 2
+                error.what, Text("the names are in row {}: give --header-row {}", later, later), 2
             ) from None
         raise
 
@@ -278,7 +287,10 @@ def column_of(argument: str, head: Head) -> Column:
     name = head.names[place] if place < len(head.names) else ""
     if by_name:
         refuse_wide_name(place, name, head.row)
-    return Column(place, f"column {place + 1} ({quoted(name)})" if name else f"column {place + 1}")
+    return Column(
+        place,
+        Text("column {} ({})", place + 1, quoted(name)) if name else Text("column {}", place + 1),
+    )
 
 
 def column_word(names: Sequence[str], place: int) -> str:
@@ -303,19 +315,27 @@ def not_one(argument: str, head: Head, count: int) -> ToolError:
     names = head.names or texts_of(head.row)
     listed = [f"{number} {quoted(name)}" for number, name in enumerate(names, 1)]
     more = [".."] if len(listed) > LISTED else []
-    what = f"{'several columns' if count else 'no column'} {quoted(argument)}"
-    has = f"row {head.row.number} has {', '.join(listed[:LISTED] + more)}"
-    return ToolError(f"{what}; {has}", "give the number of one", BAD_ARGUMENTS)
+    has = ", ".join(listed[:LISTED] + more)
+    what = Text(
+        "several columns {}; row {} has {}" if count else "no column {}; row {} has {}",
+        quoted(argument),
+        head.row.number,
+        has,
+    )
+    return ToolError(what, Text("give the number of one"), BAD_ARGUMENTS)
 
 
 def refuse_wide_name(place: int, name: str, row: Row) -> None:
     """Raises `ToolError` for a name that is merged over several columns."""
     for merge in row.merges:
         if merge.row == row.number and merge.place == place < merge.last_place:
-            what = (
-                f"the name {quoted(name)} is over the columns {place + 1} to {merge.last_place + 1}"
+            what = Text(
+                "the name {} is over the columns {} to {}",
+                quoted(name),
+                place + 1,
+                merge.last_place + 1,
             )
-            raise ToolError(what, "give the number of one", BAD_ARGUMENTS)
+            raise ToolError(what, Text("give the number of one"), BAD_ARGUMENTS)
 
 
 def code_column(head: Head, options: TableOptions) -> Column:
@@ -327,8 +347,8 @@ def code_column(head: Head, options: TableOptions) -> Column:
     may_be_code = re.search("[0-9]", NAME_WITH_DIGITS.sub("", cell)) is not None
     may_be_code = may_be_code or options.codes.is_free and cell != ""
     if argument.isdecimal() and may_be_code and not is_said:
-        what = f"row {head.row.number} has {quoted(cell)} in column {column.place + 1}"
-        hint = "give --no-header if that is a code, --header if it is a name"
+        what = Text("row {} has {} in column {}", head.row.number, quoted(cell), column.place + 1)
+        hint = Text("give --no-header if that is a code, --header if it is a name")
         raise ToolError(what, hint, BAD_ARGUMENTS)
     return column
 

@@ -11,6 +11,7 @@ from io import RawIOBase, TextIOWrapper
 from pathlib import Path
 from typing import Any, BinaryIO, Callable, Iterator, Mapping, NoReturn, Optional
 
+from labeltools.text import Text
 from labeltools.messages import BadArguments, Place, ToolError, of_system, sentence, write_message
 
 ENDING = (signal.SIGHUP, signal.SIGINT, signal.SIGTERM)
@@ -34,7 +35,7 @@ class CommandTalk:
 
     def note(self, place: Place, cell: str, reason: str, hint: str) -> None:
         """Writes why a row or line is left out."""
-        write_message(self.tool, f"{place}: {sentence(reason, hint)}")
+        write_message(self.tool, Text("{}: {}", place.text, sentence(reason, hint)))
 
     def say(self, text: str, hint: str = "") -> None:
         """Writes something about the whole."""
@@ -67,11 +68,11 @@ def read_input(path: Optional[str]) -> tuple[str, bytes]:
     """
     is_standard = path is None or path == "-"
     if is_standard and sys.stdin is None:
-        raise ToolError("standard input is closed")
+        raise ToolError(Text("standard input is closed"))
     name = "standard input" if is_standard else str(path)
     data = sys.stdin.buffer.read() if is_standard else Path(str(path)).read_bytes()
     if not data:
-        raise ToolError(f"{name} is empty: nothing is printed")
+        raise ToolError(Text("{} is empty: nothing is printed", name))
     return name, data
 
 
@@ -80,7 +81,7 @@ def standard_output() -> BinaryIO:
     fails.
     """
     if sys.stdout is None:
-        raise ToolError("standard output is closed")
+        raise ToolError(Text("standard output is closed"))
     return sys.stdout.buffer
 
 
@@ -111,10 +112,10 @@ def status_of(tool: str, function: Callable[[], Optional[int]]) -> int:
         write_message(tool, f"error: {error}")
         return error.status
     except ToolError as error:
-        write_message(tool, str(error))
+        write_message(tool, error.args[0])
         return error.status
     except OSError as error:
-        write_message(tool, str(of_system(error)))
+        write_message(tool, of_system(error).args[0])
         return 1
 
 

@@ -3,6 +3,7 @@
 from dataclasses import dataclass
 from typing import Iterator, NamedTuple, Sequence
 
+from labeltools.text import Text
 from labeltools.codes import Code, CodeRules, code_of
 from labeltools.columns import Column, Columns, has_html, symbology_in
 from labeltools.messages import RowError, quoted
@@ -64,7 +65,7 @@ class RowReader:
         if row.problem:
             raise row.problem
         if self.is_names(row):
-            raise RowError("the row has the names of the columns again")
+            raise RowError(Text("the row has the names of the columns again"))
         if not self.is_marked(row):
             return None
         columns = self.columns
@@ -153,7 +154,7 @@ class RowReader:
             return None
         found = column.mark(row)
         if any(letter.isdigit() for letter in found):
-            raise column.error(RowError(f"has {quoted(found)}, which is no currency"))
+            raise column.error(RowError(Text("has {}, which is no currency", quoted(found))))
         is_known = currency_of(plain(found), self.options.prices.currency_name) is not None
         if found and not is_known and self.other_currency is None:
             self.other_currency = row.number, found
@@ -168,7 +169,7 @@ class RowReader:
             is_unit = column is self.columns.unit_price
             money = self.money(text, is_unit, currency or self.options.prices.currency_name)
         except NotMoney as problem:
-            what = f"has {quoted(text)}, which is no price: it {problem.what}"
+            what = Text("has {}, which is no price: it {}", quoted(text), problem.what)
             hint = ZERO_HINT if is_zero(row.cell(column.place)) else problem.hint
             raise column.error(RowError(what, hint)) from None
         return Price(column, text, money, currency)

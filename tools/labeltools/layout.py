@@ -15,6 +15,7 @@ from labeltools.lines_file import LineRecord
 from labeltools.messages import Talk
 from labeltools.stock import Size, size_text
 from labeltools.symbologies import SYMBOLOGIES, Symbology
+from labeltools.text import Text
 
 # marks above or below a letter, of which so many are drawn
 MARKS = "[\u0300-\u036f\u0483-\u0489\u1ab0-\u1aff\u1dc0-\u1dff\u20d0-\u20ff\ufe20-\ufe2f]"
@@ -363,7 +364,7 @@ def reason(needs: Sequence[Need], area: Area) -> str:
     modules = area.modules(symbology) if symbology.nominal else (area.dots(symbology.module),)
     if not modules:
         least = f"{area.smallest(symbology):g} mm or more"
-        return f"{symbology.title}: no whole number of dots is a module of {least}"
+        return Text("{}: no whole number of dots is a module of {}", symbology.title, least)
     wide = max(need.width for need in needs) * min(modules)
     is_wide = wide > area.width
     what = "too high, with its texts"

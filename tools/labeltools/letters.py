@@ -6,6 +6,7 @@ from typing import Any, Iterable, NamedTuple, Optional
 
 import cairo
 
+from labeltools.text import Text
 from labeltools.layout import Extent, PrintLabel
 from labeltools.messages import ToolError
 from labeltools.pango import Pango, PangoCairo
@@ -74,9 +75,9 @@ def require_fonts(fonts: Fonts) -> None:
         wanted = Pango.FontDescription(f"{family}, 9")
         found = PangoCairo.FontMap.get_default().load_font(context, wanted)
         if found is None or found.describe().get_family().lower() != family.lower():
-            hint = "fc-list : family lists what there is"
-            usual = "apt-get install fonts-dejavu-core has the usual ones"
-            raise ToolError(f"there is no font {family}", f"{hint}, {usual}")
+            hint = Text("fc-list : family lists what there is")
+            usual = Text("apt-get install fonts-dejavu-core has the usual ones")
+            raise ToolError(Text("there is no font {}", family), Text("{}, {}", hint, usual))
 
 
 class Letters:

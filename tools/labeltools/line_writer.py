@@ -5,6 +5,7 @@ was asked for.
 from dataclasses import dataclass, field
 from typing import Mapping, NamedTuple
 
+from labeltools.text import Text
 from labeltools.drafts import Draft, Price
 from labeltools.lines_file import Label, LinesFile, first_remark, label_lines, last_remark
 from labeltools.messages import Place, RowError, Talk, ToolError, quoted
@@ -109,7 +110,9 @@ class LineWriter:
                 return with_currency(price.money, price.text, price.currency)
             return pattern.write(settled(price.money, column), price.currency or "")
         except NotMoney as problem:
-            what = f"has {quoted(price.text)}, which cannot be printed so: it {problem.what}"
+            what = Text(
+                "has {}, which cannot be printed so: it {}", quoted(price.text), problem.what
+            )
             raise price.column.error(RowError(what, problem.hint)) from None
 
     def compare(self, draft: Draft, content: Content) -> None:
@@ -120,8 +123,12 @@ class LineWriter:
         if before not in (mark, 0):
             self.seen[data] = first, 0
             self.talk.say(
-                f"rows {first} and {draft.row} have the same code, {data},"
-                " and another title, text or price"
+                Text(
+                    "rows {} and {} have the same code, {}, and another title, text or price",
+                    first,
+                    draft.row,
+                    data,
+                )
             )
 
     def write(self, draft: Draft, content: Content) -> None:
@@ -131,7 +138,9 @@ class LineWriter:
         label = Label(draft.row, *content, draft.copies)
         self.output += label_lines(label, line, self.has_copies).encode()
         if len(self.output) > LARGEST_OUTPUT:
-            raise ToolError("the table has more than 128 MB of texts", "make several tables of it")
+            raise ToolError(
+                Text("the table has more than 128 MB of texts"), Text("make several tables of it")
+            )
         self.count += 1
         self.totals.add(draft.code.symbology, draft.copies)
         if draft.price and draft.price.money:

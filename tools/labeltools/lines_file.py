@@ -19,6 +19,7 @@ from io import BytesIO
 from typing import Any, Iterator, Sequence
 
 from labeltools import VERSION
+from labeltools.text import Text
 from labeltools.messages import Place, ToolError, quoted
 from labeltools.symbologies import SYMBOLOGIES, check_digit
 
@@ -152,9 +153,13 @@ def read_lines(data: bytes, name: str, has_escapes: bool = False) -> LinesFile:
     is_own = data.startswith(OBJECT)
     for number, line in enumerate(lines_of(data), 1):
         if is_own and line.endswith(b"\r"):
-            hint = "take the file as label-table wrote it"
+            hint = Text("take the file as label-table wrote it")
             raise ToolError(
-                f"{name}: line {number} ends in CR LF: a program of Windows has changed the file",
+                Text(
+                    "{}: line {} ends in CR LF: a program of Windows has changed the file",
+                    name,
+                    number,
+                ),
                 hint,
             )
         if line.startswith(OBJECT):
@@ -221,9 +226,12 @@ class _Reader:
             torn = torn or "at its end"
         if torn:
             remarks = 'that begin with #{"labels" and #{"end"'
-            hint = f"to print it all the same, take out its lines {remarks}"
+            hint = Text("to print it all the same, take out its lines {}", remarks)
             raise ToolError(
-                f"{self.name} is not whole: something is missing {torn}. Nothing is printed", hint
+                Text(
+                    "{} is not whole: something is missing {}. Nothing is printed", self.name, torn
+                ),
+                hint,
             )
         return LinesFile(tuple(self.records), tuple(self.left_out), self.left_out_count)
 
@@ -234,15 +242,17 @@ def object_of(line: bytes, where: str) -> dict[str, Any]:
         found: dict[str, Any] = json.loads(line[1:])
     except (ValueError, RecursionError) as error:
         raise ToolError(
-            f"{where}: the remark is no JSON object: the file is cut off or changed"
+            Text("{}: the remark is no JSON object: the file is cut off or changed", where)
         ) from error
     wrong = [key for key, value in found.items() if key not in KEYS or not is_of(value, KEYS[key])]
     if found.get("labels", found.get("end", VERSION)) != VERSION:
-        raise ToolError(f"{where}: the file is of another version of label-table", "make it again")
+        raise ToolError(
+            Text("{}: the file is of another version of label-table", where), Text("make it again")
+        )
     wrong += [key for key in ONE_LINE if "\n" in str(found.get(key, ""))]
     if wrong or not found or found.get("copies", 0) > MOST_COPIES:
         listed = ", ".join(map(quoted, wrong)) or quoted(line.decode("utf-8", "replace"))
-        raise ToolError(f"{where}: not understood: {listed}")
+        raise ToolError(Text("{}: not understood: {}", where, listed))
     return found
 
 

@@ -7,7 +7,7 @@ import unicodedata
 from contextlib import suppress
 from typing import NamedTuple, Protocol
 
-from labeltools.translation import translated
+from labeltools.text import Text, translated
 
 BAD_ARGUMENTS = 2
 MOST_LETTERS = 40  # of a cell that a message quotes
@@ -64,7 +64,12 @@ class Place(NamedTuple):
     number: int
 
     def __str__(self) -> str:
-        return f"{self.unit} {self.number}"
+        return self.text
+
+    @property
+    def text(self) -> Text:
+        """What a message calls it."""
+        return Text("row {}" if self.unit == "row" else "line {}", self.number)
 
 
 class Talk(Protocol):
@@ -109,7 +114,9 @@ def write_message(tool: str, message: str) -> None:
 
 def of_system(error: OSError) -> ToolError:
     """Returns what the system says as an error of a tool."""
-    return ToolError(f"{error.filename or 'standard output'}: {error.strerror or error}")
+    return ToolError(
+        Text("{}: {}", error.filename or Text("standard output"), error.strerror or error)
+    )
 
 
 def sentence(what: str, hint: str) -> str:
@@ -120,7 +127,7 @@ def sentence(what: str, hint: str) -> str:
     """
     if not hint:
         return what
-    return f"{what}; {hint}" if ": " in what else f"{what}: {hint}"
+    return Text("{}; {}" if ": " in what else "{}: {}", what, hint)
 
 
 def visible(text: str) -> str:

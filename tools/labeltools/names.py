@@ -5,7 +5,7 @@ import unicodedata
 from collections import Counter
 from typing import Iterable, Mapping, Sequence
 
-from labeltools.messages import counted
+from labeltools.text import Text, numbered
 
 MOST_NAMED = 5  # rows in one message
 
@@ -78,13 +78,13 @@ def listed(rows: Sequence[int]) -> str:
     ('row 3', 'rows 3 and 4', 'rows 2, 3, 4, 5, 6 and 5 more')
     """
     if len(rows) == 1:
-        return f"row {rows[0]}"
+        return Text("row {}", rows[0])
     if len(rows) <= MOST_NAMED:
         *first, last = map(str, rows)
     else:
         first = [str(row) for row in rows[:MOST_NAMED]]
-        last = f"{len(rows) - MOST_NAMED} more"
-    return f"rows {', '.join(first)} and {last}"
+        last = Text("{} more", len(rows) - MOST_NAMED)
+    return Text("rows {}", Text("{} and {}", ", ".join(first), last))
 
 
 def said_of_empty(what: str, rows: Sequence[int], labels: int) -> str:
@@ -93,5 +93,9 @@ def said_of_empty(what: str, rows: Sequence[int], labels: int) -> str:
     >>> said_of_empty("title", [3, 4], 3)
     'rows 3 and 4 have no title (2 of 3 labels)'
     """
-    has = "has" if len(rows) == 1 else "have"
-    return f"{listed(rows)} {has} no {what} ({len(rows)} of {counted(labels, 'label')})"
+    said = {
+        "title": ("{} has no title ({} of {})", "{} have no title ({} of {})"),
+        "price": ("{} has no price ({} of {})", "{} have no price ({} of {})"),
+    }
+    template = said[what][len(rows) > 1]
+    return Text(template, listed(rows), len(rows), numbered("{} label", labels))

@@ -14,11 +14,12 @@ from decimal import ROUND_HALF_UP, Context, Decimal
 from functools import lru_cache
 from typing import NamedTuple
 
+from labeltools.text import Text
 from labeltools.messages import RowError, quoted
 
 LONGEST_FORMAT = 255  # letters, as spreadsheets have it
-TYPED = "enter it again as text"
-DATE_HINT = "give --date-as dd.mm.yyyy, or another pattern"
+TYPED = Text("enter it again as text")
+DATE_HINT = Text("give --date-as dd.mm.yyyy, or another pattern")
 # formats that a file names by their number alone, in so far as they do not depend on the language
 BUILT_IN = {
     "0": "General",
@@ -205,9 +206,9 @@ def has_own_signs(number_format: str) -> bool:
 def not_understood(number_format: str, is_code: bool = False) -> RowError:
     """Returns the error of a format; a date, which is no code, may be written anew."""
     if number_format == LANGUAGE:
-        what = "has a number format that depends on the language of the spreadsheet"
+        what = Text("has a number format that depends on the language of the spreadsheet")
         return RowError(what, TYPED)
-    what = f"has the number format {quoted(number_format)}, which is not understood"
+    what = Text("has the number format {}, which is not understood", quoted(number_format))
     if is_date_format(number_format) and not is_code:
         return RowError(what, DATE_HINT)
     return RowError(what, TYPED)
@@ -339,7 +340,9 @@ def moment_of(value: Decimal, is_from_1904: bool, letters: set[str]) -> datetime
     exact = value * SECONDS
     seconds = int(exact.to_integral_value(ROUND_HALF_UP))
     if letters & TIMES and seconds - exact > SAME_SECOND:
-        raise RowError("has a time between two seconds, which programs show differently", TYPED)
+        raise RowError(
+            Text("has a time between two seconds, which programs show differently"), TYPED
+        )
     if seconds - exact > SAME_SECOND:
         seconds -= 1
     day, second = divmod(seconds, SECONDS)
@@ -348,7 +351,7 @@ def moment_of(value: Decimal, is_from_1904: bool, letters: set[str]) -> datetime
     if not letters - TIMES and 0 <= day < FIRST_DAY:  # a time alone
         day = FIRST_DAY
     if not FIRST_DAY <= day <= LAST_DAY:
-        raise RowError("is a date before March 1900 or after 9999", TYPED)
+        raise RowError(Text("is a date before March 1900 or after 9999"), TYPED)
     start = datetime.combine(DAY_ZERO, datetime.min.time())
     return start + timedelta(days=day, seconds=second)
 
@@ -413,7 +416,8 @@ def general(value: Decimal, signs: Signs) -> str:
     is_long = "." in text and len(text.strip("0.").replace(".", "")) > 9
     if value >= 10**15 or is_long:
         raise RowError(
-            f"is the number {text} without a number of decimals", "give it a format such as 0.00"
+            Text("is the number {} without a number of decimals", text),
+            Text("give it a format such as 0.00"),
         )
     return text.replace(".", signs.decimal)
 
@@ -431,12 +435,14 @@ def digits_of(number_format: str, value: Decimal, is_data: bool = False) -> str:
     if [part.kind for part in parts] != ["number"]:
         raise not_understood(number_format, is_code=True)
     if value != value.to_integral_value() or abs(value) >= 10**15:
-        raise RowError(f"is the number {value}, which is not whole or has too many digits", TYPED)
+        raise RowError(
+            Text("is the number {}, which is not whole or has too many digits", value), TYPED
+        )
     pattern = parts[0].text
     is_general = pattern[0] in "Gg@"
     if is_data and not is_general and re.search(r"[.Ee]|,\Z", pattern):
         shown = f"has the number format {quoted(number_format)}"
-        raise RowError(f"{shown}, and would be drawn as {value:.0f}", TYPED)
+        raise RowError(Text("{}, and would be drawn as {:.0f}", shown, value), TYPED)
     zeros = 0 if is_general else least_digits(re.split("[.Ee]", pattern)[0])
     return f"{value:.0f}".zfill(zeros)
 

@@ -9,6 +9,7 @@ from typing import Iterator, Mapping
 from xml.etree.ElementTree import Element
 from zipfile import ZipFile
 
+from labeltools.text import Text
 from labeltools.messages import RowError, ToolError, quoted
 from labeltools.number_format import DAY_ZERO, Formatter, date_section, date_text, digits_of
 from labeltools.rows import Cell, Fault, Merge, Row, Special, Truth
@@ -70,7 +71,9 @@ class Number(Special):
     def digits(self) -> str:
         """Returns the digits as they are shown, or else those of the number."""
         if self.exact is None or not PLAINLY_SHOWN.fullmatch(self.text):
-            raise RowError(f"is shown as {quoted(self.text)}, which is no whole number", TYPED)
+            raise RowError(
+                Text("is shown as {}, which is no whole number", quoted(self.text)), TYPED
+            )
         return self.text if self.text.isdecimal() else digits_of("0", self.exact)
 
     def data(self) -> str:
@@ -79,7 +82,7 @@ class Number(Special):
         """
         digits = self.digits()
         if THOUSANDS.sub("", self.text) != digits:
-            what = f"is shown as {quoted(self.text)}, and would be drawn as {digits}"
+            what = Text("is shown as {}, and would be drawn as {}", quoted(self.text), digits)
             raise RowError(what, TYPED)
         return digits
 
@@ -224,7 +227,9 @@ def cell_of(cell: Element, content: Content) -> Cell:
         moment = cell.get("date-value", "")
         return Number(value or text, text, exact, moment, content.formatter)
     if kind == "error":
-        what = f"has {quoted(text)}, which the spreadsheet writes where it has no value to show"
+        what = Text(
+            "has {}, which the spreadsheet writes where it has no value to show", quoted(text)
+        )
         return Fault(what, "", text)
     if kind == "boolean":
         return Truth(text)
@@ -255,6 +260,6 @@ def days_of(moment: str) -> Decimal:
     try:
         found = datetime.fromisoformat(moment)
     except ValueError:
-        raise RowError(f"has the date {quoted(moment)}, which is none", TYPED) from None
+        raise RowError(Text("has the date {}, which is none", quoted(moment)), TYPED) from None
     past = found - datetime.combine(date.fromordinal(DAY_ZERO.toordinal()), datetime.min.time())
     return Decimal(past.days) + Decimal(past.seconds) / 86400

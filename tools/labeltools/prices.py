@@ -6,11 +6,12 @@ from dataclasses import dataclass, field, replace
 from decimal import ROUND_HALF_UP, Decimal
 from typing import Iterator, Mapping, NamedTuple
 
+from labeltools.text import Text
 from labeltools.messages import counted
 from labeltools.money import LOOKS, PER_UNIT, SPACES, WITH_THREE_DECIMALS, Money, NotMoney
 from labeltools.money import currency_of, is_pair, plain
 
-THOUSANDS_OR_DECIMALS = "may have thousands or decimals"
+THOUSANDS_OR_DECIMALS = Text("may have thousands or decimals")
 SIGN_OF = {"crown": "kr", "EUR": "€", "GBP": "£"}
 ONE_SIGN = {"JPY": "¥", "CNY": "¥"}
 SAME = {("¥", "JPY"), ("¥", "CNY"), ("$", "USD")}
@@ -92,24 +93,29 @@ class PriceColumn:
         """Yields what is said once."""
         if len(self.points) > 1:
             first, second = list(self.points.values())[:2]
-            both = f"row {first.row} has {first.text} and row {second.row} has {second.text}"
-            yield Said(f"{both}: two decimal signs")
+            both = Text(
+                "row {} has {} and row {} has {}", first.row, first.text, second.row, second.text
+            )
+            yield Said(Text("{}: two decimal signs", both))
         if "open" in self.kinds and not self.point:
             row, text, rows = self.kinds["open"]
-            more = f" and {rows - 1} more" if rows > 1 else ""
+            more = Text(" and {} more", rows - 1) if rows > 1 else ""
             yield Said(
-                f"{text} in row {row}{more} {THOUSANDS_OR_DECIMALS}", "it is printed as it is"
+                Text("{} in row {}{} {}", text, row, more, THOUSANDS_OR_DECIMALS),
+                Text("it is printed as it is"),
             )
         if "short" in self.kinds:
             row, text, rows = self.kinds["short"]
-            hint = "give --price-as '0.00', or another pattern, to print two"
-            yield Said(f"row {row} has {text}, one decimal ({counted(rows, 'row')})", hint)
+            hint = Text("give --price-as '0.00', or another pattern, to print two")
+            yield Said(
+                Text("row {} has {}, one decimal ({})", row, text, counted(rows, "row")), hint
+            )
         if "zero" in self.kinds:
             row, text, rows = self.kinds["zero"]
-            yield Said(f"row {row} has the price {text} ({counted(rows, 'row')})")
+            yield Said(Text("row {} has the price {} ({})", row, text, counted(rows, "row")))
         if len(self.currencies) > 1:
             listed = ", ".join(sorted(self.currencies))
-            yield Said(f"the prices have several currencies: {listed}")
+            yield Said(Text("the prices have several currencies: {}", listed))
 
 
 def see(found: dict[str, Seen], kind: str, row: int, text: str) -> None:
@@ -153,13 +159,13 @@ def settled(price: Money, column: PriceColumn) -> Money:
     if not price.is_open:
         return price
     if not column.point:
-        raise NotMoney(THOUSANDS_OR_DECIMALS, "give --decimal , or --decimal .")
+        raise NotMoney(THOUSANDS_OR_DECIMALS, Text("give --decimal , or --decimal ."))
     if column.point != price.group:
         return replace(price, is_open=False)
     is_known = column.decimals == 3 or column.has_thousands or price.currency in WITH_THREE_DECIMALS
     if not is_known:
         sign = "which is the decimal sign of its column"
-        raise NotMoney(f"has three digits behind {price.group}, {sign}")
+        raise NotMoney(Text("has three digits behind {}, {}", price.group, sign))
     value = price.value / 1000
     return replace(price, value=value, point=price.group, group="", decimals=3, is_open=False)
 
@@ -229,15 +235,15 @@ class PricePattern:
         labeltools.money.NotMoney: has decimals, and the pattern of prices has none
         """
         if price.is_open:
-            raise NotMoney(THOUSANDS_OR_DECIMALS, "give --decimal , or --decimal .")
+            raise NotMoney(THOUSANDS_OR_DECIMALS, Text("give --decimal , or --decimal ."))
         if price.words or price.count != 1:
-            raise NotMoney("has words, which the pattern of prices would lose")
+            raise NotMoney(Text("has words, which the pattern of prices would lose"))
         self.check_currency(price, currency)
         shown = price.value.quantize(Decimal(1).scaleb(-self.decimals), ROUND_HALF_UP)
         if self.decimals < 2 and shown != price.value:
-            raise NotMoney("has decimals, and the pattern of prices has none")
+            raise NotMoney(Text("has decimals, and the pattern of prices has none"))
         if not shown and price.value:
-            raise NotMoney("would be printed as zero")
+            raise NotMoney(Text("would be printed as zero"))
         own = currency or SIGN_OF.get(price.currency, price.currency)
         number = (self.front + self.number(shown) + self.end).replace("¤", own)
         unit = f" {price.unit}".replace(" /", "/") if price.unit else ""
@@ -258,11 +264,11 @@ class PricePattern:
         wanted = currency_of(plain(own)) if own not in ("", "¤") else ""
         has_one = found not in ("", "cent")
         if has_one and wanted and not is_same(found, wanted):
-            raise NotMoney(f"has {found}, and the pattern of prices has {wanted}")
+            raise NotMoney(Text("has {}, and the pattern of prices has {}", found, wanted))
         if "¤" in own and not has_one:
-            raise NotMoney("has no currency, and the pattern of prices wants one")
+            raise NotMoney(Text("has no currency, and the pattern of prices wants one"))
         if not own and found:
-            raise NotMoney(f"has {found}, and the pattern of prices has no currency")
+            raise NotMoney(Text("has {}, and the pattern of prices has no currency", found))
 
 
 def currency_of_row(price: Money, currency: str) -> str:
@@ -271,7 +277,7 @@ def currency_of_row(price: Money, currency: str) -> str:
     """
     row = currency_of(plain(currency), plain(currency)) or "" if currency else ""
     if currency and price.currency not in ("", "cent") and not is_same(price.currency, row):
-        raise NotMoney(f"has {price.currency}, and its row has {currency}")
+        raise NotMoney(Text("has {}, and its row has {}", price.currency, currency))
     return row
 
 
@@ -286,7 +292,7 @@ def with_currency(price: Money, text: str, currency: str | None) -> str:
     if price.currency:
         return text
     if not currency:
-        raise NotMoney("has no currency, and its row has none")
+        raise NotMoney(Text("has no currency, and its row has none"))
     unit = PER_UNIT.search(text) if price.unit else None
     if unit is None:
         return f"{text} {currency}"

@@ -3,6 +3,7 @@
 import re
 from typing import Any, Optional
 
+from labeltools.text import Text
 from labeltools.area import Area
 from labeltools.engine import Modules
 from labeltools.forms.dots import Picture, drawn_page
@@ -54,8 +55,8 @@ def reader() -> Any:
     try:
         import zxingcpp
     except ImportError as error:
-        hint = "apt-get install python3-zxing-cpp"
-        raise ToolError(f"{error}: --read-back needs it", hint) from error
+        hint = Text("apt-get install python3-zxing-cpp")
+        raise ToolError(Text("{}: --read-back needs it", error), hint) from error
     return zxingcpp
 
 

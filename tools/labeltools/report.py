@@ -4,6 +4,7 @@ from dataclasses import dataclass
 from itertools import groupby
 from typing import Iterable, Iterator, Optional, Sequence
 
+from labeltools.text import Text
 from labeltools.messages import Place
 
 MOST_REASONS = 8  # that have a message of their own
@@ -32,7 +33,7 @@ def report(left_out: Sequence[LeftOut], tables: Iterable[str]) -> Iterator[str]:
             named.append(one.place)
     reasons = sorted(places, key=lambda reason: -len(places[reason]))
     for reason in reasons[:MOST_REASONS]:
-        yield f"{places_text(places[reason], has_tables)}: {reason}"
+        yield Text("{}: {}", places_text(places[reason], has_tables), reason)
     rest = [place for reason in reasons[MOST_REASONS:] for place in places[reason]]
     if rest:
         text = places_text(rest, has_tables)

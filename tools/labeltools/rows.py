@@ -3,6 +3,7 @@
 from dataclasses import dataclass
 from typing import Iterator, Mapping, NamedTuple, Protocol, Sequence, Union
 
+from labeltools.text import Text
 from labeltools.messages import RowError
 
 
@@ -65,8 +66,8 @@ class Truth(Special):
 
     def shown(self) -> str:
         """Raises `RowError`."""
-        what = "has neither a text nor a number, but TRUE, FALSE or the like"
-        raise RowError(what, "enter it again as text")
+        what = Text("has neither a text nor a number, but TRUE, FALSE or the like")
+        raise RowError(what, Text("enter it again as text"))
 
     def mark(self) -> str:
         """Returns its text."""
@@ -118,7 +119,9 @@ class Row(NamedTuple):
         for row, first, last_row, last in self.merges:
             is_inside = row <= self.number <= last_row and first <= place <= last
             if is_inside and (row, first) != (self.number, place):
-                return Fault(f"is merged with row {row}", "take the merged cells apart")
+                return Fault(
+                    Text("is merged with row {}", row), Text("take the merged cells apart")
+                )
         return self.cells[place] if place < len(self.cells) else ""
 
     def link(self, place: int) -> str:

@@ -11,6 +11,7 @@ from pathlib import Path
 from typing import Any
 
 from labeltools import print_command, table_command
+from labeltools.text import Text
 from labeltools.command_line import read_input, words_of
 from labeltools.engine import option_words
 from labeltools.guess import guess_of
@@ -48,7 +49,7 @@ class Talk:
     def go_on(self, done: int, total: int) -> None:
         """Keeps how far the work is; raises `Cancelled` where it is stopped."""
         if self.is_stopped:
-            raise Cancelled("stopped")
+            raise Cancelled(Text("stopped"))
         self.progress = done / total if total else 0.0
 
 
@@ -119,7 +120,7 @@ def read_back(labels: Prepared, talk: Talk) -> Press:
     is not what it has to be.
     """
     for record, fault in faults(labels.labels, labels.laid_out, labels.job, labels.letters, talk):
-        raise ToolError(f"nothing is printed: {record.place}: {fault}")
+        raise ToolError(Text("nothing is printed: {}: {}", record.place, fault))
     return labels.press(talk)
 
 

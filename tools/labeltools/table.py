@@ -5,6 +5,7 @@ from dataclasses import dataclass, field
 from itertools import chain
 from typing import Iterator, NamedTuple, Sequence
 
+from labeltools.text import Text
 from labeltools.columns import Columns, Head, columns_of, names_of
 from labeltools.csv_table import csv_table
 from labeltools.drafts import RowReader
@@ -59,7 +60,9 @@ def lines_of_table(data: bytes, name: str, options: TableOptions, talk: Talk) ->
     writer = work.writer
     if not (writer.taken or writer.left_out or work.hidden or work.unmarked):
         row = start.head.row.number
-        raise ToolError(f"{name} has no row below row {row}, which has the names of the columns")
+        raise ToolError(
+            Text("{} has no row below row {}, which has the names of the columns", name, row)
+        )
     if work.unmarked and not writer.taken:
         raise nothing_marked(columns, name)
     output = writer.finish()
@@ -77,11 +80,15 @@ def head_of(data: bytes, name: str, options: TableOptions, talk: Talk) -> Start:
     wanted = options.file.header_row
     first = next((row for row in rows if is_first(row, wanted)), None)
     if first is None or wanted and (first.number != wanted or first.is_blank()):
-        what = f"{name} has nothing in row {wanted}" if wanted else f"{name} has empty cells alone"
+        what = (
+            Text("{} has nothing in row {}", name, wanted)
+            if wanted
+            else Text("{} has empty cells alone", name)
+        )
         raise ToolError(what)
     if first.problem:
         problem = first.problem
-        raise ToolError(f"{name}: row {first.number}: {problem.what}", problem.hint)
+        raise ToolError(Text("{}: row {}: {}", name, first.number, problem.what), problem.hint)
     if options.file.has_header is False:
         return Start(Head(first, ()), chain([first], rows), formatter)
     return Start(Head(first, names_of(first)), rows, formatter)
@@ -111,13 +118,13 @@ def rows_of(
     kind.
     """
     if NO_TABLE.match(data):
-        what = f"{name} is an old .xls, XML, HTML, or has a password"
-        raise ToolError(what, "save it as .xlsx, without one")
+        what = Text("{} is an old .xls, XML, HTML, or has a password", name)
+        raise ToolError(what, Text("save it as .xlsx, without one"))
     is_csv = not data.startswith(ZIP)
     for option in ("sheet",) if is_csv else ("delimiter", "encoding"):
         if getattr(options.file, option) is not None:
-            what = f"{name} is {'CSV' if is_csv else 'no CSV'}"
-            raise ToolError(what, f"leave --{option} away", BAD_ARGUMENTS)
+            what = Text("{} is CSV" if is_csv else "{} is no CSV", name)
+            raise ToolError(what, Text("leave --{} away", option), BAD_ARGUMENTS)
     if is_csv:
         return csv_table(data, name, options, talk).rows()
     return rows_of_workbook(data, name, options.file.sheet, formatter)
@@ -135,7 +142,9 @@ def rows_of_workbook(
 def nothing_marked(columns: Columns, name: str) -> ToolError:
     """Returns the error of a table in which no row has the values that were asked for."""
     wanted = " and ".join(f"{quoted(value)} in {column.title}" for column, value in columns.where)
-    return ToolError(f"{name} has no row with {wanted}", "look how the cells are spelled")
+    return ToolError(
+        Text("{} has no row with {}", name, wanted), Text("look how the cells are spelled")
+    )
 
 
 @dataclass
@@ -179,8 +188,8 @@ class Work:
     def leave_out_empty(self, empty: Sequence[int]) -> None:
         """Leaves out empty rows."""
         if empty:
-            more = f", and all to row {empty[-1]}" if empty[1:] else ""
-            self.talk.note(Place("", "row", empty[0]), "", f"the row is empty{more}", "")
+            more = Text(", and all to row {}", empty[-1]) if empty[1:] else ""
+            self.talk.note(Place("", "row", empty[0]), "", Text("the row is empty{}", more), "")
             self.writer.left_out += empty
 
     def take(self, row: Row) -> None:
@@ -207,18 +216,20 @@ class Work:
         self.say_of_codes()
         if self.reader.other_currency:
             row, currency = self.reader.other_currency
-            text = f"row {row} has the currency {quoted(currency)}, which is not known"
-            self.talk.say(text, "if it is right, name it by --currency-name")
+            text = Text("row {} has the currency {}, which is not known", row, quoted(currency))
+            self.talk.say(text, Text("if it is right, name it by --currency-name"))
         if self.reader.html:
-            text = f"row {self.reader.html} has HTML in a title or text, which is printed as it is"
+            text = Text(
+                "row {} has HTML in a title or text, which is printed as it is", self.reader.html
+            )
             self.talk.say(text)
         if self.hidden:
             are = "is" if self.hidden == 1 else "are"
-            text = f"{counted(self.hidden, 'hidden row')} {are} not printed"
-            self.talk.say(text, "give --hidden to print them")
+            text = Text("{} {} not printed", counted(self.hidden, "hidden row"), are)
+            self.talk.say(text, Text("give --hidden to print them"))
         if self.writer.unchanged:
             rows = f"{self.writer.unchanged} of {counted(self.writer.taken, 'row')}"
-            self.talk.say(f"{rows} are as before, and are not printed")
+            self.talk.say(Text("{} are as before, and are not printed", rows))
         self.say_of_numbers()
 
     def say_of_empty(self) -> None:
@@ -232,19 +243,21 @@ class Work:
         """Says which codes are unlike the others, or lead to another address."""
         codes = self.writer.codes
         if odd := unlike(codes):
-            text = f"the code of {listed(odd)} has no digit, {quoted(codes[odd[0]])}"
-            self.talk.say(f"{text}, and others have", "is it one?")
+            text = Text("the code of {} has no digit, {}", listed(odd), quoted(codes[odd[0]]))
+            self.talk.say(Text("{}, and others have", text), Text("is it one?"))
         if self.reader.other_link:
-            text = f"the code of row {self.reader.other_link} is a text that leads to an address"
-            self.talk.say(text, "give --links to draw the address")
+            text = Text(
+                "the code of row {} is a text that leads to an address", self.reader.other_link
+            )
+            self.talk.say(text, Text("give --links to draw the address"))
 
     def say_of_numbers(self) -> None:
         """Shows how numbers and dates of .xlsx are printed, where the file does not say it."""
         formatter = self.start.formatter
         is_given = self.options.file.decimal is not None or self.options.prices.pattern
         if formatter.first_number and not is_given:
-            text = f"numbers are printed as {quoted(formatter.first_number)}: is that right?"
-            self.talk.say(f"{text} else give --decimal , or .")
+            text = Text("numbers are printed as {}: is that right?", quoted(formatter.first_number))
+            self.talk.say(Text("{} else give --decimal , or .", text))
         if formatter.first_date and not formatter.date_as:
-            text = f"dates are printed as {quoted(formatter.first_date)}: is that right?"
-            self.talk.say(f"{text} else give --date-as dd.mm.yyyy, or another pattern")
+            text = Text("dates are printed as {}: is that right?", quoted(formatter.first_date))
+            self.talk.say(Text("{} else give --date-as dd.mm.yyyy, or another pattern", text))

@@ -8,6 +8,7 @@ import sys
 from pathlib import Path
 from typing import Any, Callable, Sequence, TypeVar
 
+from labeltools.text import Text
 from labeltools.codes import AUTO, NAMES, CodeRules
 from labeltools.columns import column_word
 from labeltools.command_line import CommandTalk, Parser, main_of, read_input, standard_output
@@ -336,8 +337,8 @@ def older_lines(path: str) -> LinesFile:
     """
     lines = read_lines(Path(path).read_bytes(), path)
     if any(record.symbology not in SYMBOLOGIES for record in lines.records):
-        hint = "name the lines that were made of a table"
-        raise ToolError(f"{path} has lines that are not of label-table", hint)
+        hint = Text("name the lines that were made of a table")
+        raise ToolError(Text("{} has lines that are not of label-table", path), hint)
     return lines
 
 

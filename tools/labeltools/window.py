@@ -10,6 +10,7 @@ from functools import lru_cache, partial
 from pathlib import Path
 from typing import Any
 
+from labeltools.text import Text
 from labeltools.area import MILLIMETRES
 from labeltools.command_line import Parser
 from labeltools.forms import PBM, SVG
@@ -22,7 +23,7 @@ from labeltools.print_job import Prepared
 from labeltools.printer import media_of, queues
 from labeltools.shop import COLUMNS, Choices, Table, Talk, read_back
 from labeltools.stock import list_stock
-from labeltools.translation import translated
+from labeltools.text import translated
 from labeltools.words import _, counted
 
 Gdk = library("Gdk", "3.0")
@@ -327,7 +328,9 @@ def run() -> int:
     parser.add_argument("table", metavar="TABLE", nargs="?", help="a table to open")
     table = parser.parse_args().table
     if not Gtk.init_check()[0]:
-        raise ToolError("there is no screen", "on a terminal type label-table and label-print")
+        raise ToolError(
+            Text("there is no screen"), Text("on a terminal type label-table and label-print")
+        )
     GLib.set_prgname("org.labels.Window")
     window = Window()
     window.window.connect("destroy", Gtk.main_quit)

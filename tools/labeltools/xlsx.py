@@ -10,6 +10,7 @@ from xml.etree.ElementTree import Element
 from zipfile import ZipFile
 
 from labeltools import number_format
+from labeltools.text import Text
 from labeltools.messages import RowError, ToolError, quoted
 from labeltools.number_format import BUILT_IN, BUILT_IN_DATES, LANGUAGE, Formatter
 from labeltools.rows import Cell, Fault, Merge, Row, Special, Truth
@@ -109,7 +110,9 @@ class Framed(Special):
         """Returns the text, which must be what is shown."""
         text = self.shown()
         if text != self.value:
-            what = f"is shown as {quoted(text)}, and would be drawn as {quoted(self.value)}"
+            what = Text(
+                "is shown as {}, and would be drawn as {}", quoted(text), quoted(self.value)
+            )
             raise RowError(what, TYPED)
         return text
 
@@ -210,7 +213,7 @@ def sheet_rows(archive: ZipFile, path: str, book: Book) -> Iterator[Row]:
 
 def out_of_order(number: int) -> ToolError:
     """Returns the error of a row, or a cell of it, that is not behind the one before."""
-    return ToolError(f"has row {number} or a cell of it out of order", SAVE_AGAIN)
+    return ToolError(Text("has row {} or a cell of it out of order", number), SAVE_AGAIN)
 
 
 def cells_of(row: Element, number: int, book: Book, links: dict[int, str]) -> list[Cell]:
@@ -306,7 +309,9 @@ def value_of(cell: Element, kind: str, value: str, style: str, book: Book) -> Ce
     if kind in ("str", "inlineStr"):
         return text_of(string_of(cell), style)
     if kind == "e":
-        what = f"has {quoted(value)}, which the spreadsheet writes where it has no value to show"
+        what = Text(
+            "has {}, which the spreadsheet writes where it has no value to show", quoted(value)
+        )
         return Fault(what, "", value)
     return Truth({"1": "TRUE", "0": "FALSE"}.get(value, value))
 

@@ -1,5 +1,6 @@
 """The messages of the tools in German: every message has a text, and the tools write it."""
 
+import ast
 import os
 import re
 import string
@@ -10,9 +11,9 @@ from pathlib import Path
 
 import support
 
-TEMPLATES = support.TOOLS / "po/templates.py"
-MESSAGES = support.TOOLS / "labeltools/messages.txt"
 GERMAN = support.TOOLS / "po/de.po"
+# what tells the user something
+CALLS = set("ToolError RowError NotMoney Fault Said LeftOut Remark Cancelled say note".split())
 ENTRY = re.compile(r'^msgid "(.*)"\nmsgstr "(.*)"$', re.MULTILINE)
 TABLE = "EAN;Name;Preis\n4006381333932;Stift;0,80\n96385074;Gummi;1E3\n4006381333931;Heft;2,50\n"
 
@@ -21,6 +22,38 @@ def fields_of(text):
     """The places of what differs in a text, such as 0 and 1, in order."""
     names = [name for _, name, _, _ in string.Formatter().parse(text) if name is not None]
     return sorted(str(number) if name == "" else name for number, name in enumerate(names))
+
+
+def texts_of_tools():
+    """Yields the templates of all `Text` in the tools."""
+    for path in (support.TOOLS / "labeltools").rglob("*.py"):
+        for node in ast.walk(ast.parse(path.read_text())):
+            if isinstance(node, ast.Call) and getattr(node.func, "id", "") == "Text":
+                text = getattr(node.args[0], "value", "")
+                if any(map(str.isalpha, text)):
+                    yield text
+
+
+def told_in(function):
+    """Yields what calls in a function tell the user: arguments, or what is assigned to them."""
+    assigned = {}
+    for node in ast.walk(function):
+        for target in node.targets if isinstance(node, ast.Assign) else ():
+            if isinstance(target, ast.Name):
+                assigned.setdefault(target.id, []).append(node.value)
+    for node in ast.walk(function):
+        if isinstance(node, ast.Call) and CALLS & {
+            getattr(node.func, "id", ""),
+            getattr(node.func, "attr", ""),
+        }:
+            for one in node.args:
+                yield from assigned.get(one.id, []) if isinstance(one, ast.Name) else [one]
+
+
+def is_bare(node):
+    """Whether an expression is a text that no language changes."""
+    is_text = isinstance(node, ast.Constant) and isinstance(node.value, str) and node.value != ""
+    return is_text or isinstance(node, (ast.JoinedStr, ast.BinOp))
 
 
 def german(folder):
@@ -33,19 +66,20 @@ def german(folder):
 
 
 class German(unittest.TestCase):
-    def test_each_message_has_its_template(self):
-        done = subprocess.run([TEMPLATES, "--check"], capture_output=True, text=True)
-        self.assertEqual((done.returncode, done.stderr), (0, ""), f"run {TEMPLATES}")
+    def test_each_message_knows_its_template(self):
+        for path in (support.TOOLS / "labeltools").rglob("*.py"):
+            for node in ast.walk(ast.parse(path.read_text())):
+                if isinstance(node, ast.FunctionDef):
+                    bare = [ast.unparse(one) for one in told_in(node) if is_bare(one)]
+                    self.assertEqual(bare, [], f"{path.name}: {node.name}")
 
-    def test_each_template_has_a_german_text_with_its_fields(self):
+    def test_each_text_is_in_german_with_its_fields(self):
         found = {one.replace('\\"', '"'): other for one, other in ENTRY.findall(GERMAN.read_text())}
-        lines = MESSAGES.read_text().splitlines()
-        self.assertGreater(len(lines), 200)
-        self.assertEqual([line for line in lines if not found.get(line)], [])
-        for line in lines:
-            fields = set(fields_of(found[line].replace('\\"', '"')))
-            self.assertLessEqual(fields, set(fields_of(line)), line)
-            self.assertLessEqual(len(fields_of(line)) - len(fields), 1, line)
+        texts = set(texts_of_tools())
+        self.assertGreater(len(texts), 200)
+        self.assertEqual(sorted(texts - {*found}), [])
+        for text in texts:
+            self.assertLessEqual({*fields_of(found[text])}, {*fields_of(text)}, text)
 
     def test_a_german_reads_german(self):
         support.needs("msgfmt")
