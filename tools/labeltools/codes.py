@@ -4,7 +4,7 @@ import re
 from dataclasses import dataclass
 from typing import NamedTuple, Sequence
 
-from labeltools.text import Text, joined
+from labeltools.text import NOTHING, Text, counted, joined
 from labeltools.messages import RowError, named, quoted
 from labeltools.money import NO_VALUES
 from labeltools.symbologies import (
@@ -40,10 +40,22 @@ KEYS = sorted({key for one in SYMBOLOGIES.values() for key in one.settings})
 SETTING = re.compile(rf"(?s)(?:{'|'.join(KEYS)})=\S*(?: .*)?")
 # what would be drawn though nobody means it
 DRAWN = (
-    (SETTING, "a setting in front", "take it away; settings of all lines are given by --settings"),
-    (re.compile(r"(?s)\s.*|.*\s"), "a space before or after the data", "take it away"),
-    (re.compile("(?s)\".*\"|'.*'|[“„].*[“”]|«.*»|».*«"), "quotes round the data", "take them away"),
-    (re.compile("(?s)'.*"), "an apostrophe in front, a spreadsheet's sign of text", "take it away"),
+    (
+        SETTING,
+        Text("a setting in front"),
+        Text("take it away; settings of all lines are given by --settings"),
+    ),
+    (re.compile(r"(?s)\s.*|.*\s"), Text("a space before or after the data"), Text("take it away")),
+    (
+        re.compile("(?s)\".*\"|'.*'|[“„].*[“”]|«.*»|».*«"),
+        Text("quotes round the data"),
+        Text("take them away"),
+    ),
+    (
+        re.compile("(?s)'.*"),
+        Text("an apostrophe in front, a spreadsheet's sign of text"),
+        Text("take it away"),
+    ),
 )
 # LibreOffice's name of an error in its languages, before the number of the error
 ERROR_WORDS = (
@@ -191,9 +203,7 @@ def wrong_length(digits: str, asked: Sequence[str], rules: CodeRules) -> RowErro
     count = len(digits)
     missing = rules.without_check_digit
     lengths = joined(", ", (Text("{} has {}", one, LENGTHS[one] - missing) for one in asked))
-    what = Text(
-        "{} has {} digits, {}" if count > 1 else "{} has {} digit, {}", digits[:20], count, lengths
-    )
+    what = counted("{1} has {0} digit, {2}", "{1} has {0} digits, {2}", count, digits[:20], lengths)
     if missing:
         return RowError(what, Text("give --without-check-digit only where no number has one"))
     length, rest = ADD_ONS.get(count, (0, 0))
@@ -224,4 +234,4 @@ def wrong_check_digit(filled: str, count: int, rules: CodeRules) -> RowError:
     right = check_digit(filled[:-1])
     what = Text("{}: the check digit is {}, should be {}", filled, filled[-1], right)
     may_miss = rules.symbology == AUTO and count == 12
-    return RowError(what, NO_CHECK_DIGITS if may_miss else "")
+    return RowError(what, NO_CHECK_DIGITS if may_miss else NOTHING)

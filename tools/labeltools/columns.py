@@ -41,7 +41,7 @@ class Column:
     """A column that was asked for: its place, from 0, and how messages call it."""
 
     place: int
-    title: str
+    title: Text
 
     def error(self, problem: RowError) -> RowError:
         """Returns the error of a cell, with the column in front."""
@@ -175,8 +175,9 @@ def plain_text(cell: str) -> str:
         what = Text("has {}, with the sign of a lost letter (U+FFFD)", quoted(cell))
         raise RowError(what, Text("export the table again"))
     if len(cell) > LONGEST_CELL:
-        most = "has {}, and at most {} characters of a cell are read"
-        raise RowError(Text(most, quoted(cell), LONGEST_CELL))
+        raise RowError(
+            Text("has {}, and at most {} characters of a cell are read", quoted(cell), LONGEST_CELL)
+        )
     return cell
 
 
@@ -316,12 +317,10 @@ def not_one(argument: str, head: Head, count: int) -> ToolError:
     listed = [f"{number} {quoted(name)}" for number, name in enumerate(names, 1)]
     more = [".."] if len(listed) > LISTED else []
     has = ", ".join(listed[:LISTED] + more)
-    what = Text(
-        "several columns {}; row {} has {}" if count else "no column {}; row {} has {}",
-        quoted(argument),
-        head.row.number,
-        has,
-    )
+    row = head.row.number
+    what = Text("no column {}; row {} has {}", quoted(argument), row, has)
+    if count:
+        what = Text("several columns {}; row {} has {}", quoted(argument), row, has)
     return ToolError(what, Text("give the number of one"), BAD_ARGUMENTS)
 
 

@@ -6,9 +6,9 @@ import re
 import unicodedata
 from dataclasses import dataclass, field
 from itertools import count, islice
-from typing import Iterator, NamedTuple, Sequence
+from typing import Iterator, Mapping, NamedTuple, Sequence
 
-from labeltools.text import Text
+from labeltools.text import Text, joined
 from labeltools.messages import BAD_ARGUMENTS, RowError, Talk, ToolError, named, quoted
 from labeltools.names import name_of, row_of_names
 from labeltools.rows import Row
@@ -236,7 +236,7 @@ def wrong_encoding(data: bytes, name: str, codec: str, start: int) -> ToolError:
     found = readings(data[begin : end if end >= 0 else len(data)], codec)
     if not found:
         return ToolError(what, Text("save it as UTF-8"))
-    read = ", ".join(f"{other} reads {quoted(word)}" for other, word in found.items())
+    read = readings_text(found)
     return ToolError(
         what, Text("save it as UTF-8, or give the --encoding that reads it right: {}", read)
     )
@@ -265,6 +265,11 @@ def readings(line: bytes, without: str) -> dict[str, str]:
     return dict(islice(read.items(), MOST_READINGS))
 
 
+def readings_text(readings: Mapping[str, str]) -> Text:
+    """Returns how encodings read a word."""
+    return joined(", ", (Text("{} reads {}", one, quoted(word)) for one, word in readings.items()))
+
+
 def is_word(text: str) -> bool:
     """Returns whether a text can be seen, and its letters are of one script."""
     letters = [letter for letter in text if letter.isalpha()]
@@ -278,7 +283,7 @@ def say_suspicious(text: str, codec: str, talk: Talk) -> None:
         return
     if found := SUSPICIOUS.search(text):
         others = readings(found[0].encode(codec), codec)
-        read = ", ".join(f"{other} reads {quoted(word)}" for other, word in others.items())
+        read = readings_text(others)
         if read:
             talk.say(
                 Text("the table is read as {}, with {}", codec.upper(), quoted(found[0])),

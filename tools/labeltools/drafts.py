@@ -13,7 +13,7 @@ from labeltools.names import is_repeated, name_of
 from labeltools.rows import Cell, Row
 from labeltools.table_options import TableOptions
 
-ZERO_HINT = "it is a zero, which its number format shows so"
+ZERO_HINT = Text("it is a zero, which its number format shows so")
 PROGRAM_DECIMALS = 17  # of a number that a program has calculated
 
 

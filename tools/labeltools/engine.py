@@ -66,7 +66,7 @@ class Drawn:
     """
 
     pictures: dict[int, Modules]
-    refused: dict[int, str]
+    refused: dict[int, Text]
 
 
 class NotWords(ToolError, argparse.ArgumentTypeError):
@@ -78,7 +78,7 @@ def option_words(argument: str) -> tuple[str, ...]:
     try:
         return tuple(shlex.split(argument))
     except ValueError as error:
-        raise NotWords(f"{argument!r}: {error}") from error
+        raise NotWords(Text("{}: {}", repr(argument), error)) from error
 
 
 def bytes_a_row(width: int) -> int:
@@ -125,7 +125,8 @@ def run_labels(data: bytes, words: Sequence[str], talk: Talk) -> Drawn:
             said = ended_child([program, *words, *own], drawing, source, seconds, talk)
         drawing.seek(0)
         pictures = list(pictures_in(drawing))
-    refused = {int(match[1]): match[2] for match in map(REFUSAL.fullmatch, said) if match}
+    matches = filter(None, map(REFUSAL.fullmatch, said))
+    refused = {int(match[1]): Text("{}", match[2]) for match in matches}
     drawn = [number for number in lines_with_data(data) if number not in refused]
     if len(drawn) != len(pictures):
         what = Text("labels did not draw or refuse each line: which is which is not known")
@@ -179,7 +180,7 @@ def ended_child(
     if child.returncode not in (0, 1):
         status = BAD_ARGUMENTS if child.returncode == BAD_ARGUMENTS else LABELS_FAILED
         raise ToolError(
-            Text("labels {}: {}", ending_of(child.returncode), "; ".join(said[:1])), "", status
+            Text("labels {}: {}", ending_of(child.returncode), "; ".join(said[:1])), status=status
         )
     return said
 

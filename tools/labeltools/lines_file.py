@@ -19,13 +19,15 @@ from io import BytesIO
 from typing import Any, Iterator, Sequence
 
 from labeltools import VERSION
-from labeltools.text import Text
+from labeltools.text import NOTHING, Text
 from labeltools.messages import Place, ToolError, quoted
 from labeltools.symbologies import SYMBOLOGIES, check_digit
 
 MOST_COPIES = 9999
 MOST_LEFT_OUT = 20  # rows that the last remark names
 OBJECT = b"#{"
+FIRST = '#{"labels"'  # how the first remark begins
+LAST = '#{"end"'  # and the last one
 # the keys of the object before a line, and of all objects: a number, a text, or a list of one of
 # these
 FIELDS: dict[str, Any] = {
@@ -185,20 +187,20 @@ class _Reader:
     has_escapes: bool
     part: _Part = field(default_factory=_Part)
     waiting: dict[str, Any] = field(default_factory=dict)
-    torn: str = ""
+    torn: Text = NOTHING
     records: list[LineRecord] = field(default_factory=list)
     left_out: list[Place] = field(default_factory=list)
     left_out_count: int = 0
 
     def take_object(self, number: int, line: bytes) -> None:
         """Takes a remark that is an object."""
-        found = object_of(line, f"{self.name}: line {number}")
+        found = object_of(line, Text("{}: line {}", self.name, number))
         is_open = self.part.first >= 0
         count = len(self.records) - self.part.first if is_open else -1
         is_early = "labels" in found and is_open
         is_short = "end" in found and found.get("lines", -2) != count
         if self.waiting or is_early or is_short:
-            self.torn = self.torn or f"before line {number}"
+            self.torn = self.torn or Text("before line {}", number)
         if "labels" in found:
             self.part = _Part(found.get("table", ""), len(self.records))
             self.waiting = {}
@@ -223,10 +225,13 @@ class _Reader:
         """Returns what was read; raises `ToolError` where something is missing."""
         torn = self.torn
         if self.waiting or self.part.first >= 0 or is_cut:
-            torn = torn or "at its end"
+            torn = torn or Text("at its end")
         if torn:
-            remarks = 'that begin with #{"labels" and #{"end"'
-            hint = Text("to print it all the same, take out its lines {}", remarks)
+            hint = Text(
+                "to print it all the same, take out its lines that begin with {} and {}",
+                FIRST,
+                LAST,
+            )
             raise ToolError(
                 Text(
                     "{} is not whole: something is missing {}. Nothing is printed", self.name, torn
@@ -236,7 +241,7 @@ class _Reader:
         return LinesFile(tuple(self.records), tuple(self.left_out), self.left_out_count)
 
 
-def object_of(line: bytes, where: str) -> dict[str, Any]:
+def object_of(line: bytes, where: Text) -> dict[str, Any]:
     """Returns the object of a remark, all of which is understood; raises `ToolError`."""
     try:
         found: dict[str, Any] = json.loads(line[1:])

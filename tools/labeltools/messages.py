@@ -7,13 +7,18 @@ import unicodedata
 from contextlib import suppress
 from typing import NamedTuple, Protocol
 
-from labeltools.text import Text, translated
+from labeltools.text import NOTHING, Text, translated
 
 BAD_ARGUMENTS = 2
 MOST_LETTERS = 40  # of a cell that a message quotes
 # the classes of characters in Unicode that change what a terminal shows, or that cut a message
 UNSEEN = ("Cc", "Cf", "Cs", "Zl", "Zp")
-NAMES = {" ": "a space", "\t": "a tab", "\n": "a line end", "\r": "a line end"}
+NAMES = {
+    " ": Text("a space"),
+    "\t": Text("a tab"),
+    "\n": Text("a line end"),
+    "\r": Text("a line end"),
+}
 
 
 class ToolError(Exception):
@@ -23,7 +28,7 @@ class ToolError(Exception):
     what to do. A command ends with `status`.
     """
 
-    def __init__(self, what: str, hint: str = "", status: int = 1) -> None:
+    def __init__(self, what: Text, hint: Text = NOTHING, status: int = 1) -> None:
         super().__init__(sentence(what, hint))
         self.what = what
         self.hint = hint
@@ -33,7 +38,7 @@ class ToolError(Exception):
 class BadArguments(ToolError):
     """Words that a tool does not understand, with its usage."""
 
-    def __init__(self, what: str, usage: str, hint: str = "") -> None:
+    def __init__(self, what: Text, usage: str, hint: Text = NOTHING) -> None:
         super().__init__(what, hint, BAD_ARGUMENTS)
         self.usage = usage
 
@@ -49,7 +54,7 @@ class RowError(Exception):
     is one cell.
     """
 
-    def __init__(self, what: str, hint: str = "", place: int | None = None) -> None:
+    def __init__(self, what: Text, hint: Text = NOTHING, place: int | None = None) -> None:
         super().__init__(sentence(what, hint))
         self.what = what
         self.hint = hint
@@ -69,7 +74,7 @@ class Place(NamedTuple):
     @property
     def text(self) -> Text:
         """What a message calls it."""
-        return Text("row {}" if self.unit == "row" else "line {}", self.number)
+        return Text("row {}", self.number) if self.unit == "row" else Text("line {}", self.number)
 
 
 class Talk(Protocol):
@@ -77,12 +82,12 @@ class Talk(Protocol):
     shows it.
     """
 
-    def note(self, place: Place, cell: str, reason: str, hint: str) -> None:
+    def note(self, place: Place, cell: str, reason: Text, hint: Text) -> None:
         """A row or line is left out: the text of its cell, why, and what to do, which may be
         empty.
         """
 
-    def say(self, text: str, hint: str = "") -> None:
+    def say(self, text: Text, hint: Text = NOTHING) -> None:
         """Something about the whole that leaves nothing out, and what to do about it."""
 
     def go_on(self, done: int, total: int) -> None:
@@ -94,17 +99,17 @@ class Talk(Protocol):
 class Silence:
     """A talk to nobody."""
 
-    def note(self, place: Place, cell: str, reason: str, hint: str) -> None:
+    def note(self, place: Place, cell: str, reason: Text, hint: Text) -> None:
         """Does nothing."""
 
-    def say(self, text: str, hint: str = "") -> None:
+    def say(self, text: Text, hint: Text = NOTHING) -> None:
         """Does nothing."""
 
     def go_on(self, done: int, total: int) -> None:
         """Does nothing."""
 
 
-def write_message(tool: str, message: str) -> None:
+def write_message(tool: str, message: Text) -> None:
     """Writes a message on standard error, on one line, if that takes it. Every message of a tool
     goes through here.
     """
@@ -119,15 +124,17 @@ def of_system(error: OSError) -> ToolError:
     )
 
 
-def sentence(what: str, hint: str) -> str:
+def sentence(what: Text, hint: Text) -> Text:
     """Returns a reason and what to do as one text.
 
-    >>> sentence("there is no sheet", "give --sheet"), sentence("7: it is no EAN", "look at it")
-    ('there is no sheet: give --sheet', '7: it is no EAN; look at it')
+    >>> sentence(Text("there is no sheet"), Text("give --sheet"))
+    'there is no sheet: give --sheet'
+    >>> sentence(Text("7: it is no EAN"), Text("look at it"))
+    '7: it is no EAN; look at it'
     """
     if not hint:
         return what
-    return Text("{}; {}" if ": " in what else "{}: {}", what, hint)
+    return Text("{}; {}", what, hint) if ": " in what else Text("{}: {}", what, hint)
 
 
 def visible(text: str) -> str:
@@ -139,7 +146,7 @@ def visible(text: str) -> str:
     if text.isprintable():
         return text
     return "".join(
-        numbered(sign) if unicodedata.category(sign) in UNSEEN else sign for sign in text
+        code_point(sign) if unicodedata.category(sign) in UNSEEN else sign for sign in text
     )
 
 
@@ -151,10 +158,10 @@ def quoted(text: str) -> str:
     '"a<U+00A0>b"'
     """
     short = text if len(text) <= MOST_LETTERS else text[: MOST_LETTERS - 3] + "..."
-    return '"' + "".join(sign if sign.isprintable() else numbered(sign) for sign in short) + '"'
+    return '"' + "".join(sign if sign.isprintable() else code_point(sign) for sign in short) + '"'
 
 
-def named(character: str) -> str:
+def named(character: str) -> Text:
     """Returns a character for a message: as it is where it can be seen, with its number where it is
     not ASCII.
 
@@ -162,20 +169,11 @@ def named(character: str) -> str:
     ('"x"', 'a tab', 'en dash (U+2013)')
     """
     if "!" <= character <= "~":
-        return f'"{character}"'
+        return Text('"{}"', character)
     name = unicodedata.name(character, "control character").lower()
-    return NAMES.get(character, f"{name} (U+{ord(character):04X})")
+    return NAMES.get(character) or Text("{} (U+{:04X})", name, ord(character))
 
 
-def numbered(character: str) -> str:
+def code_point(character: str) -> str:
     """Returns the number of a character, as `<U+001B>`."""
     return f"<U+{ord(character):04X}>"
-
-
-def counted(count: int, thing: str) -> str:
-    """Returns a number of things.
-
-    >>> counted(1, "row"), counted(2, "row")
-    ('1 row', '2 rows')
-    """
-    return f"{count} {thing}" if count == 1 else f"{count} {thing}s"

@@ -10,7 +10,7 @@ from dataclasses import dataclass, replace
 from decimal import Decimal
 from functools import lru_cache
 
-from labeltools.text import Text
+from labeltools.text import NOTHING, Text
 from labeltools.messages import RowError
 
 MOST_LETTERS = 60
@@ -406,7 +406,7 @@ def plain_price(text: str) -> str:
         raise NotMoney(Text("has several lines or more than 60 letters"))
     if not re.search("[0-9]", bare):
         has_word = re.search(r"[^\W\d_]{2}", bare) is not None
-        raise NotMoney(Text("has no number"), OTHER_WORDS_HINT if has_word else "")
+        raise NotMoney(Text("has no number"), OTHER_WORDS_HINT if has_word else NOTHING)
     if re.search("[%‰٪]", bare):
         raise NotMoney(Text("is a percentage"))
     if len(scripts_of(text)) > 1 and not re.search("[０-９]", text):

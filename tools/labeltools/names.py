@@ -5,7 +5,7 @@ import unicodedata
 from collections import Counter
 from typing import Iterable, Mapping, Sequence
 
-from labeltools.text import Text, numbered
+from labeltools.text import Text, counted
 
 MOST_NAMED = 5  # rows in one message
 
@@ -71,7 +71,7 @@ def unlike(codes: Mapping[int, str]) -> list[int]:
     return without if is_only or is_rare else []
 
 
-def listed(rows: Sequence[int]) -> str:
+def listed(rows: Sequence[int]) -> Text:
     """Returns rows for a message.
 
     >>> listed([3]), listed([3, 4]), listed(list(range(2, 12)))
@@ -79,23 +79,23 @@ def listed(rows: Sequence[int]) -> str:
     """
     if len(rows) == 1:
         return Text("row {}", rows[0])
+    numbers = list(map(str, rows))
     if len(rows) <= MOST_NAMED:
-        *first, last = map(str, rows)
-    else:
-        first = [str(row) for row in rows[:MOST_NAMED]]
-        last = Text("{} more", len(rows) - MOST_NAMED)
-    return Text("rows {}", Text("{} and {}", ", ".join(first), last))
+        return Text("rows {} and {}", ", ".join(numbers[:-1]), numbers[-1])
+    first = ", ".join(numbers[:MOST_NAMED])
+    return Text("rows {} and {} more", first, len(rows) - MOST_NAMED)
 
 
-def said_of_empty(what: str, rows: Sequence[int], labels: int) -> str:
+def said_of_empty(what: str, rows: Sequence[int], labels: int) -> Text:
     """Returns the one message of empty titles or prices.
 
     >>> said_of_empty("title", [3, 4], 3)
     'rows 3 and 4 have no title (2 of 3 labels)'
     """
-    said = {
-        "title": ("{} has no title ({} of {})", "{} have no title ({} of {})"),
-        "price": ("{} has no price ({} of {})", "{} have no price ({} of {})"),
-    }
-    template = said[what][len(rows) > 1]
-    return Text(template, listed(rows), len(rows), numbered("{} label", labels))
+    named = listed(rows)
+    part = counted("{1} of {0} label", "{1} of {0} labels", labels, len(rows))
+    if what == "title":
+        one = Text("{} has no title ({})", named, part)
+        return one if len(rows) == 1 else Text("{} have no title ({})", named, part)
+    one = Text("{} has no price ({})", named, part)
+    return one if len(rows) == 1 else Text("{} have no price ({})", named, part)

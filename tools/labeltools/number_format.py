@@ -441,8 +441,9 @@ def digits_of(number_format: str, value: Decimal, is_data: bool = False) -> str:
     pattern = parts[0].text
     is_general = pattern[0] in "Gg@"
     if is_data and not is_general and re.search(r"[.Ee]|,\Z", pattern):
-        shown = f"has the number format {quoted(number_format)}"
-        raise RowError(Text("{}, and would be drawn as {:.0f}", shown, value), TYPED)
+        form = quoted(number_format)
+        what = Text("has the number format {}, and would be drawn as {:.0f}", form, value)
+        raise RowError(what, TYPED)
     zeros = 0 if is_general else least_digits(re.split("[.Ee]", pattern)[0])
     return f"{value:.0f}".zfill(zeros)
 

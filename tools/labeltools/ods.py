@@ -230,7 +230,7 @@ def cell_of(cell: Element, content: Content) -> Cell:
         what = Text(
             "has {}, which the spreadsheet writes where it has no value to show", quoted(text)
         )
-        return Fault(what, "", text)
+        return Fault(what, value=text)
     if kind == "boolean":
         return Truth(text)
     if not kind and not text and "formula" in cell.attrib and not content.is_calculated:

@@ -6,10 +6,10 @@ from dataclasses import dataclass, field, replace
 from decimal import ROUND_HALF_UP, Decimal
 from typing import Iterator, Mapping, NamedTuple
 
-from labeltools.text import Text
-from labeltools.messages import counted
+from labeltools.text import NOTHING, Text
 from labeltools.money import LOOKS, PER_UNIT, SPACES, WITH_THREE_DECIMALS, Money, NotMoney
 from labeltools.money import currency_of, is_pair, plain
+from labeltools.summary import rows_text
 
 THOUSANDS_OR_DECIMALS = Text("may have thousands or decimals")
 SIGN_OF = {"crown": "kr", "EUR": "€", "GBP": "£"}
@@ -28,8 +28,8 @@ PATTERN = re.compile(
 class Said(NamedTuple):
     """What is said once of a column, and what to do about it."""
 
-    text: str
-    hint: str = ""
+    text: Text
+    hint: Text = NOTHING
 
 
 class Seen(NamedTuple):
@@ -93,26 +93,29 @@ class PriceColumn:
         """Yields what is said once."""
         if len(self.points) > 1:
             first, second = list(self.points.values())[:2]
-            both = Text(
-                "row {} has {} and row {} has {}", first.row, first.text, second.row, second.text
+            yield Said(
+                Text(
+                    "row {} has {} and row {} has {}: two decimal signs",
+                    first.row,
+                    first.text,
+                    second.row,
+                    second.text,
+                )
             )
-            yield Said(Text("{}: two decimal signs", both))
         if "open" in self.kinds and not self.point:
             row, text, rows = self.kinds["open"]
-            more = Text(" and {} more", rows - 1) if rows > 1 else ""
-            yield Said(
-                Text("{} in row {}{} {}", text, row, more, THOUSANDS_OR_DECIMALS),
-                Text("it is printed as it is"),
-            )
+            where = Text("{} in row {}", text, row)
+            if rows > 1:
+                where = Text("{} in row {} and {} more", text, row, rows - 1)
+            hint = Text("it is printed as it is")
+            yield Said(Text("{} {}", where, THOUSANDS_OR_DECIMALS), hint)
         if "short" in self.kinds:
             row, text, rows = self.kinds["short"]
             hint = Text("give --price-as '0.00', or another pattern, to print two")
-            yield Said(
-                Text("row {} has {}, one decimal ({})", row, text, counted(rows, "row")), hint
-            )
+            yield Said(Text("row {} has {}, one decimal ({})", row, text, rows_text(rows)), hint)
         if "zero" in self.kinds:
             row, text, rows = self.kinds["zero"]
-            yield Said(Text("row {} has the price {} ({})", row, text, counted(rows, "row")))
+            yield Said(Text("row {} has the price {} ({})", row, text, rows_text(rows)))
         if len(self.currencies) > 1:
             listed = ", ".join(sorted(self.currencies))
             yield Said(Text("the prices have several currencies: {}", listed))
@@ -164,8 +167,9 @@ def settled(price: Money, column: PriceColumn) -> Money:
         return replace(price, is_open=False)
     is_known = column.decimals == 3 or column.has_thousands or price.currency in WITH_THREE_DECIMALS
     if not is_known:
-        sign = "which is the decimal sign of its column"
-        raise NotMoney(Text("has three digits behind {}, {}", price.group, sign))
+        raise NotMoney(
+            Text("has three digits behind {}, which is the decimal sign of its column", price.group)
+        )
     value = price.value / 1000
     return replace(price, value=value, point=price.group, group="", decimals=3, is_open=False)
 

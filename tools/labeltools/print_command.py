@@ -9,7 +9,7 @@ import time
 from pathlib import Path
 from typing import Any, Callable, Iterable, Optional
 
-from labeltools.text import Text
+from labeltools.text import Text, counted
 from labeltools.area import DESIGNS
 from labeltools.command_line import (
     CommandTalk,
@@ -22,7 +22,7 @@ from labeltools.engine import option_words
 from labeltools.files import save, send
 from labeltools.forms import FORMS
 from labeltools.layout import LaidOut
-from labeltools.messages import BAD_ARGUMENTS, ToolError, counted, write_message
+from labeltools.messages import BAD_ARGUMENTS, ToolError, write_message
 from labeltools.press import PrintJob, Press, Prints, once
 from labeltools.print_job import (
     DRAWING_DPI,
@@ -276,13 +276,14 @@ def check_count(job: PrintJob, prints: Prints, is_each: bool) -> None:
         raise ToolError(Text("--to {} has one page", job.form.name), hint)
 
 
-def summary_of(job: PrintJob, prints: Prints) -> str:
+def summary_of(job: PrintJob, prints: Prints) -> Text:
     """Returns what was written, and the line that prints it."""
-    text = counted(len(prints), "label")
+    text = counted("{} label", "{} labels", len(prints))
     if not job.form.is_roll:
-        text += f" on {counted(job.pages_of(len(prints)), 'page')}"
+        pages = counted("{} page", "{} pages", job.pages_of(len(prints)))
+        text = Text("{} on {}", text, pages)
     if lp_words(job, "NAME"):
-        text += f"; print the file by: {typed(job, 'NAME')}"
+        text = Text("{}; print the file by: {}", text, typed(job, "NAME"))
     return text
 
 
@@ -297,7 +298,8 @@ def listed(wanted: str) -> int:
     lines = list(list_stock(wanted))
     if not lines:
         hint = Text("try a part of the name, or the size of a cell, such as 70x37")
-        write_message(TOOL, f"no sheet has all of these words: {wanted}: {hint}")
+        what = Text("no sheet has all of these words: {}", wanted)
+        write_message(TOOL, Text("{}: {}", what, hint))
         return 1
     print(*lines, sep="\n")
     return 0
@@ -326,7 +328,7 @@ def run() -> int:
     if options.each is not None:
         write_files(press, items, paths_of(items, options.each))
     elif queue is not None:
-        write_message(TOOL, print_on(press, prints, queue))
+        write_message(TOOL, Text("{}", print_on(press, prints, queue)))
     else:
         write(press, prints)
         if arguments.summary or sys.stderr.isatty():

@@ -75,7 +75,7 @@ class Remark:
     """What is said of labels that are printed, and the place of the first of them."""
 
     first: Place
-    text: str
+    text: Text
 
 
 @dataclass(frozen=True)
@@ -216,7 +216,7 @@ def prepared(options: PrintOptions, job: PrintJob, found: DrawnLines, talk: Talk
     drawn = found.drawn
     letters = Letters(job.fonts)
     labels = drawn_labels(lines, drawn, options.note)
-    reasons: dict[int, str] = dict(drawn.refused)
+    reasons: dict[int, Text] = dict(drawn.refused)
     reasons.update(letters.missing(labels))
     if reasons:
         labels = [label for label in labels if label.record.number not in reasons]
@@ -278,7 +278,7 @@ def is_wanted(place: Place, only: Optional[frozenset[int]]) -> bool:
 
 
 def refused_labels(
-    lines: LinesFile, reasons: Mapping[int, str], only: Optional[frozenset[int]]
+    lines: LinesFile, reasons: Mapping[int, Text], only: Optional[frozenset[int]]
 ) -> Iterable[LeftOut]:
     """Yields the lines that are not printed, with their reasons."""
     for record in lines.records:
@@ -290,7 +290,7 @@ def refused_labels(
 
 def faults(
     items: Sequence[LaidOut], laid_out: LaidOutFile, job: PrintJob, letters: Letters, talk: Talk
-) -> Iterator[tuple[LineRecord, str]]:
+) -> Iterator[tuple[LineRecord, Text]]:
     """Yields the lines of labels that are not drawn as they have to be, and what is wrong."""
     pen = Pen(Medium(job.plan.dpi, True), job.fonts, letters)
     for done, item in enumerate(items):
@@ -342,6 +342,6 @@ def is_dense(item: LaidOut, dot: float) -> bool:
     return not item.layout.symbology.nominal and item.layout.module * dot < DENSE
 
 
-def places_of(items: Iterable[LaidOut], has_tables: bool) -> str:
+def places_of(items: Iterable[LaidOut], has_tables: bool) -> Text:
     """Returns the places of labels in words."""
     return places_text([item.label.record.place for item in items], has_tables)

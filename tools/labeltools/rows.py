@@ -3,7 +3,7 @@
 from dataclasses import dataclass
 from typing import Iterator, Mapping, NamedTuple, Protocol, Sequence, Union
 
-from labeltools.text import Text
+from labeltools.text import NOTHING, Text
 from labeltools.messages import RowError
 
 
@@ -49,8 +49,8 @@ class Special:
 class Fault(Special):
     """A cell that no label can show, and why."""
 
-    what: str
-    hint: str = ""
+    what: Text
+    hint: Text = NOTHING
     value: str = ""
 
     def shown(self) -> str:

@@ -4,8 +4,8 @@ import re
 from dataclasses import dataclass
 from typing import Iterable, Iterator, Sequence
 
-from labeltools.text import Text
-from labeltools.messages import RowError, counted, quoted
+from labeltools.text import Text, counted
+from labeltools.messages import RowError, quoted
 
 # a price whose comma has cut it in two: `0` and `80`, `80 €` or `- EUR`; `1` and `234.50`
 CUT = re.compile(
@@ -123,12 +123,18 @@ def is_moved(cells: Sequence[str], shape: Shape) -> bool:
     return is_longer and shape.delimiter == "," and bool(cut_price(cells, shape.prices))
 
 
-def said_of_unnamed(place: int, rows: int, row: int, cell: str) -> str:
+def said_of_unnamed(place: int, rows: int, row: int, cell: str) -> Text:
     """Returns what is said once of values behind the last name, as notes that a keeper writes
     beside a table.
 
     >>> said_of_unnamed(2, 1, 2, "order again")
     'column 3 has no name and has values in 1 row, first in row 2 "order again"'
     """
-    values = f"has values in {counted(rows, 'row')}, first in row {row} {quoted(cell)}"
-    return f"column {place + 1} has no name and {values}"
+    return counted(
+        "column {1} has no name and has values in {0} row, first in row {2} {3}",
+        "column {1} has no name and has values in {0} rows, first in row {2} {3}",
+        rows,
+        place + 1,
+        row,
+        quoted(cell),
+    )

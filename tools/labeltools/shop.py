@@ -11,7 +11,7 @@ from pathlib import Path
 from typing import Any
 
 from labeltools import print_command, table_command
-from labeltools.text import Text
+from labeltools.text import NOTHING, Text
 from labeltools.command_line import read_input, words_of
 from labeltools.engine import option_words
 from labeltools.guess import guess_of
@@ -38,11 +38,11 @@ class Talk:
         self.is_stopped = False
         self.looks = 0  # that were taken at the work
 
-    def note(self, place: Place | None, cell: str, reason: str, hint: str) -> None:
+    def note(self, place: Place | None, cell: str, reason: Text, hint: Text) -> None:
         """Keeps why a row is left out."""
         self.notes.append(LeftOut(place, cell, reason, hint))
 
-    def say(self, text: str, hint: str = "") -> None:
+    def say(self, text: Text, hint: Text = NOTHING) -> None:
         """Keeps something about the whole."""
         self.note(None, "", text, hint)
 
@@ -120,7 +120,7 @@ def read_back(labels: Prepared, talk: Talk) -> Press:
     is not what it has to be.
     """
     for record, fault in faults(labels.labels, labels.laid_out, labels.job, labels.letters, talk):
-        raise ToolError(Text("nothing is printed: {}: {}", record.place, fault))
+        raise ToolError(Text("nothing is printed: {}: {}", record.place.text, fault))
     return labels.press(talk)
 
 

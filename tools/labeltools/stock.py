@@ -63,9 +63,9 @@ class Grid:
     gap: Size = (0.0, 0.0)
 
 
-def size_text(size: Size) -> str:
+def size_text(size: Size) -> Text:
     """Returns a size in words."""
-    return f"{size[0]:.4g} by {size[1]:.4g} mm"
+    return Text("{:.4g} by {:.4g} mm", *size)
 
 
 def grid_sheet(grid: Grid) -> Sheet:

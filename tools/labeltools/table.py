@@ -2,15 +2,16 @@
 
 import re
 from dataclasses import dataclass, field
+from functools import reduce
 from itertools import chain
 from typing import Iterator, NamedTuple, Sequence
 
-from labeltools.text import Text
+from labeltools.text import NOTHING, Text, counted
 from labeltools.columns import Columns, Head, columns_of, names_of
 from labeltools.csv_table import csv_table
 from labeltools.drafts import RowReader
 from labeltools.line_writer import LineWriter, contents_of
-from labeltools.messages import BAD_ARGUMENTS, Place, RowError, Talk, ToolError, counted, quoted
+from labeltools.messages import BAD_ARGUMENTS, Place, RowError, Talk, ToolError, quoted
 from labeltools.names import listed, said_of_empty, unlike
 from labeltools.number_format import Formatter, local_date, local_signs
 from labeltools.ods import rows_of_ods
@@ -35,7 +36,7 @@ class Lines:
     count: int
     left_out: tuple[int, ...]
     hidden: int
-    summary: str
+    summary: Text
 
 
 class Start(NamedTuple):
@@ -123,7 +124,7 @@ def rows_of(
     is_csv = not data.startswith(ZIP)
     for option in ("sheet",) if is_csv else ("delimiter", "encoding"):
         if getattr(options.file, option) is not None:
-            what = Text("{} is CSV" if is_csv else "{} is no CSV", name)
+            what = Text("{} is CSV", name) if is_csv else Text("{} is no CSV", name)
             raise ToolError(what, Text("leave --{} away", option), BAD_ARGUMENTS)
     if is_csv:
         return csv_table(data, name, options, talk).rows()
@@ -141,9 +142,10 @@ def rows_of_workbook(
 
 def nothing_marked(columns: Columns, name: str) -> ToolError:
     """Returns the error of a table in which no row has the values that were asked for."""
-    wanted = " and ".join(f"{quoted(value)} in {column.title}" for column, value in columns.where)
+    wanted = (Text("{} in {}", quoted(value), column.title) for column, value in columns.where)
+    both = reduce(lambda one, other: Text("{} and {}", one, other), wanted)
     return ToolError(
-        Text("{} has no row with {}", name, wanted), Text("look how the cells are spelled")
+        Text("{} has no row with {}", name, both), Text("look how the cells are spelled")
     )
 
 
@@ -188,8 +190,10 @@ class Work:
     def leave_out_empty(self, empty: Sequence[int]) -> None:
         """Leaves out empty rows."""
         if empty:
-            more = Text(", and all to row {}", empty[-1]) if empty[1:] else ""
-            self.talk.note(Place("", "row", empty[0]), "", Text("the row is empty{}", more), "")
+            what = Text("the row is empty")
+            if empty[1:]:
+                what = Text("the row is empty, and all to row {}", empty[-1])
+            self.talk.note(Place("", "row", empty[0]), "", what, NOTHING)
             self.writer.left_out += empty
 
     def take(self, row: Row) -> None:
@@ -224,12 +228,18 @@ class Work:
             )
             self.talk.say(text)
         if self.hidden:
-            are = "is" if self.hidden == 1 else "are"
-            text = Text("{} {} not printed", counted(self.hidden, "hidden row"), are)
+            text = counted(
+                "{} hidden row is not printed", "{} hidden rows are not printed", self.hidden
+            )
             self.talk.say(text, Text("give --hidden to print them"))
         if self.writer.unchanged:
-            rows = f"{self.writer.unchanged} of {counted(self.writer.taken, 'row')}"
-            self.talk.say(Text("{} are as before, and are not printed", rows))
+            text = counted(
+                "{1} of {0} row are as before, and are not printed",
+                "{1} of {0} rows are as before, and are not printed",
+                self.writer.taken,
+                self.writer.unchanged,
+            )
+            self.talk.say(text)
         self.say_of_numbers()
 
     def say_of_empty(self) -> None:
@@ -243,8 +253,12 @@ class Work:
         """Says which codes are unlike the others, or lead to another address."""
         codes = self.writer.codes
         if odd := unlike(codes):
-            text = Text("the code of {} has no digit, {}", listed(odd), quoted(codes[odd[0]]))
-            self.talk.say(Text("{}, and others have", text), Text("is it one?"))
+            text = Text(
+                "the code of {} has no digit, {}, and others have",
+                listed(odd),
+                quoted(codes[odd[0]]),
+            )
+            self.talk.say(text, Text("is it one?"))
         if self.reader.other_link:
             text = Text(
                 "the code of row {} is a text that leads to an address", self.reader.other_link
@@ -256,8 +270,17 @@ class Work:
         formatter = self.start.formatter
         is_given = self.options.file.decimal is not None or self.options.prices.pattern
         if formatter.first_number and not is_given:
-            text = Text("numbers are printed as {}: is that right?", quoted(formatter.first_number))
-            self.talk.say(Text("{} else give --decimal , or .", text))
+            self.talk.say(
+                Text(
+                    "numbers are printed as {}: is that right? else give --decimal , or .",
+                    quoted(formatter.first_number),
+                )
+            )
         if formatter.first_date and not formatter.date_as:
-            text = Text("dates are printed as {}: is that right?", quoted(formatter.first_date))
-            self.talk.say(Text("{} else give --date-as dd.mm.yyyy, or another pattern", text))
+            self.talk.say(
+                Text(
+                    "dates are printed as {}: is that right? else give --date-as dd.mm.yyyy,"
+                    " or another pattern",
+                    quoted(formatter.first_date),
+                )
+            )

@@ -1,49 +1,72 @@
-"""Texts that are told to the user: in English as they are, and in the language of the user."""
+"""Texts for the user: in English as they are, and in the user's language.
 
-import re
-from typing import Any, Iterable
+xgettext finds them: `--keyword=Text --keyword=counted:1,2`.
+"""
 
-from labeltools.words import _
+from typing import Iterable
+
+from labeltools.words import ngettext, one_text
 
 
 class Text(str):
     """A text in English that knows its template, and what it has in the place of each `{}`.
+
+    A field that is a `Text` is translated too; any other one is a number, or the user's own words.
 
     >>> Text("row {} has {}", 2, Text("no price"))
     'row 2 has no price'
     """
 
     template: str
-    fields: tuple[Any, ...]
+    many: str  # the template for other counts than 1, where there is one
+    fields: tuple[object, ...]
 
-    def __new__(cls, template: str, *fields: Any) -> "Text":
-        made = super().__new__(cls, template.format(*fields) if fields else template)
-        made.template = template
-        made.fields = fields
-        return made
+    def __new__(cls, template: str, *fields: object) -> "Text":
+        return cls.made(template.format(*fields) if fields else template, template, "", fields)
+
+    @classmethod
+    def made(cls, text: str, template: str, many: str, fields: tuple[object, ...]) -> "Text":
+        """Returns a text of its parts."""
+        new = super().__new__(cls, text)
+        new.template = template
+        new.many = many
+        new.fields = fields
+        return new
 
 
-def numbered(template: str, *counts: int) -> Text:
-    """Returns a text in which the word behind each number has its plural where it needs one.
+NOTHING = Text("")
 
-    >>> numbered("{} label of {} row", 1, 2)
-    '1 label of 2 rows'
+
+def counted(one: str, many: str, count: int, *fields: object) -> Text:
+    """Returns a text with a count in its first place, which the words agree with.
+
+    >>> counted("{} row", "{} rows", 1), counted("{} row", "{} rows", 2)
+    ('1 row', '2 rows')
     """
-    given = iter(counts)
-    words = re.sub(r"\{\} \w+", lambda word: word[0] + "s" * (next(given) != 1), template)
-    return Text(words, *counts)
+    template = one if count == 1 else many
+    return Text.made(template.format(count, *fields), one, many, (count, *fields))
 
 
-def joined(sign: str, parts: Iterable[Any]) -> Text:
-    """Returns texts one behind another, with a sign between them that no language changes."""
+def joined(sign: str, parts: Iterable[object]) -> Text:
+    """Returns texts one behind another, with a sign between them that no language changes.
+
+    >>> joined(", ", ["a", 2])
+    'a, 2'
+    """
     found = list(parts)
     return Text(sign.join(["{}"] * len(found)), *found)
 
 
-def translated(text: Any) -> Any:
+def translated(text: object) -> str:
     """Returns a text in the language of the user; what is no `Text` stays as it is."""
     if not isinstance(text, Text):
-        return text
-    fields = [translated(field) for field in text.fields]
-    template = _(text.template) if text.template else ""
-    return template.format(*fields) if fields else template
+        return str(text)
+    if not text.fields:
+        return one_text(text.template)
+    first = text.fields[0]
+    if text.many and isinstance(first, int):
+        template = ngettext(text.template, text.many, first)
+    else:
+        template = one_text(text.template)
+    fields = (translated(one) if isinstance(one, Text) else one for one in text.fields)
+    return template.format(*fields)

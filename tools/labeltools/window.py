@@ -10,7 +10,7 @@ from functools import lru_cache, partial
 from pathlib import Path
 from typing import Any
 
-from labeltools.text import Text
+from labeltools.text import Text, counted, translated
 from labeltools.area import MILLIMETRES
 from labeltools.command_line import Parser
 from labeltools.forms import PBM, SVG
@@ -23,8 +23,7 @@ from labeltools.print_job import Prepared
 from labeltools.printer import media_of, queues
 from labeltools.shop import COLUMNS, Choices, Table, Talk, read_back
 from labeltools.stock import list_stock
-from labeltools.text import translated
-from labeltools.words import _, counted
+from labeltools.words import _
 
 Gdk = library("Gdk", "3.0")
 Gio = library("Gio", "2.0")
@@ -170,7 +169,7 @@ class Window:
         for note in table.notes[:MOST_NOTES]:
             row = str(note.place.number) if note.place else ""
             store.append([row, note.data, said(note.reason, note.hint)])
-        text = counted(table.left_out, "{number} row is left out", "{number} rows are left out")
+        text = translated(counted("{} row is left out", "{} rows are left out", table.left_out))
         self.widget("left-out").set_text(text if table.left_out else _("Please look at this"))
         self.widget("below").set_visible(table.notes)
         self.show_view()

@@ -15,7 +15,7 @@ from typing import Iterable, Iterator, Mapping, NamedTuple, Sequence
 from xml.etree.ElementTree import Element, ParseError, XMLPullParser
 from zipfile import ZIP_DEFLATED, ZIP_STORED, BadZipFile, ZipFile
 
-from labeltools.text import Text
+from labeltools.text import Text, counted
 from labeltools.messages import BAD_ARGUMENTS, ToolError, quoted
 from labeltools.rows import Cell, Merge, Row
 
@@ -47,9 +47,9 @@ DAMAGE = (
 SAVE_AGAIN = Text("open it in the spreadsheet and save it again")
 TOO_LARGE = Text("has a row or another element of more than 1 MB, or elements {} deep", DEEPEST)
 TRUE = ("1", "true")
-NOT_SAVED = "has a formula without a saved value"
-NOT_SAVED_HINT = "open the table in the spreadsheet and save it"
-TYPED = "enter it again as text"
+NOT_SAVED = Text("has a formula without a saved value")
+NOT_SAVED_HINT = Text("open the table in the spreadsheet and save it")
+TYPED = Text("enter it again as text")
 
 
 class Sheet(NamedTuple):
@@ -126,11 +126,8 @@ def chosen(sheets: Iterable[Sheet], wanted: str | None) -> Iterator[Row]:
     if not names:
         raise LookupError("no sheet in it")
     if len(found) != 1:
-        what = (
-            Text("{} visible sheets", len(found))
-            if wanted is None
-            else Text("no sheet {}", quoted(wanted))
-        )
+        count = counted("{} visible sheet", "{} visible sheets", len(found))
+        what = count if wanted is None else Text("no sheet {}", quoted(wanted))
         listed = ", ".join(map(quoted, found or names))
         raise ToolError(
             Text("has {} with data", what),
@@ -287,8 +284,14 @@ def rows_from(row: Row, repeat: int) -> Iterator[Row]:
     """Yields a row as often as it is there; raises `ToolError` beyond what a sheet has."""
     is_beyond = row.number + repeat - 1 > MOST_ROWS or len(row.cells) > MOST_COLUMNS
     if is_beyond or len(row.merges) > MOST_MERGES:
-        most = f"{MOST_ROWS} rows, {MOST_COLUMNS} columns or {MOST_MERGES} merges across a row"
-        raise ToolError(Text("has more than {}", most))
+        raise ToolError(
+            Text(
+                "has more than {} rows, {} columns or {} merges across a row",
+                MOST_ROWS,
+                MOST_COLUMNS,
+                MOST_MERGES,
+            )
+        )
     letters = sum(len(cell) for cell in row.cells if isinstance(cell, str))
     is_repeated = repeat > 1 and not row.is_hidden
     if letters > LARGEST_ROW or is_repeated and (letters + EACH) * repeat > LARGEST_ROW:

@@ -312,7 +312,7 @@ def value_of(cell: Element, kind: str, value: str, style: str, book: Book) -> Ce
         what = Text(
             "has {}, which the spreadsheet writes where it has no value to show", quoted(value)
         )
-        return Fault(what, "", value)
+        return Fault(what, value=value)
     return Truth({"1": "TRUE", "0": "FALSE"}.get(value, value))
 
 
