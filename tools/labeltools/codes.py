@@ -51,6 +51,7 @@ DRAWN = (
         Text("quotes round the data"),
         Text("take them away"),
     ),
+    (re.compile(r"(?s)\*.+\*"), Text("the asterisks of a font"), Text("take them away")),
     (
         re.compile("(?s)'.*"),
         Text("an apostrophe in front, a spreadsheet's sign of text"),
@@ -63,6 +64,8 @@ ERROR_WORDS = (
     "|eroare|viga|klaida|kļūda|hata|ошибка|помилка|грешка|σφάλμα|エラー|错误|錯誤|오류"
 )
 PROGRAM_ERROR = re.compile(rf"(?:{ERROR_WORDS})\.? ?: ?5[0-9]{{2}}", re.IGNORECASE)
+# what GS1's texts in brackets begin with: an SSCC, or a GTIN
+IN_BRACKETS = re.compile(r"\((?:00\)(?=[0-9]{18})|0[12]\)(?=[0-9]{14}))([0-9]+).*", re.DOTALL)
 NO_CHECK_DIGITS = Text("if the column has no check digits, give --without-check-digit")
 
 
@@ -89,6 +92,11 @@ class Code(NamedTuple):
     symbology: str
     data: str
     whole: str
+
+    @property
+    def article(self) -> str:
+        """What two codes of one article have in common: a GTIN of 14 digits."""
+        return self.data if self.symbology in FREE else self.whole.zfill(14)
 
 
 def code_of(cell: str, rules: CodeRules) -> Code:
@@ -122,6 +130,16 @@ def check_data(cell: str) -> None:
     for pattern, what, hint in DRAWN:
         if pattern.fullmatch(cell):
             raise RowError(Text("{} has {}, which would be drawn", quoted(cell), what), hint)
+
+
+def is_in_brackets(data: str) -> bool:
+    """Returns whether data is GS1's, as people read it.
+
+    >>> is_in_brackets("(01)04006381333931(10)ABC"), is_in_brackets("(01)04006381333932")
+    (True, False)
+    """
+    found = IN_BRACKETS.fullmatch(data)
+    return found is not None and is_right(found[1])
 
 
 def digits_in(cell: str, has_check_digit: bool) -> str:
@@ -175,7 +193,7 @@ def symbology_of(digits: str, rules: CodeRules) -> str:
     if missing and count in NUMBERS and is_right(digits):
         hint = Text("if not, give --symbology {}", NUMBERS[count].name)
         raise RowError(Text("{} may have its check digit", digits), hint)
-    if count > 11 and len(digits.lstrip("0")) + missing <= 8:
+    if count > 8 and digits[0] == "0" and len(digits.lstrip("0")) + missing <= 8:
         hint = Text("write its 8 digits, or give --symbology")
         raise RowError(Text("{} may be an EAN-8 with zeros in front", digits), hint)
     if rules.fill_zeros and EAN13.digits - MOST_ZEROS <= count <= EAN13.digits:

@@ -1,38 +1,26 @@
 """Which column is what, and what is in the cells of each kind of column."""
 
 import re
-import unicodedata
 from dataclasses import dataclass
+from decimal import Decimal
 from itertools import islice
 from typing import Iterable, Sequence
 
 from labeltools.text import Text
-from labeltools.codes import PROGRAM_ERROR
+from labeltools.cells import COPIES, DATA, DIGITS, MARK, PRICE, PRINTED, Kind, taken
+from labeltools.cells import UNSEEN_CODE, UNSEEN_PRICE, UNSEEN_TEXT, refuse_unseen
 from labeltools.lines_file import MOST_COPIES
-from labeltools.messages import BAD_ARGUMENTS, RowError, ToolError, named, quoted
-from labeltools.names import name_of, row_of_names
+from labeltools.messages import BAD_ARGUMENTS, RowError, ToolError, quoted
+from labeltools.names import NUMBER, name_of, row_of_names
 from labeltools.rows import Row
 from labeltools.symbologies import SYMBOLOGIES
 from labeltools.table_options import TableOptions
 
-LONGEST_CELL = 131068
-LONGEST_ERROR = 30  # letters of what a program writes in place of a text
 ROWS_LOOKED_AT = 50  # for the row of names
 LISTED = 40  # columns that a message lists
-COPIES = re.compile("0*[0-9]{1,4}(?:[.,]00?)?")
-FORMULA_OF_TEXT = re.compile('="((?:[^"]|"")*)"')
-ERROR = re.compile(r"#(?:##+|N/A|N/D|NV|Н/Д|GETTING_DATA|[^\s#]{1,15} ?[!?])|Err:[0-9]{3}")
-SPECIAL_STARTS = "=#E"  # of formulas, and of the names of errors
-# what a program writes where it has no text; `True` may be a title
-NO_TEXTS = frozenset("nan nat null none undefined <na> #n/a n/a".split())
-LONGEST_NO_TEXT = max(map(len, NO_TEXTS))
-HTML = re.compile(r"</?[a-z][^<>]*>|&(?:[a-z]{2,8}|#[0-9]{1,6});", re.IGNORECASE)
+COUNT = re.compile("0*[0-9]{1,4}(?:[.,]00?)?")
 # what may be in the name of a column of codes though it has digits
 NAME_WITH_DIGITS = re.compile("(?:EAN|GTIN|UPC|ISBN|Code|QR)[- ]?[0-9]{1,3}", re.IGNORECASE)
-# what nobody sees, or reorders letters, by the class and name of a character in Unicode
-UNSEEN_CODE = re.compile("C[cf]|Z[lps]|.*(?:SELECTOR|FILLER|JOINER|INHERENT|PATTERN BLANK)")
-UNSEEN_TEXT = re.compile("Cc|Z[lp]|Cf .*(?:EMBEDDING|OVERRIDE|ISOLATE|DIRECTIONAL)")
-UNSEEN_PRICE = re.compile("C[cf]|Z[lp]")
 MARKS = "\u200e\u200f\u061c"  # of the direction, which spreadsheets put around currencies
 
 
@@ -50,11 +38,7 @@ class Column:
     def code(self, row: Row, is_free: bool) -> str:
         """Returns the text of a code, which is not empty; raises `RowError`."""
         try:
-            cell = row.cell(self.place)
-            if isinstance(cell, str):
-                text = plain_text(cell)
-            else:
-                text = cell.data() if is_free else cell.digits()
+            text = taken(row.cell(self.place), DATA if is_free else DIGITS)
             if not text.strip():
                 raise RowError(Text("is empty"))
             refuse_unseen(text.strip(), text, UNSEEN_CODE)
@@ -65,7 +49,7 @@ class Column:
     def text(self, row: Row) -> str:
         """Returns a title or a text, with LF between its lines; raises `RowError`."""
         try:
-            text = self.value(row)
+            text = taken(row.cell(self.place), PRINTED)
             if text.isprintable():
                 return text.strip()
             lines = [" ".join(line.split("\t")).strip() for line in re.split("\r\n?|\n", text)]
@@ -77,7 +61,7 @@ class Column:
     def price(self, row: Row) -> str:
         """Returns the text of a price; raises `RowError`."""
         try:
-            text = self.value(row).strip()
+            text = taken(row.cell(self.place), PRICE).strip()
             if not text.isprintable():
                 bare = text.translate(dict.fromkeys(map(ord, MARKS), None)).replace("\t", " ")
                 refuse_unseen(bare, text, UNSEEN_PRICE)
@@ -88,9 +72,8 @@ class Column:
     def copies(self, row: Row) -> int:
         """Returns a number of copies; raises `RowError`."""
         try:
-            cell = row.cell(self.place)
-            text = (plain_text(cell) if isinstance(cell, str) else cell.count()).strip()
-            if not COPIES.fullmatch(text):
+            text = taken(row.cell(self.place), COPIES).strip()
+            if not COUNT.fullmatch(text):
                 what = Text(
                     "is {}: copies are a whole number from 0 to {}", quoted(text), MOST_COPIES
                 )
@@ -102,22 +85,20 @@ class Column:
     def mark(self, row: Row) -> str:
         """Returns a text on one line, as it is compared; raises `RowError`."""
         try:
-            cell = row.cell(self.place)
-            return name_of(self.value(row) if isinstance(cell, str) else cell.mark())
+            return name_of(taken(row.cell(self.place), MARK))
         except RowError as problem:
             raise self.error(problem) from None
 
-    def value(self, row: Row) -> str:
-        """Returns the text of a cell as it is shown; raises `RowError` for what a program writes in
-        place of one.
+    def has(self, row: Row, value: str) -> bool:
+        """Returns whether a cell has a value, in letters of either case; numbers are compared as
+        numbers. Raises `RowError`.
         """
+        if self.mark(row).casefold() == value.casefold():
+            return True
         cell = row.cell(self.place)
-        text = plain_text(cell) if isinstance(cell, str) else cell.printed()
-        if len(text) < LONGEST_ERROR and is_error(text.strip()):
-            raise RowError(
-                Text("has {}, which a program writes where it has no value", quoted(text))
-            )
-        return text
+        if isinstance(cell, str) or cell.kind is not Kind.NUMBER or not NUMBER.fullmatch(value):
+            return False
+        return Decimal(value.replace(",", ".")) == cell.number()
 
 
 @dataclass(frozen=True)
@@ -142,73 +123,6 @@ class Head:
 
     row: Row
     names: tuple[str, ...]
-
-
-def is_error(text: str) -> bool:
-    """Returns whether a text is what a program writes where it has none.
-
-    >>> [is_error(text) for text in ("nan", "Fehler:502", "Name", "LOT:502")]
-    [True, True, False, False]
-    """
-    if ":" in text:
-        return PROGRAM_ERROR.fullmatch(text) is not None
-    return len(text) <= LONGEST_NO_TEXT and text.casefold() in NO_TEXTS
-
-
-def no_value(text: str) -> RowError:
-    """Returns the error of an error's name."""
-    return RowError(
-        Text("has {}, which the spreadsheet writes where it has no value to show", quoted(text))
-    )
-
-
-def plain_text(cell: str) -> str:
-    """Returns a cell that is a text; raises `RowError` for what a spreadsheet writes in place of a
-    value.
-    """
-    start = cell.lstrip()[:1]
-    if start in SPECIAL_STARTS and start:
-        refuse_special(cell)
-        if formula := FORMULA_OF_TEXT.fullmatch(cell.strip()):
-            return formula[1].replace('""', '"')
-    if "\ufffd" in cell:
-        what = Text("has {}, with the sign of a lost letter (U+FFFD)", quoted(cell))
-        raise RowError(what, Text("export the table again"))
-    if len(cell) > LONGEST_CELL:
-        raise RowError(
-            Text("has {}, and at most {} characters of a cell are read", quoted(cell), LONGEST_CELL)
-        )
-    return cell
-
-
-def refuse_special(cell: str) -> None:
-    """Raises `RowError` for a formula that is no text, and for the name of an error."""
-    bare = cell.strip()
-    if bare.startswith("=") and not FORMULA_OF_TEXT.fullmatch(bare):
-        raise RowError(Text("has {}, a formula", quoted(cell)), Text("export its value"))
-    if ERROR.fullmatch(bare):
-        raise no_value(cell)
-
-
-def refuse_unseen(bare: str, text: str, unseen: re.Pattern[str]) -> None:
-    """Raises `RowError` where a text has a character that nobody sees, but for plain spaces."""
-    if bare.isascii() and bare.isprintable():
-        return
-    for character in bare.replace(" ", ""):
-        name = f"{unicodedata.category(character)} {unicodedata.name(character, '')}"
-        if unseen.match(name):
-            raise RowError(
-                Text("has {} in the cell {}, which nobody sees", named(character), quoted(text))
-            )
-
-
-def has_html(text: str) -> bool:
-    """Returns whether a text has tags or letters of HTML.
-
-    >>> [has_html(text) for text in ("<b>Tea</b>", "Tea &amp; tin", "Salt & Pepper", "3 < 4 > 2")]
-    [True, True, False, False]
-    """
-    return ("<" in text or "&" in text) and bool(HTML.search(text))
 
 
 def symbology_in(column: Column, row: Row, default: str) -> str:

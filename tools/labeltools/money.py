@@ -14,6 +14,7 @@ from labeltools.text import NOTHING, Text
 from labeltools.messages import RowError
 
 MOST_LETTERS = 60
+NO_CURRENCY = "¤"  # ISO 8859-15 has its € where other encodings have this sign
 MOST_BARE_DIGITS = 8
 MOST_WHOLE_DIGITS = 12
 MOST_DECIMALS = 6  # of a price that is printed as it stands
@@ -297,7 +298,7 @@ def currency_of(text: str, own: str = "") -> str | None:
         return BY_NAME[text]
     if text in CENTS:
         return "cent"
-    if len(text) == 1 and unicodedata.category(text) == "Sc":
+    if len(text) == 1 and unicodedata.category(text) == "Sc" and text != NO_CURRENCY:
         return text
     return FOLDED.get(text.casefold())
 

@@ -11,7 +11,7 @@ from contextlib import suppress
 from dataclasses import dataclass, field
 from datetime import date, datetime, timedelta
 from decimal import ROUND_HALF_UP, Context, Decimal
-from functools import lru_cache
+from functools import cached_property, lru_cache
 from typing import NamedTuple
 
 from labeltools.text import Text
@@ -113,7 +113,7 @@ class Section:
         """Returns how many parts are of a kind."""
         return sum(part.kind == kind for part in self.parts)
 
-    @property
+    @cached_property
     def is_date(self) -> bool:
         """Whether it shows a date or a time."""
         return self.count("date") > 0 and not (self.count("number") or self.count("percent"))
@@ -145,7 +145,7 @@ class Formatter:
         if self.date_as and is_date_format(number_format):
             return date_text(date_section(self.date_as), value, is_from_1904)
         value = SIGNIFICANT.plus(value)
-        sections = sections_of(number_format)
+        sections = number_sections(number_format)
         place = section_for(value, len(sections))
         section = sections[place]
         if section.is_date:
@@ -212,6 +212,29 @@ def not_understood(number_format: str, is_code: bool = False) -> RowError:
     if is_date_format(number_format) and not is_code:
         return RowError(what, DATE_HINT)
     return RowError(what, TYPED)
+
+
+@lru_cache(maxsize=256)
+def number_sections(number_format: str) -> tuple[Section, ...]:
+    """Returns the sections of a format that show numbers: a last one with `@` shows texts alone."""
+    sections = sections_of(number_format)
+    is_for_texts = len(sections) > 1 and Part("number", "@") in sections[-1].parts
+    return sections[:-1] if is_for_texts else sections
+
+
+def is_of_time(number_format: str, value: Decimal) -> bool:
+    """Returns whether a format shows a number as a date or a time.
+
+    >>> is_of_time("d.m", Decimal(46359)), is_of_time("0.00;@", Decimal(3))
+    (True, False)
+    """
+    if number_format == DATE_OF_LANGUAGE:
+        return True
+    try:
+        sections = number_sections(number_format)
+    except RowError:
+        return is_date_format(number_format)
+    return sections[section_for(value, len(sections))].is_date
 
 
 def section_for(value: Decimal, count: int) -> int:

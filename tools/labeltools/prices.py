@@ -11,6 +11,8 @@ from labeltools.money import LOOKS, PER_UNIT, SPACES, WITH_THREE_DECIMALS, Money
 from labeltools.money import currency_of, is_pair, plain
 from labeltools.summary import rows_text
 
+ARITHMETIC = Decimal("1e-9")  # what a program's arithmetic may leave
+MOST_LOST = Decimal("0.01")  # of a price that is rounded
 THOUSANDS_OR_DECIMALS = Text("may have thousands or decimals")
 SIGN_OF = {"crown": "kr", "EUR": "€", "GBP": "£"}
 ONE_SIGN = {"JPY": "¥", "CNY": "¥"}
@@ -90,7 +92,7 @@ class PriceColumn:
         return self.lengths.most_common(1)[0][0] if self.lengths else 0
 
     def says(self) -> Iterator[Said]:
-        """Yields what is said once."""
+        """Yields what is said once of prices that are printed as they are."""
         if len(self.points) > 1:
             first, second = list(self.points.values())[:2]
             yield Said(
@@ -113,6 +115,10 @@ class PriceColumn:
             row, text, rows = self.kinds["short"]
             hint = Text("give --price-as '0.00', or another pattern, to print two")
             yield Said(Text("row {} has {}, one decimal ({})", row, text, rows_text(rows)), hint)
+        yield from self.says_of_values()
+
+    def says_of_values(self) -> Iterator[Said]:
+        """Yields what is said once, also of prices that are written anew."""
         if "zero" in self.kinds:
             row, text, rows = self.kinds["zero"]
             yield Said(Text("row {} has the price {} ({})", row, text, rows_text(rows)))
@@ -243,15 +249,31 @@ class PricePattern:
         if price.words or price.count != 1:
             raise NotMoney(Text("has words, which the pattern of prices would lose"))
         self.check_currency(price, currency)
-        shown = price.value.quantize(Decimal(1).scaleb(-self.decimals), ROUND_HALF_UP)
+        shown = self.rounded(price.value)
         if self.decimals < 2 and shown != price.value:
             raise NotMoney(Text("has decimals, and the pattern of prices has none"))
         if not shown and price.value:
             raise NotMoney(Text("would be printed as zero"))
+        if abs(shown - price.value) > price.value * MOST_LOST:
+            raise NotMoney(Text("would be rounded by more than 1 %"))
         own = currency or SIGN_OF.get(price.currency, price.currency)
         number = (self.front + self.number(shown) + self.end).replace("¤", own)
         unit = f" {price.unit}".replace(" /", "/") if price.unit else ""
         return f"{price.basis}{number}{unit}{price.end}"
+
+    def rounded(self, value: Decimal) -> Decimal:
+        """Returns a value with the decimals of the pattern."""
+        return value.quantize(Decimal(1).scaleb(-self.decimals), ROUND_HALF_UP)
+
+    def changes(self, value: Decimal) -> bool:
+        """Returns whether rounding makes another amount of a value, and not only takes away what a
+        program's arithmetic has left.
+
+        >>> changes = PricePattern.of("0.00").changes
+        >>> changes(Decimal("1.859")), changes(Decimal("8.330000000000002"))
+        (True, False)
+        """
+        return abs(self.rounded(value) - value) > ARITHMETIC
 
     def number(self, shown: Decimal) -> str:
         """Returns a rounded number with the signs of the pattern."""

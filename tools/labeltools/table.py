@@ -8,6 +8,7 @@ from typing import Iterator, NamedTuple, Sequence
 
 from labeltools.text import NOTHING, Text, counted
 from labeltools.columns import Columns, Head, columns_of, names_of
+from labeltools.codes import is_in_brackets
 from labeltools.csv_table import csv_table
 from labeltools.drafts import RowReader
 from labeltools.line_writer import LineWriter, contents_of
@@ -15,7 +16,8 @@ from labeltools.messages import BAD_ARGUMENTS, Place, RowError, Talk, ToolError,
 from labeltools.names import listed, said_of_empty, unlike
 from labeltools.number_format import Formatter, local_date, local_signs
 from labeltools.ods import rows_of_ods
-from labeltools.rows import Row, seen
+from labeltools.cells import seen
+from labeltools.rows import Row
 from labeltools.summary import summary
 from labeltools.table_options import TableOptions
 from labeltools.workbook import is_ods, named_errors, opened
@@ -213,20 +215,13 @@ class Work:
     def say_all(self) -> None:
         """Says what there is to say about the whole table."""
         self.say_of_empty()
-        if not self.options.prices.pattern:
-            for column in self.writer.columns:
-                for said in column.says():
-                    self.talk.say(said.text, said.hint)
+        self.say_of_prices()
         self.say_of_codes()
         if self.reader.other_currency:
             row, currency = self.reader.other_currency
             text = Text("row {} has the currency {}, which is not known", row, quoted(currency))
             self.talk.say(text, Text("if it is right, name it by --currency-name"))
-        if self.reader.html:
-            text = Text(
-                "row {} has HTML in a title or text, which is printed as it is", self.reader.html
-            )
-            self.talk.say(text)
+        self.say_of_texts()
         if self.hidden:
             text = counted(
                 "{} hidden row is not printed", "{} hidden rows are not printed", self.hidden
@@ -241,6 +236,59 @@ class Work:
             )
             self.talk.say(text)
         self.say_of_numbers()
+
+    def say_of_prices(self) -> None:
+        """Says what the prices of a column say together, and which are not printed as they are."""
+        is_rewritten = self.options.prices.pattern is not None
+        for column in self.writer.columns:
+            for said in column.says_of_values() if is_rewritten else column.says():
+                self.talk.say(said.text, said.hint)
+        if self.writer.rounded:
+            first = self.writer.rounded[0]
+            text = counted(
+                "row {1} has {2}, which is rounded to {3} ({0} price)",
+                "row {1} has {2}, which is rounded to {3} ({0} prices)",
+                len(self.writer.rounded),
+                *first,
+            )
+            self.talk.say(text)
+        if low := self.reader.noticed.low:
+            self.talk.say(
+                Text(
+                    "row {} has the old price {}, which is not above the price {}",
+                    low.row,
+                    low.text,
+                    low.more,
+                )
+            )
+
+    def say_of_texts(self) -> None:
+        """Says what is odd in titles and texts, and in the values that rows are chosen by."""
+        noticed = self.reader.noticed
+        for row, text, more, _ in noticed.left.values():
+            self.talk.say(
+                Text("row {} has {} with {}, which is printed as it is", row, quoted(text), more)
+            )
+        for place, row in noticed.dates.items():
+            if like := noticed.like_dates.get(place):
+                text = Text(
+                    "row {} has the text {} where row {} has a date",
+                    like.row,
+                    quoted(like.text),
+                    row,
+                )
+                self.talk.say(text, Text("are its day and month in the same order?"))
+        for (column, wanted), like in noticed.like_values.items():
+            text = counted(
+                "row {1} has {2} in {3}, which looks like {4}, and is not printed ({0} row)",
+                "row {1} has {2} in {3}, which looks like {4}, and is not printed ({0} rows)",
+                like.rows,
+                like.row,
+                quoted(like.text),
+                column.title,
+                quoted(wanted),
+            )
+            self.talk.say(text)
 
     def say_of_empty(self) -> None:
         """Says which rows have no title or no price."""
@@ -259,6 +307,11 @@ class Work:
                 quoted(codes[odd[0]]),
             )
             self.talk.say(text, Text("is it one?"))
+        if row := next((row for row, code in codes.items() if is_in_brackets(code)), 0):
+            self.talk.say(
+                Text("the code of row {} is GS1's in brackets, which is drawn as plain text", row),
+                Text("no scanner of GS1 takes it"),
+            )
         if self.reader.other_link:
             text = Text(
                 "the code of row {} is a text that leads to an address", self.reader.other_link

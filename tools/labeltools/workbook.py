@@ -17,7 +17,8 @@ from zipfile import ZIP_DEFLATED, ZIP_STORED, BadZipFile, ZipFile
 
 from labeltools.text import Text, counted
 from labeltools.messages import BAD_ARGUMENTS, ToolError, quoted
-from labeltools.rows import Cell, Merge, Row
+from labeltools.cells import Cell
+from labeltools.rows import Merge, Row
 
 MOST_ROWS = 1048576
 MOST_COLUMNS = 16384
