@@ -6,6 +6,7 @@
     prepared.press(talk).save(prepared.prints, Path("labels.zpl"))
 """
 
+from collections import Counter
 from dataclasses import dataclass, replace
 from typing import Iterable, Iterator, Mapping, Optional, Sequence
 
@@ -18,6 +19,7 @@ from labeltools.letters import Fonts, Letters
 from labeltools.lines_file import UNPRINTABLE, LineRecord, LinesFile, read_lines
 from labeltools.messages import BAD_ARGUMENTS, Place, Talk, ToolError
 from labeltools.pen import Medium, Pen
+from labeltools.names import listed
 from labeltools.press import Press, PrintJob, Prints, pens_of, with_copies
 from labeltools.read_back import fault_of
 from labeltools.report import LeftOut, places_text
@@ -230,9 +232,12 @@ def prepared(options: PrintOptions, job: PrintJob, found: DrawnLines, talk: Talk
     left_out = list(without_line(lines, options.only))
     left_out += refused_labels(lines, reasons, options.only)
     tables = frozenset(record.table for record in lines.records if record.table)
-    remarks = tuple(remarks_on(wanted, laid_out, len(tables) > 1, pens_of(job, letters)[0]))
+    remarks = [
+        *several(wanted, options.only),
+        *remarks_on(wanted, laid_out, len(tables) > 1, pens_of(job, letters)[0]),
+    ]
     laid_out = replace(laid_out, labels=tuple(wanted))
-    return Prepared(job, laid_out, tuple(left_out), remarks, tables, letters)
+    return Prepared(job, laid_out, tuple(left_out), tuple(remarks), tables, letters)
 
 
 def drawn_labels(lines: LinesFile, drawn: Drawn, note: str) -> list[PrintLabel]:
@@ -298,6 +303,16 @@ def faults(
         fault = fault_of(item, laid_out.area, pen)
         if fault is not None:
             yield item.label.record, fault
+
+
+def several(items: Sequence[LaidOut], only: Optional[frozenset[int]]) -> Iterable[Remark]:
+    """Yields that rows that are asked for are in several tables of the file."""
+    places = [item.label.record.place for item in items if only is not None]
+    counts = Counter(place.number for place in places)
+    rows = sorted(number for number, count in counts.items() if count > 1)
+    if rows:
+        first = next(place for place in places if place.number == rows[0])
+        yield Remark(first, Text("{}: in several tables, and printed of each", listed(rows)))
 
 
 def remarks_on(
