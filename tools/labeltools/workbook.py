@@ -121,9 +121,10 @@ def chosen(sheets: Iterable[Sheet], wanted: str | None) -> Iterator[Row]:
         for row in sheet.rows if is_meant else ():
             if sheet.name not in found and not row.is_blank():
                 found.append(sheet.name)
-            if len(found) > 1:
+            if len(found) < 2:
+                yield row
+            elif sheet.name in found:
                 break
-            yield row
     if not names:
         raise LookupError("no sheet in it")
     if len(found) != 1:

@@ -658,6 +658,14 @@ class Formats(WorkbookTest):
 
 
 class Ods(WorkbookTest):
+    def test_all_sheets_with_data_are_named(self) -> None:
+        """Each sheet of .ods begins with an empty row, which is none with data."""
+        names = ["Cover", *(f"Month {number}" for number in range(1, 5)), "Empty"]
+        sheets = [table(["EAN"], [PENCIL], name=name) for name in names[:-1]]
+        listed = ", ".join(f'"{name}"' for name in names[:-1])
+        problem = f"has 5 visible sheets with data: give --sheet with one of {listed}"
+        self.refused(ods(*sheets, table(name="Empty")), problem, status=2)
+
     def test_a_table(self) -> None:
         value = f'office:value="{PENCIL}"'
         price = ods_cell("0,80 €", "currency", 'office:currency="EUR" office:value="0.8"')
