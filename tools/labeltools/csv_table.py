@@ -236,10 +236,11 @@ def wrong_encoding(data: bytes, name: str, codec: str, start: int) -> ToolError:
     found = readings(data[begin : end if end >= 0 else len(data)], codec)
     if not found:
         return ToolError(what, Text("save it as UTF-8"))
-    read = readings_text(found)
-    return ToolError(
-        what, Text("save it as UTF-8, or give the --encoding that reads it right: {}", read)
+    hint = Text(
+        "save it as UTF-8, or give the --encoding that reads it right: {}", readings_text(found)
     )
+    offers = [(word, ["--encoding", other]) for other, word in found.items()]
+    return ToolError(what, hint, offers=offers)
 
 
 def readings(line: bytes, without: str) -> dict[str, str]:

@@ -4,6 +4,7 @@ writes a message.
 
 import sys
 import unicodedata
+from collections.abc import Sequence
 from contextlib import suppress
 from typing import NamedTuple, Protocol
 
@@ -21,18 +22,25 @@ NAMES = {
 }
 
 
+Offers = Sequence[tuple[str, Sequence[str]]]
+
+
 class ToolError(Exception):
     """Why a tool cannot go on.
 
     `what` is the reason, without an option of the command line; `hint`, which may name options, is
-    what to do. A command ends with `status`.
+    what to do. A command ends with `status`. `offers` are choices that help, each as it is shown
+    in a window, with its words of the command line.
     """
 
-    def __init__(self, what: Text, hint: Text = NOTHING, status: int = 1) -> None:
+    def __init__(
+        self, what: Text, hint: Text = NOTHING, status: int = 1, offers: Offers = ()
+    ) -> None:
         super().__init__(sentence(what, hint))
         self.what = what
         self.hint = hint
         self.status = status
+        self.offers = offers
 
 
 class BadArguments(ToolError):

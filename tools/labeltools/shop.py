@@ -15,7 +15,7 @@ from labeltools.text import NOTHING, Text
 from labeltools.command_line import read_input, words_of
 from labeltools.engine import option_words
 from labeltools.guess import guess_of
-from labeltools.messages import Cancelled, Place, ToolError
+from labeltools.messages import Cancelled, Place, ToolError, quoted
 from labeltools.press import Press
 from labeltools.print_job import Prepared, faults, labels_of, planned
 from labeltools.report import LeftOut
@@ -24,6 +24,7 @@ from labeltools.table import Lines, lines_of_table
 CONFIG = os.environ.get("XDG_CONFIG_HOME") or Path.home() / ".config"
 MEMORY = Path(CONFIG, "labels", "window.json")
 COLUMNS = ("code", "title", "text", "price", "unit-price", "old-price", "copies")
+PAPER = ("sheet", "roll", "stock", "width", "height", "design", "to", "dpi")
 Choices = Mapping[str, Any]  # by the names of the options
 
 
@@ -65,19 +66,37 @@ class Table:
     notes: Sequence[LeftOut]
     left_out: int
 
-    def __init__(self, path: Path, text: str, header: int | None, talk: Talk) -> None:
-        """Reads a table by further words of label-table; its names are in the row `header` (0: in
-        none) where that is known. Raises `ToolError` and `OSError`.
+    def __init__(self, path: Path, text: str | None, header: int | None, talk: Talk) -> None:
+        """Reads a table by further words of label-table, None for those that are kept; its names
+        are in the row `header` (0: in none) where that is known. Raises `ToolError` and `OSError`.
         """
-        head = words_of({"header-row": header, "no-header": header == 0})
-        arguments = table_command.understood(["--code", "1", *head, *option_words(text)])
         _, self.data = read_input(str(path))
         self.path = path
-        self.guess = guess_of(self.data, path.name, table_command.options_of(arguments), talk)
-        self.kept = remembered().get("\n".join(self.guess.names), {})
+        self.read(text or "", header, talk)
+        kept = self.kept.get("for-table", "")
+        if text is None and kept and isinstance(kept, str):
+            self.read(kept, header, talk)
+        self.paper = {name: value for name, value in last().items() if name in PAPER}
+
+    def read(self, text: str, header: int | None, talk: Talk) -> None:
+        """Guesses the columns of the table as words read it, and finds what is kept for these."""
+        head = words_of({"header-row": header, "no-header": header == 0})
+        arguments = table_command.understood(["--code", "1", *head, *option_words(text)])
+        options = table_command.options_of(arguments)
+        self.text = text
+        self.guess = guess_of(self.data, self.path.name, options, talk)
+        self.key = "\n".join(self.guess.names) if any(self.guess.names) else ""
+        self.kept = remembered().get(self.key, {}) if self.key else {}
 
     def labels(self, choices: Choices, talk: Talk) -> Prepared:
         """Returns the labels that are chosen; raises `ToolError` and `OSError`."""
+        for kind, places in self.guess.doubts.items():
+            if choices[kind] is None:
+                named = ", ".join(quoted(self.guess.names[at] or str(at + 1)) for at in places)
+                hint = Text("choose its column")
+                if kind == "price":
+                    raise ToolError(Text("the price may be in one of {}", named), hint)
+                raise ToolError(Text("the code may be in one of {}", named), hint)
         to_print = print_words(choices)
         options = print_command.options_of(print_command.command_line().parse_args(to_print))
         job = planned(options)
@@ -95,8 +114,13 @@ class Table:
         self.left_out = len(rows) + len(more)
         commands = ["label-table", *words], ["label-print", *to_print]
         self.command = " | ".join(map(shlex.join, commands)) + f" > labels.{job.form.name}"
-        remember("\n".join(self.guess.names), choices)
         return found
+
+    def keep(self, choices: Choices) -> None:
+        """Keeps choices by which labels went out; those of columns only where columns have names,
+        since two tables without names have nothing in common.
+        """
+        remember(self.key, choices)
 
 
 def table_words(choices: Choices) -> list[str]:
@@ -132,9 +156,15 @@ def remembered() -> dict[str, Choices]:
     return {}
 
 
+def last() -> Choices:
+    """Returns what was chosen the last time, for whatever table."""
+    return next(reversed(remembered().values()), {})
+
+
 def remember(names: str, choices: Choices) -> None:
     """Keeps what was chosen; a folder that takes no file is no reason to stop."""
-    kept = {**remembered(), names: choices}
+    others = {other: kept for other, kept in remembered().items() if other != names}
+    kept = {**others, names: choices}  # the last one at the end
     with suppress(OSError):
         MEMORY.parent.mkdir(parents=True, exist_ok=True)
         MEMORY.write_text(json.dumps(kept, indent=1), encoding="utf-8")

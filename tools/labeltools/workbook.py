@@ -67,7 +67,8 @@ def named_errors(name: str) -> Iterator[None]:
     try:
         yield
     except ToolError as error:
-        raise ToolError(Text("{} {}", name, error.what), error.hint, error.status) from None
+        what = Text("{} {}", name, error.what)
+        raise ToolError(what, error.hint, error.status, error.offers) from None
     except DAMAGE as error:
         what = Text("{} is damaged, or neither .xlsx nor .ods ({})", name, reason(error))
         raise ToolError(what, SAVE_AGAIN) from None
@@ -131,11 +132,9 @@ def chosen(sheets: Iterable[Sheet], wanted: str | None) -> Iterator[Row]:
         count = counted("{} visible sheet", "{} visible sheets", len(found))
         what = count if wanted is None else Text("no sheet {}", quoted(wanted))
         listed = ", ".join(map(quoted, found or names))
-        raise ToolError(
-            Text("has {} with data", what),
-            Text("give --sheet with one of {}", listed),
-            BAD_ARGUMENTS,
-        )
+        hint = Text("give --sheet with one of {}", listed)
+        offers = [(one, ["--sheet", one]) for one in found or names]
+        raise ToolError(Text("has {} with data", what), hint, BAD_ARGUMENTS, offers)
 
 
 def pieces(archive: ZipFile, part: str) -> Iterator[bytes]:
