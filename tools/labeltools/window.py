@@ -21,7 +21,7 @@ from labeltools.pango import library
 from labeltools.preview import Preview
 from labeltools.print_command import check_count, print_on
 from labeltools.print_job import Prepared
-from labeltools.printer import media_of, queues
+from labeltools.printer import check_queue, media_of, queues
 from labeltools.shop import COLUMNS, Choices, Table, Talk, read_back
 from labeltools.stock import list_stock
 from labeltools.words import _
@@ -330,7 +330,12 @@ class Window:
     def send(self, _item: Any, queue: str) -> None:
         """Reads each label back, and sends what label-print writes to a queue."""
         labels = self.labels
-        self.start(lambda talk: print_on(read_back(labels, talk), labels.prints, queue), self.say)
+
+        def work(talk: Talk) -> str:
+            check_queue(labels.job, queue)
+            return print_on(read_back(labels, talk), labels.prints, queue)
+
+        self.start(work, self.say)
 
     def operation(self) -> Any:
         """Returns what prints each page in its own size: no scaling, no margins of the printer."""
