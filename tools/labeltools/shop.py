@@ -2,9 +2,11 @@
 of them, and what was chosen the last time.
 """
 
+import hashlib
 import json
 import os
 import shlex
+import time
 from collections.abc import Mapping, Sequence
 from contextlib import suppress
 from pathlib import Path
@@ -61,6 +63,7 @@ class Table:
 
     words: Sequence[str] = ()
     lines: Lines
+    all_lines: Lines  # those too that are as before
     said: Sequence[LeftOut]
     command: str
     notes: Sequence[LeftOut]
@@ -100,10 +103,12 @@ class Table:
         to_print = print_words(choices)
         options = print_command.options_of(print_command.command_line().parse_args(to_print))
         job = planned(options)
-        words = [*table_words(choices), "--", str(self.path)]
+        all_words = table_words(choices)
+        since = {"new-since": str(self.printed) if choices["new-only"] else ""}
+        words = [*words_of(since), *all_words]
         if words != self.words:  # other paper needs no other lines
-            rules = table_command.options_of(table_command.understood(words))
-            self.lines = lines_of_table(self.data, self.path.name, rules, talk)
+            self.lines = self.lines_by(words, talk)
+            self.all_lines = self.lines_by(all_words, Talk()) if since["new-since"] else self.lines
             self.said = tuple(talk.notes)
             self.words = words
         found = labels_of(options, job, self.path.name, self.lines.output, talk)
@@ -112,9 +117,34 @@ class Table:
         remarks = [LeftOut(remark.first, "", remark.text) for remark in found.remarks]
         self.notes = [*self.said, *more, *remarks]
         self.left_out = len(rows) + len(more)
-        commands = ["label-table", *words], ["label-print", *to_print]
+        commands = ["label-table", *words, "--", str(self.path)], ["label-print", *to_print]
         self.command = " | ".join(map(shlex.join, commands)) + f" > labels.{job.form.name}"
         return found
+
+    def lines_by(self, words: Sequence[str], talk: Talk) -> Lines:
+        """Returns the lines of the table by the words of label-table."""
+        rules = table_command.options_of(table_command.understood([*words, "--", str(self.path)]))
+        return lines_of_table(self.data, self.path.name, rules, talk)
+
+    @property
+    def printed(self) -> Path:
+        """The lines that went out the last time, of a table with the same names."""
+        mark = hashlib.sha256(self.key.encode()).hexdigest()[:16]
+        return MEMORY.with_name(f"{mark}.lines")
+
+    def printed_on(self) -> str:
+        """Returns the day on which labels of such a table went out; empty where none did."""
+        if self.key and self.printed.exists():
+            return time.strftime("%x", time.localtime(self.printed.stat().st_mtime))
+        return ""
+
+    def keep_printed(self, choices: Choices) -> None:
+        """Keeps the lines of labels that went out, with those that are as before, for the next
+        `--new-since`; not where a part of them was asked for.
+        """
+        if self.key and "--only" not in choices["for-print"]:
+            with suppress(OSError):
+                self.printed.write_bytes(self.all_lines.output)
 
     def keep(self, choices: Choices) -> None:
         """Keeps choices by which labels went out; those of columns only where columns have names,

@@ -19,6 +19,7 @@ from labeltools.forms.pdf import POINTS
 from labeltools.messages import Offers, ToolError, of_system
 from labeltools.pango import library
 from labeltools.preview import Preview
+from labeltools.press import Press
 from labeltools.print_command import check_count, print_on
 from labeltools.print_job import Prepared
 from labeltools.printer import check_queue, media_of, queues
@@ -37,7 +38,7 @@ CONTROLS = {
     **dict.fromkeys((*COLUMNS, "symbology", "design", "to", "dpi"), "active-id"),
     **dict.fromkeys(("stock", "for-table", "for-print"), "text"),
     **dict.fromkeys(("header-row", "first", "width", "height"), "value"),
-    **dict.fromkeys(("sheet", "roll"), "active"),
+    **dict.fromkeys(("sheet", "roll", "new-only"), "active"),
 }
 MANY = 1000  # labels above it are asked for before they are printed
 MOST_NOTES = 2000
@@ -166,6 +167,12 @@ class Window:
         self.take({"for-table": self.words})
         self.take({"header-row": guess.header})
         self.widget("guessed").set_visible(not table.kept)
+        since = table.printed_on()
+        text = _("Only what is _new or changed since {date}").format(date=since)
+        self.widget("new-only").set_label(text)
+        self.widget("new-only").set_visible(since)
+        if not since:
+            self.take({"new-only": False})
         self.path = table.path
         self.table = table
         self.make()
@@ -281,7 +288,9 @@ class Window:
     def on_save(self, _button: Any) -> None:
         """Asks for a file, and writes it."""
         chooser = self.widget("saver")
-        chooser.set_current_name(f"labels.{self.labels.job.form.name}")
+        path = self.table.path if self.table else Path()
+        chooser.set_current_folder(str(path.absolute().parent))
+        chooser.set_current_name(f"{path.stem}-labels.{self.labels.job.form.name}")
         if self.is_meant() and chooser.run() == Gtk.ResponseType.ACCEPT:
             self.save(Path(chooser.get_filename()))
 
@@ -294,9 +303,22 @@ class Window:
         self.start(lambda talk: work(talk).save(labels.prints, path), lambda _none: self.say(done))
 
     def say(self, text: str) -> None:
-        """Says that labels went out."""
+        """Says that labels went out, and keeps which."""
+        self.keep_printed()
         self.widget("said").set_text(text)
         self.widget("done").show()
+
+    def print(self, _press: Press) -> None:
+        """Prints by the dialog of the desktop."""
+        action = Gtk.PrintOperationAction.PRINT_DIALOG
+        result = self.operation().run(action, self.window)
+        if result in (Gtk.PrintOperationResult.APPLY, Gtk.PrintOperationResult.IN_PROGRESS):
+            self.keep_printed()
+
+    def keep_printed(self) -> None:
+        """Keeps which labels went out."""
+        if self.table is not None:
+            self.table.keep_printed(self.choices())
 
     def keep(self) -> None:
         """Keeps what is chosen for the next table like this: labels go out by it."""
@@ -306,16 +328,13 @@ class Window:
     def on_print(self, _button: Any) -> None:
         """Prints: by the dialog of the desktop, or for ZPL and ESC/POS the file at a queue."""
         labels = self.labels
-        action = Gtk.PrintOperationAction.PRINT_DIALOG
         if not self.is_meant():
             return
         self.keep()
         if labels.job.form.is_roll:
             self.start(lambda _talk: queues(), self.ask_queue)
         else:
-            self.start(
-                partial(read_back, labels), lambda _press: self.operation().run(action, self.window)
-            )
+            self.start(partial(read_back, labels), self.print)
 
     def ask_queue(self, names: list[str]) -> None:
         """Asks for a queue for the file of a printer's own language."""

@@ -438,6 +438,45 @@ class WindowTest(unittest.TestCase):
             self.change(price="3")
             self.saved(f"{prices}.pdf")
 
+    def test_prints_only_what_is_new(self):
+        """What went out is kept, and asked for once there is such a list."""
+        self.open()
+        self.assertFalse(self.window.widget("new-only").get_visible())
+        self.saved("labels.pdf")
+        self.until(self.window.widget("done").get_visible)
+        self.table.write_text(TABLE.replace("Soap", "Soap, blue"))
+        self.open()
+        self.assertTrue(self.window.widget("new-only").get_visible())
+        everything = self.window.table.lines.count
+        self.change(new_only=True)
+        self.assertEqual(self.window.table.lines.count, 1)
+        self.assertIn("--new-since", self.window.widget("command").get_text())
+        self.saved("changed.pdf")
+        self.until(self.window.widget("done").get_visible)
+        self.open()
+        self.change(new_only=False)
+        self.assertEqual(self.window.table.lines.count, everything)
+        self.change(new_only=True)
+        self.assertIn("no label", self.problem())  # all went out
+
+    def test_keys_open_save_and_print(self):
+        group = window.Gtk.accel_groups_from_object(self.window.window)[0]
+        control = window.Gdk.ModifierType.CONTROL_MASK
+        for letter in "osp":
+            self.assertEqual(len(group.query(window.Gdk.keyval_from_name(letter), control)), 1)
+
+    def test_saves_beside_the_table(self):
+        self.open()
+        chooser = self.window.widget("saver")
+        with (
+            mock.patch.object(type(chooser), "run", return_value=0),
+            mock.patch.object(type(chooser), "set_current_folder") as folder_of,
+            mock.patch.object(type(chooser), "set_current_name") as name_of,
+        ):
+            self.window.on_save(None)
+        folder_of.assert_called_once_with(str(self.table.parent))
+        name_of.assert_called_once_with(f"{self.table.stem}-labels.pdf")
+
     def test_offers_sheets_and_encodings(self):
         self.table.write_bytes("EAN;Name\n96385074;Füller, blau\n".encode("cp1252"))
         self.open()
