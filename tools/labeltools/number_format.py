@@ -67,7 +67,8 @@ WHOLE_PATTERN = re.compile("[#?,]*[#?0]0?0?")  # with signs of thousands
 COMMA_POINT = "de es it nl pt da el id tr hr sl ro is vi sr bs ca gl eu mk sq"
 COMMA_SPACE = "fr ru uk be cs sk pl hu bg fi sv nb nn no lt lv et ka kk hy az"
 POINT_COMMA = (
-    "en zh ja ko th he hi ms ta te bn ur sw af_NA es_MX es_US es_GT es_HN es_NI es_PA es_PE"
+    "en zh ja ko th he hi ms ta te bn ur sw af_NA es_MX es_US es_DO es_GT es_HN es_NI es_PA es_PE"
+    " es_PR es_SV"
 )
 POINT_APOSTROPHE = "de_CH it_CH de_LI rm"
 
@@ -298,6 +299,8 @@ def signs_of(language: str) -> Signs | None:
 
     >>> signs_of("de_DE"), signs_of("de_CH").decimal, signs_of("xx_YY")
     (Signs(decimal=',', thousands='.'), '.', None)
+    >>> "".join(signs_of(one).decimal for one in ("es_ES", "es_MX", "es_DO", "es_PR", "es_SV"))
+    ',....'
     """
     return SIGNS_OF.get(language) or SIGNS_OF.get(language.partition("_")[0])
 
