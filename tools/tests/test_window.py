@@ -46,6 +46,8 @@ def setUpModule():
         number = file.readline().strip()
     os.environ.update(DISPLAY=f":{number}", NO_AT_BRIDGE="1", XDG_CONFIG_HOME=folder.name)
     os.environ.update(GDK_BACKEND="x11", LANGUAGE="en")
+    # a bus that GLib starts for this screen ends with it, and then ends this process
+    os.environ["DBUS_SESSION_BUS_ADDRESS"] = "disabled:"
     sys.path.insert(0, str(TOOLS))
     from labeltools import window
     from labeltools.window import Gio, GLib, Gtk
