@@ -11,7 +11,9 @@ LABELS ?= out/labels
 PROVED ?= out/liblabels_c.a
 SOURCES := $(shell find crates -name out -prune -o -name '*.rt' -print -o -name '*.antt' -print)
 TOOLS := $(notdir $(wildcard tools/label-*))
-MODULES := $(shell cd tools && find labeltools -name '*.py' -o -name '*.ui' -o -name messages.txt)
+# The window has no completion: a link would take away that of file names.
+COMPLETED := $(filter-out label-window,$(TOOLS))
+MODULES := $(shell cd tools && find labeltools -name '*.py' -o -name '*.ui')
 LANGUAGES := $(patsubst tools/po/%.po,%,$(wildcard tools/po/*.po))
 WINDOW = org.labels.Window
 DOCUMENTS := README.md $(wildcard docs/*.md docs/pictures/*)
@@ -61,7 +63,8 @@ install: all
 	    install -D -m 644 tools/$$file $(DESTDIR)$(DATADIR)/label-tools/$$file; done
 	set -e; for language in $(LANGUAGES); do \
 	    folder=$(DESTDIR)$(DATADIR)/label-tools/labeltools/locale/$$language/LC_MESSAGES; install -d $$folder; \
-	    msgfmt --check-format -o $$folder/label-tools.mo tools/po/$$language.po; done
+	    msgfmt --check-format -o $$folder/label-tools.mo tools/po/$$language.po; \
+	    chmod 644 $$folder/label-tools.mo; done
 	install -D -m 644 -t $(DESTDIR)$(DATADIR)/applications tools/data/$(WINDOW).desktop
 	install -D -m 644 -t $(DESTDIR)$(DATADIR)/icons/hicolor/scalable/apps tools/data/$(WINDOW).svg
 	install -D -m 644 -t $(DESTDIR)$(DATADIR)/metainfo tools/data/$(WINDOW).metainfo.xml
@@ -72,7 +75,7 @@ install: all
 	install -D -m 644 completions/labels.bash $(DESTDIR)$(DATADIR)/bash-completion/completions/labels
 	install -D -m 644 -t $(DESTDIR)$(DATADIR)/fish/vendor_completions.d completions/labels.fish
 	install -D -m 644 -t $(DESTDIR)$(ZSHDIR) completions/_labels
-	set -e; for tool in $(TOOLS); do \
+	set -e; for tool in $(COMPLETED); do \
 	    $(call link,labels,$(DATADIR)/bash-completion/completions/$$tool); \
 	    $(call link,labels.fish,$(DATADIR)/fish/vendor_completions.d/$$tool.fish); done
 	$(call library,install DESTDIR=$(DESTDIR) PREFIX=$(PREFIX) LIBDIR=$(LIBDIR) PYTHONDIR=$(PYTHONDIR))

@@ -4,6 +4,7 @@ import re
 from dataclasses import dataclass
 from typing import NamedTuple, Sequence
 
+from labeltools.text import NOTHING, Text, counted, joined
 from labeltools.messages import RowError, named, quoted
 from labeltools.money import NO_VALUES
 from labeltools.symbologies import (
@@ -29,8 +30,8 @@ WITH_SIGNS = re.compile(
 ISBN_10 = re.compile("(?:[0-9][- ]?){8,9}[0-9Xx]")
 # 4,00635E+12 shows at most six digits; as 4006350000000 it has six zeros before the check digit
 LOOKS_ROUNDED = re.compile("[0-9]*0{6}[0-9]|(?=.{11})0*[0-9]{1,6}0+")
-ROUNDED = "the spreadsheet has rounded the number"
-ROUNDED_HINT = "format the column as text, enter it again"
+ROUNDED = Text("the spreadsheet has rounded the number")
+ROUNDED_HINT = Text("format the column as text, enter it again")
 IS_ROUNDED = re.compile("[0-9]+(?:[.,][0-9]+)?[Ee][+]?[0-9]+")
 IS_ROUNDED_DATA = re.compile("[0-9](?:[.,][0-9]+)?[Ee][+][0-9]{2,}")
 # the digits of an add-on, which is printed beside the bars of a magazine or a book
@@ -39,10 +40,23 @@ KEYS = sorted({key for one in SYMBOLOGIES.values() for key in one.settings})
 SETTING = re.compile(rf"(?s)(?:{'|'.join(KEYS)})=\S*(?: .*)?")
 # what would be drawn though nobody means it
 DRAWN = (
-    (SETTING, "a setting in front", "take it away; settings of all lines are given by --settings"),
-    (re.compile(r"(?s)\s.*|.*\s"), "a space before or after the data", "take it away"),
-    (re.compile("(?s)\".*\"|'.*'|[“„].*[“”]|«.*»|».*«"), "quotes round the data", "take them away"),
-    (re.compile("(?s)'.*"), "an apostrophe in front, a spreadsheet's sign of text", "take it away"),
+    (
+        SETTING,
+        Text("a setting in front"),
+        Text("take it away; settings of all lines are given by --settings"),
+    ),
+    (re.compile(r"(?s)\s.*|.*\s"), Text("a space before or after the data"), Text("take it away")),
+    (
+        re.compile("(?s)\".*\"|'.*'|[“„].*[“”]|«.*»|».*«"),
+        Text("quotes round the data"),
+        Text("take them away"),
+    ),
+    (re.compile(r"(?s)\*.+\*"), Text("the asterisks of a font"), Text("take them away")),
+    (
+        re.compile("(?s)'.*"),
+        Text("an apostrophe in front, a spreadsheet's sign of text"),
+        Text("take it away"),
+    ),
 )
 # LibreOffice's name of an error in its languages, before the number of the error
 ERROR_WORDS = (
@@ -50,7 +64,9 @@ ERROR_WORDS = (
     "|eroare|viga|klaida|kļūda|hata|ошибка|помилка|грешка|σφάλμα|エラー|错误|錯誤|오류"
 )
 PROGRAM_ERROR = re.compile(rf"(?:{ERROR_WORDS})\.? ?: ?5[0-9]{{2}}", re.IGNORECASE)
-NO_CHECK_DIGITS = "if the column has no check digits, give --without-check-digit"
+# what GS1's texts in brackets begin with: an SSCC, or a GTIN
+IN_BRACKETS = re.compile(r"\((?:00\)(?=[0-9]{18})|0[12]\)(?=[0-9]{14}))([0-9]+).*", re.DOTALL)
+NO_CHECK_DIGITS = Text("if the column has no check digits, give --without-check-digit")
 
 
 @dataclass(frozen=True)
@@ -77,6 +93,11 @@ class Code(NamedTuple):
     data: str
     whole: str
 
+    @property
+    def article(self) -> str:
+        """What two codes of one article have in common: a GTIN of 14 digits."""
+        return self.data if self.symbology in FREE else self.whole.zfill(14)
+
 
 def code_of(cell: str, rules: CodeRules) -> Code:
     """Returns the code of a cell that is not empty; raises `RowError` for what is not surely that
@@ -95,20 +116,30 @@ def code_of(cell: str, rules: CodeRules) -> Code:
     if not missing and not is_right(filled):
         raise wrong_check_digit(filled, len(digits), rules)
     if LOOKS_ROUNDED.fullmatch(filled + "0" * missing) and not rules.allow_zeros:
-        hint = "enter it again as text, or give --allow-zeros"
-        raise RowError(f"{filled} looks rounded by the spreadsheet", hint)
+        hint = Text("enter it again as text, or give --allow-zeros")
+        raise RowError(Text("{} looks rounded by the spreadsheet", filled), hint)
     return Code(symbology, filled, filled + check_digit(filled) if missing else filled)
 
 
 def check_data(cell: str) -> None:
     """Raises `RowError` for what would be drawn as data though nobody means it."""
     if IS_ROUNDED_DATA.fullmatch(cell):
-        raise RowError(f"{quoted(cell)}: {ROUNDED}", ROUNDED_HINT)
+        raise RowError(Text("{}: {}", quoted(cell), ROUNDED), ROUNDED_HINT)
     if cell.strip().casefold() in NO_VALUES or PROGRAM_ERROR.fullmatch(cell.strip()):
-        raise RowError(f"{quoted(cell)} is what a program writes where it has no value")
+        raise RowError(Text("{} is what a program writes where it has no value", quoted(cell)))
     for pattern, what, hint in DRAWN:
         if pattern.fullmatch(cell):
-            raise RowError(f"{quoted(cell)} has {what}, which would be drawn", hint)
+            raise RowError(Text("{} has {}, which would be drawn", quoted(cell), what), hint)
+
+
+def is_in_brackets(data: str) -> bool:
+    """Returns whether data is GS1's, as people read it.
+
+    >>> is_in_brackets("(01)04006381333931(10)ABC"), is_in_brackets("(01)04006381333932")
+    (True, False)
+    """
+    found = IN_BRACKETS.fullmatch(data)
+    return found is not None and is_right(found[1])
 
 
 def digits_in(cell: str, has_check_digit: bool) -> str:
@@ -121,13 +152,13 @@ def digits_in(cell: str, has_check_digit: bool) -> str:
     if has_check_digit and WITH_SIGNS.fullmatch(cell):
         digits = re.sub("[.,]0+|[- ]", "", cell)
     if IS_ROUNDED.fullmatch(digits):
-        raise RowError(f"{quoted(digits)}: {ROUNDED}", ROUNDED_HINT)
+        raise RowError(Text("{}: {}", quoted(digits), ROUNDED), ROUNDED_HINT)
     if re.fullmatch("0+", digits):
-        raise RowError(f"{quoted(digits)} is zeros alone, which is no article's number")
+        raise RowError(Text("{} is zeros alone, which is no article's number", quoted(digits)))
     check_isbn(digits)
     if other := re.search("[^0-9]", digits):
-        place = f"character {other.start() + 1} is {named(other.group())}"
-        raise RowError(f"{quoted(digits)} is not digits alone", place)
+        place = Text("character {} is {}", other.start() + 1, named(other.group()))
+        raise RowError(Text("{} is not digits alone", quoted(digits)), place)
     return digits
 
 
@@ -144,7 +175,8 @@ def check_isbn(digits: str) -> None:
     if total % 11 == 0:
         nine = "978" + ten[:9]
         raise RowError(
-            f"{digits} is an ISBN of ten digits", f"its EAN-13 is {nine}{check_digit(nine)}"
+            Text("{} is an ISBN of ten digits", digits),
+            Text("its EAN-13 is {}{}", nine, check_digit(nine)),
         )
 
 
@@ -156,14 +188,14 @@ def symbology_of(digits: str, rules: CodeRules) -> str:
     count = len(digits) + missing
     is_short = rules.fill_zeros and count == 7 and is_right(digits)
     if digits[0] == "0" and count == 8 or is_short:
-        hint = "an EAN-8 is --symbology ean8"
-        raise RowError(f"{digits} may be a UPC-E, which labels does not draw", hint)
+        hint = Text("an EAN-8 is --symbology ean8")
+        raise RowError(Text("{} may be a UPC-E, which labels does not draw", digits), hint)
     if missing and count in NUMBERS and is_right(digits):
-        hint = f"if not, give --symbology {NUMBERS[count].name}"
-        raise RowError(f"{digits} may have its check digit", hint)
-    if count > 11 and len(digits.lstrip("0")) + missing <= 8:
-        hint = "write its 8 digits, or give --symbology"
-        raise RowError(f"{digits} may be an EAN-8 with zeros in front", hint)
+        hint = Text("if not, give --symbology {}", NUMBERS[count].name)
+        raise RowError(Text("{} may have its check digit", digits), hint)
+    if count > 8 and digits[0] == "0" and len(digits.lstrip("0")) + missing <= 8:
+        hint = Text("write its 8 digits, or give --symbology")
+        raise RowError(Text("{} may be an EAN-8 with zeros in front", digits), hint)
     if rules.fill_zeros and EAN13.digits - MOST_ZEROS <= count <= EAN13.digits:
         return EAN13.name
     return NUMBERS[count].name if count in NUMBERS else ""
@@ -188,27 +220,28 @@ def wrong_length(digits: str, asked: Sequence[str], rules: CodeRules) -> RowErro
     """
     count = len(digits)
     missing = rules.without_check_digit
-    lengths = ", ".join(f"{symbology} has {LENGTHS[symbology] - missing}" for symbology in asked)
-    what = f"{digits:.20} has {count} digit{'s' if count > 1 else ''}, {lengths}"
+    lengths = joined(", ", (Text("{} has {}", one, LENGTHS[one] - missing) for one in asked))
+    what = counted("{1} has {0} digit, {2}", "{1} has {0} digits, {2}", count, digits[:20], lengths)
     if missing:
-        return RowError(what, "give --without-check-digit only where no number has one")
+        return RowError(what, Text("give --without-check-digit only where no number has one"))
     length, rest = ADD_ONS.get(count, (0, 0))
     if length and is_right(digits[:length]):
         return RowError(
-            what, f"if its last {rest} digits are an add-on, write the first {length} alone"
+            what,
+            Text("if its last {} digits are an add-on, write the first {} alone", rest, length),
         )
     if count == 14:
-        return RowError(what, "a GTIN-14 is drawn as ITF-14, which labels does not draw")
+        return RowError(what, Text("a GTIN-14 is drawn as ITF-14, which labels does not draw"))
     if count < EAN13.digits and is_right(digits):
         if rules.symbology == AUTO:
-            return RowError(what, "give --fill-zeros where zeros in front are lost")
+            return RowError(what, Text("give --fill-zeros where zeros in front are lost"))
         return RowError(
-            what, "give --symbology auto, or --fill-zeros where zeros in front are lost"
+            what, Text("give --symbology auto, or --fill-zeros where zeros in front are lost")
         )
     if count > EAN13.digits:
-        return RowError(what, "a code of more digits is --symbology code128")
+        return RowError(what, Text("a code of more digits is --symbology code128"))
     if count == EAN13.digits:
-        return RowError(what, "give --symbology auto")
+        return RowError(what, Text("give --symbology auto"))
     return RowError(what, NO_CHECK_DIGITS)
 
 
@@ -217,6 +250,6 @@ def wrong_check_digit(filled: str, count: int, rules: CodeRules) -> RowError:
     in the table.
     """
     right = check_digit(filled[:-1])
-    what = f"{filled}: the check digit is {filled[-1]}, should be {right}"
+    what = Text("{}: the check digit is {}, should be {}", filled, filled[-1], right)
     may_miss = rules.symbology == AUTO and count == 12
-    return RowError(what, NO_CHECK_DIGITS if may_miss else "")
+    return RowError(what, NO_CHECK_DIGITS if may_miss else NOTHING)

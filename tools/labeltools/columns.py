@@ -1,37 +1,26 @@
 """Which column is what, and what is in the cells of each kind of column."""
 
 import re
-import unicodedata
 from dataclasses import dataclass
+from decimal import Decimal
 from itertools import islice
 from typing import Iterable, Sequence
 
-from labeltools.codes import PROGRAM_ERROR
+from labeltools.text import Text
+from labeltools.cells import COPIES, DATA, DIGITS, MARK, PRICE, PRINTED, Kind, taken
+from labeltools.cells import UNSEEN_CODE, UNSEEN_PRICE, UNSEEN_TEXT, refuse_unseen
 from labeltools.lines_file import MOST_COPIES
-from labeltools.messages import BAD_ARGUMENTS, RowError, ToolError, named, quoted
-from labeltools.names import name_of, row_of_names
+from labeltools.messages import BAD_ARGUMENTS, RowError, ToolError, quoted
+from labeltools.names import NUMBER, name_of, row_of_names
 from labeltools.rows import Row
 from labeltools.symbologies import SYMBOLOGIES
 from labeltools.table_options import TableOptions
 
-LONGEST_CELL = 131068
-LONGEST_ERROR = 30  # letters of what a program writes in place of a text
 ROWS_LOOKED_AT = 50  # for the row of names
 LISTED = 40  # columns that a message lists
-COPIES = re.compile("0*[0-9]{1,4}(?:[.,]00?)?")
-FORMULA_OF_TEXT = re.compile('="((?:[^"]|"")*)"')
-ERROR = re.compile(r"#(?:##+|N/A|N/D|NV|Н/Д|GETTING_DATA|[^\s#]{1,15} ?[!?])|Err:[0-9]{3}")
-SPECIAL_STARTS = "=#E"  # of formulas, and of the names of errors
-# what a program writes where it has no text; `True` may be a title
-NO_TEXTS = frozenset("nan nat null none undefined <na> #n/a n/a".split())
-LONGEST_NO_TEXT = max(map(len, NO_TEXTS))
-HTML = re.compile(r"</?[a-z][^<>]*>|&(?:[a-z]{2,8}|#[0-9]{1,6});", re.IGNORECASE)
+COUNT = re.compile("0*[0-9]{1,4}(?:[.,]00?)?")
 # what may be in the name of a column of codes though it has digits
 NAME_WITH_DIGITS = re.compile("(?:EAN|GTIN|UPC|ISBN|Code|QR)[- ]?[0-9]{1,3}", re.IGNORECASE)
-# what nobody sees, or reorders letters, by the class and name of a character in Unicode
-UNSEEN_CODE = re.compile("C[cf]|Z[lps]|.*(?:SELECTOR|FILLER|JOINER|INHERENT|PATTERN BLANK)")
-UNSEEN_TEXT = re.compile("Cc|Z[lp]|Cf .*(?:EMBEDDING|OVERRIDE|ISOLATE|DIRECTIONAL)")
-UNSEEN_PRICE = re.compile("C[cf]|Z[lp]")
 MARKS = "\u200e\u200f\u061c"  # of the direction, which spreadsheets put around currencies
 
 
@@ -40,22 +29,18 @@ class Column:
     """A column that was asked for: its place, from 0, and how messages call it."""
 
     place: int
-    title: str
+    title: Text
 
     def error(self, problem: RowError) -> RowError:
         """Returns the error of a cell, with the column in front."""
-        return RowError(f"{self.title} {problem.what}", problem.hint, self.place)
+        return RowError(Text("{} {}", self.title, problem.what), problem.hint, self.place)
 
     def code(self, row: Row, is_free: bool) -> str:
         """Returns the text of a code, which is not empty; raises `RowError`."""
         try:
-            cell = row.cell(self.place)
-            if isinstance(cell, str):
-                text = plain_text(cell)
-            else:
-                text = cell.data() if is_free else cell.digits()
+            text = taken(row.cell(self.place), DATA if is_free else DIGITS)
             if not text.strip():
-                raise RowError("is empty")
+                raise RowError(Text("is empty"))
             refuse_unseen(text.strip(), text, UNSEEN_CODE)
             return text
         except RowError as problem:
@@ -64,7 +49,7 @@ class Column:
     def text(self, row: Row) -> str:
         """Returns a title or a text, with LF between its lines; raises `RowError`."""
         try:
-            text = self.value(row)
+            text = taken(row.cell(self.place), PRINTED)
             if text.isprintable():
                 return text.strip()
             lines = [" ".join(line.split("\t")).strip() for line in re.split("\r\n?|\n", text)]
@@ -76,7 +61,7 @@ class Column:
     def price(self, row: Row) -> str:
         """Returns the text of a price; raises `RowError`."""
         try:
-            text = self.value(row).strip()
+            text = taken(row.cell(self.place), PRICE).strip()
             if not text.isprintable():
                 bare = text.translate(dict.fromkeys(map(ord, MARKS), None)).replace("\t", " ")
                 refuse_unseen(bare, text, UNSEEN_PRICE)
@@ -87,10 +72,11 @@ class Column:
     def copies(self, row: Row) -> int:
         """Returns a number of copies; raises `RowError`."""
         try:
-            cell = row.cell(self.place)
-            text = (plain_text(cell) if isinstance(cell, str) else cell.count()).strip()
-            if not COPIES.fullmatch(text):
-                what = f"is {quoted(text)}: copies are a whole number from 0 to {MOST_COPIES}"
+            text = taken(row.cell(self.place), COPIES).strip()
+            if not COUNT.fullmatch(text):
+                what = Text(
+                    "is {}: copies are a whole number from 0 to {}", quoted(text), MOST_COPIES
+                )
                 raise RowError(what)
             return int(re.split("[.,]", text)[0])
         except RowError as problem:
@@ -99,20 +85,20 @@ class Column:
     def mark(self, row: Row) -> str:
         """Returns a text on one line, as it is compared; raises `RowError`."""
         try:
-            cell = row.cell(self.place)
-            return name_of(self.value(row) if isinstance(cell, str) else cell.mark())
+            return name_of(taken(row.cell(self.place), MARK))
         except RowError as problem:
             raise self.error(problem) from None
 
-    def value(self, row: Row) -> str:
-        """Returns the text of a cell as it is shown; raises `RowError` for what a program writes in
-        place of one.
+    def has(self, row: Row, value: str) -> bool:
+        """Returns whether a cell has a value, in letters of either case; numbers are compared as
+        numbers. Raises `RowError`.
         """
+        if self.mark(row).casefold() == value.casefold():
+            return True
         cell = row.cell(self.place)
-        text = plain_text(cell) if isinstance(cell, str) else cell.printed()
-        if len(text) < LONGEST_ERROR and is_error(text.strip()):
-            raise RowError(f"has {quoted(text)}, which a program writes where it has no value")
-        return text
+        if isinstance(cell, str) or cell.kind is not Kind.NUMBER or not NUMBER.fullmatch(value):
+            return False
+        return Decimal(value.replace(",", ".")) == cell.number()
 
 
 @dataclass(frozen=True)
@@ -139,70 +125,6 @@ class Head:
     names: tuple[str, ...]
 
 
-def is_error(text: str) -> bool:
-    """Returns whether a text is what a program writes where it has none.
-
-    >>> [is_error(text) for text in ("nan", "Fehler:502", "Name", "LOT:502")]
-    [True, True, False, False]
-    """
-    if ":" in text:
-        return PROGRAM_ERROR.fullmatch(text) is not None
-    return len(text) <= LONGEST_NO_TEXT and text.casefold() in NO_TEXTS
-
-
-def no_value(text: str) -> RowError:
-    """Returns the error of an error's name."""
-    return RowError(
-        f"has {quoted(text)}, which the spreadsheet writes where it has no value to show"
-    )
-
-
-def plain_text(cell: str) -> str:
-    """Returns a cell that is a text; raises `RowError` for what a spreadsheet writes in place of a
-    value.
-    """
-    start = cell.lstrip()[:1]
-    if start in SPECIAL_STARTS and start:
-        refuse_special(cell)
-        if formula := FORMULA_OF_TEXT.fullmatch(cell.strip()):
-            return formula[1].replace('""', '"')
-    if "\ufffd" in cell:
-        what = f"has {quoted(cell)}, with the sign of a lost letter (U+FFFD)"
-        raise RowError(what, "export the table again")
-    if len(cell) > LONGEST_CELL:
-        most = f"at most {LONGEST_CELL} characters of a cell are read"
-        raise RowError(f"has {quoted(cell)}, and {most}")
-    return cell
-
-
-def refuse_special(cell: str) -> None:
-    """Raises `RowError` for a formula that is no text, and for the name of an error."""
-    bare = cell.strip()
-    if bare.startswith("=") and not FORMULA_OF_TEXT.fullmatch(bare):
-        raise RowError(f"has {quoted(cell)}, a formula", "export its value")
-    if ERROR.fullmatch(bare):
-        raise no_value(cell)
-
-
-def refuse_unseen(bare: str, text: str, unseen: re.Pattern[str]) -> None:
-    """Raises `RowError` where a text has a character that nobody sees, but for plain spaces."""
-    if bare.isascii() and bare.isprintable():
-        return
-    for character in bare.replace(" ", ""):
-        name = f"{unicodedata.category(character)} {unicodedata.name(character, '')}"
-        if unseen.match(name):
-            raise RowError(f"has {named(character)} in the cell {quoted(text)}, which nobody sees")
-
-
-def has_html(text: str) -> bool:
-    """Returns whether a text has tags or letters of HTML.
-
-    >>> [has_html(text) for text in ("<b>Tea</b>", "Tea &amp; tin", "Salt & Pepper", "3 < 4 > 2")]
-    [True, True, False, False]
-    """
-    return ("<" in text or "&" in text) and bool(HTML.search(text))
-
-
 def symbology_in(column: Column, row: Row, default: str) -> str:
     """Returns the symbology that a cell names, as `EAN-13` or `qr`; the default for an empty one;
     raises `RowError`.
@@ -221,7 +143,9 @@ def symbology_in(column: Column, row: Row, default: str) -> str:
     if plain not in known:
         listed = ", ".join(one.title for one in SYMBOLOGIES.values())
         raise column.error(
-            RowError(f"has {quoted(text)}, which is no symbology", f"it is one of {listed}")
+            RowError(
+                Text("has {}, which is no symbology", quoted(text)), Text("it is one of {}", listed)
+            )
         )
     return known[plain]
 
@@ -250,7 +174,7 @@ def columns_of(head: Head, rows: Iterable[Row], options: TableOptions) -> Column
         later = row_of_names(texts, asked.asked) if options.file.has_header is not False else 0
         if later:
             raise ToolError(
-                error.what, f"the names are in row {later}: give --header-row {later}", 2
+                error.what, Text("the names are in row {}: give --header-row {}", later, later), 2
             ) from None
         raise
 
@@ -278,7 +202,10 @@ def column_of(argument: str, head: Head) -> Column:
     name = head.names[place] if place < len(head.names) else ""
     if by_name:
         refuse_wide_name(place, name, head.row)
-    return Column(place, f"column {place + 1} ({quoted(name)})" if name else f"column {place + 1}")
+    return Column(
+        place,
+        Text("column {} ({})", place + 1, quoted(name)) if name else Text("column {}", place + 1),
+    )
 
 
 def column_word(names: Sequence[str], place: int) -> str:
@@ -303,19 +230,25 @@ def not_one(argument: str, head: Head, count: int) -> ToolError:
     names = head.names or texts_of(head.row)
     listed = [f"{number} {quoted(name)}" for number, name in enumerate(names, 1)]
     more = [".."] if len(listed) > LISTED else []
-    what = f"{'several columns' if count else 'no column'} {quoted(argument)}"
-    has = f"row {head.row.number} has {', '.join(listed[:LISTED] + more)}"
-    return ToolError(f"{what}; {has}", "give the number of one", BAD_ARGUMENTS)
+    has = ", ".join(listed[:LISTED] + more)
+    row = head.row.number
+    what = Text("no column {}; row {} has {}", quoted(argument), row, has)
+    if count:
+        what = Text("several columns {}; row {} has {}", quoted(argument), row, has)
+    return ToolError(what, Text("give the number of one"), BAD_ARGUMENTS)
 
 
 def refuse_wide_name(place: int, name: str, row: Row) -> None:
     """Raises `ToolError` for a name that is merged over several columns."""
     for merge in row.merges:
         if merge.row == row.number and merge.place == place < merge.last_place:
-            what = (
-                f"the name {quoted(name)} is over the columns {place + 1} to {merge.last_place + 1}"
+            what = Text(
+                "the name {} is over the columns {} to {}",
+                quoted(name),
+                place + 1,
+                merge.last_place + 1,
             )
-            raise ToolError(what, "give the number of one", BAD_ARGUMENTS)
+            raise ToolError(what, Text("give the number of one"), BAD_ARGUMENTS)
 
 
 def code_column(head: Head, options: TableOptions) -> Column:
@@ -327,8 +260,8 @@ def code_column(head: Head, options: TableOptions) -> Column:
     may_be_code = re.search("[0-9]", NAME_WITH_DIGITS.sub("", cell)) is not None
     may_be_code = may_be_code or options.codes.is_free and cell != ""
     if argument.isdecimal() and may_be_code and not is_said:
-        what = f"row {head.row.number} has {quoted(cell)} in column {column.place + 1}"
-        hint = "give --no-header if that is a code, --header if it is a name"
+        what = Text("row {} has {} in column {}", head.row.number, quoted(cell), column.place + 1)
+        hint = Text("give --no-header if that is a code, --header if it is a name")
         raise ToolError(what, hint, BAD_ARGUMENTS)
     return column
 

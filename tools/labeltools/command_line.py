@@ -11,6 +11,7 @@ from io import RawIOBase, TextIOWrapper
 from pathlib import Path
 from typing import Any, BinaryIO, Callable, Iterator, Mapping, NoReturn, Optional
 
+from labeltools.text import NOTHING, Text
 from labeltools.messages import BadArguments, Place, ToolError, of_system, sentence, write_message
 
 ENDING = (signal.SIGHUP, signal.SIGINT, signal.SIGTERM)
@@ -23,7 +24,7 @@ class Parser(argparse.ArgumentParser):
 
     def error(self, message: str) -> NoReturn:
         """Raises `BadArguments`."""
-        raise BadArguments(message, self.format_usage())
+        raise BadArguments(Text("{}", message), self.format_usage())
 
 
 class CommandTalk:
@@ -32,11 +33,11 @@ class CommandTalk:
     def __init__(self, tool: str) -> None:
         self.tool = tool
 
-    def note(self, place: Place, cell: str, reason: str, hint: str) -> None:
+    def note(self, place: Place, cell: str, reason: Text, hint: Text) -> None:
         """Writes why a row or line is left out."""
-        write_message(self.tool, f"{place}: {sentence(reason, hint)}")
+        write_message(self.tool, Text("{}: {}", place.text, sentence(reason, hint)))
 
-    def say(self, text: str, hint: str = "") -> None:
+    def say(self, text: Text, hint: Text = NOTHING) -> None:
         """Writes something about the whole."""
         write_message(self.tool, sentence(text, hint))
 
@@ -67,11 +68,11 @@ def read_input(path: Optional[str]) -> tuple[str, bytes]:
     """
     is_standard = path is None or path == "-"
     if is_standard and sys.stdin is None:
-        raise ToolError("standard input is closed")
-    name = "standard input" if is_standard else str(path)
+        raise ToolError(Text("standard input is closed"))
+    name = Text("standard input") if is_standard else str(path)
     data = sys.stdin.buffer.read() if is_standard else Path(str(path)).read_bytes()
     if not data:
-        raise ToolError(f"{name} is empty: nothing is printed")
+        raise ToolError(Text("{} is empty: nothing is printed", name))
     return name, data
 
 
@@ -80,7 +81,7 @@ def standard_output() -> BinaryIO:
     fails.
     """
     if sys.stdout is None:
-        raise ToolError("standard output is closed")
+        raise ToolError(Text("standard output is closed"))
     return sys.stdout.buffer
 
 
@@ -108,13 +109,13 @@ def status_of(tool: str, function: Callable[[], Optional[int]]) -> int:
     except BadArguments as error:
         with suppress(OSError):
             sys.stderr.write(error.usage)
-        write_message(tool, f"error: {error}")
+        write_message(tool, Text("error: {}", error.args[0]))
         return error.status
     except ToolError as error:
-        write_message(tool, str(error))
+        write_message(tool, error.args[0])
         return error.status
     except OSError as error:
-        write_message(tool, str(of_system(error)))
+        write_message(tool, of_system(error).args[0])
         return 1
 
 

@@ -6,8 +6,9 @@ import re
 import unicodedata
 from dataclasses import dataclass, field
 from itertools import count, islice
-from typing import Iterator, NamedTuple, Sequence
+from typing import Iterator, Mapping, NamedTuple, Sequence
 
+from labeltools.text import Text, joined
 from labeltools.messages import BAD_ARGUMENTS, RowError, Talk, ToolError, named, quoted
 from labeltools.names import name_of, row_of_names
 from labeltools.rows import Row
@@ -34,10 +35,10 @@ MOST_READINGS = 4
 OTHER_WORD = re.compile(rb'[^\s;,|"]*[\x80-\xff][^\s;,|"]*')
 # what words have that were read by the wrong one of two encodings of Windows
 SUSPICIOUS = re.compile(r"[^\W\d_]+[¡-©«-±´¶-¸»-¿×÷]+[^\W\d_]\w*|\w*[À-ÿ]{3,}\w*")
-UNCLOSED = "a quote is not closed"
-AFTER_QUOTE = "text after a closing quote"
-AFTER_QUOTE_HINT = 'write a quote in a quoted cell twice ("")'
-ALL_BELOW = "; this row and all below it are left out"
+UNCLOSED = Text("a quote is not closed")
+AFTER_QUOTE = Text("text after a closing quote")
+AFTER_QUOTE_HINT = Text('write a quote in a quoted cell twice ("")')
+ALL_BELOW = Text("this row and all below it are left out")
 
 
 class Record(NamedTuple):
@@ -127,7 +128,7 @@ class CsvTable:
         """Says which columns without a name have values."""
         for place, rows in sorted(self.unnamed.items()):
             text = said_of_unnamed(place, len(rows), rows[0], self.first_cells[place])
-            self.talk.say(text, "have cells moved?")
+            self.talk.say(text, Text("have cells moved?"))
 
 
 def csv_table(data: bytes, name: str, options: TableOptions, talk: Talk) -> CsvTable:
@@ -136,13 +137,16 @@ def csv_table(data: bytes, name: str, options: TableOptions, talk: Talk) -> CsvT
     """
     if len(data) > LARGEST_FILE:
         raise ToolError(
-            f"{name} has more than {LARGEST_FILE >> 20} MB", "make several tables of it"
+            Text("{} has more than {} MB", name, LARGEST_FILE >> 20),
+            Text("make several tables of it"),
         )
     text = decoded(data, name, options.file.encoding, talk)
     if text.count("\n") + text.count("\r") - text.count("\r\n") > MOST_LINE_ENDS:
-        raise ToolError(f"{name} has more than {MOST_LINE_ENDS} line ends", "is it a table?")
+        raise ToolError(
+            Text("{} has more than {} line ends", name, MOST_LINE_ENDS), Text("is it a table?")
+        )
     if any(match.end() - match.start() > LONGEST_LINE for match in LINE.finditer(text)):
-        raise ToolError(f"{name} has a line of more than 1 MB", "is it a table?")
+        raise ToolError(Text("{} has a line of more than 1 MB", name), Text("is it a table?"))
     begin = 1 if text.startswith("\ufeff") else 0
     given = DELIMITERS.get(options.file.delimiter or "", options.file.delimiter)
     separator = SEPARATOR_LINE.match(text, begin)
@@ -204,32 +208,39 @@ def refuse_other(known: str, codec: str, encoding: str | None, name: str) -> Non
     """Raises `ToolError` where another encoding was given than the one that is known."""
     if known and known not in codec and codec not in known:
         raise ToolError(
-            f"{name} is {known.upper()}", f"leave --encoding {encoding} away", BAD_ARGUMENTS
+            Text("{} is {}", name, known.upper()),
+            Text("leave --encoding {} away", encoding),
+            BAD_ARGUMENTS,
         )
 
 
 def unknown_encoding(encoding: str) -> ToolError:
     """Returns the error of an encoding that is none."""
     return ToolError(
-        f"--encoding {quoted(encoding)} is unknown", "give one as cp1252", BAD_ARGUMENTS
+        Text("--encoding {} is unknown", quoted(encoding)),
+        Text("give one as cp1252"),
+        BAD_ARGUMENTS,
     )
 
 
 def wrong_encoding(data: bytes, name: str, codec: str, start: int) -> ToolError:
     """Returns the error of a table in another encoding, with how others would read a word of it."""
     line = data.count(b"\n", 0, start) + 1
-    what = f"{name} is not {codec.upper()}, as line {line} shows"
+    what = Text("{} is not {}, as line {} shows", name, codec.upper(), line)
     if data.startswith(tuple(MARKS)):
-        return ToolError(what, "it is cut off or damaged, save it again")
+        return ToolError(what, Text("it is cut off or damaged, save it again"))
     if b"\0" in data:
-        return ToolError(what, "save it as UTF-8, or give --encoding utf-16-le or utf-16-be")
+        return ToolError(what, Text("save it as UTF-8, or give --encoding utf-16-le or utf-16-be"))
     begin = data.rfind(b"\n", 0, start) + 1
     end = data.find(b"\n", start)
     found = readings(data[begin : end if end >= 0 else len(data)], codec)
     if not found:
-        return ToolError(what, "save it as UTF-8")
-    read = ", ".join(f"{other} reads {quoted(word)}" for other, word in found.items())
-    return ToolError(what, f"save it as UTF-8, or give the --encoding that reads it right: {read}")
+        return ToolError(what, Text("save it as UTF-8"))
+    hint = Text(
+        "save it as UTF-8, or give the --encoding that reads it right: {}", readings_text(found)
+    )
+    offers = [(word, ["--encoding", other]) for other, word in found.items()]
+    return ToolError(what, hint, offers=offers)
 
 
 def readings(line: bytes, without: str) -> dict[str, str]:
@@ -255,6 +266,11 @@ def readings(line: bytes, without: str) -> dict[str, str]:
     return dict(islice(read.items(), MOST_READINGS))
 
 
+def readings_text(readings: Mapping[str, str]) -> Text:
+    """Returns how encodings read a word."""
+    return joined(", ", (Text("{} reads {}", one, quoted(word)) for one, word in readings.items()))
+
+
 def is_word(text: str) -> bool:
     """Returns whether a text can be seen, and its letters are of one script."""
     letters = [letter for letter in text if letter.isalpha()]
@@ -268,11 +284,11 @@ def say_suspicious(text: str, codec: str, talk: Talk) -> None:
         return
     if found := SUSPICIOUS.search(text):
         others = readings(found[0].encode(codec), codec)
-        read = ", ".join(f"{other} reads {quoted(word)}" for other, word in others.items())
+        read = readings_text(others)
         if read:
             talk.say(
-                f"the table is read as {codec.upper()}, with {quoted(found[0])}",
-                f"is that right? {read}",
+                Text("the table is read as {}, with {}", codec.upper(), quoted(found[0])),
+                Text("is that right? {}", read),
             )
 
 
@@ -286,8 +302,8 @@ def delimiter_of(text: str, begin: int, given: str | None, options: TableOptions
     is_cut = fits[best].is_cut
     if given:
         if is_cut and given != ONE_COLUMN and not fits[given].is_cut:
-            what = f"row 1 has no {named(given)} between cells, but {named(best)}"
-            raise ToolError(what, "leave --delimiter away", BAD_ARGUMENTS)
+            what = Text("row 1 has no {} between cells, but {}", named(given), named(best))
+            raise ToolError(what, Text("leave --delimiter away"), BAD_ARGUMENTS)
         return given
     if not is_cut and (later := delimiter_of_names(text, begin, options)):
         return later
@@ -313,11 +329,11 @@ def refuse_delimiter(text: str, begin: int, marks: Sequence[str]) -> None:
         for row in parsed(text, begin, mark):
             if len(row.cells) > 1:
                 option = "tab" if mark == "\t" else f"'{mark}'"
-                hint = (
-                    f"give --delimiter {option} if it is between cells, "
-                    "--delimiter none if it is data"
+                hint = Text(
+                    "give --delimiter {} if it is between cells, --delimiter none if it is data",
+                    option,
                 )
-                raise ToolError(f"row {row.number} has {named(mark)}", hint, BAD_ARGUMENTS)
+                raise ToolError(Text("row {} has {}", row.number, named(mark)), hint, BAD_ARGUMENTS)
 
 
 def delimiter_of_names(text: str, begin: int, options: TableOptions) -> str:
@@ -391,9 +407,12 @@ def faulty(number: int, lines: Sequence[str], delimiter: str, error: str) -> tup
             return Record(number, rows[0]), False
     is_one_line = len(lines) == 1
     is_last = not is_one_line or lines[-1].count('"') % 2 == 1
-    below = ALL_BELOW if is_last else ""
+
+    def with_below(text: Text) -> Text:
+        return Text("{}; {}", text, ALL_BELOW) if is_last else text
+
     if is_one_line and "expected after" in error:
-        problem = RowError(AFTER_QUOTE, AFTER_QUOTE_HINT + below)
+        problem = RowError(AFTER_QUOTE, with_below(AFTER_QUOTE_HINT))
     else:
-        problem = RowError(UNCLOSED + below)
+        problem = RowError(with_below(UNCLOSED))
     return Record(number, [], problem), is_last

@@ -1,18 +1,24 @@
 """What becomes of a row of a table: its code, its texts, and its prices as they are read."""
 
-from dataclasses import dataclass
+import re
+from dataclasses import dataclass, field
 from typing import Iterator, NamedTuple, Sequence
 
+from labeltools.text import NOTHING, Text
+from labeltools.cells import Cell, Kind
 from labeltools.codes import Code, CodeRules, code_of
-from labeltools.columns import Column, Columns, has_html, symbology_in
+from labeltools.columns import Column, Columns, symbology_in
+from labeltools.leftovers import left_in, twice_encoded
 from labeltools.messages import RowError, quoted
 from labeltools.money import MOST_DECIMALS, Money, NotMoney, currency_of, parse
 from labeltools.money import parse_unit_price, plain, text_price
-from labeltools.names import is_repeated, name_of
-from labeltools.rows import Cell, Row
+from labeltools.names import is_repeated, looks_like, name_of
+from labeltools.rows import Row
 from labeltools.table_options import TableOptions
 
-ZERO_HINT = "it is a zero, which its number format shows so"
+DATE = re.compile(r"(?<![0-9.,])[0-9]{1,4}[./-][0-9]{1,2}(?:[./-](?:[0-9]{2,4})?)?(?![0-9,])")
+MARK = re.compile("[0-9][./-]")  # a text without one is like no date
+ZERO_HINT = Text("it is a zero, which its number format shows so")
 PROGRAM_DECIMALS = 17  # of a number that a program has calculated
 
 
@@ -48,6 +54,63 @@ class Draft(NamedTuple):
         return self.price, self.unit, self.was
 
 
+class Found(NamedTuple):
+    """What something is said of: the first row and its text, in how many rows it is, and what else
+    is said.
+    """
+
+    row: int
+    text: str
+    more: Text = NOTHING
+    rows: int = 1
+
+
+@dataclass
+class Noticed:
+    """What is said of the rows at the end, each once: what another program has left in texts, by
+    its template; dates, and texts like dates, by the places of their columns; values like those
+    that rows are chosen by, by the same; an old price that is not above the price.
+    """
+
+    left: dict[str, Found] = field(default_factory=dict)
+    dates: dict[int, int] = field(default_factory=dict)
+    like_dates: dict[int, Found] = field(default_factory=dict)
+    like_values: dict[tuple[Column, str], Found] = field(default_factory=dict)
+    low: Found | None = None
+
+    def text(self, column: Column, row: Row, text: str) -> None:
+        """Looks at a title or text; raises `RowError` for one that was encoded twice."""
+        if before := twice_encoded(text):
+            what = Text("has {}, which was encoded twice, for {}", quoted(text), quoted(before))
+            raise column.error(RowError(what, Text("export the table again")))
+        if found := left_in(text):
+            self.left.setdefault(found.template, Found(row.number, text, found))
+        cell = row.cells[column.place]
+        kind = Kind.TEXT if isinstance(cell, str) else cell.kind
+        if kind is Kind.MOMENT:
+            self.dates.setdefault(column.place, row.number)
+        elif kind is not Kind.TEXT:
+            return
+        elif column.place not in self.like_dates and MARK.search(text) and DATE.search(text):
+            self.like_dates[column.place] = Found(row.number, text)
+
+    def value(self, column: Column, row: Row, wanted: str) -> None:
+        """Looks at a value that is not the one that rows are chosen by."""
+        value = column.mark(row)
+        if value and looks_like(value, wanted):
+            key = column, wanted
+            before = self.like_values.get(key, Found(row.number, value, rows=0))
+            self.like_values[key] = before._replace(rows=before.rows + 1)
+
+    def prices(self, row: int, price: Price | None, was: Price | None) -> None:
+        """Looks at an old price."""
+        if self.low or not (price and was and price.money and was.money):
+            return
+        is_same = (price.money.unit, price.money.count) == (was.money.unit, was.money.count)
+        if is_same and was.money.value <= price.money.value:
+            self.low = Found(row, was.text, Text("{}", price.text))
+
+
 @dataclass
 class RowReader:
     """Reads rows that are not blank; it remembers the first ones about which something is said."""
@@ -55,7 +118,7 @@ class RowReader:
     options: TableOptions
     columns: Columns
     names: tuple[str, ...]
-    html: int = 0  # the first row with HTML in a title or text
+    noticed: Noticed = field(default_factory=Noticed)
     other_link: int = 0  # the first row whose code leads to another address
     other_currency: tuple[int, str] | None = None  # the first row with one that is not known
 
@@ -64,7 +127,7 @@ class RowReader:
         if row.problem:
             raise row.problem
         if self.is_names(row):
-            raise RowError("the row has the names of the columns again")
+            raise RowError(Text("the row has the names of the columns again"))
         if not self.is_marked(row):
             return None
         columns = self.columns
@@ -76,8 +139,7 @@ class RowReader:
         price = self.price(columns.price, row, currency)
         unit = self.price(columns.unit_price, row, currency)
         was = self.price(columns.old_price, row, currency)
-        if not self.html and (has_html(title) or any(map(has_html, text))):
-            self.html = row.number
+        self.noticed.prices(row.number, price, was)
         return Draft(row.number, code, title, text, copies, price, unit, was)
 
     def is_names(self, row: Row) -> bool:
@@ -95,7 +157,8 @@ class RowReader:
     def is_marked(self, row: Row) -> bool:
         """Returns whether a row has the values that were asked for; raises `RowError`."""
         for column, value in self.columns.where:
-            if column.mark(row).casefold() != value.casefold():
+            if not column.has(row, value):
+                self.noticed.value(column, row, value)
                 return False
         return True
 
@@ -141,7 +204,10 @@ class RowReader:
         """
         for column in columns:
             is_code = column.place == self.columns.code.place
-            if text := code.whole if is_code else column.text(row):
+            if is_code:
+                yield code.whole
+            elif text := column.text(row):
+                self.noticed.text(column, row, text)
                 yield text
 
     def currency(self, row: Row) -> str | None:
@@ -153,7 +219,7 @@ class RowReader:
             return None
         found = column.mark(row)
         if any(letter.isdigit() for letter in found):
-            raise column.error(RowError(f"has {quoted(found)}, which is no currency"))
+            raise column.error(RowError(Text("has {}, which is no currency", quoted(found))))
         is_known = currency_of(plain(found), self.options.prices.currency_name) is not None
         if found and not is_known and self.other_currency is None:
             self.other_currency = row.number, found
@@ -168,7 +234,7 @@ class RowReader:
             is_unit = column is self.columns.unit_price
             money = self.money(text, is_unit, currency or self.options.prices.currency_name)
         except NotMoney as problem:
-            what = f"has {quoted(text)}, which is no price: it {problem.what}"
+            what = Text("has {}, which is no price: it {}", quoted(text), problem.what)
             hint = ZERO_HINT if is_zero(row.cell(column.place)) else problem.hint
             raise column.error(RowError(what, hint)) from None
         return Price(column, text, money, currency)

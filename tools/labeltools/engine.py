@@ -16,6 +16,7 @@ from dataclasses import dataclass
 from pathlib import Path
 from typing import IO, Iterator, Sequence
 
+from labeltools.text import Text
 from labeltools.files import temporary
 from labeltools.lines_file import lines_of
 from labeltools.messages import BAD_ARGUMENTS, Talk, ToolError
@@ -65,7 +66,7 @@ class Drawn:
     """
 
     pictures: dict[int, Modules]
-    refused: dict[int, str]
+    refused: dict[int, Text]
 
 
 class NotWords(ToolError, argparse.ArgumentTypeError):
@@ -77,7 +78,7 @@ def option_words(argument: str) -> tuple[str, ...]:
     try:
         return tuple(shlex.split(argument))
     except ValueError as error:
-        raise NotWords(f"{argument!r}: {error}") from error
+        raise NotWords(Text("{}: {}", repr(argument), error)) from error
 
 
 def bytes_a_row(width: int) -> int:
@@ -101,8 +102,8 @@ def labels_program() -> str:
             return str(path)
     if found := shutil.which("labels"):
         return found
-    hint = "install labels with its tools, or name it in $LABELS"
-    raise ToolError("the program labels is not there", hint)
+    hint = Text("install labels with its tools, or name it in $LABELS")
+    raise ToolError(Text("the program labels is not there"), hint)
 
 
 def run_labels(data: bytes, words: Sequence[str], talk: Talk) -> Drawn:
@@ -124,10 +125,11 @@ def run_labels(data: bytes, words: Sequence[str], talk: Talk) -> Drawn:
             said = ended_child([program, *words, *own], drawing, source, seconds, talk)
         drawing.seek(0)
         pictures = list(pictures_in(drawing))
-    refused = {int(match[1]): match[2] for match in map(REFUSAL.fullmatch, said) if match}
+    matches = filter(None, map(REFUSAL.fullmatch, said))
+    refused = {int(match[1]): Text("{}", match[2]) for match in matches}
     drawn = [number for number in lines_with_data(data) if number not in refused]
     if len(drawn) != len(pictures):
-        what = "labels did not draw or refuse each line: which is which is not known"
+        what = Text("labels did not draw or refuse each line: which is which is not known")
         raise ToolError(what, status=LABELS_FAILED)
     return Drawn(dict(zip(drawn, pictures)), refused)
 
@@ -154,10 +156,10 @@ def check_version(program: str) -> None:
     try:
         done = subprocess.run([program, "--help"], capture_output=True, timeout=LEAST_SECONDS)
     except (OSError, subprocess.TimeoutExpired) as error:
-        raise ToolError(f"cannot run {program}: {error}", status=LABELS_FAILED) from error
+        raise ToolError(Text("cannot run {}: {}", program, error), status=LABELS_FAILED) from error
     if not done.stdout.startswith(HELP):
-        hint = "install the tools and labels of one version, or name the program in $LABELS"
-        raise ToolError(f"{program} is another labels than that of these tools", hint)
+        hint = Text("install the tools and labels of one version, or name the program in $LABELS")
+        raise ToolError(Text("{} is another labels than that of these tools", program), hint)
 
 
 def ended_child(
@@ -177,7 +179,9 @@ def ended_child(
         said = errors.read().decode("utf-8", "backslashreplace").splitlines()
     if child.returncode not in (0, 1):
         status = BAD_ARGUMENTS if child.returncode == BAD_ARGUMENTS else LABELS_FAILED
-        raise ToolError(f"labels {ending_of(child.returncode)}: {'; '.join(said[:1])}", "", status)
+        raise ToolError(
+            Text("labels {}: {}", ending_of(child.returncode), "; ".join(said[:1])), status=status
+        )
     return said
 
 
@@ -196,8 +200,8 @@ def started(
             preexec_fn=end_with_parent,
         )
     except OSError as error:
-        hint = "install labels with its tools, or name it in $LABELS"
-        raise ToolError(f"cannot run {command[0]}: {error.strerror}", hint) from error
+        hint = Text("install labels with its tools, or name it in $LABELS")
+        raise ToolError(Text("cannot run {}: {}", command[0], error.strerror), hint) from error
 
 
 def end_with_parent() -> None:
@@ -214,14 +218,16 @@ def wait_for(child: "subprocess.Popen[bytes]", seconds: float, talk: Talk) -> No
             return
         except subprocess.TimeoutExpired:
             talk.go_on(0, 0)
-    raise ToolError(f"labels does not end within {seconds:.0f} seconds", status=LABELS_FAILED)
+    raise ToolError(
+        Text("labels does not end within {:.0f} seconds", seconds), status=LABELS_FAILED
+    )
 
 
 def ending_of(status: int) -> str:
     """Returns in words how a process ended that failed."""
     if status < 0:
-        return f"was ended by signal {-status} ({signal.Signals(-status).name})"
-    return f"ended with status {status}"
+        return Text("was ended by signal {} ({})", -status, signal.Signals(-status).name)
+    return Text("ended with status {}", status)
 
 
 def pictures_in(drawing: IO[bytes]) -> Iterator[Modules]:
@@ -237,7 +243,7 @@ def pictures_in(drawing: IO[bytes]) -> Iterator[Modules]:
 def modules_of(pixels: bytes, width: int, height: int) -> Modules:
     """Returns the modules of digits 0 and 1; raises `ToolError` where they are no picture."""
     if len(pixels) != width * height or not pixels or pixels.strip(b"01"):
-        raise ToolError("labels drew what is no picture of plain PBM", status=LABELS_FAILED)
+        raise ToolError(Text("labels drew what is no picture of plain PBM"), status=LABELS_FAILED)
     rows = [pixels[start : start + width] for start in range(0, len(pixels), width)]
     if len(set(rows)) == 1:
         rows = rows[:1]

@@ -7,6 +7,7 @@ from contextlib import contextmanager
 from pathlib import Path
 from typing import IO, Iterator
 
+from labeltools.text import Text
 from labeltools.messages import ToolError
 
 PART = ".{number}.part"  # a name that no label has: those begin with no dot
@@ -21,9 +22,9 @@ def temporary() -> Iterator[None]:
     except OSError as error:
         if error.filename is not None:
             raise
-        hint = "make room there, or name another folder in $TMPDIR"
+        hint = Text("make room there, or name another folder in $TMPDIR")
         reason = error.strerror or str(error)
-        raise ToolError(f"{tempfile.gettempdir()}: {reason}", hint) from error
+        raise ToolError(Text("{}: {}", tempfile.gettempdir(), reason), hint) from error
 
 
 def save(file: IO[bytes], path: Path, number: int = 1) -> None:

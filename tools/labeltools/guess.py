@@ -6,7 +6,7 @@ import re
 import unicodedata
 from collections.abc import Callable, Mapping, Sequence
 from contextlib import suppress
-from dataclasses import dataclass, replace
+from dataclasses import dataclass, field, replace
 from functools import partial
 from itertools import islice, zip_longest
 
@@ -26,19 +26,31 @@ NAMES = {
     "title": "bezeichnung artikelname titel title produkt product article artikel designation "
     "libelle descripcion descrizione omschrijving description beschreibung nazwa name nom nombre "
     "nome naam",
-    "price": "vk verkauf ttc brutto retail pvp ladenpreis preis price prix precio prezzo prijs "
-    "cena uvp chf euro",
+    "price": "vk verkauf ttc brutto retail pvp pvc avp rrp srp ladenpreis preis price prix precio "
+    "prezzo prijs cena fiyat uvp chf euro eur",
     "copies": "etiketten labels etiquettes etiquetas etichette etykiet copies kopien exemplare",
 }
-# parts of names of what a shop pays or has asked for, and of prices of a unit
+# parts of names of what a shop pays or has asked for, of prices without tax, of a unit or of many,
+# and of what was sold or is in stock
 NO_PRICE = re.compile(
-    r"\b(?:ek\b|einkauf|achat|cost|acquisto|compra|inkoop|zakup|alte|statt|old|ancien|antiguo"
-    r"|vecchio|oude|stara)|liter|litre|kilo|/kg|grund|unit"
+    r"\b(?:ek\b|einkauf|achat|cost|acquisto|compra|inkoop|zakup|al[i\u0131]s\b|alte|statt|old"
+    r"|ancien|antiguo|vecchio|oude|stara|ht\b|net\b|netto|trade|ex\.? vat|dealer|wholesale|hurt)"
+    r"|liter|litre|kilo|/kg|/ ?1|grund|unit|umsatz|summe|gesamt|total|wert\b|warenwert|revenue"
+    r"|turnover|value|\u7a0e\u629c|\u4ed5\u5165"
 )
+# parts of names of what customers pay; where two columns have prices, only these tell which
+SALE = re.compile(
+    r"\b(?:vk|uvp|pvp|pvc|avp|m?srp|rrp|ttc)\b|verkauf|brutto|retail|ladenpreis|venta|vente"
+    r"|vendita|verkoop|detal|sat[i\u0131]s|\u7a0e\u8fbc"
+)
+# parts of names of the codes of a case; and of codes that are surely EAN or UPC
+CASE = re.compile(r"\b(?:case|carton|outer|inner|box|pallet|colis|vpe)\b|karton|palette")
+NUMBER = re.compile(r"ean|gtin|upc|isbn")
 SAMPLE = 300  # rows that are looked at
 COPIES = re.compile("[0-9]{1,3}")
 LINK = re.compile("://")
 DECIMALS = re.compile("[0-9]+[.,][0-9]{2}")
+AMOUNT = re.compile("[0-9]+(?:[.,][0-9]+)?")
 WORDS = re.compile(r"(?:[^\W\d][\W\d]*){6}")  # letters of a title
 NO_BARS = re.compile(".*://.*|.{31,}")
 LEAST = 0.5  # a column that scores less is not guessed
@@ -48,13 +60,16 @@ is_code = partial(code_of, rules=CodeRules())  # surely an EAN or UPC
 @dataclass(frozen=True)
 class Guess:
     """The names of the columns; their places, from 0, by the options of label-table; a symbology;
-    the row of the names, 0 where there is none.
+    the row of the names, 0 where there is none; a text of each column; the columns of which only
+    the keeper knows the right one, by the same options.
     """
 
     names: Sequence[str]
     columns: Mapping[str, int]
     symbology: str
     header: int
+    examples: Sequence[str] = ()
+    doubts: Mapping[str, Sequence[int]] = field(default_factory=dict)
 
 
 def guess_of(data: bytes, name: str, options: TableOptions, talk: Talk) -> Guess:
@@ -82,26 +97,60 @@ def guess(columns: Sequence[Sequence[str]], header: int) -> Guess:
     names = [column[0] for column in columns]
     texts = [[text.strip() for text in column[1:] if text.strip()] for column in columns]
     found: dict[str, int] = {}
+    doubts: dict[str, Sequence[int]] = {}
     for kind in NAMES:
         free = [place for place in range(len(columns)) if place not in found.values()]
         scores = {place: score(kind, names[place], texts[place]) for place in free}
         best = max(free, key=scores.__getitem__, default=-1)
-        if scores.get(best, 0) >= LEAST:
-            found[kind] = best
+        if scores.get(best, 0) < LEAST:
+            continue
+        found[kind] = best
+        others = rivals(kind, {place: (names[place], texts[place]) for place in free}, best)
+        if others:
+            doubts[kind] = sorted([best, *others])
     symbology = AUTO
     code = found.get("code")
     if code is not None and share(texts[code], is_code) < LEAST:
         symbology = QR.name if share(texts[code], NO_BARS.fullmatch) > LEAST else CODE128.name
-    return Guess(names, found, symbology, header)
+        if NUMBER.search(plain(names[code])):  # without its zeros or its check digit
+            symbology = AUTO
+    examples = [column[0] if column else "" for column in texts]
+    sure = {kind: place for kind, place in found.items() if kind not in doubts}
+    return Guess(names, sure, symbology, header, examples, doubts)
+
+
+def rivals(kind: str, columns: Mapping[int, tuple[str, Sequence[str]]], best: int) -> list[int]:
+    """Returns the places of columns that may be what the best one is taken for: other numbers that
+    are surely EAN or UPC, and other prices where not the best one alone is named as that of sale.
+    """
+    texts = columns[best][1]
+    if kind == "code":
+        return [
+            place
+            for place, (name, other) in columns.items()
+            if not CASE.search(plain(name))
+            and share(other, is_code) >= LEAST
+            and bare(other) != bare(texts)
+        ]
+    if kind != "price":
+        return []
+    others = []
+    for place, (name, other) in columns.items():
+        is_like = is_amount if named(name, NAMES[kind].split()) else is_price
+        if not NO_PRICE.search(plain(name)) and share(other, is_like) >= LEAST and other != texts:
+            others.append(place)
+    sales = [place for place in (best, *others) if SALE.search(plain(columns[place][0]))]
+    return [] if sales == [best] else others
 
 
 def score(kind: str, name: str, texts: Sequence[str]) -> float:
     """Returns how well a column is one of a kind: its name gives up to 2, its contents up to 3."""
     by_name = named(name, NAMES[kind].split())
     if kind == "code":
-        return by_name + 3 * share(texts, is_code) + share(texts, LINK.search)
+        is_case = 3 * bool(CASE.search(plain(name)))
+        return by_name + 3 * share(texts, is_code) + share(texts, LINK.search) - is_case
     if kind == "price":
-        if NO_PRICE.search(name.casefold()):
+        if NO_PRICE.search(plain(name)):
             return 0.0
         return by_name + share(texts, is_price if by_name or not name else has_currency)
     if kind == "copies":
@@ -112,10 +161,19 @@ def score(kind: str, name: str, texts: Sequence[str]) -> float:
 
 def named(name: str, words: Sequence[str]) -> float:
     """Returns how well a name is one of these words, from 0 to 2."""
-    letters = unicodedata.normalize("NFD", name.casefold())
-    plain = "".join(letter for letter in letters if not unicodedata.combining(letter))
-    found = [place for place, word in enumerate(words) if word in plain]
+    found = [place for place, word in enumerate(words) if word in plain(name)]
     return 2 - found[0] / len(words) if found else 0.0
+
+
+def plain(name: str) -> str:
+    """Returns a name in small letters without accents."""
+    letters = unicodedata.normalize("NFD", name.casefold())
+    return "".join(letter for letter in letters if not unicodedata.combining(letter))
+
+
+def bare(texts: Sequence[str]) -> list[str]:
+    """Returns codes without what separates their digits."""
+    return ["".join(filter(str.isalnum, text)) for text in texts]
 
 
 def share(texts: Sequence[str], test: Callable[[str], object]) -> float:
@@ -130,6 +188,11 @@ def share(texts: Sequence[str], test: Callable[[str], object]) -> float:
 def has_currency(text: str) -> bool:
     """Returns whether a price has a currency; raises `RowError` for what is no price."""
     return bool(parse(text).currency)
+
+
+def is_amount(text: str) -> bool:
+    """Returns whether a text may be a price: a number, or a price with a currency."""
+    return AMOUNT.fullmatch(text) is not None or has_currency(text)
 
 
 def is_price(text: str) -> bool:

@@ -15,6 +15,7 @@ from labeltools.lines_file import LineRecord
 from labeltools.messages import Talk
 from labeltools.stock import Size, size_text
 from labeltools.symbologies import SYMBOLOGIES, Symbology
+from labeltools.text import Text, joined
 
 # marks above or below a letter, of which so many are drawn
 MARKS = "[\u0300-\u036f\u0483-\u0489\u1ab0-\u1aff\u1dc0-\u1dff\u20d0-\u20ff\ufe20-\ufe2f]"
@@ -128,7 +129,7 @@ class LaidOutFile:
 
     labels: tuple[LaidOut, ...]
     area: Area
-    left_out: Mapping[int, str]
+    left_out: Mapping[int, Text]
 
 
 def print_label(record: LineRecord, modules: Modules, note: str) -> PrintLabel:
@@ -357,25 +358,38 @@ def left_of(frame: Frame, width: int) -> int:
     return code.left + ((code.width - width) // 2 if frame.kind == "below" else 0)
 
 
-def reason(needs: Sequence[Need], area: Area) -> str:
+def reason(needs: Sequence[Need], area: Area) -> Text:
     """Returns why labels of a symbology do not fit, and a label on which all of them would."""
     symbology = needs[0].kind
     modules = area.modules(symbology) if symbology.nominal else (area.dots(symbology.module),)
     if not modules:
-        least = f"{area.smallest(symbology):g} mm or more"
-        return f"{symbology.title}: no whole number of dots is a module of {least}"
+        return Text(
+            "{}: no whole number of dots is a module of {:g} mm or more",
+            symbology.title,
+            area.smallest(symbology),
+        )
     wide = max(need.width for need in needs) * min(modules)
     is_wide = wide > area.width
-    what = "too high, with its texts"
-    if is_wide:
-        module = f"modules of {min(modules) * area.dot:.3f} mm"
-        what = f"{wide * area.dot:.1f} mm wide, with {module}"
     taken = size_text(size_of(area))
+    what = Text("{} is too high, with its texts, and a label takes {}", symbology.title, taken)
+    if is_wide:
+        what = Text(
+            "{} is {:.1f} mm wide, with modules of {:.3f} mm, and a label takes {}",
+            symbology.title,
+            wide * area.dot,
+            min(modules) * area.dot,
+            taken,
+        )
     found = smallest_for(largest_of(needs), area, max(wide, area.width))
-    hint = "take a larger label" + (f" of {size_text(found)}" if found else "")
-    hint += "" if symbology.is_number else ", shorter data"
-    hint += "" if is_wide else ", less text"
-    return f"{symbology.title} is {what}, and a label takes {taken}: {hint}"
+    larger = Text("take a larger label")
+    if found:
+        larger = Text("take a larger label of {}", size_text(found))
+    hints = [larger]
+    if not symbology.is_number:
+        hints.append(Text("shorter data"))
+    if not is_wide:
+        hints.append(Text("less text"))
+    return Text("{}: {}", what, joined(", ", hints))
 
 
 def largest_of(needs: Sequence[Need]) -> Need:

@@ -6,6 +6,7 @@ from typing import Any, Iterable, NamedTuple, Optional
 
 import cairo
 
+from labeltools.text import Text
 from labeltools.layout import Extent, PrintLabel
 from labeltools.messages import ToolError
 from labeltools.pango import Pango, PangoCairo
@@ -74,9 +75,9 @@ def require_fonts(fonts: Fonts) -> None:
         wanted = Pango.FontDescription(f"{family}, 9")
         found = PangoCairo.FontMap.get_default().load_font(context, wanted)
         if found is None or found.describe().get_family().lower() != family.lower():
-            hint = "fc-list : family lists what there is"
-            usual = "apt-get install fonts-dejavu-core has the usual ones"
-            raise ToolError(f"there is no font {family}", f"{hint}, {usual}")
+            hint = Text("fc-list : family lists what there is")
+            usual = Text("apt-get install fonts-dejavu-core has the usual ones")
+            raise ToolError(Text("there is no font {}", family), Text("{}, {}", hint, usual))
 
 
 class Letters:
@@ -172,7 +173,7 @@ class Letters:
         ink, logical = layout.get_extents()
         return rectangle(ink), rectangle(logical)
 
-    def missing(self, labels: Iterable[PrintLabel]) -> dict[int, str]:
+    def missing(self, labels: Iterable[PrintLabel]) -> dict[int, Text]:
         """Returns why some labels cannot be drawn: letters that no font has, by the numbers of
         their lines, with a reason for each script.
         """
@@ -213,7 +214,7 @@ def rectangle(found: Any) -> Rectangle:
     return Rectangle(found.x / scale, found.y / scale, found.width / scale, found.height / scale)
 
 
-def reasons_of(letters: Iterable[str]) -> dict[str, str]:
+def reasons_of(letters: Iterable[str]) -> dict[str, Text]:
     """Returns a reason for each letter that no font has: one for each script."""
     scripts: dict[str, list[str]] = {}
     for letter in letters:
@@ -221,7 +222,7 @@ def reasons_of(letters: Iterable[str]) -> dict[str, str]:
     reasons = {}
     for script, found in scripts.items():
         fonts = FONTS_OF_SIGNS if script == "Signs" else FONTS_OF_LETTERS
-        reason = f"no font has {''.join(found[:MOST_NAMED])} ({script}): {fonts}"
+        reason = Text("no font has {} ({}): {}", "".join(found[:MOST_NAMED]), script, fonts)
         reasons.update(dict.fromkeys(found, reason))
     return reasons
 
@@ -233,7 +234,7 @@ def script_of(letter: str) -> str:
     return unicodedata.name(letter, "Signs").split()[0].capitalize()
 
 
-def first_reason(label: PrintLabel, reasons: dict[str, str]) -> Optional[str]:
+def first_reason(label: PrintLabel, reasons: dict[str, Text]) -> Optional[Text]:
     """Returns the reason of the first letter of a label that no font has."""
     for text in label.texts:
         for letter in text:

@@ -5,6 +5,7 @@ was asked for.
 from dataclasses import dataclass, field
 from typing import Mapping, NamedTuple
 
+from labeltools.text import Text
 from labeltools.drafts import Draft, Price
 from labeltools.lines_file import Label, LinesFile, first_remark, label_lines, last_remark
 from labeltools.messages import Place, RowError, Talk, ToolError, quoted
@@ -24,6 +25,14 @@ class Content(NamedTuple):
     price: str
     unit: str
     was: str
+
+
+class Rounded(NamedTuple):
+    """A price that was rounded: its row, its text, and what is printed."""
+
+    row: int
+    text: str
+    shown: str
 
 
 Older = Mapping[tuple[str, str], set[Content]]
@@ -48,6 +57,7 @@ class LineWriter:
     count: int = 0
     unchanged: int = 0
     left_out: list[int] = field(default_factory=list)
+    rounded: list[Rounded] = field(default_factory=list)
     codes: dict[int, str] = field(default_factory=dict)
     empty: dict[str, list[int]] = field(default_factory=lambda: {"title": [], "price": []})
     seen: dict[str, tuple[int, int]] = field(default_factory=dict)
@@ -80,7 +90,7 @@ class LineWriter:
     def add(self, draft: Draft) -> None:
         """Writes a draft, or leaves it out."""
         try:
-            prices = [self.written(*both) for both in zip(draft.prices, self.columns)]
+            prices = [self.written(draft.row, *both) for both in zip(draft.prices, self.columns)]
         except RowError as problem:
             self.leave_out(draft.row, text_at(draft, problem.place), problem)
             return
@@ -97,7 +107,7 @@ class LineWriter:
         self.talk.note(Place("", "row", row), cell, problem.what, problem.hint)
         self.left_out.append(row)
 
-    def written(self, price: Price | None, column: PriceColumn) -> str:
+    def written(self, row: int, price: Price | None, column: PriceColumn) -> str:
         """Returns a price as it is printed; raises `RowError`."""
         if price is None:
             return ""
@@ -107,21 +117,31 @@ class LineWriter:
         try:
             if pattern is None:
                 return with_currency(price.money, price.text, price.currency)
-            return pattern.write(settled(price.money, column), price.currency or "")
+            money = settled(price.money, column)
+            text = pattern.write(money, price.currency or "")
+            if pattern.changes(money.value):
+                self.rounded.append(Rounded(row, price.text, text))
+            return text
         except NotMoney as problem:
-            what = f"has {quoted(price.text)}, which cannot be printed so: it {problem.what}"
+            what = Text(
+                "has {}, which cannot be printed so: it {}", quoted(price.text), problem.what
+            )
             raise price.column.error(RowError(what, problem.hint)) from None
 
     def compare(self, draft: Draft, content: Content) -> None:
-        """Says once of each code that it is there twice with other texts or prices."""
-        data = draft.code.data
+        """Says once of each article that it is there twice with other texts or prices."""
+        article = draft.code.article
         mark = hash(content) or 1
-        first, before = self.seen.setdefault(data, (draft.row, mark))
+        first, before = self.seen.setdefault(article, (draft.row, mark))
         if before not in (mark, 0):
-            self.seen[data] = first, 0
+            self.seen[article] = first, 0
             self.talk.say(
-                f"rows {first} and {draft.row} have the same code, {data},"
-                " and another title, text or price"
+                Text(
+                    "rows {} and {} have the same code, {}, and another title, text or price",
+                    first,
+                    draft.row,
+                    draft.code.data,
+                )
             )
 
     def write(self, draft: Draft, content: Content) -> None:
@@ -131,7 +151,9 @@ class LineWriter:
         label = Label(draft.row, *content, draft.copies)
         self.output += label_lines(label, line, self.has_copies).encode()
         if len(self.output) > LARGEST_OUTPUT:
-            raise ToolError("the table has more than 128 MB of texts", "make several tables of it")
+            raise ToolError(
+                Text("the table has more than 128 MB of texts"), Text("make several tables of it")
+            )
         self.count += 1
         self.totals.add(draft.code.symbology, draft.copies)
         if draft.price and draft.price.money:

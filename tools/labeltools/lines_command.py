@@ -6,6 +6,7 @@ from labeltools.command_line import CommandTalk, Parser, main_of, read_input, st
 from labeltools.engine import option_words, run_labels
 from labeltools.lines_file import lines_of
 from labeltools.messages import write_message
+from labeltools.text import Text
 
 TOOL = "label-lines"
 
@@ -22,7 +23,7 @@ def run() -> int:
     drawn = run_labels(data, arguments.labels, CommandTalk(TOOL))
     lines = list(lines_of(data))
     for number, message in drawn.refused.items():
-        write_message(TOOL, f"line {number}: {message}")
+        write_message(TOOL, Text("line {}: {}", number, message))
     for picture, number in enumerate(drawn.pictures, 1):
         standard_output().write(b"%d %d %b\n" % (picture, number, lines[number - 1]))
     return 1 if drawn.refused else 0

@@ -19,12 +19,15 @@ from io import BytesIO
 from typing import Any, Iterator, Sequence
 
 from labeltools import VERSION
+from labeltools.text import NOTHING, Text
 from labeltools.messages import Place, ToolError, quoted
 from labeltools.symbologies import SYMBOLOGIES, check_digit
 
 MOST_COPIES = 9999
 MOST_LEFT_OUT = 20  # rows that the last remark names
 OBJECT = b"#{"
+FIRST = '#{"labels"'  # how the first remark begins
+LAST = '#{"end"'  # and the last one
 # the keys of the object before a line, and of all objects: a number, a text, or a list of one of
 # these
 FIELDS: dict[str, Any] = {
@@ -152,9 +155,13 @@ def read_lines(data: bytes, name: str, has_escapes: bool = False) -> LinesFile:
     is_own = data.startswith(OBJECT)
     for number, line in enumerate(lines_of(data), 1):
         if is_own and line.endswith(b"\r"):
-            hint = "take the file as label-table wrote it"
+            hint = Text("take the file as label-table wrote it")
             raise ToolError(
-                f"{name}: line {number} ends in CR LF: a program of Windows has changed the file",
+                Text(
+                    "{}: line {} ends in CR LF: a program of Windows has changed the file",
+                    name,
+                    number,
+                ),
                 hint,
             )
         if line.startswith(OBJECT):
@@ -180,20 +187,20 @@ class _Reader:
     has_escapes: bool
     part: _Part = field(default_factory=_Part)
     waiting: dict[str, Any] = field(default_factory=dict)
-    torn: str = ""
+    torn: Text = NOTHING
     records: list[LineRecord] = field(default_factory=list)
     left_out: list[Place] = field(default_factory=list)
     left_out_count: int = 0
 
     def take_object(self, number: int, line: bytes) -> None:
         """Takes a remark that is an object."""
-        found = object_of(line, f"{self.name}: line {number}")
+        found = object_of(line, Text("{}: line {}", self.name, number))
         is_open = self.part.first >= 0
         count = len(self.records) - self.part.first if is_open else -1
         is_early = "labels" in found and is_open
         is_short = "end" in found and found.get("lines", -2) != count
         if self.waiting or is_early or is_short:
-            self.torn = self.torn or f"before line {number}"
+            self.torn = self.torn or Text("before line {}", number)
         if "labels" in found:
             self.part = _Part(found.get("table", ""), len(self.records))
             self.waiting = {}
@@ -218,31 +225,39 @@ class _Reader:
         """Returns what was read; raises `ToolError` where something is missing."""
         torn = self.torn
         if self.waiting or self.part.first >= 0 or is_cut:
-            torn = torn or "at its end"
+            torn = torn or Text("at its end")
         if torn:
-            remarks = 'that begin with #{"labels" and #{"end"'
-            hint = f"to print it all the same, take out its lines {remarks}"
+            hint = Text(
+                "to print it all the same, take out its lines that begin with {} and {}",
+                FIRST,
+                LAST,
+            )
             raise ToolError(
-                f"{self.name} is not whole: something is missing {torn}. Nothing is printed", hint
+                Text(
+                    "{} is not whole: something is missing {}. Nothing is printed", self.name, torn
+                ),
+                hint,
             )
         return LinesFile(tuple(self.records), tuple(self.left_out), self.left_out_count)
 
 
-def object_of(line: bytes, where: str) -> dict[str, Any]:
+def object_of(line: bytes, where: Text) -> dict[str, Any]:
     """Returns the object of a remark, all of which is understood; raises `ToolError`."""
     try:
         found: dict[str, Any] = json.loads(line[1:])
     except (ValueError, RecursionError) as error:
         raise ToolError(
-            f"{where}: the remark is no JSON object: the file is cut off or changed"
+            Text("{}: the remark is no JSON object: the file is cut off or changed", where)
         ) from error
     wrong = [key for key, value in found.items() if key not in KEYS or not is_of(value, KEYS[key])]
     if found.get("labels", found.get("end", VERSION)) != VERSION:
-        raise ToolError(f"{where}: the file is of another version of label-table", "make it again")
+        raise ToolError(
+            Text("{}: the file is of another version of label-table", where), Text("make it again")
+        )
     wrong += [key for key in ONE_LINE if "\n" in str(found.get(key, ""))]
     if wrong or not found or found.get("copies", 0) > MOST_COPIES:
         listed = ", ".join(map(quoted, wrong)) or quoted(line.decode("utf-8", "replace"))
-        raise ToolError(f"{where}: not understood: {listed}")
+        raise ToolError(Text("{}: not understood: {}", where, listed))
     return found
 
 

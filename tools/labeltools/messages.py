@@ -4,36 +4,49 @@ writes a message.
 
 import sys
 import unicodedata
+from collections.abc import Sequence
 from contextlib import suppress
 from typing import NamedTuple, Protocol
 
-from labeltools.translation import translated
+from labeltools.text import NOTHING, Text, translated
 
 BAD_ARGUMENTS = 2
 MOST_LETTERS = 40  # of a cell that a message quotes
 # the classes of characters in Unicode that change what a terminal shows, or that cut a message
 UNSEEN = ("Cc", "Cf", "Cs", "Zl", "Zp")
-NAMES = {" ": "a space", "\t": "a tab", "\n": "a line end", "\r": "a line end"}
+NAMES = {
+    " ": Text("a space"),
+    "\t": Text("a tab"),
+    "\n": Text("a line end"),
+    "\r": Text("a line end"),
+}
+
+
+Offers = Sequence[tuple[str, Sequence[str]]]
 
 
 class ToolError(Exception):
     """Why a tool cannot go on.
 
     `what` is the reason, without an option of the command line; `hint`, which may name options, is
-    what to do. A command ends with `status`.
+    what to do. A command ends with `status`. `offers` are choices that help, each as it is shown
+    in a window, with its words of the command line.
     """
 
-    def __init__(self, what: str, hint: str = "", status: int = 1) -> None:
+    def __init__(
+        self, what: Text, hint: Text = NOTHING, status: int = 1, offers: Offers = ()
+    ) -> None:
         super().__init__(sentence(what, hint))
         self.what = what
         self.hint = hint
         self.status = status
+        self.offers = offers
 
 
 class BadArguments(ToolError):
     """Words that a tool does not understand, with its usage."""
 
-    def __init__(self, what: str, usage: str, hint: str = "") -> None:
+    def __init__(self, what: Text, usage: str, hint: Text = NOTHING) -> None:
         super().__init__(what, hint, BAD_ARGUMENTS)
         self.usage = usage
 
@@ -49,7 +62,7 @@ class RowError(Exception):
     is one cell.
     """
 
-    def __init__(self, what: str, hint: str = "", place: int | None = None) -> None:
+    def __init__(self, what: Text, hint: Text = NOTHING, place: int | None = None) -> None:
         super().__init__(sentence(what, hint))
         self.what = what
         self.hint = hint
@@ -64,7 +77,12 @@ class Place(NamedTuple):
     number: int
 
     def __str__(self) -> str:
-        return f"{self.unit} {self.number}"
+        return self.text
+
+    @property
+    def text(self) -> Text:
+        """What a message calls it."""
+        return Text("row {}", self.number) if self.unit == "row" else Text("line {}", self.number)
 
 
 class Talk(Protocol):
@@ -72,12 +90,12 @@ class Talk(Protocol):
     shows it.
     """
 
-    def note(self, place: Place, cell: str, reason: str, hint: str) -> None:
+    def note(self, place: Place, cell: str, reason: Text, hint: Text) -> None:
         """A row or line is left out: the text of its cell, why, and what to do, which may be
         empty.
         """
 
-    def say(self, text: str, hint: str = "") -> None:
+    def say(self, text: Text, hint: Text = NOTHING) -> None:
         """Something about the whole that leaves nothing out, and what to do about it."""
 
     def go_on(self, done: int, total: int) -> None:
@@ -89,17 +107,17 @@ class Talk(Protocol):
 class Silence:
     """A talk to nobody."""
 
-    def note(self, place: Place, cell: str, reason: str, hint: str) -> None:
+    def note(self, place: Place, cell: str, reason: Text, hint: Text) -> None:
         """Does nothing."""
 
-    def say(self, text: str, hint: str = "") -> None:
+    def say(self, text: Text, hint: Text = NOTHING) -> None:
         """Does nothing."""
 
     def go_on(self, done: int, total: int) -> None:
         """Does nothing."""
 
 
-def write_message(tool: str, message: str) -> None:
+def write_message(tool: str, message: Text) -> None:
     """Writes a message on standard error, on one line, if that takes it. Every message of a tool
     goes through here.
     """
@@ -109,18 +127,22 @@ def write_message(tool: str, message: str) -> None:
 
 def of_system(error: OSError) -> ToolError:
     """Returns what the system says as an error of a tool."""
-    return ToolError(f"{error.filename or 'standard output'}: {error.strerror or error}")
+    return ToolError(
+        Text("{}: {}", error.filename or Text("standard output"), error.strerror or error)
+    )
 
 
-def sentence(what: str, hint: str) -> str:
+def sentence(what: Text, hint: Text) -> Text:
     """Returns a reason and what to do as one text.
 
-    >>> sentence("there is no sheet", "give --sheet"), sentence("7: it is no EAN", "look at it")
-    ('there is no sheet: give --sheet', '7: it is no EAN; look at it')
+    >>> sentence(Text("there is no sheet"), Text("give --sheet"))
+    'there is no sheet: give --sheet'
+    >>> sentence(Text("7: it is no EAN"), Text("look at it"))
+    '7: it is no EAN; look at it'
     """
     if not hint:
         return what
-    return f"{what}; {hint}" if ": " in what else f"{what}: {hint}"
+    return Text("{}; {}", what, hint) if ": " in what else Text("{}: {}", what, hint)
 
 
 def visible(text: str) -> str:
@@ -132,7 +154,7 @@ def visible(text: str) -> str:
     if text.isprintable():
         return text
     return "".join(
-        numbered(sign) if unicodedata.category(sign) in UNSEEN else sign for sign in text
+        code_point(sign) if unicodedata.category(sign) in UNSEEN else sign for sign in text
     )
 
 
@@ -144,10 +166,10 @@ def quoted(text: str) -> str:
     '"a<U+00A0>b"'
     """
     short = text if len(text) <= MOST_LETTERS else text[: MOST_LETTERS - 3] + "..."
-    return '"' + "".join(sign if sign.isprintable() else numbered(sign) for sign in short) + '"'
+    return '"' + "".join(sign if sign.isprintable() else code_point(sign) for sign in short) + '"'
 
 
-def named(character: str) -> str:
+def named(character: str) -> Text:
     """Returns a character for a message: as it is where it can be seen, with its number where it is
     not ASCII.
 
@@ -155,20 +177,11 @@ def named(character: str) -> str:
     ('"x"', 'a tab', 'en dash (U+2013)')
     """
     if "!" <= character <= "~":
-        return f'"{character}"'
+        return Text('"{}"', character)
     name = unicodedata.name(character, "control character").lower()
-    return NAMES.get(character, f"{name} (U+{ord(character):04X})")
+    return NAMES.get(character) or Text("{} (U+{:04X})", name, ord(character))
 
 
-def numbered(character: str) -> str:
+def code_point(character: str) -> str:
     """Returns the number of a character, as `<U+001B>`."""
     return f"<U+{ord(character):04X}>"
-
-
-def counted(count: int, thing: str) -> str:
-    """Returns a number of things.
-
-    >>> counted(1, "row"), counted(2, "row")
-    ('1 row', '2 rows')
-    """
-    return f"{count} {thing}" if count == 1 else f"{count} {thing}s"

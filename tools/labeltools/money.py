@@ -10,16 +10,18 @@ from dataclasses import dataclass, replace
 from decimal import Decimal
 from functools import lru_cache
 
+from labeltools.text import NOTHING, Text
 from labeltools.messages import RowError
 
 MOST_LETTERS = 60
+NO_CURRENCY = "¤"  # ISO 8859-15 has its € where other encodings have this sign
 MOST_BARE_DIGITS = 8
 MOST_WHOLE_DIGITS = 12
 MOST_DECIMALS = 6  # of a price that is printed as it stands
-OTHER_WORDS = "has other words than a price tag has"
-OTHER_WORDS_HINT = "give --price-text if it is right"
-SEPARATORS = "has a number whose separators are not understood"
-SEVERAL = "has several numbers"
+OTHER_WORDS = Text("has other words than a price tag has")
+OTHER_WORDS_HINT = Text("give --price-text if it is right")
+SEPARATORS = Text("has a number whose separators are not understood")
+SEVERAL = Text("has several numbers")
 # signs that are one for the grammar; NFKC would make 399 of a price with raised decimals
 SPACES = (
     "\u00a0\u1680\u2000\u2001\u2002\u2003\u2004\u2005\u2006\u2007\u2008\u2009\u200a\u202f"
@@ -296,7 +298,7 @@ def currency_of(text: str, own: str = "") -> str | None:
         return BY_NAME[text]
     if text in CENTS:
         return "cent"
-    if len(text) == 1 and unicodedata.category(text) == "Sc":
+    if len(text) == 1 and unicodedata.category(text) == "Sc" and text != NO_CURRENCY:
         return text
     return FOLDED.get(text.casefold())
 
@@ -390,9 +392,9 @@ def text_price(text: str) -> str:
     """
     bare = plain(text)
     if not any(sign.isalnum() for sign in bare):
-        raise NotMoney("has neither a letter nor a digit")
+        raise NotMoney(Text("has neither a letter nor a digit"))
     if bare.casefold() in NO_VALUES or ERROR.fullmatch(bare):
-        raise NotMoney("is what a program writes where it has no value")
+        raise NotMoney(Text("is what a program writes where it has no value"))
     return text.strip()
 
 
@@ -402,14 +404,14 @@ def plain_price(text: str) -> str:
     """
     bare = plain(text)
     if len(bare) > MOST_LETTERS or "\n" in bare or "\r" in bare:
-        raise NotMoney("has several lines or more than 60 letters")
+        raise NotMoney(Text("has several lines or more than 60 letters"))
     if not re.search("[0-9]", bare):
         has_word = re.search(r"[^\W\d_]{2}", bare) is not None
-        raise NotMoney("has no number", OTHER_WORDS_HINT if has_word else "")
+        raise NotMoney(Text("has no number"), OTHER_WORDS_HINT if has_word else NOTHING)
     if re.search("[%‰٪]", bare):
-        raise NotMoney("is a percentage")
+        raise NotMoney(Text("is a percentage"))
     if len(scripts_of(text)) > 1 and not re.search("[０-９]", text):
-        raise NotMoney("has digits of two scripts")
+        raise NotMoney(Text("has digits of two scripts"))
     return bare
 
 
@@ -482,7 +484,7 @@ def number_in(bare: str, own: str, most_decimals: int) -> Money:
     if behind.startswith("+"):
         raise NotMoney(OTHER_WORDS, OTHER_WORDS_HINT)  # 1.9+
     if is_below:
-        raise NotMoney("is below zero")
+        raise NotMoney(Text("is below zero"))
     return money_of(amount, around)
 
 
@@ -521,8 +523,8 @@ def check_letters(before: str, amount: Amount, own: str) -> None:
     if not re.search(r"[A-Za-z]\Z", before) or name == own:
         return
     if amount.is_bare and name.isalpha() or currency_of(name) is None:
-        hint = "if they are a currency, name it by --currency-name"
-        raise NotMoney("has letters before its digits, as a code does", hint)
+        hint = Text("if they are a currency, name it by --currency-name")
+        raise NotMoney(Text("has letters before its digits, as a code does"), hint)
 
 
 def without_sign(before: str, behind: str, has_dash: bool) -> tuple[bool, str, str]:
@@ -561,7 +563,7 @@ def take_apart(
     if found is not None:
         is_other = any(found != one and not is_pair(found, one) for one in currencies)
         if is_other and found != "cent" and found not in currencies:
-            raise NotMoney("has two currencies")
+            raise NotMoney(Text("has two currencies"))
         currencies.add(found)
         return
     for word in side.split(" "):
@@ -606,13 +608,16 @@ def check_amount(amount: Amount, has_currency: bool, is_plain: bool, most_decima
     """Raises `NotMoney` for a number that is no price's."""
     whole = amount.whole
     if amount.point == ":" and not has_currency:
-        raise NotMoney("may be a time")
+        raise NotMoney(Text("may be a time"))
     if len(whole) > 1 and whole[0] == "0":
-        raise NotMoney("begins with zeros, as a code does")
+        raise NotMoney(Text("begins with zeros, as a code does"))
     if is_plain and not has_currency and len(whole) > MOST_BARE_DIGITS:
-        raise NotMoney(f"is {len(whole)} digits without a separator or a currency", "is it a code?")
+        raise NotMoney(
+            Text("is {} digits without a separator or a currency", len(whole)),
+            Text("is it a code?"),
+        )
     if len(amount.decimals) > most_decimals or len(whole) > MOST_WHOLE_DIGITS:
-        raise NotMoney("has too many digits", "give --price-as")
+        raise NotMoney(Text("has too many digits"), Text("give --price-as"))
 
 
 def money_of(amount: Amount, around: Around) -> Money:

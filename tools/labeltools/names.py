@@ -3,10 +3,14 @@
 import re
 import unicodedata
 from collections import Counter
+from decimal import Decimal
 from typing import Iterable, Mapping, Sequence
 
-from labeltools.messages import counted
+from labeltools.text import Text, counted
 
+NUMBER = re.compile("[0-9]{1,15}(?:[.,][0-9]{1,9})?")
+# letters of Greek and Cyrillic as those of Latin that look so
+LOOKS = str.maketrans("аеорсухікмнтвјѕοαυνκρτχ", "aeopcyxikmhtbjsoauvkptx")
 MOST_NAMED = 5  # rows in one message
 
 
@@ -71,27 +75,51 @@ def unlike(codes: Mapping[int, str]) -> list[int]:
     return without if is_only or is_rare else []
 
 
-def listed(rows: Sequence[int]) -> str:
+def looks_like(text: str, other: str) -> bool:
+    """Returns whether people may take a text for another one: by letters of another script, by what
+    nobody sees, by a letter twice, or by zeros of a number.
+
+    >>> [looks_like(one, "x") for one in ("х", "xx", "x\\u200b", "X!", "y", "box")]
+    [True, True, True, True, False, False]
+    >>> looks_like("01", "1"), looks_like("1,00", "1"), looks_like("11", "1")
+    (True, True, False)
+    """
+    if NUMBER.fullmatch(text) and NUMBER.fullmatch(other):
+        return Decimal(text.replace(",", ".")) == Decimal(other.replace(",", "."))
+    return likeness(text) == likeness(other) != ""
+
+
+def likeness(text: str) -> str:
+    """Returns the letters and digits of a text as they look."""
+    folded = unicodedata.normalize("NFKC", text).casefold().translate(LOOKS)
+    return re.sub(r"([^\W\d])\1+", r"\1", "".join(one for one in folded if one.isalnum()))
+
+
+def listed(rows: Sequence[int]) -> Text:
     """Returns rows for a message.
 
     >>> listed([3]), listed([3, 4]), listed(list(range(2, 12)))
     ('row 3', 'rows 3 and 4', 'rows 2, 3, 4, 5, 6 and 5 more')
     """
     if len(rows) == 1:
-        return f"row {rows[0]}"
+        return Text("row {}", rows[0])
+    numbers = list(map(str, rows))
     if len(rows) <= MOST_NAMED:
-        *first, last = map(str, rows)
-    else:
-        first = [str(row) for row in rows[:MOST_NAMED]]
-        last = f"{len(rows) - MOST_NAMED} more"
-    return f"rows {', '.join(first)} and {last}"
+        return Text("rows {} and {}", ", ".join(numbers[:-1]), numbers[-1])
+    first = ", ".join(numbers[:MOST_NAMED])
+    return Text("rows {} and {} more", first, len(rows) - MOST_NAMED)
 
 
-def said_of_empty(what: str, rows: Sequence[int], labels: int) -> str:
+def said_of_empty(what: str, rows: Sequence[int], labels: int) -> Text:
     """Returns the one message of empty titles or prices.
 
     >>> said_of_empty("title", [3, 4], 3)
     'rows 3 and 4 have no title (2 of 3 labels)'
     """
-    has = "has" if len(rows) == 1 else "have"
-    return f"{listed(rows)} {has} no {what} ({len(rows)} of {counted(labels, 'label')})"
+    named = listed(rows)
+    part = counted("{1} of {0} label", "{1} of {0} labels", labels, len(rows))
+    if what == "title":
+        one = Text("{} has no title ({})", named, part)
+        return one if len(rows) == 1 else Text("{} have no title ({})", named, part)
+    one = Text("{} has no price ({})", named, part)
+    return one if len(rows) == 1 else Text("{} have no price ({})", named, part)

@@ -11,14 +11,15 @@ from contextlib import suppress
 from dataclasses import dataclass, field
 from datetime import date, datetime, timedelta
 from decimal import ROUND_HALF_UP, Context, Decimal
-from functools import lru_cache
+from functools import cached_property, lru_cache
 from typing import NamedTuple
 
+from labeltools.text import Text
 from labeltools.messages import RowError, quoted
 
 LONGEST_FORMAT = 255  # letters, as spreadsheets have it
-TYPED = "enter it again as text"
-DATE_HINT = "give --date-as dd.mm.yyyy, or another pattern"
+TYPED = Text("enter it again as text")
+DATE_HINT = Text("give --date-as dd.mm.yyyy, or another pattern")
 # formats that a file names by their number alone, in so far as they do not depend on the language
 BUILT_IN = {
     "0": "General",
@@ -66,7 +67,8 @@ WHOLE_PATTERN = re.compile("[#?,]*[#?0]0?0?")  # with signs of thousands
 COMMA_POINT = "de es it nl pt da el id tr hr sl ro is vi sr bs ca gl eu mk sq"
 COMMA_SPACE = "fr ru uk be cs sk pl hu bg fi sv nb nn no lt lv et ka kk hy az"
 POINT_COMMA = (
-    "en zh ja ko th he hi ms ta te bn ur sw af_NA es_MX es_US es_GT es_HN es_NI es_PA es_PE"
+    "en zh ja ko th he hi ms ta te bn ur sw af_NA es_MX es_US es_DO es_GT es_HN es_NI es_PA es_PE"
+    " es_PR es_SV"
 )
 POINT_APOSTROPHE = "de_CH it_CH de_LI rm"
 
@@ -112,7 +114,7 @@ class Section:
         """Returns how many parts are of a kind."""
         return sum(part.kind == kind for part in self.parts)
 
-    @property
+    @cached_property
     def is_date(self) -> bool:
         """Whether it shows a date or a time."""
         return self.count("date") > 0 and not (self.count("number") or self.count("percent"))
@@ -144,7 +146,7 @@ class Formatter:
         if self.date_as and is_date_format(number_format):
             return date_text(date_section(self.date_as), value, is_from_1904)
         value = SIGNIFICANT.plus(value)
-        sections = sections_of(number_format)
+        sections = number_sections(number_format)
         place = section_for(value, len(sections))
         section = sections[place]
         if section.is_date:
@@ -205,12 +207,35 @@ def has_own_signs(number_format: str) -> bool:
 def not_understood(number_format: str, is_code: bool = False) -> RowError:
     """Returns the error of a format; a date, which is no code, may be written anew."""
     if number_format == LANGUAGE:
-        what = "has a number format that depends on the language of the spreadsheet"
+        what = Text("has a number format that depends on the language of the spreadsheet")
         return RowError(what, TYPED)
-    what = f"has the number format {quoted(number_format)}, which is not understood"
+    what = Text("has the number format {}, which is not understood", quoted(number_format))
     if is_date_format(number_format) and not is_code:
         return RowError(what, DATE_HINT)
     return RowError(what, TYPED)
+
+
+@lru_cache(maxsize=256)
+def number_sections(number_format: str) -> tuple[Section, ...]:
+    """Returns the sections of a format that show numbers: a last one with `@` shows texts alone."""
+    sections = sections_of(number_format)
+    is_for_texts = len(sections) > 1 and Part("number", "@") in sections[-1].parts
+    return sections[:-1] if is_for_texts else sections
+
+
+def is_of_time(number_format: str, value: Decimal) -> bool:
+    """Returns whether a format shows a number as a date or a time.
+
+    >>> is_of_time("d.m", Decimal(46359)), is_of_time("0.00;@", Decimal(3))
+    (True, False)
+    """
+    if number_format == DATE_OF_LANGUAGE:
+        return True
+    try:
+        sections = number_sections(number_format)
+    except RowError:
+        return is_date_format(number_format)
+    return sections[section_for(value, len(sections))].is_date
 
 
 def section_for(value: Decimal, count: int) -> int:
@@ -274,6 +299,8 @@ def signs_of(language: str) -> Signs | None:
 
     >>> signs_of("de_DE"), signs_of("de_CH").decimal, signs_of("xx_YY")
     (Signs(decimal=',', thousands='.'), '.', None)
+    >>> "".join(signs_of(one).decimal for one in ("es_ES", "es_MX", "es_DO", "es_PR", "es_SV"))
+    ',....'
     """
     return SIGNS_OF.get(language) or SIGNS_OF.get(language.partition("_")[0])
 
@@ -339,7 +366,9 @@ def moment_of(value: Decimal, is_from_1904: bool, letters: set[str]) -> datetime
     exact = value * SECONDS
     seconds = int(exact.to_integral_value(ROUND_HALF_UP))
     if letters & TIMES and seconds - exact > SAME_SECOND:
-        raise RowError("has a time between two seconds, which programs show differently", TYPED)
+        raise RowError(
+            Text("has a time between two seconds, which programs show differently"), TYPED
+        )
     if seconds - exact > SAME_SECOND:
         seconds -= 1
     day, second = divmod(seconds, SECONDS)
@@ -348,7 +377,7 @@ def moment_of(value: Decimal, is_from_1904: bool, letters: set[str]) -> datetime
     if not letters - TIMES and 0 <= day < FIRST_DAY:  # a time alone
         day = FIRST_DAY
     if not FIRST_DAY <= day <= LAST_DAY:
-        raise RowError("is a date before March 1900 or after 9999", TYPED)
+        raise RowError(Text("is a date before March 1900 or after 9999"), TYPED)
     start = datetime.combine(DAY_ZERO, datetime.min.time())
     return start + timedelta(days=day, seconds=second)
 
@@ -413,7 +442,8 @@ def general(value: Decimal, signs: Signs) -> str:
     is_long = "." in text and len(text.strip("0.").replace(".", "")) > 9
     if value >= 10**15 or is_long:
         raise RowError(
-            f"is the number {text} without a number of decimals", "give it a format such as 0.00"
+            Text("is the number {} without a number of decimals", text),
+            Text("give it a format such as 0.00"),
         )
     return text.replace(".", signs.decimal)
 
@@ -431,12 +461,15 @@ def digits_of(number_format: str, value: Decimal, is_data: bool = False) -> str:
     if [part.kind for part in parts] != ["number"]:
         raise not_understood(number_format, is_code=True)
     if value != value.to_integral_value() or abs(value) >= 10**15:
-        raise RowError(f"is the number {value}, which is not whole or has too many digits", TYPED)
+        raise RowError(
+            Text("is the number {}, which is not whole or has too many digits", value), TYPED
+        )
     pattern = parts[0].text
     is_general = pattern[0] in "Gg@"
     if is_data and not is_general and re.search(r"[.Ee]|,\Z", pattern):
-        shown = f"has the number format {quoted(number_format)}"
-        raise RowError(f"{shown}, and would be drawn as {value:.0f}", TYPED)
+        form = quoted(number_format)
+        what = Text("has the number format {}, and would be drawn as {:.0f}", form, value)
+        raise RowError(what, TYPED)
     zeros = 0 if is_general else least_digits(re.split("[.Ee]", pattern)[0])
     return f"{value:.0f}".zfill(zeros)
 

@@ -4,14 +4,16 @@ import re
 from dataclasses import dataclass, field
 from datetime import date, datetime
 from decimal import Decimal
-from itertools import chain, groupby
+from itertools import chain, groupby, product
 from typing import Iterator, Mapping
 from xml.etree.ElementTree import Element
 from zipfile import ZipFile
 
+from labeltools.text import Text
 from labeltools.messages import RowError, ToolError, quoted
 from labeltools.number_format import DAY_ZERO, Formatter, date_section, date_text, digits_of
-from labeltools.rows import Cell, Fault, Merge, Row, Special, Truth
+from labeltools.cells import Cell, Fault, Kind, Run, Special, Truth, text_of_runs
+from labeltools.rows import Merge, Row
 from labeltools.workbook import (
     LARGEST_ROW,
     MOST_COLUMNS,
@@ -35,7 +37,7 @@ from labeltools.workbook import repeats, rows_from, whole
 GROUPS = ("table-row-group", "table-header-rows", "table-rows")
 TABLE = "/document-content/body/spreadsheet/table"
 STYLE = "/document-content/automatic-styles/style"
-HEADS = (STYLE, f"{STYLE}/table-properties", TABLE)
+HEADS = (STYLE, f"{STYLE}/table-properties", f"{STYLE}/text-properties", TABLE)
 NUMBERS = ("float", "percentage", "currency", "date", "time")
 # white space that counts, by signs that no XML has, and other white space
 SIGNS = {"s": "\0", "tab": "\1", "line-break": "\2"}
@@ -43,6 +45,12 @@ UNSIGNED = {0: " ", 1: "\t", 2: "\n"}
 SPACE = re.compile("[ \t\r\n]+")
 PLAINLY_SHOWN = re.compile(r"[0-9.,'’\s]+(?:E[+][0-9]+)?")
 THOUSANDS = re.compile(r"(?<=[0-9])[.,'’\s](?=(?:[0-9]{3})+(?![0-9]))")
+DIGITS = re.compile(r"[0-9][0-9.,'’\u00a0\u202f ]*")
+# exponents, fractions and digits of other scripts are not compared with the value
+UNREAD = re.compile(r"[Ee][-+−]?[0-9]|[0-9] ?/ ?[0-9]|[^\x00-\x7f\W\d_]*[^\x00-\x7f\D]")
+LAST_SIGN = re.compile(r"[.,]([0-9]+)[^0-9]*\Z")
+SCALES = (0, -3, -6)  # as it is, thousands, millions
+ROUNDING = Decimal("0.5000001")  # of the last digit that is shown
 # they calculate a formula before they save it, so one without a text has none to show
 CALCULATES = ("LibreOffice", "OpenOffice", "Collabora", "NeoOffice")
 
@@ -59,6 +67,17 @@ class Number(Special):
     exact: Decimal | None
     moment: str
     formatter: Formatter
+    kind: Kind = Kind.NUMBER
+
+    def number(self) -> Decimal | None:
+        """Returns the number that it has."""
+        return self.exact
+
+    def agree(self) -> None:
+        """Raises `RowError` where the text has a number that is not the value."""
+        if self.exact is not None and not is_text_of(self.text, self.exact):
+            what = Text("has the value {} and the text {}", self.value, quoted(self.text))
+            raise RowError(what, SAVE_AGAIN)
 
     def shown(self) -> str:
         """Returns the text that is shown."""
@@ -70,7 +89,9 @@ class Number(Special):
     def digits(self) -> str:
         """Returns the digits as they are shown, or else those of the number."""
         if self.exact is None or not PLAINLY_SHOWN.fullmatch(self.text):
-            raise RowError(f"is shown as {quoted(self.text)}, which is no whole number", TYPED)
+            raise RowError(
+                Text("is shown as {}, which is no whole number", quoted(self.text)), TYPED
+            )
         return self.text if self.text.isdecimal() else digits_of("0", self.exact)
 
     def data(self) -> str:
@@ -79,13 +100,9 @@ class Number(Special):
         """
         digits = self.digits()
         if THOUSANDS.sub("", self.text) != digits:
-            what = f"is shown as {quoted(self.text)}, and would be drawn as {digits}"
+            what = Text("is shown as {}, and would be drawn as {}", quoted(self.text), digits)
             raise RowError(what, TYPED)
         return digits
-
-    def count(self) -> str:
-        """Returns the number as it is saved."""
-        return self.value
 
 
 @dataclass
@@ -95,6 +112,8 @@ class Content:
     formatter: Formatter
     is_calculated: bool
     hidden: set[str] = field(default_factory=set)
+    struck: set[str] = field(default_factory=set)
+    places: dict[str, str] = field(default_factory=dict)  # of letters that are raised or lowered
     style: str = ""
     sheet: tuple[str, bool] = ("", True)
     number: int = 1
@@ -124,12 +143,26 @@ def sheet_rows(archive: ZipFile, formatter: Formatter) -> Iterator[tuple[tuple[s
         elif element.tag == "table-properties":
             if element.get("display") == "false":
                 content.hidden.add(content.style)
+        elif element.tag == "text-properties":
+            add_letters(element.attrib, content)
         else:
             is_visible = element.get("style-name") not in content.hidden
             content.sheet = (element.get("name", ""), is_visible)
             content.number = 1
             content.merges = []
             yield content.sheet, Row(0, ())
+
+
+def add_letters(attributes: Mapping[str, str], content: Content) -> None:
+    """Adds a style that strikes letters through, raises or lowers them."""
+    lines = (attributes.get("text-line-through-style"), attributes.get("text-line-through-type"))
+    if any(line not in (None, "none") for line in lines):
+        content.struck.add(content.style)
+    place = attributes.get("text-position", "").split(" ")[0]
+    if place == "super" or re.fullmatch("[1-9][0-9]*%", place):
+        content.places[content.style] = "superscript"
+    elif place == "sub" or place.startswith("-"):
+        content.places[content.style] = "subscript"
 
 
 def is_calculated(archive: ZipFile) -> bool:
@@ -217,15 +250,20 @@ def add_link(cell: Element, place: int, links: dict[int, str]) -> None:
 def cell_of(cell: Element, content: Content) -> Cell:
     """Returns a cell by its type and its text, which is what the spreadsheet shows."""
     kind = cell.get("value-type", "")
-    text = text_of(cell)
+    text = text_of(cell, content)
+    if isinstance(text, Fault):
+        return text
     if kind in NUMBERS:
         value = cell.get("value", "")
         exact = exact_of(value) if value else None
         moment = cell.get("date-value", "")
-        return Number(value or text, text, exact, moment, content.formatter)
+        own = Kind.MOMENT if kind in ("date", "time") else Kind.NUMBER
+        return Number(value or text, text, exact, moment, content.formatter, own)
     if kind == "error":
-        what = f"has {quoted(text)}, which the spreadsheet writes where it has no value to show"
-        return Fault(what, "", text)
+        what = Text(
+            "has {}, which the spreadsheet writes where it has no value to show", quoted(text)
+        )
+        return Fault(what, value=text)
     if kind == "boolean":
         return Truth(text)
     if not kind and not text and "formula" in cell.attrib and not content.is_calculated:
@@ -233,14 +271,66 @@ def cell_of(cell: Element, content: Content) -> Cell:
     return text
 
 
-def text_of(cell: Element) -> str:
+def is_text_of(text: str, value: Decimal) -> bool:
+    """Returns whether one of the numbers in a text is a value that is rounded to as many digits; a
+    text without digits, and one with signs of other forms, may be anything.
+
+    >>> [is_text_of("2,99 €", Decimal(one)) for one in ("2.99", "2.9912", "3.99", "299")]
+    [True, True, False, False]
+    """
+    if not DIGITS.search(text) or UNREAD.search(text):
+        return True
+    size = abs(value).scaleb(2) if "%" in text else abs(value)
+    for found in (text, *DIGITS.findall(text)):  # 1234-567 is one number
+        digits = Decimal(re.sub("[^0-9]", "", found))
+        for decimals, scale in product(decimals_of(found), SCALES):
+            shown = digits.scaleb(-decimals)
+            if abs(size.scaleb(scale) - shown) <= ROUNDING.scaleb(-decimals):
+                return True
+    return False
+
+
+def decimals_of(number: str) -> tuple[int, ...]:
+    """Returns how many decimals a number may have: a sign before three digits may be of thousands.
+
+    >>> decimals_of("1.234,50"), decimals_of("1.234"), decimals_of("1234")
+    ((2,), (3, 0), (0,))
+    """
+    found = LAST_SIGN.search(number)
+    count = len(found[1]) if found else 0
+    return (3, 0) if count == 3 else (count,)
+
+
+def text_of(cell: Element, content: Content) -> str | Fault:
     """Returns the text of a cell, without the comments and pictures that it has."""
-    return "\n".join(line_of(line) for line in cell if line.tag == "p").translate(UNSIGNED)
+    lines: list[str] = []
+    is_struck = cell.get("style-name") in content.struck
+    for line in cell:
+        if line.tag == "p":
+            text: str | Fault = "".join(line.itertext()) if len(line) else line.text or ""
+            if text and (is_struck or content.places or content.struck):
+                text = text_of_runs(runs_of(line, content, Run("", is_struck)))
+            if isinstance(text, Fault):
+                return text
+            lines.append(spaced(text))
+    return "\n".join(lines).translate(UNSIGNED)
 
 
-def line_of(line: Element) -> str:
+def runs_of(element: Element, content: Content, around: Run) -> Iterator[Run]:
+    """Yields the letters in an element, which have the form of what is around them where it has
+    none of its own.
+    """
+    style = element.get("style-name", "")
+    is_struck = around.is_struck or style in content.struck
+    form = Run(element.text or "", is_struck, content.places.get(style, around.place))
+    yield form
+    for one in element:
+        yield from runs_of(one, content, form)
+        yield form._replace(text=one.tail or "")
+
+
+def spaced(text: str) -> str:
     """Returns a line of a cell; runs of white space are one space."""
-    text = "".join(line.itertext()) if len(line) else line.text or ""
     if "  " in text or not text.isprintable():
         text = SPACE.sub(" ", text)
     return text.strip(" ")
@@ -255,6 +345,6 @@ def days_of(moment: str) -> Decimal:
     try:
         found = datetime.fromisoformat(moment)
     except ValueError:
-        raise RowError(f"has the date {quoted(moment)}, which is none", TYPED) from None
+        raise RowError(Text("has the date {}, which is none", quoted(moment)), TYPED) from None
     past = found - datetime.combine(date.fromordinal(DAY_ZERO.toordinal()), datetime.min.time())
     return Decimal(past.days) + Decimal(past.seconds) / 86400

@@ -6,11 +6,14 @@ from dataclasses import dataclass, field, replace
 from decimal import ROUND_HALF_UP, Decimal
 from typing import Iterator, Mapping, NamedTuple
 
-from labeltools.messages import counted
+from labeltools.text import NOTHING, Text
 from labeltools.money import LOOKS, PER_UNIT, SPACES, WITH_THREE_DECIMALS, Money, NotMoney
 from labeltools.money import currency_of, is_pair, plain
+from labeltools.summary import rows_text
 
-THOUSANDS_OR_DECIMALS = "may have thousands or decimals"
+ARITHMETIC = Decimal("1e-9")  # what a program's arithmetic may leave
+MOST_LOST = Decimal("0.01")  # of a price that is rounded
+THOUSANDS_OR_DECIMALS = Text("may have thousands or decimals")
 SIGN_OF = {"crown": "kr", "EUR": "€", "GBP": "£"}
 ONE_SIGN = {"JPY": "¥", "CNY": "¥"}
 SAME = {("¥", "JPY"), ("¥", "CNY"), ("$", "USD")}
@@ -27,8 +30,8 @@ PATTERN = re.compile(
 class Said(NamedTuple):
     """What is said once of a column, and what to do about it."""
 
-    text: str
-    hint: str = ""
+    text: Text
+    hint: Text = NOTHING
 
 
 class Seen(NamedTuple):
@@ -89,27 +92,39 @@ class PriceColumn:
         return self.lengths.most_common(1)[0][0] if self.lengths else 0
 
     def says(self) -> Iterator[Said]:
-        """Yields what is said once."""
+        """Yields what is said once of prices that are printed as they are."""
         if len(self.points) > 1:
             first, second = list(self.points.values())[:2]
-            both = f"row {first.row} has {first.text} and row {second.row} has {second.text}"
-            yield Said(f"{both}: two decimal signs")
+            yield Said(
+                Text(
+                    "row {} has {} and row {} has {}: two decimal signs",
+                    first.row,
+                    first.text,
+                    second.row,
+                    second.text,
+                )
+            )
         if "open" in self.kinds and not self.point:
             row, text, rows = self.kinds["open"]
-            more = f" and {rows - 1} more" if rows > 1 else ""
-            yield Said(
-                f"{text} in row {row}{more} {THOUSANDS_OR_DECIMALS}", "it is printed as it is"
-            )
+            where = Text("{} in row {}", text, row)
+            if rows > 1:
+                where = Text("{} in row {} and {} more", text, row, rows - 1)
+            hint = Text("it is printed as it is")
+            yield Said(Text("{} {}", where, THOUSANDS_OR_DECIMALS), hint)
         if "short" in self.kinds:
             row, text, rows = self.kinds["short"]
-            hint = "give --price-as '0.00', or another pattern, to print two"
-            yield Said(f"row {row} has {text}, one decimal ({counted(rows, 'row')})", hint)
+            hint = Text("give --price-as '0.00', or another pattern, to print two")
+            yield Said(Text("row {} has {}, one decimal ({})", row, text, rows_text(rows)), hint)
+        yield from self.says_of_values()
+
+    def says_of_values(self) -> Iterator[Said]:
+        """Yields what is said once, also of prices that are written anew."""
         if "zero" in self.kinds:
             row, text, rows = self.kinds["zero"]
-            yield Said(f"row {row} has the price {text} ({counted(rows, 'row')})")
+            yield Said(Text("row {} has the price {} ({})", row, text, rows_text(rows)))
         if len(self.currencies) > 1:
             listed = ", ".join(sorted(self.currencies))
-            yield Said(f"the prices have several currencies: {listed}")
+            yield Said(Text("the prices have several currencies: {}", listed))
 
 
 def see(found: dict[str, Seen], kind: str, row: int, text: str) -> None:
@@ -153,13 +168,14 @@ def settled(price: Money, column: PriceColumn) -> Money:
     if not price.is_open:
         return price
     if not column.point:
-        raise NotMoney(THOUSANDS_OR_DECIMALS, "give --decimal , or --decimal .")
+        raise NotMoney(THOUSANDS_OR_DECIMALS, Text("give --decimal , or --decimal ."))
     if column.point != price.group:
         return replace(price, is_open=False)
     is_known = column.decimals == 3 or column.has_thousands or price.currency in WITH_THREE_DECIMALS
     if not is_known:
-        sign = "which is the decimal sign of its column"
-        raise NotMoney(f"has three digits behind {price.group}, {sign}")
+        raise NotMoney(
+            Text("has three digits behind {}, which is the decimal sign of its column", price.group)
+        )
     value = price.value / 1000
     return replace(price, value=value, point=price.group, group="", decimals=3, is_open=False)
 
@@ -229,19 +245,35 @@ class PricePattern:
         labeltools.money.NotMoney: has decimals, and the pattern of prices has none
         """
         if price.is_open:
-            raise NotMoney(THOUSANDS_OR_DECIMALS, "give --decimal , or --decimal .")
+            raise NotMoney(THOUSANDS_OR_DECIMALS, Text("give --decimal , or --decimal ."))
         if price.words or price.count != 1:
-            raise NotMoney("has words, which the pattern of prices would lose")
+            raise NotMoney(Text("has words, which the pattern of prices would lose"))
         self.check_currency(price, currency)
-        shown = price.value.quantize(Decimal(1).scaleb(-self.decimals), ROUND_HALF_UP)
+        shown = self.rounded(price.value)
         if self.decimals < 2 and shown != price.value:
-            raise NotMoney("has decimals, and the pattern of prices has none")
+            raise NotMoney(Text("has decimals, and the pattern of prices has none"))
         if not shown and price.value:
-            raise NotMoney("would be printed as zero")
+            raise NotMoney(Text("would be printed as zero"))
+        if abs(shown - price.value) > price.value * MOST_LOST:
+            raise NotMoney(Text("would be rounded by more than 1 %"))
         own = currency or SIGN_OF.get(price.currency, price.currency)
         number = (self.front + self.number(shown) + self.end).replace("¤", own)
         unit = f" {price.unit}".replace(" /", "/") if price.unit else ""
         return f"{price.basis}{number}{unit}{price.end}"
+
+    def rounded(self, value: Decimal) -> Decimal:
+        """Returns a value with the decimals of the pattern."""
+        return value.quantize(Decimal(1).scaleb(-self.decimals), ROUND_HALF_UP)
+
+    def changes(self, value: Decimal) -> bool:
+        """Returns whether rounding makes another amount of a value, and not only takes away what a
+        program's arithmetic has left.
+
+        >>> changes = PricePattern.of("0.00").changes
+        >>> changes(Decimal("1.859")), changes(Decimal("8.330000000000002"))
+        (True, False)
+        """
+        return abs(self.rounded(value) - value) > ARITHMETIC
 
     def number(self, shown: Decimal) -> str:
         """Returns a rounded number with the signs of the pattern."""
@@ -258,11 +290,11 @@ class PricePattern:
         wanted = currency_of(plain(own)) if own not in ("", "¤") else ""
         has_one = found not in ("", "cent")
         if has_one and wanted and not is_same(found, wanted):
-            raise NotMoney(f"has {found}, and the pattern of prices has {wanted}")
+            raise NotMoney(Text("has {}, and the pattern of prices has {}", found, wanted))
         if "¤" in own and not has_one:
-            raise NotMoney("has no currency, and the pattern of prices wants one")
+            raise NotMoney(Text("has no currency, and the pattern of prices wants one"))
         if not own and found:
-            raise NotMoney(f"has {found}, and the pattern of prices has no currency")
+            raise NotMoney(Text("has {}, and the pattern of prices has no currency", found))
 
 
 def currency_of_row(price: Money, currency: str) -> str:
@@ -271,7 +303,7 @@ def currency_of_row(price: Money, currency: str) -> str:
     """
     row = currency_of(plain(currency), plain(currency)) or "" if currency else ""
     if currency and price.currency not in ("", "cent") and not is_same(price.currency, row):
-        raise NotMoney(f"has {price.currency}, and its row has {currency}")
+        raise NotMoney(Text("has {}, and its row has {}", price.currency, currency))
     return row
 
 
@@ -286,7 +318,7 @@ def with_currency(price: Money, text: str, currency: str | None) -> str:
     if price.currency:
         return text
     if not currency:
-        raise NotMoney("has no currency, and its row has none")
+        raise NotMoney(Text("has no currency, and its row has none"))
     unit = PER_UNIT.search(text) if price.unit else None
     if unit is None:
         return f"{text} {currency}"

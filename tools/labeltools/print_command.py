@@ -9,6 +9,7 @@ import time
 from pathlib import Path
 from typing import Any, Callable, Iterable, Optional
 
+from labeltools.text import Text, counted
 from labeltools.area import DESIGNS
 from labeltools.command_line import (
     CommandTalk,
@@ -21,7 +22,7 @@ from labeltools.engine import option_words
 from labeltools.files import save, send
 from labeltools.forms import FORMS
 from labeltools.layout import LaidOut
-from labeltools.messages import BAD_ARGUMENTS, ToolError, counted, write_message
+from labeltools.messages import BAD_ARGUMENTS, ToolError, write_message
 from labeltools.press import PrintJob, Press, Prints, once
 from labeltools.print_job import (
     DRAWING_DPI,
@@ -204,16 +205,18 @@ def paths_of(items: Iterable[LaidOut], name: str) -> list[Path]:
     """
     folder = Path(name).parent
     if folder == Path() or "%" in str(folder):
-        raise ToolError("--each", "name a folder for the files, as in labels/%s.png")
+        raise ToolError(Text("--each"), Text("name a folder for the files, as in labels/%s.png"))
     paths: dict[str, Path] = {}
     for number, item in enumerate(items, 1):
         path = Path(file_name(name, number, item.label.record.data))
         if paths.setdefault(path.name.lower(), path) is not path:
-            raise ToolError(f"--each: two labels would be the file {path}", "put %d into the name")
+            raise ToolError(
+                Text("--each: two labels would be the file {}", path), Text("put %d into the name")
+            )
     folder.mkdir(parents=True, exist_ok=True)
     if any(folder.iterdir()):
-        what = f"--each: the folder {folder} is not empty"
-        raise ToolError(what, "old labels would be among the new ones")
+        what = Text("--each: the folder {} is not empty", folder)
+        raise ToolError(what, Text("old labels would be among the new ones"))
     return list(paths.values())
 
 
@@ -261,23 +264,26 @@ def say(found: Prepared) -> None:
 def check_count(job: PrintJob, prints: Prints, is_each: bool) -> None:
     """Raises `ToolError` where there are no labels, or more than one run or one file takes."""
     if not prints.items:
-        raise ToolError("there is no label to print")
+        raise ToolError(Text("there is no label to print"))
     count = len(prints)
     if count > MOST_LABELS:
-        hint = "print a part of them by --only"
-        raise ToolError(f"{count:,} labels with their copies: {MOST_LABELS:,} are the most", hint)
+        hint = Text("print a part of them by --only")
+        raise ToolError(
+            Text("{:,} labels with their copies: {:,} are the most", count, MOST_LABELS), hint
+        )
     if job.form.is_one_page and not is_each and job.pages_of(count) > 1:
-        hint = "print fewer labels by --only, or a file of each by --each"
-        raise ToolError(f"--to {job.form.name} has one page", hint)
+        hint = Text("print fewer labels by --only, or a file of each by --each")
+        raise ToolError(Text("--to {} has one page", job.form.name), hint)
 
 
-def summary_of(job: PrintJob, prints: Prints) -> str:
+def summary_of(job: PrintJob, prints: Prints) -> Text:
     """Returns what was written, and the line that prints it."""
-    text = counted(len(prints), "label")
+    text = counted("{} label", "{} labels", len(prints))
     if not job.form.is_roll:
-        text += f" on {counted(job.pages_of(len(prints)), 'page')}"
+        pages = counted("{} page", "{} pages", job.pages_of(len(prints)))
+        text = Text("{} on {}", text, pages)
     if lp_words(job, "NAME"):
-        text += f"; print the file by: {typed(job, 'NAME')}"
+        text = Text("{}; print the file by: {}", text, typed(job, "NAME"))
     return text
 
 
@@ -291,8 +297,9 @@ def listed(wanted: str) -> int:
     """Writes the sheets that have some words; returns the status."""
     lines = list(list_stock(wanted))
     if not lines:
-        hint = "try a part of the name, or the size of a cell, such as 70x37"
-        write_message(TOOL, f"no sheet has all of these words: {wanted}: {hint}")
+        hint = Text("try a part of the name, or the size of a cell, such as 70x37")
+        what = Text("no sheet has all of these words: {}", wanted)
+        write_message(TOOL, Text("{}: {}", what, hint))
         return 1
     print(*lines, sep="\n")
     return 0
@@ -321,7 +328,7 @@ def run() -> int:
     if options.each is not None:
         write_files(press, items, paths_of(items, options.each))
     elif queue is not None:
-        write_message(TOOL, print_on(press, prints, queue))
+        write_message(TOOL, Text("{}", print_on(press, prints, queue)))
     else:
         write(press, prints)
         if arguments.summary or sys.stderr.isatty():
@@ -340,6 +347,6 @@ def found_labels(
 def require_printable(job: PrintJob, queue: str) -> None:
     """Raises `ToolError` where a queue cannot print a job."""
     if lp_words(job, queue) is None:
-        what = f"--print: printers do not take {job.form.name}"
-        raise ToolError(what, "give --to pdf, zpl or escpos", BAD_ARGUMENTS)
+        what = Text("--print: printers do not take {}", job.form.name)
+        raise ToolError(what, Text("give --to pdf, zpl or escpos"), BAD_ARGUMENTS)
     check_queue(job, queue)

@@ -6,9 +6,11 @@
     prepared.press(talk).save(prepared.prints, Path("labels.zpl"))
 """
 
+from collections import Counter
 from dataclasses import dataclass, replace
 from typing import Iterable, Iterator, Mapping, Optional, Sequence
 
+from labeltools.text import Text
 from labeltools.area import ARTICLE, DESIGNS, Edges, Wishes, plan_of
 from labeltools.engine import Drawn, run_labels
 from labeltools.forms import ESCPOS, FORMS, PDF, Form
@@ -17,6 +19,7 @@ from labeltools.letters import Fonts, Letters
 from labeltools.lines_file import UNPRINTABLE, LineRecord, LinesFile, read_lines
 from labeltools.messages import BAD_ARGUMENTS, Place, Talk, ToolError
 from labeltools.pen import Medium, Pen
+from labeltools.names import listed
 from labeltools.press import Press, PrintJob, Prints, pens_of, with_copies
 from labeltools.read_back import fault_of
 from labeltools.report import LeftOut, places_text
@@ -28,7 +31,7 @@ DRAWING_DPI = 600
 MOST_DPI = 2400
 WORKBOOK = b"PK\x03\x04"  # what .xlsx and .ods begin with
 UNKNOWN = "unknown symbology"  # what labels(1) says
-TABLE_FIRST = "a table goes through label-table first"
+TABLE_FIRST = Text("a table goes through label-table first")
 DENSE = 0.33  # millimetres: modules of QR below it are said
 
 
@@ -74,7 +77,7 @@ class Remark:
     """What is said of labels that are printed, and the place of the first of them."""
 
     first: Place
-    text: str
+    text: Text
 
 
 @dataclass(frozen=True)
@@ -109,14 +112,16 @@ def planned(options: PrintOptions) -> PrintJob:
     """Returns how labels go out; raises `ToolError` where options do not go together."""
     form = form_of(options)
     if not form.is_drawn and not options.dpi:
-        hint = "the dots an inch of the printer, such as 203 or 300"
-        raise ToolError(f"--to {form.name} needs --dpi", hint, BAD_ARGUMENTS)
+        hint = Text("the dots an inch of the printer, such as 203 or 300")
+        raise ToolError(Text("--to {} needs --dpi", form.name), hint, BAD_ARGUMENTS)
     dpi = options.dpi or DRAWING_DPI
     if dpi > MOST_DPI:
-        raise ToolError(f"--dpi {dpi}: {MOST_DPI} are the most", status=BAD_ARGUMENTS)
+        raise ToolError(Text("--dpi {}: {} are the most", dpi, MOST_DPI), status=BAD_ARGUMENTS)
     for name in ("note", "font", "digits", "stock"):
         if UNPRINTABLE.search(getattr(options, name) or ""):
-            raise ToolError(f"--{name} has characters that are no text", status=BAD_ARGUMENTS)
+            raise ToolError(
+                Text("--{} has characters that are no text", name), status=BAD_ARGUMENTS
+            )
     sheet = sheet_of(options, form)
     edges = options.edge
     if edges is None:
@@ -131,7 +136,9 @@ def planned(options: PrintOptions) -> PrintJob:
     )
     plan = plan_of(sheet, dpi, edges, wishes)
     if form == ESCPOS and plan.page[0] > options.dots:
-        what = f"a label has {plan.page[0]} dots, and the printer has {options.dots} (--dots)"
+        what = Text(
+            "a label has {} dots, and the printer has {} (--dots)", plan.page[0], options.dots
+        )
         raise ToolError(what, status=BAD_ARGUMENTS)
     fonts = Fonts(options.font, options.digits)
     return PrintJob(plan, form, fonts, options.first, options.is_cut, options.is_compressed)
@@ -153,7 +160,7 @@ def sheet_of(options: PrintOptions, form: Form) -> Sheet:
     is_page = options.each is not None or form.is_roll
     places = ((0.0, 0.0),) if is_page else sheet.places
     if options.first > len(places):
-        what = f"--first {options.first}: a page has {len(places)} labels"
+        what = Text("--first {}: a page has {} labels", options.first, len(places))
         raise ToolError(what, status=BAD_ARGUMENTS)
     x, y = options.shift
     shifted = tuple((left + x, top + y) for left, top in places)
@@ -167,7 +174,7 @@ def named_sheet(options: PrintOptions) -> Sheet:
     if options.paper:
         return Sheet(options.paper, options.paper, ((0.0, 0.0),))
     if not options.cell or not options.columns or not options.rows:
-        raise ToolError("a grid needs --columns, --rows and --cell", status=BAD_ARGUMENTS)
+        raise ToolError(Text("a grid needs --columns, --rows and --cell"), status=BAD_ARGUMENTS)
     grid = Grid(
         options.page, options.cell, options.columns, options.rows, options.margin, options.gap
     )
@@ -195,11 +202,13 @@ class DrawnLines:
 def drawn_lines(options: PrintOptions, name: str, data: bytes, talk: Talk) -> DrawnLines:
     """Returns the lines of a file with the modules of their codes; raises what `labels_of` does."""
     if data.startswith(WORKBOOK):
-        raise ToolError(f"{name} is a workbook", TABLE_FIRST)
+        raise ToolError(Text("{} is a workbook", name), TABLE_FIRST)
     lines = read_lines(data, name, "--escapes" in options.words)
     drawn = run_labels(data, options.words, talk)
     if not drawn.pictures and set(drawn.refused.values()) == {UNKNOWN}:
-        raise ToolError(f"{name}: no line begins with a symbology, such as ean13", TABLE_FIRST)
+        raise ToolError(
+            Text("{}: no line begins with a symbology, such as ean13", name), TABLE_FIRST
+        )
     return DrawnLines(lines, drawn)
 
 
@@ -209,7 +218,7 @@ def prepared(options: PrintOptions, job: PrintJob, found: DrawnLines, talk: Talk
     drawn = found.drawn
     letters = Letters(job.fonts)
     labels = drawn_labels(lines, drawn, options.note)
-    reasons: dict[int, str] = dict(drawn.refused)
+    reasons: dict[int, Text] = dict(drawn.refused)
     reasons.update(letters.missing(labels))
     if reasons:
         labels = [label for label in labels if label.record.number not in reasons]
@@ -223,9 +232,12 @@ def prepared(options: PrintOptions, job: PrintJob, found: DrawnLines, talk: Talk
     left_out = list(without_line(lines, options.only))
     left_out += refused_labels(lines, reasons, options.only)
     tables = frozenset(record.table for record in lines.records if record.table)
-    remarks = tuple(remarks_on(wanted, laid_out, len(tables) > 1, pens_of(job, letters)[0]))
+    remarks = [
+        *several(wanted, options.only),
+        *remarks_on(wanted, laid_out, len(tables) > 1, pens_of(job, letters)[0]),
+    ]
     laid_out = replace(laid_out, labels=tuple(wanted))
-    return Prepared(job, laid_out, tuple(left_out), remarks, tables, letters)
+    return Prepared(job, laid_out, tuple(left_out), tuple(remarks), tables, letters)
 
 
 def drawn_labels(lines: LinesFile, drawn: Drawn, note: str) -> list[PrintLabel]:
@@ -248,12 +260,12 @@ def without_line(lines: LinesFile, only: Optional[frozenset[int]]) -> Iterable[L
         known = {record.place.number for record in lines.records}
         known.update(place.number for place in named)
         for row in sorted(only - known):
-            yield LeftOut(Place("", "row", row), "", "of --only, but not in the input")
+            yield LeftOut(Place("", "row", row), "", Text("of --only, but not in the input"))
         named = [place for place in named if place.number in only]
         count = len(named)
-    reason = "left out by label-table"
+    reason = Text("left out by label-table")
     if count > len(named):
-        reason += f", and {count - len(named)} rows more"
+        reason = Text("{}, and {} rows more", reason, count - len(named))
     for place in named:
         yield LeftOut(place, "", reason)
     if count and not named:
@@ -271,7 +283,7 @@ def is_wanted(place: Place, only: Optional[frozenset[int]]) -> bool:
 
 
 def refused_labels(
-    lines: LinesFile, reasons: Mapping[int, str], only: Optional[frozenset[int]]
+    lines: LinesFile, reasons: Mapping[int, Text], only: Optional[frozenset[int]]
 ) -> Iterable[LeftOut]:
     """Yields the lines that are not printed, with their reasons."""
     for record in lines.records:
@@ -283,7 +295,7 @@ def refused_labels(
 
 def faults(
     items: Sequence[LaidOut], laid_out: LaidOutFile, job: PrintJob, letters: Letters, talk: Talk
-) -> Iterator[tuple[LineRecord, str]]:
+) -> Iterator[tuple[LineRecord, Text]]:
     """Yields the lines of labels that are not drawn as they have to be, and what is wrong."""
     pen = Pen(Medium(job.plan.dpi, True), job.fonts, letters)
     for done, item in enumerate(items):
@@ -291,6 +303,16 @@ def faults(
         fault = fault_of(item, laid_out.area, pen)
         if fault is not None:
             yield item.label.record, fault
+
+
+def several(items: Sequence[LaidOut], only: Optional[frozenset[int]]) -> Iterable[Remark]:
+    """Yields that rows that are asked for are in several tables of the file."""
+    places = [item.label.record.place for item in items if only is not None]
+    counts = Counter(place.number for place in places)
+    rows = sorted(number for number, count in counts.items() if count > 1)
+    if rows:
+        first = next(place for place in places if place.number == rows[0])
+        yield Remark(first, Text("{}: in several tables, and printed of each", listed(rows)))
 
 
 def remarks_on(
@@ -302,22 +324,24 @@ def remarks_on(
         low = [item for item in items if has_low_bars(item)]
         if low:
             bars = min(item.layout.boxes["bars"].height for item in low) * dot
-            hint = "hand scanners read them, a till that reads in all directions may not"
-            said = f"{places_of(low, has_tables)}: bars of {bars:.1f} mm: {hint}"
+            hint = Text("hand scanners read them, a till that reads in all directions may not")
+            said = Text("{}: bars of {:.1f} mm: {}", places_of(low, has_tables), bars, hint)
             yield Remark(low[0].label.record.place, said)
     dense = [item for item in items if is_dense(item, dot)]
     if dense:
         finest = min(item.layout.module for item in dense) * dot
-        hint = "some phones may not read them: shorten the data, or take a larger label"
-        said = f"{places_of(dense, has_tables)}: QR with modules of {finest:.2f} mm: {hint}"
+        hint = Text("some phones may not read them: shorten the data, or take a larger label")
+        said = Text(
+            "{}: QR with modules of {:.2f} mm: {}", places_of(dense, has_tables), finest, hint
+        )
         yield Remark(dense[0].label.record.place, said)
     small = [item for item in items if item.layout.is_small_price]
     if small:
-        said = f"{places_of(small, has_tables)}: a wide price is smaller than the others"
+        said = Text("{}: a wide price is smaller than the others", places_of(small, has_tables))
         yield Remark(small[0].label.record.place, said)
     shortened = [item for item in items if pen.is_shortened(item)]
     if shortened:
-        said = f"{places_of(shortened, has_tables)}: shortened to fit, with an ellipsis"
+        said = Text("{}: shortened to fit, with an ellipsis", places_of(shortened, has_tables))
         yield Remark(shortened[0].label.record.place, said)
 
 
@@ -333,6 +357,6 @@ def is_dense(item: LaidOut, dot: float) -> bool:
     return not item.layout.symbology.nominal and item.layout.module * dot < DENSE
 
 
-def places_of(items: Iterable[LaidOut], has_tables: bool) -> str:
+def places_of(items: Iterable[LaidOut], has_tables: bool) -> Text:
     """Returns the places of labels in words."""
     return places_text([item.label.record.place for item in items], has_tables)

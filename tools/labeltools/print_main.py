@@ -3,6 +3,7 @@
 import importlib
 from typing import NoReturn
 
+from labeltools.text import Text
 from labeltools.command_line import main_of
 from labeltools.messages import ToolError
 
@@ -16,7 +17,7 @@ def start(tool: str, module: str, packages: str) -> NoReturn:
         try:
             command = importlib.import_module(module)
         except (ImportError, ValueError) as missing:
-            raise ToolError(str(missing), f"apt-get install {packages}") from missing
+            raise ToolError(Text("{}", missing), Text("apt-get install {}", packages)) from missing
         return int(command.run())
 
     main_of(tool, run)

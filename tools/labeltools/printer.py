@@ -4,6 +4,7 @@ import re
 import subprocess
 from typing import IO, Optional
 
+from labeltools.text import Text
 from labeltools.messages import BAD_ARGUMENTS, ToolError
 from labeltools.press import PrintJob
 from labeltools.stock import Size
@@ -19,7 +20,7 @@ NAMED = {
 }
 NEAR = 0.3  # millimetres by which a page may differ from a paper with a name
 RESOLUTION = re.compile(r"^Resolution/[^:]*: *(.+)$", re.MULTILINE)
-PACKAGE = "apt-get install cups-client"
+PACKAGE = Text("apt-get install cups-client")
 
 
 def lp_words(job: PrintJob, queue: str) -> Optional[list[str]]:
@@ -59,10 +60,12 @@ def check_queue(job: PrintJob, queue: str) -> None:
     if f"{dpi}dpi" in found or (not found and job.form.is_roll):
         return
     if not found:
-        hint = f"where you know that it prints at {dpi} dpi, type: {typed(job, queue)}"
-        raise ToolError(f"the queue {queue} does not say its resolution", hint)
-    hint = "give --dpi one of them"
-    what = f"the queue {queue} prints at {' or '.join(found)}, and the labels have {dpi} dpi"
+        hint = Text("where you know that it prints at {} dpi, type: {}", dpi, typed(job, queue))
+        raise ToolError(Text("the queue {} does not say its resolution", queue), hint)
+    hint = Text("give --dpi one of them")
+    what = Text(
+        "the queue {} prints at {}, and the labels have {} dpi", queue, " or ".join(found), dpi
+    )
     raise ToolError(what, hint, BAD_ARGUMENTS)
 
 
@@ -91,8 +94,8 @@ def print_by(job: PrintJob, queue: str, file: IO[bytes]) -> str:
     if done.returncode:
         said = done.stderr.decode("utf-8", "replace").strip()
         names = ", ".join(queues())
-        hint = f"the queues are {names}" if names else "there is no queue"
-        raise ToolError(f"lp does not print on {queue}: {said}", hint)
+        hint = Text("the queues are {}", names) if names else Text("there is no queue")
+        raise ToolError(Text("lp does not print on {}: {}", queue, said), hint)
     return done.stdout.decode("utf-8", "replace").strip()
 
 
@@ -101,4 +104,4 @@ def called(words: list[str], file: Optional[IO[bytes]]) -> "subprocess.Completed
     try:
         return subprocess.run(words, stdin=file or subprocess.DEVNULL, capture_output=True)
     except OSError as error:
-        raise ToolError(f"cannot run {words[0]}: {error.strerror}", PACKAGE) from error
+        raise ToolError(Text("cannot run {}: {}", words[0], error.strerror), PACKAGE) from error

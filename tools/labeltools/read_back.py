@@ -3,6 +3,7 @@
 import re
 from typing import Any, Optional
 
+from labeltools.text import Text
 from labeltools.area import Area
 from labeltools.engine import Modules
 from labeltools.forms.dots import Picture, drawn_page
@@ -14,7 +15,7 @@ from labeltools.pen import Pen, bits_of
 PIXELS = bytes.maketrans(b"01", b"\xff\0")
 
 
-def fault_of(item: LaidOut, area: Area, pen: Pen) -> Optional[str]:
+def fault_of(item: LaidOut, area: Area, pen: Pen) -> Optional[Text]:
     """Returns what is wrong with a label as it is drawn in its area, if anything; raises
     `ToolError` where zxing-cpp is not there.
     """
@@ -22,19 +23,19 @@ def fault_of(item: LaidOut, area: Area, pen: Pen) -> Optional[str]:
     return fault_in(drawn_page(size, pen, [(item, (0, 0))]), item)
 
 
-def fault_in(picture: Picture, item: LaidOut) -> Optional[str]:
+def fault_in(picture: Picture, item: LaidOut) -> Optional[Text]:
     """Returns what is wrong with dots of a label: its data is read by zxing-cpp, and each row of
     its bars is compared.
     """
     rows = [bits_of(row) for row in picture.rows]
     found = code_in(rows, re.sub("[- ]", "", item.layout.symbology.title))
     if found is None:
-        return "as drawn it is not read"
+        return Text("as drawn it is not read")
     if found != item.label.record.data:
-        return f"as drawn it is read as {found!r}"
+        return Text("as drawn it is read as {}", repr(found))
     box = item.layout.boxes["bars"]
     if not is_drawn(rows, item.label.modules, box):
-        return "its bars as drawn are not those of labels"
+        return Text("its bars as drawn are not those of labels")
     return None
 
 
@@ -54,8 +55,8 @@ def reader() -> Any:
     try:
         import zxingcpp
     except ImportError as error:
-        hint = "apt-get install python3-zxing-cpp"
-        raise ToolError(f"{error}: --read-back needs it", hint) from error
+        hint = Text("apt-get install python3-zxing-cpp")
+        raise ToolError(Text("{}: --read-back needs it", error), hint) from error
     return zxingcpp
 
 

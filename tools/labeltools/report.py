@@ -4,6 +4,7 @@ from dataclasses import dataclass
 from itertools import groupby
 from typing import Iterable, Iterator, Optional, Sequence
 
+from labeltools.text import NOTHING, Text, joined
 from labeltools.messages import Place
 
 MOST_REASONS = 8  # that have a message of their own
@@ -16,41 +17,44 @@ class LeftOut:
 
     place: Optional[Place]
     data: str
-    reason: str
-    hint: str = ""
+    reason: Text
+    hint: Text = NOTHING
 
 
-def report(left_out: Sequence[LeftOut], tables: Iterable[str]) -> Iterator[str]:
+def report(left_out: Sequence[LeftOut], tables: Iterable[str]) -> Iterator[Text]:
     """Yields a message for each reason, those of the most labels first, and one for all further
     reasons; places are named with their table where there are several.
     """
     has_tables = len(set(tables)) > 1
-    places: dict[str, list[Place]] = {}
+    places: dict[Text, list[Place]] = {}
     for one in left_out:
         named = places.setdefault(one.reason, [])
         if one.place is not None:
             named.append(one.place)
     reasons = sorted(places, key=lambda reason: -len(places[reason]))
     for reason in reasons[:MOST_REASONS]:
-        yield f"{places_text(places[reason], has_tables)}: {reason}"
+        yield Text("{}: {}", places_text(places[reason], has_tables), reason)
     rest = [place for reason in reasons[MOST_REASONS:] for place in places[reason]]
     if rest:
-        text = places_text(rest, has_tables)
-        yield f"{text}: left out for other reasons, such as: {reasons[MOST_REASONS]}"
+        where = places_text(rest, has_tables)
+        yield Text("{}: left out for other reasons, such as: {}", where, reasons[MOST_REASONS])
 
 
-def places_text(places: Iterable[Place], has_tables: bool) -> str:
+def places_text(places: Iterable[Place], has_tables: bool) -> Text:
     """Returns places in words, such as `rows 2, 5-9`."""
     texts = []
     for (table, unit), group in groupby(sorted(set(places)), key=lambda place: place[:2]):
         numbers = [place.number for place in group]
         ranges = [range_text(first, last) for first, last in ranges_of(numbers)]
-        text = unit if len(numbers) == 1 else f"{unit}s"
-        text += " " + ", ".join(ranges[:MOST_RANGES])
+        named = ", ".join(ranges[:MOST_RANGES])
+        if unit == "row":
+            text = Text("row {}", named) if len(numbers) == 1 else Text("rows {}", named)
+        else:
+            text = Text("line {}", named) if len(numbers) == 1 else Text("lines {}", named)
         if len(ranges) > MOST_RANGES:
-            text += f" .. ({len(numbers)} in all)"
-        texts.append(f"{table}, {text}" if has_tables and table else text)
-    return "; ".join(texts) or "some rows"
+            text = Text("{} .. ({} in all)", text, len(numbers))
+        texts.append(Text("{}, {}", table, text) if has_tables and table else text)
+    return joined("; ", texts) if texts else Text("some rows")
 
 
 def ranges_of(numbers: Iterable[int]) -> list[tuple[int, int]]:

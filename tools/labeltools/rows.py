@@ -1,80 +1,10 @@
-"""Rows and cells of a table, of whatever kind its file is."""
+"""Rows of a table, of whatever kind its file is."""
 
-from dataclasses import dataclass
-from typing import Iterator, Mapping, NamedTuple, Protocol, Sequence, Union
+from typing import Iterator, Mapping, NamedTuple, Protocol, Sequence
 
+from labeltools.cells import Cell, Fault, seen
 from labeltools.messages import RowError
-
-
-class Special:
-    """A cell of a spreadsheet that is more than a text: what is shown and what is meant may differ.
-
-    Each method raises `RowError` where the cell has nothing of the kind. `value` is what messages
-    quote.
-    """
-
-    value: str
-
-    def shown(self) -> str:
-        """Returns the text that the spreadsheet shows."""
-        raise NotImplementedError
-
-    def printed(self) -> str:
-        """Returns the text that the spreadsheet shows, for a label: it may be kept as an
-        example.
-        """
-        return self.shown()
-
-    def mark(self) -> str:
-        """Returns the text by which rows are chosen."""
-        return self.shown()
-
-    def digits(self) -> str:
-        """Returns the digits of a number with a check digit, however they are shown."""
-        return self.shown()
-
-    def data(self) -> str:
-        """Returns the data of a code of any letters: what is shown, where that is what was typed
-        too.
-        """
-        return self.shown()
-
-    def count(self) -> str:
-        """Returns a number of copies."""
-        return self.shown()
-
-
-@dataclass(frozen=True, slots=True)
-class Fault(Special):
-    """A cell that no label can show, and why."""
-
-    what: str
-    hint: str = ""
-    value: str = ""
-
-    def shown(self) -> str:
-        """Raises `RowError`."""
-        raise RowError(self.what, self.hint)
-
-
-@dataclass(frozen=True, slots=True)
-class Truth(Special):
-    """A truth value, which chooses rows, but which no label can show; `value` is its text."""
-
-    value: str
-
-    def shown(self) -> str:
-        """Raises `RowError`."""
-        what = "has neither a text nor a number, but TRUE, FALSE or the like"
-        raise RowError(what, "enter it again as text")
-
-    def mark(self) -> str:
-        """Returns its text."""
-        return self.value
-
-
-# what a row has: a text as it is, or a cell that knows more; an empty cell is an empty text
-Cell = Union[str, Special]
+from labeltools.text import Text
 
 
 class Merge(NamedTuple):
@@ -118,7 +48,9 @@ class Row(NamedTuple):
         for row, first, last_row, last in self.merges:
             is_inside = row <= self.number <= last_row and first <= place <= last
             if is_inside and (row, first) != (self.number, place):
-                return Fault(f"is merged with row {row}", "take the merged cells apart")
+                return Fault(
+                    Text("is merged with row {}", row), Text("take the merged cells apart")
+                )
         return self.cells[place] if place < len(self.cells) else ""
 
     def link(self, place: int) -> str:
@@ -137,13 +69,3 @@ class Table(Protocol):
         """Yields its rows from the top; empty ones may be missing. May raise `ToolError` in the
         middle.
         """
-
-
-def seen(cell: Cell) -> str:
-    """Returns a cell as messages and names have it; nothing where it has no text."""
-    if isinstance(cell, str):
-        return cell
-    try:
-        return cell.shown()
-    except RowError:
-        return cell.value

@@ -4,13 +4,14 @@ import re
 from dataclasses import dataclass
 from typing import Iterable, Iterator, Sequence
 
-from labeltools.messages import RowError, counted, quoted
+from labeltools.text import Text, counted
+from labeltools.messages import RowError, quoted
 
 # a price whose comma has cut it in two: `0` and `80`, `80 €` or `- EUR`; `1` and `234.50`
 CUT = re.compile(
     r"\D{0,5}[0-9]{1,3}\n(?:[0-9]{2}|[-–—]{1,2}|[0-9]{3}\.[0-9]{2})(?:\s*[^0-9\n]{1,5})?"
 )
-HINT = "a cell that contains the delimiter has to be in quotes"
+HINT = Text("a cell that contains the delimiter has to be in quotes")
 
 
 @dataclass(frozen=True)
@@ -40,16 +41,19 @@ class Shape:
         the row has 1 of 3 cells: is it cut off?
         """
         if len(cells) < self.names:
-            return RowError(f"the row has {len(cells)} of {self.names} cells", "is it cut off?")
+            return RowError(
+                Text("the row has {} of {} cells", len(cells), self.names), Text("is it cut off?")
+            )
         is_filled = any(cell.strip() for cell in cells[self.width :])
         if len(cells) > self.width + self.rest or is_filled:
             return RowError(
-                f"the row has {len(cells)} cells and row {self.row} has {self.width}", HINT
+                Text("the row has {} cells and row {} has {}", len(cells), self.row, self.width),
+                HINT,
             )
         if self.delimiter == "," and self.width > self.names:
             if both := cut_price(cells, self.prices):
                 first, second = map(quoted, both)
-                return RowError(f"the cells {first} and {second} may be one price", HINT)
+                return RowError(Text("the cells {} and {} may be one price", first, second), HINT)
         return None
 
     def unnamed(self, cells: Sequence[str], asked: Sequence[int]) -> Iterator[int]:
@@ -119,12 +123,18 @@ def is_moved(cells: Sequence[str], shape: Shape) -> bool:
     return is_longer and shape.delimiter == "," and bool(cut_price(cells, shape.prices))
 
 
-def said_of_unnamed(place: int, rows: int, row: int, cell: str) -> str:
+def said_of_unnamed(place: int, rows: int, row: int, cell: str) -> Text:
     """Returns what is said once of values behind the last name, as notes that a keeper writes
     beside a table.
 
     >>> said_of_unnamed(2, 1, 2, "order again")
     'column 3 has no name and has values in 1 row, first in row 2 "order again"'
     """
-    values = f"has values in {counted(rows, 'row')}, first in row {row} {quoted(cell)}"
-    return f"column {place + 1} has no name and {values}"
+    return counted(
+        "column {1} has no name and has values in {0} row, first in row {2} {3}",
+        "column {1} has no name and has values in {0} rows, first in row {2} {3}",
+        rows,
+        place + 1,
+        row,
+        quoted(cell),
+    )

@@ -2,19 +2,22 @@
 of them, and what was chosen the last time.
 """
 
+import hashlib
 import json
 import os
 import shlex
+import time
 from collections.abc import Mapping, Sequence
 from contextlib import suppress
 from pathlib import Path
 from typing import Any
 
 from labeltools import print_command, table_command
+from labeltools.text import NOTHING, Text
 from labeltools.command_line import read_input, words_of
 from labeltools.engine import option_words
 from labeltools.guess import guess_of
-from labeltools.messages import Cancelled, Place, ToolError
+from labeltools.messages import Cancelled, Place, ToolError, quoted
 from labeltools.press import Press
 from labeltools.print_job import Prepared, faults, labels_of, planned
 from labeltools.report import LeftOut
@@ -23,6 +26,7 @@ from labeltools.table import Lines, lines_of_table
 CONFIG = os.environ.get("XDG_CONFIG_HOME") or Path.home() / ".config"
 MEMORY = Path(CONFIG, "labels", "window.json")
 COLUMNS = ("code", "title", "text", "price", "unit-price", "old-price", "copies")
+PAPER = ("sheet", "roll", "stock", "width", "height", "design", "to", "dpi")
 Choices = Mapping[str, Any]  # by the names of the options
 
 
@@ -37,18 +41,18 @@ class Talk:
         self.is_stopped = False
         self.looks = 0  # that were taken at the work
 
-    def note(self, place: Place | None, cell: str, reason: str, hint: str) -> None:
+    def note(self, place: Place | None, cell: str, reason: Text, hint: Text) -> None:
         """Keeps why a row is left out."""
         self.notes.append(LeftOut(place, cell, reason, hint))
 
-    def say(self, text: str, hint: str = "") -> None:
+    def say(self, text: Text, hint: Text = NOTHING) -> None:
         """Keeps something about the whole."""
         self.note(None, "", text, hint)
 
     def go_on(self, done: int, total: int) -> None:
         """Keeps how far the work is; raises `Cancelled` where it is stopped."""
         if self.is_stopped:
-            raise Cancelled("stopped")
+            raise Cancelled(Text("stopped"))
         self.progress = done / total if total else 0.0
 
 
@@ -59,31 +63,52 @@ class Table:
 
     words: Sequence[str] = ()
     lines: Lines
+    all_lines: Lines  # those too that are as before
     said: Sequence[LeftOut]
     command: str
     notes: Sequence[LeftOut]
     left_out: int
 
-    def __init__(self, path: Path, text: str, header: int | None, talk: Talk) -> None:
-        """Reads a table by further words of label-table; its names are in the row `header` (0: in
-        none) where that is known. Raises `ToolError` and `OSError`.
+    def __init__(self, path: Path, text: str | None, header: int | None, talk: Talk) -> None:
+        """Reads a table by further words of label-table, None for those that are kept; its names
+        are in the row `header` (0: in none) where that is known. Raises `ToolError` and `OSError`.
         """
-        head = words_of({"header-row": header, "no-header": header == 0})
-        arguments = table_command.understood(["--code", "1", *head, *option_words(text)])
         _, self.data = read_input(str(path))
         self.path = path
-        self.guess = guess_of(self.data, path.name, table_command.options_of(arguments), talk)
-        self.kept = remembered().get("\n".join(self.guess.names), {})
+        self.read(text or "", header, talk)
+        kept = self.kept.get("for-table", "")
+        if text is None and kept and isinstance(kept, str):
+            self.read(kept, header, talk)
+        self.paper = {name: value for name, value in last().items() if name in PAPER}
+
+    def read(self, text: str, header: int | None, talk: Talk) -> None:
+        """Guesses the columns of the table as words read it, and finds what is kept for these."""
+        head = words_of({"header-row": header, "no-header": header == 0})
+        arguments = table_command.understood(["--code", "1", *head, *option_words(text)])
+        options = table_command.options_of(arguments)
+        self.text = text
+        self.guess = guess_of(self.data, self.path.name, options, talk)
+        self.key = "\n".join(self.guess.names) if any(self.guess.names) else ""
+        self.kept = remembered().get(self.key, {}) if self.key else {}
 
     def labels(self, choices: Choices, talk: Talk) -> Prepared:
         """Returns the labels that are chosen; raises `ToolError` and `OSError`."""
+        for kind, places in self.guess.doubts.items():
+            if choices[kind] is None:
+                named = ", ".join(quoted(self.guess.names[at] or str(at + 1)) for at in places)
+                hint = Text("choose its column")
+                if kind == "price":
+                    raise ToolError(Text("the price may be in one of {}", named), hint)
+                raise ToolError(Text("the code may be in one of {}", named), hint)
         to_print = print_words(choices)
         options = print_command.options_of(print_command.command_line().parse_args(to_print))
         job = planned(options)
-        words = [*table_words(choices), "--", str(self.path)]
+        all_words = table_words(choices)
+        since = {"new-since": str(self.printed) if choices["new-only"] else ""}
+        words = [*words_of(since), *all_words]
         if words != self.words:  # other paper needs no other lines
-            rules = table_command.options_of(table_command.understood(words))
-            self.lines = lines_of_table(self.data, self.path.name, rules, talk)
+            self.lines = self.lines_by(words, talk)
+            self.all_lines = self.lines_by(all_words, Talk()) if since["new-since"] else self.lines
             self.said = tuple(talk.notes)
             self.words = words
         found = labels_of(options, job, self.path.name, self.lines.output, talk)
@@ -92,10 +117,40 @@ class Table:
         remarks = [LeftOut(remark.first, "", remark.text) for remark in found.remarks]
         self.notes = [*self.said, *more, *remarks]
         self.left_out = len(rows) + len(more)
-        commands = ["label-table", *words], ["label-print", *to_print]
+        commands = ["label-table", *words, "--", str(self.path)], ["label-print", *to_print]
         self.command = " | ".join(map(shlex.join, commands)) + f" > labels.{job.form.name}"
-        remember("\n".join(self.guess.names), choices)
         return found
+
+    def lines_by(self, words: Sequence[str], talk: Talk) -> Lines:
+        """Returns the lines of the table by the words of label-table."""
+        rules = table_command.options_of(table_command.understood([*words, "--", str(self.path)]))
+        return lines_of_table(self.data, self.path.name, rules, talk)
+
+    @property
+    def printed(self) -> Path:
+        """The lines that went out the last time, of a table with the same names."""
+        mark = hashlib.sha256(self.key.encode()).hexdigest()[:16]
+        return MEMORY.with_name(f"{mark}.lines")
+
+    def printed_on(self) -> str:
+        """Returns the day on which labels of such a table went out; empty where none did."""
+        if self.key and self.printed.exists():
+            return time.strftime("%x", time.localtime(self.printed.stat().st_mtime))
+        return ""
+
+    def keep_printed(self, choices: Choices) -> None:
+        """Keeps the lines of labels that went out, with those that are as before, for the next
+        `--new-since`; not where a part of them was asked for.
+        """
+        if self.key and "--only" not in choices["for-print"]:
+            with suppress(OSError):
+                self.printed.write_bytes(self.all_lines.output)
+
+    def keep(self, choices: Choices) -> None:
+        """Keeps choices by which labels went out; those of columns only where columns have names,
+        since two tables without names have nothing in common.
+        """
+        remember(self.key, choices)
 
 
 def table_words(choices: Choices) -> list[str]:
@@ -119,7 +174,7 @@ def read_back(labels: Prepared, talk: Talk) -> Press:
     is not what it has to be.
     """
     for record, fault in faults(labels.labels, labels.laid_out, labels.job, labels.letters, talk):
-        raise ToolError(f"nothing is printed: {record.place}: {fault}")
+        raise ToolError(Text("nothing is printed: {}: {}", record.place.text, fault))
     return labels.press(talk)
 
 
@@ -131,9 +186,15 @@ def remembered() -> dict[str, Choices]:
     return {}
 
 
+def last() -> Choices:
+    """Returns what was chosen the last time, for whatever table."""
+    return next(reversed(remembered().values()), {})
+
+
 def remember(names: str, choices: Choices) -> None:
     """Keeps what was chosen; a folder that takes no file is no reason to stop."""
-    kept = {**remembered(), names: choices}
+    others = {other: kept for other, kept in remembered().items() if other != names}
+    kept = {**others, names: choices}  # the last one at the end
     with suppress(OSError):
         MEMORY.parent.mkdir(parents=True, exist_ok=True)
         MEMORY.write_text(json.dumps(kept, indent=1), encoding="utf-8")

@@ -10,6 +10,7 @@ from pathlib import Path
 from typing import Iterator, Optional
 from xml.etree.ElementTree import Element, parse
 
+from labeltools.text import Text
 from labeltools.messages import BAD_ARGUMENTS, ToolError
 
 Size = tuple[float, float]
@@ -62,9 +63,9 @@ class Grid:
     gap: Size = (0.0, 0.0)
 
 
-def size_text(size: Size) -> str:
+def size_text(size: Size) -> Text:
     """Returns a size in words."""
-    return f"{size[0]:.4g} by {size[1]:.4g} mm"
+    return Text("{:.4g} by {:.4g} mm", *size)
 
 
 def grid_sheet(grid: Grid) -> Sheet:
@@ -72,7 +73,9 @@ def grid_sheet(grid: Grid) -> Sheet:
     are too many.
     """
     if grid.columns * grid.rows > MOST_CELLS:
-        message = f"a page of {grid.columns} by {grid.rows} cells: {MOST_CELLS:,} are the most"
+        message = Text(
+            "a page of {} by {} cells: {:,} are the most", grid.columns, grid.rows, MOST_CELLS
+        )
         raise ToolError(message, status=BAD_ARGUMENTS)
     across = grid.cell[0] + grid.gap[0]
     down = grid.cell[1] + grid.gap[1]
@@ -88,7 +91,7 @@ def grid_sheet(grid: Grid) -> Sheet:
     ]
     sheet = Sheet(grid.page, grid.cell, tuple(places))
     if sheet.beyond() > MOST_BEYOND:
-        message = f"{sheet}: the cells leave the page by {sheet.beyond():.2f} mm"
+        message = Text("{}: the cells leave the page by {:.2f} mm", sheet, sheet.beyond())
         raise ToolError(message, status=BAD_ARGUMENTS)
     return sheet
 
@@ -100,12 +103,12 @@ def stock_sheet(name: str) -> Sheet:
     found = parts_named(name)
     if len(found) == 1:
         return sheet_of(found[0])
-    reason = "no such sheet"
-    hint = "--list-stock WORD lists what there is"
+    reason = Text("no such sheet")
+    hint = Text("--list-stock WORD lists what there is")
     if found:
-        reason = "several makers have it"
-        hint = "name one of " + ", ".join(map(" ".join, found))
-    raise ToolError(f"--stock {name}: {reason}", hint, BAD_ARGUMENTS)
+        reason = Text("several makers have it")
+        hint = Text("name one of {}", ", ".join(map(" ".join, found)))
+    raise ToolError(Text("--stock {}: {}", name, reason), hint, BAD_ARGUMENTS)
 
 
 def parts_named(name: str) -> list[PartName]:
@@ -162,8 +165,8 @@ def parts() -> dict[PartName, Element]:
     trees = [parse(path) for path in TEMPLATES.glob("*.xml")]
     found = [part for tree in trees for part in tree.iterfind("{*}Template")]
     if not found:
-        hint = "apt-get install glabels-data; else give --columns, --rows and --cell"
-        raise ToolError("sheets by name are those of glabels, which is not here", hint)
+        hint = Text("apt-get install glabels-data; else give --columns, --rows and --cell")
+        raise ToolError(Text("sheets by name are those of glabels, which is not here"), hint)
     named = {(part.get("brand", ""), part.get("part", "")): part for part in found}
     return {key: named[key] for key in sorted(named)}
 
@@ -208,13 +211,15 @@ def sheet_of(key: PartName) -> Sheet:
     cell = next(child for child in part if "Label-" in child.tag)
     if not cell.tag.endswith("Label-rectangle"):
         kind = cell.tag.rpartition("Label-")[2]
-        raise ToolError(f"{head}: its labels are no rectangles ({kind})", status=BAD_ARGUMENTS)
+        raise ToolError(
+            Text("{}: its labels are no rectangles ({})", head, kind), status=BAD_ARGUMENTS
+        )
     places = sorted(places_of(cell), key=lambda at: at[::-1])
     page = papers().get(part.get("size", "")) or size_of(part)
     sheet = Sheet(page, size_of(cell), tuple(places))
     if not places or not min(sheet.cell) or sheet.beyond() > MOST_BEYOND:
-        hint = "give --columns, --rows, --cell"
-        raise ToolError(f"{head}: glabels has it larger than its page", hint, BAD_ARGUMENTS)
+        hint = Text("give --columns, --rows, --cell")
+        raise ToolError(Text("{}: glabels has it larger than its page", head), hint, BAD_ARGUMENTS)
     return sheet
 
 

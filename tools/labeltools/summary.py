@@ -6,7 +6,7 @@ from collections import Counter
 from dataclasses import dataclass, field
 from decimal import Decimal
 
-from labeltools.messages import counted
+from labeltools.text import Text, counted, joined
 from labeltools.symbologies import SYMBOLOGIES
 
 
@@ -37,7 +37,7 @@ class Totals:
             self.highest = (value, text)
 
 
-def summary(totals: Totals) -> str:
+def summary(totals: Totals) -> Text:
     """Returns the summary, on one line.
 
     >>> totals = Totals(left_out=1)
@@ -51,18 +51,24 @@ def summary(totals: Totals) -> str:
     rows = totals.symbologies.total()
     found = totals.symbologies.most_common()
     counts = ", ".join(f"{count} {SYMBOLOGIES[name].title}" for name, count in found)
-    labels = counted(totals.labels, "label")
-    parts = [f"{labels} of {counted(rows, 'row')}: {counts or 'none'}"]
+    labels = counted("{} label of {}", "{} labels of {}", totals.labels, rows_text(rows))
+    parts: list[Text] = [Text("{}: {}", labels, counts or Text("none"))]
     if totals.lowest and totals.highest:
         parts.append(said_of_prices(totals.lowest[1], totals.highest[1], totals.prices, rows))
     if totals.copies - {1}:
-        parts.append(f"copies {min(totals.copies)} to {max(totals.copies)}")
+        parts.append(Text("copies {} to {}", min(totals.copies), max(totals.copies)))
     if totals.left_out:
-        parts.append(f"{counted(totals.left_out, 'row')} left out")
-    return "; ".join(parts)
+        parts.append(counted("{} row left out", "{} rows left out", totals.left_out))
+    return joined("; ", parts)
 
 
-def said_of_prices(lowest: str, highest: str, count: int, rows: int) -> str:
+def said_of_prices(lowest: str, highest: str, count: int, rows: int) -> Text:
     """Returns the lowest and the highest price, and in how many rows there are prices."""
-    text = f"price {lowest}" if lowest == highest else f"prices {lowest} to {highest}"
-    return text if count == rows else f"{text} in {counted(count, 'row')}"
+    one = lowest == highest
+    text = Text("price {}", lowest) if one else Text("prices {} to {}", lowest, highest)
+    return text if count == rows else Text("{} in {}", text, rows_text(count))
+
+
+def rows_text(count: int) -> Text:
+    """Returns a number of rows."""
+    return counted("{} row", "{} rows", count)

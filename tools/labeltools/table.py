@@ -2,18 +2,22 @@
 
 import re
 from dataclasses import dataclass, field
+from functools import reduce
 from itertools import chain
 from typing import Iterator, NamedTuple, Sequence
 
+from labeltools.text import NOTHING, Text, counted
 from labeltools.columns import Columns, Head, columns_of, names_of
+from labeltools.codes import is_in_brackets
 from labeltools.csv_table import csv_table
 from labeltools.drafts import RowReader
 from labeltools.line_writer import LineWriter, contents_of
-from labeltools.messages import BAD_ARGUMENTS, Place, RowError, Talk, ToolError, counted, quoted
+from labeltools.messages import BAD_ARGUMENTS, Place, RowError, Talk, ToolError, quoted
 from labeltools.names import listed, said_of_empty, unlike
 from labeltools.number_format import Formatter, local_date, local_signs
 from labeltools.ods import rows_of_ods
-from labeltools.rows import Row, seen
+from labeltools.cells import seen
+from labeltools.rows import Row
 from labeltools.summary import summary
 from labeltools.table_options import TableOptions
 from labeltools.workbook import is_ods, named_errors, opened
@@ -34,7 +38,7 @@ class Lines:
     count: int
     left_out: tuple[int, ...]
     hidden: int
-    summary: str
+    summary: Text
 
 
 class Start(NamedTuple):
@@ -59,7 +63,9 @@ def lines_of_table(data: bytes, name: str, options: TableOptions, talk: Talk) ->
     writer = work.writer
     if not (writer.taken or writer.left_out or work.hidden or work.unmarked):
         row = start.head.row.number
-        raise ToolError(f"{name} has no row below row {row}, which has the names of the columns")
+        raise ToolError(
+            Text("{} has no row below row {}, which has the names of the columns", name, row)
+        )
     if work.unmarked and not writer.taken:
         raise nothing_marked(columns, name)
     output = writer.finish()
@@ -77,11 +83,15 @@ def head_of(data: bytes, name: str, options: TableOptions, talk: Talk) -> Start:
     wanted = options.file.header_row
     first = next((row for row in rows if is_first(row, wanted)), None)
     if first is None or wanted and (first.number != wanted or first.is_blank()):
-        what = f"{name} has nothing in row {wanted}" if wanted else f"{name} has empty cells alone"
+        what = (
+            Text("{} has nothing in row {}", name, wanted)
+            if wanted
+            else Text("{} has empty cells alone", name)
+        )
         raise ToolError(what)
     if first.problem:
         problem = first.problem
-        raise ToolError(f"{name}: row {first.number}: {problem.what}", problem.hint)
+        raise ToolError(Text("{}: row {}: {}", name, first.number, problem.what), problem.hint)
     if options.file.has_header is False:
         return Start(Head(first, ()), chain([first], rows), formatter)
     return Start(Head(first, names_of(first)), rows, formatter)
@@ -111,13 +121,13 @@ def rows_of(
     kind.
     """
     if NO_TABLE.match(data):
-        what = f"{name} is an old .xls, XML, HTML, or has a password"
-        raise ToolError(what, "save it as .xlsx, without one")
+        what = Text("{} is an old .xls, XML, HTML, or has a password", name)
+        raise ToolError(what, Text("save it as .xlsx, without one"))
     is_csv = not data.startswith(ZIP)
     for option in ("sheet",) if is_csv else ("delimiter", "encoding"):
         if getattr(options.file, option) is not None:
-            what = f"{name} is {'CSV' if is_csv else 'no CSV'}"
-            raise ToolError(what, f"leave --{option} away", BAD_ARGUMENTS)
+            what = Text("{} is CSV", name) if is_csv else Text("{} is no CSV", name)
+            raise ToolError(what, Text("leave --{} away", option), BAD_ARGUMENTS)
     if is_csv:
         return csv_table(data, name, options, talk).rows()
     return rows_of_workbook(data, name, options.file.sheet, formatter)
@@ -134,8 +144,11 @@ def rows_of_workbook(
 
 def nothing_marked(columns: Columns, name: str) -> ToolError:
     """Returns the error of a table in which no row has the values that were asked for."""
-    wanted = " and ".join(f"{quoted(value)} in {column.title}" for column, value in columns.where)
-    return ToolError(f"{name} has no row with {wanted}", "look how the cells are spelled")
+    wanted = (Text("{} in {}", quoted(value), column.title) for column, value in columns.where)
+    both = reduce(lambda one, other: Text("{} and {}", one, other), wanted)
+    return ToolError(
+        Text("{} has no row with {}", name, both), Text("look how the cells are spelled")
+    )
 
 
 @dataclass
@@ -179,8 +192,10 @@ class Work:
     def leave_out_empty(self, empty: Sequence[int]) -> None:
         """Leaves out empty rows."""
         if empty:
-            more = f", and all to row {empty[-1]}" if empty[1:] else ""
-            self.talk.note(Place("", "row", empty[0]), "", f"the row is empty{more}", "")
+            what = Text("the row is empty")
+            if empty[1:]:
+                what = Text("the row is empty, and all to row {}", empty[-1])
+            self.talk.note(Place("", "row", empty[0]), "", what, NOTHING)
             self.writer.left_out += empty
 
     def take(self, row: Row) -> None:
@@ -200,26 +215,80 @@ class Work:
     def say_all(self) -> None:
         """Says what there is to say about the whole table."""
         self.say_of_empty()
-        if not self.options.prices.pattern:
-            for column in self.writer.columns:
-                for said in column.says():
-                    self.talk.say(said.text, said.hint)
+        self.say_of_prices()
         self.say_of_codes()
         if self.reader.other_currency:
             row, currency = self.reader.other_currency
-            text = f"row {row} has the currency {quoted(currency)}, which is not known"
-            self.talk.say(text, "if it is right, name it by --currency-name")
-        if self.reader.html:
-            text = f"row {self.reader.html} has HTML in a title or text, which is printed as it is"
-            self.talk.say(text)
+            text = Text("row {} has the currency {}, which is not known", row, quoted(currency))
+            self.talk.say(text, Text("if it is right, name it by --currency-name"))
+        self.say_of_texts()
         if self.hidden:
-            are = "is" if self.hidden == 1 else "are"
-            text = f"{counted(self.hidden, 'hidden row')} {are} not printed"
-            self.talk.say(text, "give --hidden to print them")
+            text = counted(
+                "{} hidden row is not printed", "{} hidden rows are not printed", self.hidden
+            )
+            self.talk.say(text, Text("give --hidden to print them"))
         if self.writer.unchanged:
-            rows = f"{self.writer.unchanged} of {counted(self.writer.taken, 'row')}"
-            self.talk.say(f"{rows} are as before, and are not printed")
+            text = counted(
+                "{1} of {0} row are as before, and are not printed",
+                "{1} of {0} rows are as before, and are not printed",
+                self.writer.taken,
+                self.writer.unchanged,
+            )
+            self.talk.say(text)
         self.say_of_numbers()
+
+    def say_of_prices(self) -> None:
+        """Says what the prices of a column say together, and which are not printed as they are."""
+        is_rewritten = self.options.prices.pattern is not None
+        for column in self.writer.columns:
+            for said in column.says_of_values() if is_rewritten else column.says():
+                self.talk.say(said.text, said.hint)
+        if self.writer.rounded:
+            first = self.writer.rounded[0]
+            text = counted(
+                "row {1} has {2}, which is rounded to {3} ({0} price)",
+                "row {1} has {2}, which is rounded to {3} ({0} prices)",
+                len(self.writer.rounded),
+                *first,
+            )
+            self.talk.say(text)
+        if low := self.reader.noticed.low:
+            self.talk.say(
+                Text(
+                    "row {} has the old price {}, which is not above the price {}",
+                    low.row,
+                    low.text,
+                    low.more,
+                )
+            )
+
+    def say_of_texts(self) -> None:
+        """Says what is odd in titles and texts, and in the values that rows are chosen by."""
+        noticed = self.reader.noticed
+        for row, text, more, _ in noticed.left.values():
+            self.talk.say(
+                Text("row {} has {} with {}, which is printed as it is", row, quoted(text), more)
+            )
+        for place, row in noticed.dates.items():
+            if like := noticed.like_dates.get(place):
+                text = Text(
+                    "row {} has the text {} where row {} has a date",
+                    like.row,
+                    quoted(like.text),
+                    row,
+                )
+                self.talk.say(text, Text("are its day and month in the same order?"))
+        for (column, wanted), like in noticed.like_values.items():
+            text = counted(
+                "row {1} has {2} in {3}, which looks like {4}, and is not printed ({0} row)",
+                "row {1} has {2} in {3}, which looks like {4}, and is not printed ({0} rows)",
+                like.rows,
+                like.row,
+                quoted(like.text),
+                column.title,
+                quoted(wanted),
+            )
+            self.talk.say(text)
 
     def say_of_empty(self) -> None:
         """Says which rows have no title or no price."""
@@ -232,19 +301,39 @@ class Work:
         """Says which codes are unlike the others, or lead to another address."""
         codes = self.writer.codes
         if odd := unlike(codes):
-            text = f"the code of {listed(odd)} has no digit, {quoted(codes[odd[0]])}"
-            self.talk.say(f"{text}, and others have", "is it one?")
+            text = Text(
+                "the code of {} has no digit, {}, and others have",
+                listed(odd),
+                quoted(codes[odd[0]]),
+            )
+            self.talk.say(text, Text("is it one?"))
+        if row := next((row for row, code in codes.items() if is_in_brackets(code)), 0):
+            self.talk.say(
+                Text("the code of row {} is GS1's in brackets, which is drawn as plain text", row),
+                Text("no scanner of GS1 takes it"),
+            )
         if self.reader.other_link:
-            text = f"the code of row {self.reader.other_link} is a text that leads to an address"
-            self.talk.say(text, "give --links to draw the address")
+            text = Text(
+                "the code of row {} is a text that leads to an address", self.reader.other_link
+            )
+            self.talk.say(text, Text("give --links to draw the address"))
 
     def say_of_numbers(self) -> None:
         """Shows how numbers and dates of .xlsx are printed, where the file does not say it."""
         formatter = self.start.formatter
         is_given = self.options.file.decimal is not None or self.options.prices.pattern
         if formatter.first_number and not is_given:
-            text = f"numbers are printed as {quoted(formatter.first_number)}: is that right?"
-            self.talk.say(f"{text} else give --decimal , or .")
+            self.talk.say(
+                Text(
+                    "numbers are printed as {}: is that right? else give --decimal , or .",
+                    quoted(formatter.first_number),
+                )
+            )
         if formatter.first_date and not formatter.date_as:
-            text = f"dates are printed as {quoted(formatter.first_date)}: is that right?"
-            self.talk.say(f"{text} else give --date-as dd.mm.yyyy, or another pattern")
+            self.talk.say(
+                Text(
+                    "dates are printed as {}: is that right? else give --date-as dd.mm.yyyy,"
+                    " or another pattern",
+                    quoted(formatter.first_date),
+                )
+            )

@@ -8,6 +8,7 @@ import sys
 from pathlib import Path
 from typing import Any, Callable, Sequence, TypeVar
 
+from labeltools.text import NOTHING, Text
 from labeltools.codes import AUTO, NAMES, CodeRules
 from labeltools.columns import column_word
 from labeltools.command_line import CommandTalk, Parser, main_of, read_input, standard_output
@@ -42,7 +43,7 @@ class TableTalk(CommandTalk):
         super().__init__(TOOL)
         self.rows: dict[str, list[int]] = {}
 
-    def note(self, place: Place, cell: str, reason: str, hint: str) -> None:
+    def note(self, place: Place, cell: str, reason: Text, hint: Text) -> None:
         """Writes why a row is left out."""
         kind = re.sub(r'"[^"]*"|[0-9]+X?', "", sentence(reason, hint))
         rows = self.rows.setdefault(kind, [])
@@ -55,9 +56,8 @@ class TableTalk(CommandTalk):
         for kind, rows in self.rows.items():
             more = rows[MOST_ALIKE:]
             if more:
-                write_message(
-                    TOOL, f"{listed(more)}: left out for the same reason as row {rows[0]}"
-                )
+                what = Text("{}: left out for the same reason as row {}", listed(more), rows[0])
+                write_message(TOOL, what)
 
 
 def command_line() -> Parser:
@@ -294,7 +294,7 @@ def understood(words: Sequence[str]) -> argparse.Namespace:
 def check(parser: Parser, arguments: argparse.Namespace) -> None:
     """Raises `BadArguments` for arguments that are wrong, or do not go together."""
     if arguments.code is None:
-        what = "the following arguments are required: --code"
+        what = Text("the following arguments are required: --code")
         raise BadArguments(what, parser.format_usage(), proposed(arguments))
     settings = arguments.settings
     if settings is not None and not SETTINGS.fullmatch(settings):
@@ -313,21 +313,21 @@ def check(parser: Parser, arguments: argparse.Namespace) -> None:
         parser.error("--price-text and --price-as do not go together")
 
 
-def proposed(arguments: argparse.Namespace) -> str:
+def proposed(arguments: argparse.Namespace) -> Text:
     """Returns the words that may fit a table; none where it is not a file, or has no codes."""
     if arguments.table in (None, "-"):
-        return ""
+        return NOTHING
     name, data = read_input(arguments.table)
     guess = guess_of(data, name, TableOptions(file=file_options(arguments)), Silence())
     if "code" not in guess.columns:
-        return ""
+        return NOTHING
     options: dict[str, Any] = {
         option: column_word(guess.names, place) for option, place in guess.columns.items()
     }
     options["symbology"] = guess.symbology if guess.symbology != AUTO else ""
     options["header-row"] = guess.header if guess.header > 1 else 0
     options["no-header"] = not guess.header
-    return f"try {shlex.join([TOOL, *words_of(options), arguments.table])}"
+    return Text("try {}", shlex.join([TOOL, *words_of(options), arguments.table]))
 
 
 def older_lines(path: str) -> LinesFile:
@@ -336,8 +336,8 @@ def older_lines(path: str) -> LinesFile:
     """
     lines = read_lines(Path(path).read_bytes(), path)
     if any(record.symbology not in SYMBOLOGIES for record in lines.records):
-        hint = "name the lines that were made of a table"
-        raise ToolError(f"{path} has lines that are not of label-table", hint)
+        hint = Text("name the lines that were made of a table")
+        raise ToolError(Text("{} has lines that are not of label-table", path), hint)
     return lines
 
 

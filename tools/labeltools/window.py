@@ -3,27 +3,29 @@ printed, the rows that are left out, and the ways out. Its widgets are those of 
 """
 
 import math
-from collections.abc import Callable
+import shlex
+from collections.abc import Callable, Sequence
 from concurrent.futures import Future, ThreadPoolExecutor
 from contextlib import suppress
 from functools import lru_cache, partial
 from pathlib import Path
 from typing import Any
 
+from labeltools.text import Text, counted, translated
 from labeltools.area import MILLIMETRES
 from labeltools.command_line import Parser
 from labeltools.forms import PBM, SVG
 from labeltools.forms.pdf import POINTS
-from labeltools.messages import ToolError, of_system
+from labeltools.messages import Offers, ToolError, of_system
 from labeltools.pango import library
 from labeltools.preview import Preview
+from labeltools.press import Press
 from labeltools.print_command import check_count, print_on
 from labeltools.print_job import Prepared
-from labeltools.printer import media_of, queues
+from labeltools.printer import check_queue, media_of, queues
 from labeltools.shop import COLUMNS, Choices, Table, Talk, read_back
 from labeltools.stock import list_stock
-from labeltools.translation import translated
-from labeltools.words import _, counted
+from labeltools.words import _
 
 Gdk = library("Gdk", "3.0")
 Gio = library("Gio", "2.0")
@@ -36,7 +38,7 @@ CONTROLS = {
     **dict.fromkeys((*COLUMNS, "symbology", "design", "to", "dpi"), "active-id"),
     **dict.fromkeys(("stock", "for-table", "for-print"), "text"),
     **dict.fromkeys(("header-row", "first", "width", "height"), "value"),
-    **dict.fromkeys(("sheet", "roll"), "active"),
+    **dict.fromkeys(("sheet", "roll", "new-only"), "active"),
 }
 MANY = 1000  # labels above it are asked for before they are printed
 MOST_NOTES = 2000
@@ -62,6 +64,8 @@ class Window:
         self.thread = ThreadPoolExecutor(1)
         self.talk = Talk()
         self.path: Path | None = None  # None too while controls are filled
+        self.chosen: tuple[Path | None, Sequence[str], Choices] = None, (), {}  # for which names
+        self.words = ""  # by which the table is read
         self.table: Table | None = None
         self.has_labels = False  # that are chosen
         self.offer_sheets()
@@ -85,6 +89,7 @@ class Window:
         self.on_stop()
         self.talk = Talk()
         self.widget("info").hide()
+        self.widget("done").hide()
         self.widget("out").set_sensitive(False)
         GLib.timeout_add(LOOK, self.look, self.talk, self.thread.submit(work, self.talk), then)
 
@@ -98,6 +103,7 @@ class Window:
             except (ToolError, OSError) as error:
                 problem = of_system(error) if isinstance(error, OSError) else error
                 self.widget("problem").set_text(said(problem.what, problem.hint))
+                self.offer(problem.offers)
                 self.widget("info").show()
         elif not talk.is_stopped:
             talk.looks += 1
@@ -105,38 +111,68 @@ class Window:
             self.widget("progress").set_fraction(talk.progress)
         return not talk.is_stopped
 
+    def offer(self, offers: Offers) -> None:
+        """Offers choices that help, a button for each."""
+        for old in self.widget("offers").get_children():
+            old.destroy()
+        for shown, words in offers:
+            button = Gtk.Button(label=shown, visible=True)
+            button.connect("clicked", self.on_offer, shlex.join(words))
+            self.widget("offers").add(button)
+
+    def on_offer(self, _button: Any, words: str) -> None:
+        """Reads the table by the choice."""
+        self.widget("for-table").set_text(words)
+
     def on_stop(self, _button: Any = None) -> None:
         """Ends work, and lets labels go out where there are some."""
         self.talk.is_stopped = True
         self.widget("working").hide()
         self.widget("out").set_sensitive(self.has_labels)
 
-    def open(self, path: Path, header: int | None = None) -> None:
+    def open(self, path: Path, header: int | None = None, is_again: bool = False) -> None:
         """Reads a table, guesses its columns or takes those of the last time, and makes labels."""
-        if path != self.path:
-            self.widget("for-table").set_text("")
+        if not is_again:
+            self.chosen = None, (), {}
+        text = self.widget("for-table").get_text() if path == self.path else None
+        self.words = text or ""
+        self.take({"for-table": self.words})
         self.path = path
         self.table = None
         self.has_labels = False
         self.widget("columns").clear()
+        self.widget("guessed").hide()
         self.widget("result").hide()
         self.widget("head").set_subtitle(path.name)
         self.widget("stack").set_visible_child_name("work")
-        self.start(partial(Table, path, self.widget("for-table").get_text(), header), self.fill)
+        self.start(partial(Table, path, text, header), self.fill)
 
     def fill(self, table: Table) -> None:
         """Fills the choices of columns for a table."""
         self.path = None
         guess = table.guess
         store = self.widget("columns")
-        store.append(["", _("none")])
-        for number, name in enumerate(guess.names, 1):
-            store.append([str(number), name or _("column {number}").format(number=number)])
+        store.append([_("none"), ""])
+        for number, (name, example) in enumerate(zip(guess.names, guess.examples), 1):
+            name = name or _("column {number}").format(number=number)
+            store.append([f"{name}  \u2013  {example}" if example else name, str(number)])
         columns = {option: str(place + 1) for option, place in guess.columns.items()}
         self.take({**dict.fromkeys(COLUMNS, ""), "code": "1", **columns})
-        self.take({"symbology": guess.symbology, **table.kept})
-        self.take({"header-row": guess.header, "first": 1})
+        self.take(dict.fromkeys(guess.doubts))  # only the keeper knows
+        # a table that is read again, by other words, keeps what is chosen
+        is_same = (table.path, guess.names) == self.chosen[:2]
+        others = {**table.paper, "for-print": "", **table.kept, "first": 1}
+        self.take({"symbology": guess.symbology, **(self.chosen[2] if is_same else others)})
+        self.words = table.text
+        self.take({"for-table": self.words})
+        self.take({"header-row": guess.header})
         self.widget("guessed").set_visible(not table.kept)
+        since = table.printed_on()
+        text = _("Only what is _new or changed since {date}").format(date=since)
+        self.widget("new-only").set_label(text)
+        self.widget("new-only").set_visible(since)
+        if not since:
+            self.take({"new-only": False})
         self.path = table.path
         self.table = table
         self.make()
@@ -156,6 +192,7 @@ class Window:
         """Makes the labels that are chosen."""
         if self.table is not None:
             self.has_labels = False
+            self.chosen = self.table.path, self.table.guess.names, self.choices()
             work = partial(self.table.labels, self.choices())
             self.start(work, partial(self.show_labels, self.table))
 
@@ -169,7 +206,7 @@ class Window:
         for note in table.notes[:MOST_NOTES]:
             row = str(note.place.number) if note.place else ""
             store.append([row, note.data, said(note.reason, note.hint)])
-        text = counted(table.left_out, "{number} row is left out", "{number} rows are left out")
+        text = translated(counted("{} row is left out", "{} rows are left out", table.left_out))
         self.widget("left-out").set_text(text if table.left_out else _("Please look at this"))
         self.widget("below").set_visible(table.notes)
         self.show_view()
@@ -235,7 +272,10 @@ class Window:
         """Reads the table by other words, such as its encoding, or with names in another row."""
         if self.path is not None:
             is_header = control is self.widget("header-row")
-            self.open(self.path, control.get_value_as_int() if is_header else None)
+            if not is_header and control.get_text() == self.words:
+                return
+            header = control.get_value_as_int() if is_header else None
+            self.open(self.path, header, is_again=True)
 
     def is_meant(self) -> bool:
         """Returns whether labels are meant, which is asked for where they are many."""
@@ -248,27 +288,53 @@ class Window:
     def on_save(self, _button: Any) -> None:
         """Asks for a file, and writes it."""
         chooser = self.widget("saver")
-        chooser.set_current_name(f"labels.{self.labels.job.form.name}")
+        path = self.table.path if self.table else Path()
+        chooser.set_current_folder(str(path.absolute().parent))
+        chooser.set_current_name(f"{path.stem}-labels.{self.labels.job.form.name}")
         if self.is_meant() and chooser.run() == Gtk.ResponseType.ACCEPT:
             self.save(Path(chooser.get_filename()))
 
     def save(self, path: Path) -> None:
         """Reads each label back, and writes what label-print writes."""
         labels = self.labels
-        self.start(lambda talk: read_back(labels, talk).save(labels.prints, path))
+        self.keep()
+        done = _("{file} is written").format(file=path.name)
+        work = partial(read_back, labels)
+        self.start(lambda talk: work(talk).save(labels.prints, path), lambda _none: self.say(done))
+
+    def say(self, text: str) -> None:
+        """Says that labels went out, and keeps which."""
+        self.keep_printed()
+        self.widget("said").set_text(text)
+        self.widget("done").show()
+
+    def print(self, _press: Press) -> None:
+        """Prints by the dialog of the desktop."""
+        action = Gtk.PrintOperationAction.PRINT_DIALOG
+        result = self.operation().run(action, self.window)
+        if result in (Gtk.PrintOperationResult.APPLY, Gtk.PrintOperationResult.IN_PROGRESS):
+            self.keep_printed()
+
+    def keep_printed(self) -> None:
+        """Keeps which labels went out."""
+        if self.table is not None:
+            self.table.keep_printed(self.choices())
+
+    def keep(self) -> None:
+        """Keeps what is chosen for the next table like this: labels go out by it."""
+        if self.table is not None:
+            self.table.keep(self.choices())
 
     def on_print(self, _button: Any) -> None:
         """Prints: by the dialog of the desktop, or for ZPL and ESC/POS the file at a queue."""
         labels = self.labels
-        action = Gtk.PrintOperationAction.PRINT_DIALOG
         if not self.is_meant():
             return
+        self.keep()
         if labels.job.form.is_roll:
             self.start(lambda _talk: queues(), self.ask_queue)
         else:
-            self.start(
-                partial(read_back, labels), lambda _press: self.operation().run(action, self.window)
-            )
+            self.start(partial(read_back, labels), self.print)
 
     def ask_queue(self, names: list[str]) -> None:
         """Asks for a queue for the file of a printer's own language."""
@@ -283,7 +349,12 @@ class Window:
     def send(self, _item: Any, queue: str) -> None:
         """Reads each label back, and sends what label-print writes to a queue."""
         labels = self.labels
-        self.start(lambda talk: print_on(read_back(labels, talk), labels.prints, queue))
+
+        def work(talk: Talk) -> str:
+            check_queue(labels.job, queue)
+            return print_on(read_back(labels, talk), labels.prints, queue)
+
+        self.start(work, self.say)
 
     def operation(self) -> Any:
         """Returns what prints each page in its own size: no scaling, no margins of the printer."""
@@ -315,7 +386,7 @@ class Window:
         return operation
 
 
-def said(what: str, hint: str) -> str:
+def said(what: Text, hint: Text) -> str:
     """Returns a reason, and below it what to do."""
     return "\n".join(translated(text) for text in (what, hint) if text)
 
@@ -327,7 +398,9 @@ def run() -> int:
     parser.add_argument("table", metavar="TABLE", nargs="?", help="a table to open")
     table = parser.parse_args().table
     if not Gtk.init_check()[0]:
-        raise ToolError("there is no screen", "on a terminal type label-table and label-print")
+        raise ToolError(
+            Text("there is no screen"), Text("on a terminal type label-table and label-print")
+        )
     GLib.set_prgname("org.labels.Window")
     window = Window()
     window.window.connect("destroy", Gtk.main_quit)

@@ -19,6 +19,7 @@ def folder() -> str | None:
 locale.bindtextdomain(DOMAIN, folder())  # for the texts of window.ui, which GTK translates
 _translation = gettext.translation(DOMAIN, folder(), fallback=True)
 _ = _translation.gettext
+ngettext = _translation.ngettext
 
 
 def is_translated() -> bool:
@@ -26,6 +27,6 @@ def is_translated() -> bool:
     return isinstance(_translation, gettext.GNUTranslations)
 
 
-def counted(count: int, one: str, many: str) -> str:
-    """Returns a text with a number of things, `{number}`, in its place."""
-    return _translation.ngettext(one, many, count).format(number=count)
+def one_text(text: str) -> str:
+    """Returns a text in the language of the user; gettext has its own head for the empty one."""
+    return _(text) if text else ""

@@ -15,8 +15,10 @@ from typing import Iterable, Iterator, Mapping, NamedTuple, Sequence
 from xml.etree.ElementTree import Element, ParseError, XMLPullParser
 from zipfile import ZIP_DEFLATED, ZIP_STORED, BadZipFile, ZipFile
 
+from labeltools.text import Text, counted
 from labeltools.messages import BAD_ARGUMENTS, ToolError, quoted
-from labeltools.rows import Cell, Merge, Row
+from labeltools.cells import Cell
+from labeltools.rows import Merge, Row
 
 MOST_ROWS = 1048576
 MOST_COLUMNS = 16384
@@ -43,12 +45,12 @@ DAMAGE = (
     ValueError,
     ArithmeticError,
 )
-SAVE_AGAIN = "open it in the spreadsheet and save it again"
-TOO_LARGE = f"has a row or another element of more than 1 MB, or elements {DEEPEST} deep"
+SAVE_AGAIN = Text("open it in the spreadsheet and save it again")
+TOO_LARGE = Text("has a row or another element of more than 1 MB, or elements {} deep", DEEPEST)
 TRUE = ("1", "true")
-NOT_SAVED = "has a formula without a saved value"
-NOT_SAVED_HINT = "open the table in the spreadsheet and save it"
-TYPED = "enter it again as text"
+NOT_SAVED = Text("has a formula without a saved value")
+NOT_SAVED_HINT = Text("open the table in the spreadsheet and save it")
+TYPED = Text("enter it again as text")
 
 
 class Sheet(NamedTuple):
@@ -65,9 +67,10 @@ def named_errors(name: str) -> Iterator[None]:
     try:
         yield
     except ToolError as error:
-        raise ToolError(f"{name} {error.what}", error.hint, error.status) from None
+        what = Text("{} {}", name, error.what)
+        raise ToolError(what, error.hint, error.status, error.offers) from None
     except DAMAGE as error:
-        what = f"{name} is damaged, or neither .xlsx nor .ods ({reason(error)})"
+        what = Text("{} is damaged, or neither .xlsx nor .ods ({})", name, reason(error))
         raise ToolError(what, SAVE_AGAIN) from None
 
 
@@ -85,12 +88,15 @@ def opened(data: bytes) -> ZipFile:
         raise ValueError("one part twice, or too many parts")
     for part in archive.infolist():
         if part.file_size > LARGEST_PART:
-            raise ToolError(f"has a part of more than 256 MB, {quoted(part.filename)}", SAVE_AGAIN)
+            raise ToolError(
+                Text("has a part of more than 256 MB, {}", quoted(part.filename)), SAVE_AGAIN
+            )
         is_manifest = part.filename == "META-INF/manifest.xml"
         is_locked = part.flag_bits & 1 or part.compress_type not in (ZIP_STORED, ZIP_DEFLATED)
         if is_locked or is_manifest and has_word(archive, part.filename, b"encryption-data"):
             raise ToolError(
-                "has a password, or is packed as no spreadsheet is", "save it again without one"
+                Text("has a password, or is packed as no spreadsheet is"),
+                Text("save it again without one"),
             )
     return archive
 
@@ -116,17 +122,19 @@ def chosen(sheets: Iterable[Sheet], wanted: str | None) -> Iterator[Row]:
         for row in sheet.rows if is_meant else ():
             if sheet.name not in found and not row.is_blank():
                 found.append(sheet.name)
-            if len(found) > 1:
+            if len(found) < 2:
+                yield row
+            elif sheet.name in found:
                 break
-            yield row
     if not names:
         raise LookupError("no sheet in it")
     if len(found) != 1:
-        what = f"{len(found)} visible sheets" if wanted is None else f"no sheet {quoted(wanted)}"
+        count = counted("{} visible sheet", "{} visible sheets", len(found))
+        what = count if wanted is None else Text("no sheet {}", quoted(wanted))
         listed = ", ".join(map(quoted, found or names))
-        raise ToolError(
-            f"has {what} with data", f"give --sheet with one of {listed}", BAD_ARGUMENTS
-        )
+        hint = Text("give --sheet with one of {}", listed)
+        offers = [(one, ["--sheet", one]) for one in found or names]
+        raise ToolError(Text("has {} with data", what), hint, BAD_ARGUMENTS, offers)
 
 
 def pieces(archive: ZipFile, part: str) -> Iterator[bytes]:
@@ -251,7 +259,9 @@ def elements(
     if not part:  # the file has no such part
         return
     if has_word(archive, part, b"<!DOCTYPE"):  # its entities may become any size
-        raise ToolError("has a document type (DOCTYPE), which no spreadsheet writes", SAVE_AGAIN)
+        raise ToolError(
+            Text("has a document type (DOCTYPE), which no spreadsheet writes"), SAVE_AGAIN
+        )
     walk = Walk(path, heads, without, passed)
     parser = XMLPullParser(("start", "end"))
     for piece in chain(pieces(archive, part), [b""]):
@@ -275,8 +285,14 @@ def rows_from(row: Row, repeat: int) -> Iterator[Row]:
     """Yields a row as often as it is there; raises `ToolError` beyond what a sheet has."""
     is_beyond = row.number + repeat - 1 > MOST_ROWS or len(row.cells) > MOST_COLUMNS
     if is_beyond or len(row.merges) > MOST_MERGES:
-        most = f"{MOST_ROWS} rows, {MOST_COLUMNS} columns or {MOST_MERGES} merges across a row"
-        raise ToolError(f"has more than {most}")
+        raise ToolError(
+            Text(
+                "has more than {} rows, {} columns or {} merges across a row",
+                MOST_ROWS,
+                MOST_COLUMNS,
+                MOST_MERGES,
+            )
+        )
     letters = sum(len(cell) for cell in row.cells if isinstance(cell, str))
     is_repeated = repeat > 1 and not row.is_hidden
     if letters > LARGEST_ROW or is_repeated and (letters + EACH) * repeat > LARGEST_ROW:

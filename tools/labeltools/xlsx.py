@@ -10,9 +10,12 @@ from xml.etree.ElementTree import Element
 from zipfile import ZipFile
 
 from labeltools import number_format
+from labeltools.text import Text
 from labeltools.messages import RowError, ToolError, quoted
 from labeltools.number_format import BUILT_IN, BUILT_IN_DATES, LANGUAGE, Formatter
-from labeltools.rows import Cell, Fault, Merge, Row, Special, Truth
+from labeltools.cells import STRUCK, STRUCK_HINT, Cell, Fault, Kind, Run, Special, Truth
+from labeltools.cells import text_of_runs
+from labeltools.rows import Merge, Row
 from labeltools.workbook import LARGEST_TEXTS, MOST_COLUMNS, NOT_SAVED, NOT_SAVED_HINT
 from labeltools.workbook import (
     SAVE_AGAIN,
@@ -31,6 +34,9 @@ REFERENCE = re.compile("([A-Z]{1,3})([0-9]{1,7})")
 # an address and a text, as a formula has them
 HYPERLINK = re.compile(r'\s*HYPERLINK\("([^"]+)"[,)].*', re.DOTALL | re.IGNORECASE)
 ROW = "/worksheet/sheetData/row"
+CONDITION = "/worksheet/conditionalFormatting"
+LATER_CONDITION = "/worksheet/extLst/ext/conditionalFormattings/conditionalFormatting"
+CONDITIONAL = Text("has a number format that depends on a condition")
 NO_VALUE = Fault(NOT_SAVED, NOT_SAVED_HINT)
 
 
@@ -42,15 +48,27 @@ class Target(NamedTuple):
 
 
 @dataclass(frozen=True)
+class Styles:
+    """The styles of a file by their numbers: their number formats, and which of them strike their
+    letters through. `conditional` are the numbers of the formats that a condition gives to cells,
+    where these have a number format.
+    """
+
+    formats: list[str]
+    struck: frozenset[int]
+    conditional: frozenset[int]
+
+
+@dataclass(frozen=True)
 class Book:
     """What all sheets of a file share.
 
-    `formats` are those of the styles by their numbers; `is_stale` is whether the formulas are to be
-    calculated when the file is opened, so that their saved values say nothing.
+    `is_stale` is whether the formulas are still to be calculated, so that their saved values say
+    nothing.
     """
 
-    strings: list[str]
-    formats: list[str]
+    strings: list[str | Fault]
+    styles: Styles
     formatter: Formatter
     is_from_1904: bool
     is_stale: bool
@@ -64,6 +82,16 @@ class Number(Special):
     exact: Decimal
     number_format: str
     book: Book
+
+    @property
+    def kind(self) -> Kind:
+        """What it is by its format; a number may be shown as a date or a time."""
+        is_moment = number_format.is_of_time(self.number_format, self.exact)
+        return Kind.MOMENT if is_moment else Kind.NUMBER
+
+    def number(self) -> Decimal | None:
+        """Returns the number that it has."""
+        return self.exact
 
     def shown(self) -> str:
         """Returns the number as its format shows it."""
@@ -85,10 +113,6 @@ class Number(Special):
         """Returns the digits of a whole number that is shown so."""
         return number_format.digits_of(self.number_format, self.exact, is_data=True)
 
-    def count(self) -> str:
-        """Returns the number as it is saved."""
-        return self.value
-
 
 @dataclass(frozen=True, slots=True)
 class Framed(Special):
@@ -109,7 +133,9 @@ class Framed(Special):
         """Returns the text, which must be what is shown."""
         text = self.shown()
         if text != self.value:
-            what = f"is shown as {quoted(text)}, and would be drawn as {quoted(self.value)}"
+            what = Text(
+                "is shown as {}, and would be drawn as {}", quoted(text), quoted(self.value)
+            )
             raise RowError(what, TYPED)
         return text
 
@@ -144,32 +170,49 @@ def book_of(
     calculation = elements(archive, path, "/workbook/calcPr")
     return Book(
         strings=strings_of(archive, parts.get("sharedStrings", "")),
-        formats=formats_of(archive, parts.get("styles", "")),
+        styles=styles_of(archive, parts.get("styles", "")),
         formatter=formatter,
         is_from_1904=any(one.get("date1904") in TRUE for one in properties),
-        is_stale=any(one.get("fullCalcOnLoad") in TRUE for one in calculation),
+        is_stale=any(map(is_uncalculated, calculation)),
     )
 
 
-def strings_of(archive: ZipFile, part: str) -> list[str]:
+def is_uncalculated(calculation: Element) -> bool:
+    """Returns whether formulas are to be calculated when the file is opened, or were not when it
+    was saved.
+    """
+    is_asked = calculation.get("fullCalcOnLoad") in TRUE
+    return is_asked or calculation.get("calcCompleted", "1") not in TRUE
+
+
+def strings_of(archive: ZipFile, part: str) -> list[str | Fault]:
     """Returns the shared strings."""
-    strings: list[str] = []
+    strings: list[str | Fault] = []
     letters = 0
     for element in elements(archive, part, "/sst/si"):
-        strings.append(string_of(element))
-        letters += len(strings[-1])
+        string = string_of(element)
+        strings.append(string)
+        letters += len(string if isinstance(string, str) else string.value)
         if letters > LARGEST_TEXTS:
             raise ToolError(TOO_LARGE, SAVE_AGAIN)
     return strings
 
 
-def formats_of(archive: ZipFile, part: str) -> list[str]:
-    """Returns the number formats of the styles."""
+def styles_of(archive: ZipFile, part: str) -> Styles:
+    """Returns the styles."""
     by_number = {**BUILT_IN, **BUILT_IN_DATES}
     for element in elements(archive, part, "/styleSheet/numFmts/numFmt"):
         by_number[element.attrib["numFmtId"]] = element.attrib["formatCode"]
-    styles = elements(archive, part, "/styleSheet/cellXfs/xf")
-    return [by_number.get(style.get("numFmtId", "0"), LANGUAGE) for style in styles] or ["General"]
+    fonts = list(map(is_struck, elements(archive, part, "/styleSheet/fonts/font")))
+    formats: list[str] = []
+    struck: set[int] = set()
+    for number, style in enumerate(elements(archive, part, "/styleSheet/cellXfs/xf")):
+        formats.append(by_number.get(style.get("numFmtId", "0"), LANGUAGE))
+        if any(fonts) and fonts[whole(style.get("fontId", "0"))]:
+            struck.add(number)
+    dxfs = enumerate(elements(archive, part, "/styleSheet/dxfs/dxf"))
+    conditional = frozenset(number for number, dxf in dxfs if dxf.find("numFmt") is not None)
+    return Styles(formats or ["General"], frozenset(struck), conditional)
 
 
 def relations(archive: ZipFile, path: str) -> dict[str, Target]:
@@ -194,6 +237,7 @@ def sheet_rows(archive: ZipFile, path: str, book: Book) -> Iterator[Row]:
     """
     beginning = merges_of(archive, path)
     links = links_of(archive, path)
+    conditions = conditions_of(archive, path, book.styles.conditional)
     merges: list[Merge] = []
     number = 0
     for element in elements(archive, path, ROW):
@@ -203,6 +247,9 @@ def sheet_rows(archive: ZipFile, path: str, book: Book) -> Iterator[Row]:
             raise out_of_order(number)
         row_links = dict(links.get(number, {}))
         cells = cells_of(element, number, book, row_links)
+        for area in conditions:
+            if area.row <= number <= area.last_row:
+                refuse_condition(cells, area)
         merges = merges_at(merges, number) + beginning.get(number, [])
         is_hidden = element.get("hidden") in TRUE
         yield from rows_from(Row(number, cells, None, is_hidden, merges, row_links), 1)
@@ -210,7 +257,7 @@ def sheet_rows(archive: ZipFile, path: str, book: Book) -> Iterator[Row]:
 
 def out_of_order(number: int) -> ToolError:
     """Returns the error of a row, or a cell of it, that is not behind the one before."""
-    return ToolError(f"has row {number} or a cell of it out of order", SAVE_AGAIN)
+    return ToolError(Text("has row {} or a cell of it out of order", number), SAVE_AGAIN)
 
 
 def cells_of(row: Element, number: int, book: Book, links: dict[int, str]) -> list[Cell]:
@@ -241,6 +288,39 @@ def merges_of(archive: ZipFile, path: str) -> dict[int, list[Merge]]:
             corners = corners_of(element.attrib["ref"])
             merges.setdefault(corners[0][0], []).append(Merge(*corners[0], *corners[-1]))
     return merges
+
+
+def conditions_of(archive: ZipFile, path: str, formats: frozenset[int]) -> list[Merge]:
+    """Returns the areas whose cells may be shown otherwise than their own number formats say, by a
+    condition.
+    """
+    areas: list[Merge] = []
+    if not has_word(archive, path, b"conditionalFormatting"):
+        return areas
+    for element in elements(archive, path, CONDITION, passed=ROW):
+        numbers = (
+            whole(rule.get("dxfId", "")) for rule in element.iter("cfRule") if rule.get("dxfId")
+        )
+        if formats.intersection(numbers):
+            areas += areas_of(element.get("sqref", ""))
+    for element in elements(archive, path, LATER_CONDITION, passed=ROW):
+        if element.find("cfRule/dxf/numFmt") is not None:
+            areas += areas_of(element.findtext("sqref", ""))
+    return areas
+
+
+def areas_of(references: str) -> list[Merge]:
+    """Returns the areas of some references, as `A2:B3 C1`."""
+    corners = (corners_of(one) for one in references.split())
+    return [Merge(*found[0], *found[-1]) for found in corners if found]
+
+
+def refuse_condition(cells: list[Cell], area: Merge) -> None:
+    """Puts a fault in place of the numbers of a row that are in an area."""
+    for place in range(area.place, min(area.last_place + 1, len(cells))):
+        cell = cells[place]
+        if isinstance(cell, Number):
+            cells[place] = Fault(CONDITIONAL, TYPED, cell.value)
 
 
 def links_of(archive: ZipFile, path: str) -> dict[int, dict[int, str]]:
@@ -288,7 +368,10 @@ def cell_of(cell: Element, book: Book) -> Cell:
     """Returns a cell by its type, and its value, if there is one."""
     kind = cell.get("t", "n")
     value = cell.findtext("v")
-    style = book.formats[whole(cell.get("s", "0"))]
+    number = whole(cell.get("s", "0"))
+    style = book.styles.formats[number]
+    if number in book.styles.struck and value:
+        return Fault(STRUCK, STRUCK_HINT, value)
     if cell.find("f") is not None:
         if book.is_stale or not value and not (kind == "str" and value is not None):
             return NO_VALUE
@@ -306,23 +389,44 @@ def value_of(cell: Element, kind: str, value: str, style: str, book: Book) -> Ce
     if kind in ("str", "inlineStr"):
         return text_of(string_of(cell), style)
     if kind == "e":
-        what = f"has {quoted(value)}, which the spreadsheet writes where it has no value to show"
-        return Fault(what, "", value)
+        what = Text(
+            "has {}, which the spreadsheet writes where it has no value to show", quoted(value)
+        )
+        return Fault(what, value=value)
     return Truth({"1": "TRUE", "0": "FALSE"}.get(value, value))
 
 
-def text_of(text: str, style: str) -> Cell:
+def text_of(text: str | Fault, style: str) -> Cell:
     """Returns a text, with its format where that puts something around it."""
-    if "@" not in style or style == "@" or not text:
+    if isinstance(text, Fault) or "@" not in style or style == "@" or not text:
         return text
     return Framed(text, style)
 
 
-def string_of(element: Element) -> str:
+def is_struck(properties: Element) -> bool:
+    """Returns whether a font, or the properties of a run, strike letters through."""
+    strike = properties.find("strike")
+    return strike is not None and strike.get("val", "1") in TRUE
+
+
+def run_of(element: Element) -> Run:
+    """Returns a run of letters."""
+    text = element.findtext("t", "") or element.findtext("v", "")
+    properties = element.find("rPr")
+    if properties is None:
+        return Run(text)
+    place = properties.find("vertAlign")
+    return Run(text, is_struck(properties), "" if place is None else place.get("val", ""))
+
+
+def string_of(element: Element) -> str | Fault:
     """Returns a string without its own escapes: `_x000D_` is a carriage return (ST_Xstring)."""
-    runs = [element, *element.findall("r"), *element.findall("is"), *element.findall("is/r")]
-    text = "".join(run.findtext("t", "") or run.findtext("v", "") for run in runs)
-    if "_x" in text:
+    if len(element) == 1 and element[0].tag == "t":  # most strings, at once
+        text: str | Fault = element[0].text or ""
+    else:
+        runs = [element, *element.findall("r"), *element.findall("is"), *element.findall("is/r")]
+        text = text_of_runs(map(run_of, runs))
+    if isinstance(text, str) and "_x" in text:
         text = ESCAPED.sub(lambda match: chr(int(match[1], 16)), text)
         text = text.encode("utf-16", "surrogatepass").decode("utf-16", "replace")
     return text

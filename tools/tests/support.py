@@ -28,6 +28,7 @@ TOOLS = Path(os.environ.get("TOOLS") or OURS)
 LOCALES = ("C", "C.UTF-8")
 SECONDS = 600  # that a program may take on a busy machine: one that hangs is ended
 MODULES = {"label-table": "labeltools.table_command"}  # of the tools that run in this process
+os.environ["LC_ALL"] = "C.UTF-8"  # of these too: their dates are those of the locale
 
 if str(OURS) not in sys.path:
     sys.path.insert(0, str(OURS))

@@ -1,19 +1,42 @@
 """The messages of the tools in German: every message has a text, and the tools write it."""
 
+import ast
 import os
 import re
 import string
 import subprocess
+import sys
 import tempfile
+import time
 import unittest
 from pathlib import Path
+from unittest import mock
 
 import support
+from labeltools.messages import quoted
+from labeltools.text import Text, counted, joined, translated
 
-TEMPLATES = support.TOOLS / "po/templates.py"
-MESSAGES = support.TOOLS / "labeltools/messages.txt"
 GERMAN = support.TOOLS / "po/de.po"
-ENTRY = re.compile(r'^msgid "(.*)"\nmsgstr "(.*)"$', re.MULTILINE)
+KEYWORDS = ("Text", "counted:1,2", "_", "ngettext:1,2")
+ENTRY = re.compile(r'^msgid "(.+)"(?:\nmsgid_plural "(.+)")?', re.MULTILINE)
+GERMAN_OF = re.compile(
+    r'^msgid "(.+)"(?:\nmsgid_plural ".+")?((?:\nmsgstr.* ".+")+)$', re.MULTILINE
+)
+PRICED = ["--code", "EAN", "--title", "N", "--price", "P"]
+WRONG_CODES = [
+    *("4006381333932", "7", "40063813339311", "9780306406157123", "4,00638E+12", "0000000000"),
+    *(
+        "3-16-148410-X",
+        "4006381333930",
+        "04252614",
+        "036000291453",
+        "4000000000006",
+        "0-8044-2957-X",
+    ),
+    *("40063813339 31", "A", "4006381333931 ", "12345670 12345", "1234567", "000000073513537"),
+    *("#N/A", "=1+1", "N/A", "", "X", "４００６３８１３３３９３１"),
+]
+WRONG_DATA = ["level=Q X", " X", '"X"', "'X", "NAN", "4,00638E+12", "A\u200bB", "#REF!", "ERR: 502"]
 TABLE = "EAN;Name;Preis\n4006381333932;Stift;0,80\n96385074;Gummi;1E3\n4006381333931;Heft;2,50\n"
 
 
@@ -21,6 +44,55 @@ def fields_of(text):
     """The places of what differs in a text, such as 0 and 1, in order."""
     names = [name for _, name, _, _ in string.Formatter().parse(text) if name is not None]
     return sorted(str(number) if name == "" else name for number, name in enumerate(names))
+
+
+def sources():
+    """The modules of the tools."""
+    return sorted((support.TOOLS / "labeltools").rglob("*.py"))
+
+
+def entries(text):
+    """The texts of a file of gettext, with their plurals, by the pattern of its entries."""
+    text = text.replace(b"charset=CHARSET", b"charset=UTF-8")
+    ran = ["msgcat", "--no-wrap", "-"]
+    return subprocess.run(ran, input=text, capture_output=True, check=True).stdout.decode()
+
+
+def texts_of_tools():
+    """The entries of the texts of the tools, as xgettext finds them."""
+    words = ["xgettext", "--language=Python", "--from-code=UTF-8", "--output=-"]
+    words += [f"--keyword={one}" for one in KEYWORDS]
+    found = subprocess.run([*words, *sources()], capture_output=True, check=True).stdout
+    window = ["xgettext", "--language=Glade", "--from-code=UTF-8", "--output=-"]
+    window = [*window, support.TOOLS / "labeltools/window.ui"]
+    both = entries(found), entries(subprocess.run(window, capture_output=True, check=True).stdout)
+    return {one: many for text in both for one, many in ENTRY.findall(text)}
+
+
+def has_words(text):
+    """Whether a text has more than what differs in it."""
+    return any(map(str.isalpha, re.sub(r"\{.*?\}", "", text)))
+
+
+def calls():
+    """Yields the calls that make a text, with the name of their file and their literal arguments:
+    the template, and its plural.
+    """
+    for path in sources():
+        for node in ast.walk(ast.parse(path.read_text())):
+            name = getattr(node.func, "id", "") if isinstance(node, ast.Call) else ""
+            if name in ("Text", "counted") and path.name != "text.py":
+                yield path.name, node, 1 + (name == "counted")
+
+
+def is_literal(node):
+    """Whether an expression is a text in quotes."""
+    return isinstance(node, ast.Constant) and isinstance(node.value, str)
+
+
+def in_capitals(text):
+    """A text in a language that is English in capitals."""
+    return re.sub(r"(\{.*?\})|[^{]+", lambda found: found[1] or found[0].upper(), text)
 
 
 def german(folder):
@@ -33,19 +105,99 @@ def german(folder):
 
 
 class German(unittest.TestCase):
-    def test_each_message_has_its_template(self):
-        done = subprocess.run([TEMPLATES, "--check"], capture_output=True, text=True)
-        self.assertEqual((done.returncode, done.stderr), (0, ""), f"run {TEMPLATES}")
+    def test_xgettext_finds_each_text(self):
+        """mypy has each message as a `Text`; here its template is seen, and no field is a text."""
+        for name, call, templates in calls():
+            shown = f"{name}: {ast.unparse(call)}"
+            self.assertTrue(all(map(is_literal, call.args[:templates])), shown)
+            for one in call.args[templates:]:
+                is_text = is_literal(one) and has_words(one.value)
+                self.assertFalse(is_text or isinstance(one, ast.JoinedStr), shown)
 
-    def test_each_template_has_a_german_text_with_its_fields(self):
-        found = {one.replace('\\"', '"'): other for one, other in ENTRY.findall(GERMAN.read_text())}
-        lines = MESSAGES.read_text().splitlines()
-        self.assertGreater(len(lines), 200)
-        self.assertEqual([line for line in lines if not found.get(line)], [])
-        for line in lines:
-            fields = set(fields_of(found[line].replace('\\"', '"')))
-            self.assertLessEqual(fields, set(fields_of(line)), line)
-            self.assertLessEqual(len(fields_of(line)) - len(fields), 1, line)
+    def test_each_text_is_in_german_with_its_fields(self):
+        support.needs("xgettext", "msgcat")
+        texts = texts_of_tools()
+        found = entries(GERMAN.read_bytes())
+        german = dict(GERMAN_OF.findall(found))
+        plurals = dict(ENTRY.findall(found))
+        self.assertGreater(len(texts), 200)
+        self.assertEqual([one for one in texts if has_words(one) and not german.get(one)], [])
+        self.assertEqual(sorted({*german} - {*texts}), [], "texts that no tool has")
+        for text in german:
+            self.assertEqual(plurals[text], texts[text])
+            for one in re.findall('"(.+)"', german[text]):
+                self.assertEqual(fields_of(one), fields_of(text), text)
+
+    def test_no_message_is_half_translated(self):
+        """Read in a language of capitals, messages have no other letters: names and numbers in
+        quotes, of characters and of encodings apart.
+        """
+        table = Path(support.TESTS, "prices_wrong.txt").read_text().splitlines()
+        prices = [f"4006381333931\tA\t{line}\n" for line in table if line[:1] != "#"]
+        tables = {
+            "wrong prices": ("EAN\tN\tP\n" + "".join(prices), PRICED),
+            "prices with a pattern": (
+                "EAN\tN\tP\n" + "".join(prices),
+                [*PRICED, "--price-as", "0.00 €"],
+            ),
+            "wrong codes": ("EAN\n" + "\n".join(WRONG_CODES) + "\n", ["--code", "EAN"]),
+            "wrong data": (
+                "EAN\n" + "\n".join(WRONG_DATA) + "\n",
+                ["--code", "EAN", "--symbology", "code128"],
+            ),
+            "columns": ("EAN;N;N;P\n4006381333931;;;1\n", ["--code", "X"]),
+            "a column twice": ("EAN;N;N;P\n4006381333931;;;1\n", ["--code", "EAN", "--text", "N"]),
+            "where": ("EAN;N\n4006381333931;X\n", ["--code", "EAN", "--where", "N=Y"]),
+            "nothing": ("EAN\n", ["--code", "EAN"]),
+            "a quote": ('EAN;N\n4006381333931;"X\n', ["--code", "EAN"]),
+            "empty": ("EAN;N\n4006381333931;\n\n96385074;X\n", ["--code", "EAN", "--title", "N"]),
+        }
+        lines = 0
+        for name, (text, words) in tables.items():
+            with mock.patch("labeltools.text.one_text", in_capitals), mock.patch(
+                "labeltools.text.ngettext",
+                lambda one, many, count: in_capitals(one if count == 1 else many),
+            ):
+                ran = support.run_here(
+                    "label-table", *words, "--summary", input=text.encode("utf-8")
+                )
+            for line in support.messages(ran):
+                said = re.sub(r"\"[^\"]*\"|[a-z -]+ \(U\+\w+\)", "", line.partition(": ")[2])
+                self.assertNotRegex(said, r"(?!(?:ean|upca|ean13|ean8)\b)\b[a-z]{2}", name)
+                lines += 1
+        self.assertGreater(lines, 60)
+
+    def test_a_message_of_many_names_takes_no_time(self):
+        names = [f'Spalte "{number}"' for number in range(40)]
+        text = counted("{1} {0}", "{1} {0}", 40, joined(", ", map(quoted, names)))
+        before = time.process_time()
+        for _ in range(1000):
+            translated(Text("no column {}; row {} has {}", quoted("EAN"), 1, text))
+        self.assertLess(time.process_time() - before, 1.0)
+        with tempfile.TemporaryDirectory() as folder:
+            table = Path(folder, "wide.csv")
+            table.write_text(";".join(f"Spalte {number}" for number in range(40)) + "\n1\n")
+            words = [support.TOOLS / "label-table", "--code", "EAN", table]
+            ran = subprocess.run(
+                words, env=german(folder), capture_output=True, text=True, timeout=60
+            )
+        self.assertIn("keine Spalte", ran.stderr)
+        self.assertNotIn("column", ran.stderr.partition("error")[2] or ran.stderr)
+
+    def test_counts_have_their_plurals(self):
+        support.needs("msgfmt")
+        with tempfile.TemporaryDirectory() as folder:
+            code = (
+                "from labeltools.summary import rows_text; from labeltools.text import translated;"
+            )
+            code += " print(translated(rows_text(1)), translated(rows_text(3)))"
+            ran = subprocess.run(
+                [sys.executable, "-c", code],
+                env={**german(folder), "PYTHONPATH": str(support.TOOLS)},
+                capture_output=True,
+                text=True,
+            )
+        self.assertEqual(ran.stdout, "1 Zeile 3 Zeilen\n", ran.stderr)
 
     def test_a_german_reads_german(self):
         support.needs("msgfmt")

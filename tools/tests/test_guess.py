@@ -71,6 +71,29 @@ TABLES = (
     ("Regal;Inhalt;Adresse", "R3;Schrauben M3;https://lager.example/r/3", "- title code"),
     ("Artikelbezeichnung;GTIN;CHF", "Rivella rot;4006381333931;2.50", "title code price"),
 )
+# tables in which two columns may be meant, and those that are
+DOUBTS = (
+    (
+        "Artikel;EAN;Preis A;Preis B",
+        "Schraube lang;4006381333931;1,10;1,30",
+        {"price": ["Preis A", "Preis B"]},
+    ),
+    (
+        "EAN;Artikel;Normalpreis;Aktionspreis",
+        "4006381333931;Kaffee Crema;7,99 €;5,49 €",
+        {"price": ["Normalpreis", "Aktionspreis"]},
+    ),
+    (
+        "GTIN alt;GTIN neu;Artikel;Preis",
+        "4006381333931;4012345678901;Limo Zitrone;1,19",
+        {"code": ["GTIN alt", "GTIN neu"]},
+    ),
+    (
+        "EAN Karton;EAN Stück;Artikel;EK;UVP",
+        "4006381333931;4012345678901;Honig Linde;3,10;5,49",
+        {},
+    ),
+)
 SYMBOLOGIES = {"Inventarnummer": "code128", "Charge": "code128", "Regal": "qr"}
 
 
@@ -96,6 +119,16 @@ class Guesses(unittest.TestCase):
         self.assertNotIn("price", guessed(f"{names}\n{row}\n").columns)
         found = guessed(f"{names};Apothekenpreis\n{row};4,95 €\n")
         self.assertEqual(found.columns["price"], 3)
+
+    def test_what_only_the_keeper_knows(self):
+        for names, row, wanted in DOUBTS:
+            found = guessed(f"{names}\n{row}\n")
+            said = {
+                kind: [found.names[place] for place in places]
+                for kind, places in found.doubts.items()
+            }
+            self.assertEqual(said, wanted, names)
+            self.assertFalse(set(said) & set(found.columns), names)
 
     def test_the_row_of_the_names(self):
         names, row, _ = TABLES[0]

@@ -315,6 +315,15 @@ class Together(unittest.TestCase):
 class Said(unittest.TestCase):
     """What a shop would not see at once is said, once for a file."""
 
+    def test_a_row_of_several_tables(self) -> None:
+        table = f'#{{"labels":1}}\n#{{"row":2}}\n{EAN}\n'
+        table += '#{"end":1,"lines":1,"left_out":[],"left_out_count":0}\n'
+        words = [*roll((60.0, 40.0), 203), "--only", "2"]
+        for count in (1, 2):
+            done = support.run("label-print", *words, input=(count * table).encode())
+            wanted = ["label-print: row 2: in several tables, and printed of each"]
+            self.assertEqual((done.returncode, support.messages(done)), (0, wanted[: count - 1]))
+
     def test_a_label_that_is_named_fits(self) -> None:
         for fields, line in ((PRICED, EAN), (TEXTS, EAN), (TEXTS, f"code128 {'x' * 40}")):
             for size, dpi in (((40.0, 30.0), 203), ((60.0, 9.0), 300), ((20.0, 30.0), 600)):

@@ -25,6 +25,7 @@ from typing import Any, Callable, Dict, Iterator, List, NamedTuple, Optional, Se
 from xml.etree import ElementTree
 
 import support
+from labeltools.cells import PRINTED, taken_of
 from labeltools.messages import RowError
 from labeltools.number_format import Formatter, Signs
 from labeltools.rows import Row
@@ -209,7 +210,7 @@ def found_in(row: Row, place: int) -> Found:
     """What labeltools reads in a cell."""
     cell = row.cells[place]
     try:
-        return Found(cell if isinstance(cell, str) else cell.shown())
+        return Found(cell if isinstance(cell, str) else taken_of(cell, PRINTED))
     except RowError as problem:
         return Found(None, problem.what)
 

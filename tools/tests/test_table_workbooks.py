@@ -77,9 +77,11 @@ def xlsx(
     after: str = "",
     date1904: bool = False,
     namespace: str = MAIN,
+    styles: str = "",
+    calculation: str = "",
 ) -> bytes:
     """An .xlsx file with a sheet of these rows, and others (name, state, rows); style 1 has the
-    first of `formats`.
+    first of `formats`, and further ones are in `styles`.
     """
     names = [("Tabelle1", "visible", sheet), *others]
     listed = "".join(
@@ -103,19 +105,19 @@ def xlsx(
         for number, text in zip(ids, formats)
         if isinstance(text, str)
     )
-    styles = "".join(f'<xf numFmtId="{number}"/>' for number in ["0", *ids])
+    own = "".join(f'<xf numFmtId="{number}"/>' for number in ["0", *ids])
     parts = {
         "[Content_Types].xml": XML + "<Types/>",
         "_rels/.rels": relations([("rId1", "officeDocument", "xl/workbook.xml")]),
         "xl/workbook.xml": (
             f'{XML}<workbook xmlns="{namespace}" xmlns:r="{KINDS}">'
             f'<workbookPr date1904="{int(date1904)}"/>'
-            f"<sheets>{listed}</sheets></workbook>"
+            f"<sheets>{listed}</sheets>{calculation}</workbook>"
         ),
         "xl/_rels/workbook.xml.rels": relations(targets),
         "xl/styles.xml": (
             f'{XML}<styleSheet xmlns="{namespace}"><numFmts>{codes}</numFmts><cellStyleXfs><xf'
-            f' numFmtId="9"/></cellStyleXfs><cellXfs>{styles}</cellXfs></styleSheet>'
+            f' numFmtId="9"/></cellStyleXfs><cellXfs>{own}</cellXfs>{styles}</styleSheet>'
         ),
         "xl/sharedStrings.xml": f'{XML}<sst xmlns="{namespace}">{strings}</sst>',
     }
@@ -265,13 +267,8 @@ class Xlsx(WorkbookTest):
             cell(
                 7, style=9
             ): f'refused: has the number format "000\\-000", which is not understood: {again}',
-            cell(
-                45678, style=4
-            ): f'refused: has the number format "dd/mm/yyyy", which is not understood: {again}',
-            cell(45678, style=7): (
-                "refused: has a number format that depends on the language of the spreadsheet:"
-                f" {again}"
-            ),
+            cell(45678, style=4): f"refused: is a date or a time, which is no code: {again}",
+            cell(45678, style=7): f"refused: is a date or a time, which is no code: {again}",
             cell(
                 1.5
             ): f"refused: is the number 1.5, which is not whole or has too many digits: {again}",
@@ -661,6 +658,14 @@ class Formats(WorkbookTest):
 
 
 class Ods(WorkbookTest):
+    def test_all_sheets_with_data_are_named(self) -> None:
+        """Each sheet of .ods begins with an empty row, which is none with data."""
+        names = ["Cover", *(f"Month {number}" for number in range(1, 5)), "Empty"]
+        sheets = [table(["EAN"], [PENCIL], name=name) for name in names[:-1]]
+        listed = ", ".join(f'"{name}"' for name in names[:-1])
+        problem = f"has 5 visible sheets with data: give --sheet with one of {listed}"
+        self.refused(ods(*sheets, table(name="Empty")), problem, status=2)
+
     def test_a_table(self) -> None:
         value = f'office:value="{PENCIL}"'
         price = ods_cell("0,80 €", "currency", 'office:currency="EUR" office:value="0.8"')
@@ -687,7 +692,7 @@ class Ods(WorkbookTest):
             ),
             ods_cell(
                 "25.11.26", "date", 'office:date-value="2026-11-25"'
-            ): 'is shown as "25.11.26", which is no whole number: enter it again as text',
+            ): "is a date or a time, which is no code: enter it again as text",
             ods_cell("WAHR", "boolean", 'office:boolean-value="true"'): (
                 "has neither a text nor a number, but TRUE, FALSE or the like: enter it again as"
                 " text"

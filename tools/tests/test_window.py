@@ -46,6 +46,8 @@ def setUpModule():
         number = file.readline().strip()
     os.environ.update(DISPLAY=f":{number}", NO_AT_BRIDGE="1", XDG_CONFIG_HOME=folder.name)
     os.environ.update(GDK_BACKEND="x11", LANGUAGE="en")
+    # a bus that GLib starts for this screen ends with it, and then ends this process
+    os.environ["DBUS_SESSION_BUS_ADDRESS"] = "disabled:"
     sys.path.insert(0, str(TOOLS))
     from labeltools import window
     from labeltools.window import Gio, GLib, Gtk
@@ -303,9 +305,13 @@ class WindowTest(unittest.TestCase):
 
     def test_a_table_is_an_argument(self):
         words = [TOOLS / "label-window", self.table]
-        with subprocess.Popen(words, env={**os.environ, "XDG_CONFIG_HOME": self.folder}) as program:
-            self.until((self.folder / "labels/window.json").exists)  # labels were made
-            program.terminate()
+        with (
+            mock.patch.object(sys, "argv", list(map(str, words))),
+            mock.patch.multiple(window.Gtk, main=mock.DEFAULT, main_quit=mock.DEFAULT),
+            mock.patch.object(window.Window, "open") as opened,
+        ):
+            self.assertEqual(window.run(), 0)
+        opened.assert_called_once_with(self.table)
         without = {name: value for name, value in os.environ.items() if name != "DISPLAY"}
         ran = subprocess.run(words, env=without, capture_output=True, text=True)
         self.assertEqual(ran.returncode, 1)
@@ -379,7 +385,13 @@ class WindowTest(unittest.TestCase):
             window.Window.ask_queue(self.window, names)
             self.window.send(None, "zebra")
             self.until(lambda: self.window.talk.is_stopped)
-        self.assertEqual(self.problem(), "")
+            self.assertEqual(self.problem(), "")
+            options = self.folder / "lpoptions"
+            options.write_text("#!/bin/sh\necho 'Resolution/Resolution: *300dpi'\n")
+            options.chmod(0o755)
+            self.window.send(None, "zebra")
+            self.until(self.problem)
+            self.assertIn("prints at 300dpi", self.problem())
         self.assertEqual((self.folder / "words").read_text(), "-d zebra -o raw\n")
         roll = ("--paper", "60x40", "--to", "zpl", "--dpi", "203")
         self.assertEqual((self.folder / "sent").read_bytes(), self.by_commands(*roll))
@@ -391,6 +403,8 @@ class WindowTest(unittest.TestCase):
             [chosen[name] for name in ("code", "title", "price", "copies")], ["2", "3", "4", "6"]
         )
         self.change(price="", roll=True)
+        self.assertFalse((self.folder / "labels/window.json").exists())  # nothing went out
+        self.saved("labels.pdf")
         later = self.folder / "next week.csv"
         later.write_text(TABLE.replace("Pencil", "Pen"))
         self.window.take({"price": "4", "sheet": True})
@@ -408,6 +422,83 @@ class WindowTest(unittest.TestCase):
         (self.folder / "labels/window.json").write_text(wrong)
         self.open(later)
         self.assertEqual(self.window.choices()["copies"], "")
+
+    def test_asks_where_only_the_keeper_knows(self):
+        """Of two prices none is taken, and tables without names have nothing in common."""
+        self.table.write_text("EAN;Name;Preis A;Preis B\n96385074;Gum, red;1,20;0,80\n")
+        self.open()
+        self.assertIn("may be in", self.problem())
+        self.assertFalse(self.window.widget("out").get_sensitive())
+        self.change(price="4")
+        self.assertIn("price 0,80", self.window.widget("count").get_text())
+        for prices in ("0,80;1,20", "1,20;0,80"):
+            self.table.write_text(f"96385074;Gum, red;{prices}\n")
+            self.window.widget("info").hide()
+            self.window.has_labels = False
+            self.open()
+            self.assertIn("may be in", self.problem())
+            self.change(price="3")
+            self.saved(f"{prices}.pdf")
+
+    def test_prints_only_what_is_new(self):
+        """What went out is kept, and asked for once there is such a list."""
+        self.open()
+        self.assertFalse(self.window.widget("new-only").get_visible())
+        self.saved("labels.pdf")
+        self.until(self.window.widget("done").get_visible)
+        self.table.write_text(TABLE.replace("Soap", "Soap, blue"))
+        self.open()
+        self.assertTrue(self.window.widget("new-only").get_visible())
+        everything = self.window.table.lines.count
+        self.change(new_only=True)
+        self.assertEqual(self.window.table.lines.count, 1)
+        self.assertIn("--new-since", self.window.widget("command").get_text())
+        self.saved("changed.pdf")
+        self.until(self.window.widget("done").get_visible)
+        self.open()
+        self.change(new_only=False)
+        self.assertEqual(self.window.table.lines.count, everything)
+        self.change(new_only=True)
+        self.assertIn("no label", self.problem())  # all went out
+
+    def test_keys_open_save_and_print(self):
+        group = window.Gtk.accel_groups_from_object(self.window.window)[0]
+        control = window.Gdk.ModifierType.CONTROL_MASK
+        for letter in "osp":
+            self.assertEqual(len(group.query(window.Gdk.keyval_from_name(letter), control)), 1)
+
+    def test_saves_beside_the_table(self):
+        self.open()
+        chooser = self.window.widget("saver")
+        with (
+            mock.patch.object(type(chooser), "run", return_value=0),
+            mock.patch.object(type(chooser), "set_current_folder") as folder_of,
+            mock.patch.object(type(chooser), "set_current_name") as name_of,
+        ):
+            self.window.on_save(None)
+        folder_of.assert_called_once_with(str(self.table.parent))
+        name_of.assert_called_once_with(f"{self.table.stem}-labels.pdf")
+
+    def test_offers_sheets_and_encodings(self):
+        self.table.write_bytes("EAN;Name\n96385074;Füller, blau\n".encode("cp1252"))
+        self.open()
+        (offer,) = self.window.widget("offers").get_children()
+        self.window.widget("info").hide()
+        offer.clicked()
+        self.until(lambda: self.window.has_labels or self.problem())
+        self.assertEqual(self.problem(), "")
+        self.assertEqual(self.window.choices()["for-table"], "--encoding cp1252")
+
+    def test_keeps_how_a_table_is_read(self):
+        self.open()
+        self.change(for_table="--where Name=Soap")
+        self.saved("labels.pdf")
+        later = self.folder / "next week.csv"
+        later.write_text(TABLE)
+        self.open(later)
+        self.until(lambda: self.window.has_labels)
+        self.assertEqual(self.window.choices()["for-table"], "--where Name=Soap")
+        self.assertIn("2 labels of 1 row:", self.window.widget("count").get_text())
 
     def test_a_file_that_is_no_table_is_said(self):
         for name, data in (
@@ -438,7 +529,12 @@ class WindowTest(unittest.TestCase):
         self.change(for_table="--no-such-option")
         self.assertIn("--no-such-option", self.problem())
         self.change(for_table="--where Name=Soap")
-        self.assertIn("1 row", self.window.widget("count").get_text())
+        self.assertIn("2 labels of 1 row:", self.window.widget("count").get_text())
+        self.change(for_table="")
+        self.assertIn("6 labels of 3 rows:", self.window.widget("count").get_text())
+        self.change(for_table="--where Name=Soap")
+        settle(0.5)
+        self.assertIn("2 labels of 1 row:", self.window.widget("count").get_text())
         self.assertEqual(self.window.choices()["price"], "")
         with redirect_stdout(StringIO()):
             self.window.take({"for-table": "--help"})
@@ -493,7 +589,7 @@ class WindowTest(unittest.TestCase):
         return heart
 
     def test_long_work_keeps_beating_and_stops(self):
-        numbers = range(20000)
+        numbers = range(401_234_500_000, 401_234_520_000)
         rows = "".join(f"{one};{support.ean13(one)};Title {one};1,00 €\n" for one in numbers)
         path = self.folder / "long.csv"
         path.write_text("Nr;EAN;Name;Price\n" + rows)

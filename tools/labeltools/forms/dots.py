@@ -6,6 +6,7 @@ from dataclasses import dataclass
 
 import cairo
 
+from labeltools.text import Text
 from labeltools.area import MOST_DOTS, Dots
 from labeltools.engine import bytes_a_row
 from labeltools.messages import ToolError
@@ -51,12 +52,12 @@ def surface_of(size: Dots) -> cairo.ImageSurface:
     """Returns a page without a dot; raises `ToolError` where it is too large."""
     width, height = size
     if max(size) > MOST_DOTS or width * height > MOST_OF_PAGE:
-        hint = "give a smaller page, or fewer dots an inch by --dpi"
-        raise ToolError(f"{width} by {height} dots are too many for a page", hint)
+        hint = Text("give a smaller page, or fewer dots an inch by --dpi")
+        raise ToolError(Text("{} by {} dots are too many for a page", width, height), hint)
     try:
         return cairo.ImageSurface(cairo.FORMAT_A1, width, height)
     except (cairo.Error, MemoryError) as error:
-        raise ToolError(f"{width} by {height} dots cannot be drawn: {error}") from error
+        raise ToolError(Text("{} by {} dots cannot be drawn: {}", width, height, error)) from error
 
 
 def pbm(picture: Picture) -> bytes:

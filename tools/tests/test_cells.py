@@ -1,0 +1,268 @@
+"""Tests of what a cell is: its kind, its value, its runs and its text have to agree, and each column
+takes some kinds alone.
+
+What spreadsheets write for raised, struck, dated and conditional cells was seen in files of
+LibreOffice 7.4 and XlsxWriter, and is what ISO/IEC 29500-1 and 26300 say.
+"""
+
+import unittest
+from typing import List, Optional, Sequence, Tuple
+
+import support
+from test_table import BOOK, PENCIL, SMALL, SOAP, parts_of
+from test_table_workbooks import WorkbookTest, cell, ods, ods_cell, rows, table, xlsx
+
+HEAD = ["EAN", "Name", "Price"]
+PRICED = ["--code", "EAN", "--title", "Name", "--price", "Price", "--decimal", "."]
+SHARED = '<c t="s"><v>0</v></c>'
+STRUCK_FONT = "<fonts><font/><font><strike/></font></fonts>"
+
+
+def shared(*runs: Tuple[str, str]) -> str:
+    """A shared string of runs: a text, and what its form is."""
+    texts = (f"<r><rPr>{form}</rPr><t xml:space='preserve'>{text}</t></r>" for text, form in runs)
+    return f"<si>{''.join(texts)}</si>"
+
+
+class CellTest(WorkbookTest):
+    """Steps that the tests share."""
+
+    def ran(self, data: bytes, *words: str) -> Tuple[List[Optional[str]], List[str]]:
+        """The prices, or else the titles, of a table, and what is said."""
+        done = support.run_here("label-table", *words, input=data)
+        labels = [label for label, _ in parts_of(done.stdout)[1]] if done.stdout else []
+        said = [text.partition(": ")[2] for text in support.messages(done)]
+        return [label.get("price", label.get("title")) for label in labels], said
+
+    def check_price(self, data: bytes, price: Optional[str], said: str = "") -> None:
+        """The price of row 2, or why it is left out."""
+        prices, messages = self.ran(data, *PRICED)
+        self.assertEqual(prices, [price] if price else [])
+        self.assertEqual([text for text in messages if said not in text], [], messages)
+        self.assertEqual(bool(messages), bool(said))
+
+
+class Runs(CellTest):
+    def test_raised_letters_are_other_signs(self) -> None:
+        raised = '<vertAlign val="superscript"/>'
+        for runs, price, said in (
+            ([("12", "<b/>"), ("49", raised)], None, "is no price"),
+            ([("1.49", ""), ("2", raised)], "1.49²", ""),
+            ([("1.4", ""), ("9", "<i/>")], "1.49", ""),
+        ):
+            data = xlsx(rows(HEAD, [PENCIL, "Tea", SHARED]), strings=shared(*runs))
+            self.check_price(data, price, said)
+        style = '<style:style style:name="T1"><style:text-properties style:text-position='
+        span = '12<text:span text:style-name="T1">49</text:span>'
+        for place, price in (("super 58%", None), ("33% 58%", None), ("0% 100%", "1249")):
+            styles = f'{style}"{place}"/></style:style>'
+            data = ods(table(HEAD, [PENCIL, "Tea", ods_cell(span)]), styles=styles)
+            self.check_price(data, price, "" if price else "is no price")
+
+    def test_a_title_has_its_raised_digit(self) -> None:
+        strings = shared(("Fliese, 2 m", ""), ("2", '<vertAlign val="superscript"/>'))
+        data = xlsx(rows(HEAD, [PENCIL, SHARED, 3]), strings=strings)
+        self.assertEqual(self.ran(data, *PRICED[:4]), (["Fliese, 2 m²"], []))
+
+    def test_struck_letters_leave_their_row_out(self) -> None:
+        strings = shared(("19.99", "<strike/>"), (" 14.99", ""))
+        data = xlsx(rows(HEAD, [PENCIL, "Tea", SHARED]), strings=strings)
+        self.check_price(data, None, "has letters that are struck through")
+        styles = f'{STRUCK_FONT}<cellXfs><xf numFmtId="2" fontId="1"/></cellXfs>'
+        data = xlsx(rows(HEAD, [PENCIL, "Tea", cell(14.99, style=1)]), styles=styles)
+        self.check_price(data, None, "has letters that are struck through")
+        line = 'style:text-line-through-style="solid"'
+        styles = f'<style:style style:name="ce1"><style:text-properties {line}/></style:style>'
+        struck = ods_cell("14.99", "float", 'office:value="14.99" table:style-name="ce1"')
+        data = ods(table(HEAD, [PENCIL, "Tea", struck]), styles=styles)
+        self.check_price(data, None, "has letters that are struck through")
+
+
+class Kinds(CellTest):
+    def test_a_price_is_no_date_and_not_below_zero(self) -> None:
+        date = "is a date or a time, which is no price: enter it again as text"
+        below = "is below zero, though its number format may not show it"
+        for form, value, said in (
+            ("d.mm", 46000, date),
+            ("h.mm", 0.3, date),
+            ('0.00" EUR";0.00" EUR"', -7.5, below),
+            ("0.00;[Red]0.00", -7.5, below),
+            ("0.00;@", -7.5, below),
+            ("0.00;@", 7.5, ""),
+        ):
+            data = xlsx(rows(HEAD, [PENCIL, "Tea", cell(value, style=1)]), formats=[form])
+            self.check_price(data, "7.50" if not said else None, said)
+        for kind, more, text in (
+            ("date", 'office:date-value="2026-05-04"', "4.05"),
+            ("time", 'office:time-value="PT04H05M00S"', "4.05"),
+        ):
+            data = ods(table(HEAD, [PENCIL, "Tea", ods_cell(text, kind, more)]))
+            self.check_price(data, None, date)
+
+    def test_a_date_is_no_number_of_copies(self) -> None:
+        data = xlsx(rows(["EAN", "N"], [PENCIL, cell(3, style=1)]), formats=["d.m.yy"])
+        problem = 'row 2: column 2 ("N") is a date or a time, which is no number of copies: '
+        problem += "enter it again as text"
+        self.check(data, ["--code", "EAN", "--copies", "N"], [], [problem], 1)
+
+    def test_the_number_of_a_text_is_its_value(self) -> None:
+        for text, value, is_right in (
+            ("4,50 €", "4.5", True),
+            ("4,5", "4.4999", True),
+            ("1.234,50", "1234.5", True),
+            ("45 %", "0.45", True),
+            ("4,5E−01", "0.45", True),
+            ("4,50 €", "5.5", False),
+            ("4,50", "450", False),
+        ):
+            number = ods_cell(text, "float", f'office:value="{value}"')
+            data = ods(table(["EAN", "Name"], [PENCIL, number]))
+            found, said = self.ran(data, *PRICED[:4])
+            self.assertEqual(found, [text] if is_right else [])
+            self.assertEqual(["has the value" in one for one in said], [] if is_right else [True])
+
+    def test_what_was_not_calculated_has_no_value(self) -> None:
+        price = "<c><f>D2*2</f><v>3</v></c>"
+        for calculation, wanted in (
+            ('<calcPr calcMode="manual" calcCompleted="0"/>', None),
+            ('<calcPr calcId="191029"/>', "3"),
+        ):
+            data = xlsx(rows(HEAD, [PENCIL, "Tea", price]), calculation=calculation)
+            self.check_price(data, wanted, "" if wanted else "without a saved value")
+
+    def test_a_number_format_that_depends_on_a_condition(self) -> None:
+        form = '<dxf><numFmt numFmtId="190" formatCode="&quot;from &quot;0"/></dxf>'
+        fill = "<dxf><fill/></dxf>"
+        rule = '<conditionalFormatting sqref="A9 C2:C3"><cfRule type="cellIs" dxfId="1"/>'
+        later = f"<conditionalFormatting><cfRule>{form}</cfRule><sqref>C2</sqref>"
+        later = f"<extLst><ext><conditionalFormattings>{later}</conditionalFormatting>"
+        later += "</conditionalFormattings></ext></extLst>"
+        for dxfs, after, is_left_out in (
+            (fill + form, f"{rule}</conditionalFormatting>", True),
+            (form + fill, f"{rule}</conditionalFormatting>", False),
+            ("", later, True),
+        ):
+            styles = f"<dxfs>{dxfs}</dxfs>"
+            data = xlsx(rows(HEAD, [PENCIL, "Tea", 3]), styles=styles, after=after)
+            said = "has a number format that depends on a condition" if is_left_out else ""
+            self.check_price(data, None if is_left_out else "3", said)
+
+
+class Texts(CellTest):
+    def test_a_text_that_was_encoded_twice_is_left_out(self) -> None:
+        text = "Füller".encode().decode("cp1252")
+        problem = f'row 2: column 2 ("Name") has "{text}", which was encoded twice, for "Füller": '
+        problem += "export the table again"
+        data = f"EAN;Name\n{PENCIL};{text}\n"
+        self.check(data, ["--code", "EAN", "--title", "Name"], [], [problem], 1)
+
+    def test_what_a_program_writes_without_a_value(self) -> None:
+        for text in ("(NULL)", "[none]", "\\N", "NA", "5,9E+12"):
+            data = f"EAN;Name\n{PENCIL};{text}\n{SMALL};Na\n".encode()
+            titles, said = self.ran(data, *PRICED[:4])
+            self.assertEqual((titles, len(said)), (["Na"], 1), text)
+            self.assertIn("row 2", said[0])
+
+    def test_what_another_program_has_left_is_said_once(self) -> None:
+        for text, left in (
+            ("Gr\\u00fcntee", 'an escape, for "Grüntee"'),
+            ("Gr%C3%BCntee", 'an escape, for "Grüntee"'),
+            ("'Earl Grey'", "quotes round it"),
+            ("'+49 Tee", "an apostrophe in front, a spreadsheet's sign of text"),
+            ("Tee &amp; Co", "HTML"),
+        ):
+            data = f"EAN\tName\n{PENCIL}\t{text}\n{SMALL}\t{text}\n".encode()
+            titles, said = self.ran(data, *PRICED[:4])
+            wanted = f'row 2 has "{text}" with {left}, which is printed as it is'
+            self.assertEqual((titles, said), ([text, text], [wanted]))
+        for text in ("'t Hof", "50%ige", "Salt & Pepper", "C:\\neu", "5' lang", "Rock 'n' Roll"):
+            data = f"EAN;Name\n{PENCIL};{text}\n".encode()
+            self.assertEqual(self.ran(data, *PRICED[:4]), ([text], []))
+
+    def test_texts_among_dates(self) -> None:
+        lines = [PENCIL, "30/06/2026"], [SMALL, cell(46200, style=1)], [BOOK, 4]
+        data = xlsx(rows(["EAN", "Name"], *lines), formats=["dd/mm/yyyy"])
+        titles, said = self.ran(data, *PRICED[:4], "--date-as", "dd.mm.yyyy")
+        wanted = 'row 2 has the text "30/06/2026" where row 3 has a date: '
+        wanted += "are its day and month in the same order?"
+        self.assertEqual((titles, said), (["30/06/2026", "27.06.2026", "4"], [wanted]))
+
+    def test_values_that_look_like_the_one_that_is_asked_for(self) -> None:
+        marks = ["ja", "jа", "", "nein", "Ja", "jaa"]  # the second one has a Cyrillic а
+        codes = [PENCIL, SMALL, BOOK, SOAP, "4006381333948", "4006381333955"]
+        lines = "".join(f"{code};{mark}\n" for code, mark in zip(codes, marks))
+        words = ["--code", "EAN", "--where", "Print=ja"]
+        wanted = 'row 3 has "jа" in column 2 ("Print"), which looks like "ja", and is not printed'
+        done = support.run_here("label-table", *words, input=f"EAN;Print\n{lines}".encode())
+        self.assertEqual(support.messages(done), [f"label-table: {wanted} (2 rows)"])
+        self.assertEqual(len(parts_of(done.stdout)[1]), 2)
+        cells = [cell(2), cell(2, style=1), cell(3)]
+        data = xlsx(
+            rows(["EAN", "Print"], *([code, one] for code, one in zip(codes, cells))),
+            formats=["0.00"],
+        )
+        done = support.run_here("label-table", "--code", "EAN", "--where", "Print=2", input=data)
+        self.assertEqual((len(parts_of(done.stdout)[1]), support.messages(done)), (2, []))
+
+
+class Codes(CellTest):
+    def test_codes_that_are_meant_for_another_program(self) -> None:
+        words = ["--code", "EAN", "--symbology", "code128"]
+        left = 'row 2: column 1 ("EAN") "*LOT 9*" has the asterisks of a font, which would be drawn'
+        done = support.run_here("label-table", *words, input=b"EAN\n*LOT 9*\n")
+        self.assertIn("the asterisks of a font", support.messages(done)[0], left)
+        code = f"(01)0{PENCIL}(17)270131"
+        said = "the code of row 2 is GS1's in brackets, which is drawn as plain text: "
+        said += "no scanner of GS1 takes it"
+        self.check(f"EAN\n{code}\n", words, [f"code128 {code}"], [said])
+        self.check("EAN\n(01)12\n", words, ["code128 (01)12"])
+
+    def test_an_article_has_one_number(self) -> None:
+        said = f"rows 2 and 3 have the same code, 0{SOAP}, and another title, text or price"
+        data = f"EAN;Name\n{SOAP};Soap\n0{SOAP};Soap, blue\n"
+        words = ["--code", "EAN", "--title", "Name"]
+        self.check(data, words, [f"upca {SOAP}", f"ean13 0{SOAP}"], [said])
+        problem = f"row 2: 00{SMALL} may be an EAN-8 with zeros in front: "
+        problem += "write its 8 digits, or give --symbology"
+        self.check(f"EAN\n00{SMALL}\n", ["--code", "EAN", "--fill-zeros"], [], [problem], 1)
+
+
+class Prices(CellTest):
+    def priced(self, lines: Sequence[str], *words: str) -> Tuple[List[Optional[str]], List[str]]:
+        """The prices of a table of articles, and what is said."""
+        codes = (PENCIL, SMALL, BOOK)
+        text = "".join(f"{code}\tTea\t{line}\n" for code, line in zip(codes, lines))
+        head = "\t".join(["EAN", "Name", "Price", *(["Old"] if "--old-price" in words else [])])
+        data = f"{head}\n{text}".encode()
+        return self.ran(data, *PRICED[:6], *words)
+
+    def test_a_rounded_price_is_said(self) -> None:
+        found, said = self.priced(["2.3456 €/l", "1.00"], "--price-as", "0.00 €", "--decimal", ".")
+        wanted = "row 2 has 2.3456 €/l, which is rounded to 2.35 €/l (1 price)"
+        self.assertEqual((found, said), (["2.35 €/l", "1.00 €"], [wanted]))
+        found, said = self.priced(["0.0149 €/g"], "--price-as", "0.00 €")
+        self.assertEqual(found, [])
+        self.assertIn("it would be rounded by more than 1 %", said[0])
+        found, said = self.priced(["8.330000000000002"], "--price-as", "0.00 €")
+        self.assertEqual((found, said), (["8.33 €"], []))
+
+    def test_a_pattern_keeps_the_words_about_values(self) -> None:
+        found, said = self.priced(["0", "2.50"], "--price-as", "0.00 €")
+        self.assertEqual(said, ["row 2 has the price 0 (1 row)"])
+        found, said = self.priced(["2 €", "2.50 $"], "--price-as", "0.00 ¤")
+        self.assertEqual(len(said), 1)
+        self.assertIn("several currencies", said[0])
+
+    def test_an_old_price_is_above_the_price(self) -> None:
+        for was, is_said in (("3.00", True), ("2.00", True), ("4.00", False), ("2.00/kg", False)):
+            _, said = self.priced([f"3.00\t{was}"], "--old-price", "Old")
+            wanted = f"row 2 has the old price {was}, which is not above the price 3.00"
+            self.assertEqual(said, [wanted] if is_said else [])
+
+    def test_the_general_sign_is_no_currency(self) -> None:
+        found, said = self.priced(["2.50 ¤"])
+        self.assertEqual((found, len(said)), ([], 1))
+
+
+if __name__ == "__main__":
+    unittest.main()
