@@ -141,7 +141,8 @@ def planned(options: PrintOptions) -> PrintJob:
         )
         raise ToolError(what, status=BAD_ARGUMENTS)
     fonts = Fonts(options.font, options.digits)
-    return PrintJob(plan, form, fonts, options.first, options.is_cut, options.is_compressed)
+    how = (options.first, options.is_cut, options.is_compressed, options.words)
+    return PrintJob(plan, form, fonts, *how)
 
 
 def form_of(options: PrintOptions) -> Form:
