@@ -23,7 +23,8 @@ _labels() {
         label-print)
             options='--stock= --list-stock= --paper= --page= --columns= --rows= --cell= --margin= --gap='
             options+=' --dpi=203,300,600 --module= --height= --design=article,shelf --turn --no-turn --note='
-            options+=' --first= --only= --edge= --shift= --to=pdf,svg,png,pbm,zpl,escpos --each=FILE --print='
+            options+=' --first= --only= --only-code= --unique --edge= --shift= --to=pdf,svg,png,pbm,zpl,escpos'
+            options+=' --each=FILE --print= --journal=FILE --again= --stream'
             options+=' --dots= --no-cut --compress --font= --digits= --labels= --read-back --summary --help'
             ;;
         *) options='--labels= --help' ;;

@@ -81,7 +81,7 @@ class LineRecord:
     """A line of labels(1) with its label.
 
     `number` is that of the line in its file, from 1; `data` has the check digit, and no escapes any
-    more; `table` is the name of its table, where that is known.
+    more; `table` is the name of its table, where that is known; `line` is the line as it stands.
     """
 
     number: int
@@ -89,6 +89,7 @@ class LineRecord:
     data: bytes
     table: str
     label: Label
+    line: bytes
 
     @property
     def place(self) -> Place:
@@ -218,7 +219,7 @@ class _Reader:
         """Takes a line of labels(1), to which the object before it belongs."""
         label = label_of(self.waiting)
         symbology, data = symbology_and_data(line, self.has_escapes)
-        self.records.append(LineRecord(number, symbology, data, self.part.table, label))
+        self.records.append(LineRecord(number, symbology, data, self.part.table, label, line))
         self.waiting = {}
 
     def whole(self, is_cut: bool) -> LinesFile:

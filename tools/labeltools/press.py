@@ -12,6 +12,7 @@ from shutil import copyfileobj
 from typing import IO, Any, Iterator, Sequence
 
 from labeltools.area import Plan
+from labeltools.compare import Comparison
 from labeltools.files import BLOCK, save, temporary
 from labeltools.forms import ESCPOS, PBM, PDF, PNG, SVG, ZPL, Form
 from labeltools.forms.dots import Picture, drawn_page, pbm, png
@@ -27,7 +28,7 @@ from labeltools.pen import Medium, Page, Pen
 @dataclass(frozen=True)
 class PrintJob:
     """How labels go out: on which sheet, in which form and fonts, from which cell of the first page
-    on; whether ESC/POS cuts after each label, and whether ZPL is compressed.
+    on; whether ESC/POS cuts after each label, and whether ZPL is compressed; options of labels(1).
     """
 
     plan: Plan
@@ -36,6 +37,7 @@ class PrintJob:
     first: int = 1
     is_cut: bool = True
     is_compressed: bool = False
+    words: tuple[str, ...] = ()
 
     def pages_of(self, labels: int) -> int:
         """Returns how many pages so many labels take."""
@@ -110,6 +112,7 @@ class Press:
         area = laid_out.area
         self.turn = area.height if area.is_turned else 0
         self.pens = pens_of(job, letters)
+        self.comparison = Comparison(job.plan, job.form.name, job.words, area.is_turned)
 
     @property
     def pen(self) -> Pen:
@@ -141,12 +144,15 @@ class Press:
         label of ZPL with its number of copies.
         """
         if self.job.form == PDF:
-            yield self.drawing([], prints)
+            file = self.drawing([], prints)
+            pages = range(self.job.pages_of(len(prints)))
+            self.comparison.check(file.read(), [self.page(number, prints) for number in pages])
+            file.seek(0)
+            yield file
         elif self.job.form == ZPL:
             done = 0
             for item, copies in prints.runs():
-                picture = self.picture([(item, self.job.plan.places[0])])
-                yield BytesIO(zpl(picture, copies, self.job.is_compressed))
+                yield self.label(item, copies)
                 done += copies
                 self.talk.go_on(done, len(prints))
         else:
@@ -154,7 +160,25 @@ class Press:
                 yield self.document(page, number == 0)
 
     def document(self, page: Page, is_first: bool = True) -> IO[bytes]:
-        """Returns a file of one page; `is_first` is whether it begins a job."""
+        """Returns a file of one page; `is_first` is whether it begins a job. Raises `ToolError`
+        where it has not the codes of its labels.
+        """
+        return self.compared(self.written(page, is_first), page, 1)
+
+    def label(self, item: LaidOut, copies: int) -> IO[bytes]:
+        """Returns a file of one label of ZPL; raises as `document`."""
+        page = [(item, self.job.plan.places[0])]
+        data = zpl(self.picture(page), copies, self.job.is_compressed)
+        return self.compared(BytesIO(data), page, copies)
+
+    def compared(self, file: IO[bytes], page: Page, copies: int) -> IO[bytes]:
+        """Returns a file of one page that has the codes of its labels; raises `ToolError`."""
+        self.comparison.check(file.read(), [page], copies)
+        file.seek(0)
+        return file
+
+    def written(self, page: Page, is_first: bool) -> IO[bytes]:
+        """Returns a file of one page."""
         form = self.job.form
         if form in (PDF, SVG):
             return self.drawing([page], None)

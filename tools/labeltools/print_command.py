@@ -7,9 +7,9 @@ import re
 import sys
 import time
 from pathlib import Path
-from typing import Any, Callable, Iterable, Optional
+from typing import Any, Callable, Iterable, Optional, Sequence
 
-from labeltools.text import Text, counted
+from labeltools.text import Text, counted, joined
 from labeltools.area import DESIGNS
 from labeltools.command_line import (
     CommandTalk,
@@ -21,8 +21,10 @@ from labeltools.command_line import (
 from labeltools.engine import option_words
 from labeltools.files import save, send
 from labeltools.forms import FORMS
+from labeltools.journal import Journal
 from labeltools.layout import LaidOut
 from labeltools.messages import BAD_ARGUMENTS, ToolError, write_message
+from labeltools.network import SCHEME, NetworkPrinter
 from labeltools.press import PrintJob, Press, Prints, once
 from labeltools.print_job import (
     DRAWING_DPI,
@@ -34,17 +36,18 @@ from labeltools.print_job import (
 )
 from labeltools.printer import check_queue, lp_words, print_by, typed
 from labeltools.report import report
+from labeltools.selection import ROWS, selection_of
+from labeltools.sending import OUTPUT, Outlet, Sender, StandardOutput
 from labeltools.stock import forget, list_stock
 
 TOOL = "label-print"
 MOST_NAME = 100  # letters of the data in the name of a file
-MOST_ROWS = 1_048_576
 MOST_LABELS = 1_000_000  # of one run, with copies
 # seconds after which progress is shown, and between two times that it is
 QUIET = 2.0
 BETWEEN = 0.2
 NUMBER = r"-?\d{1,4}(?:\.\d{1,4})?"
-ROWS = re.compile(r"\d{1,7}(?:-\d{1,7})?(?:,\d{1,7}(?:-\d{1,7})?)*", re.ASCII)
+MOST_NAMED = 10  # labels that a summary, or a message of doubtful ones, names
 NUMBERED = re.compile(r"%(0?\d?)d|%s")
 
 
@@ -91,15 +94,11 @@ def edges(argument: str) -> tuple[float, float, float, float]:
     return left, top, right, bottom
 
 
-def rows(argument: str) -> frozenset[int]:
-    """Returns the rows of ranges such as 2,7-9."""
+def rows(argument: str) -> str:
+    """Returns rows such as 2,7-9 or 7-."""
     if not ROWS.fullmatch(argument):
-        raise argparse.ArgumentTypeError(f"{argument!r} is not as 2,7-9")
-    found: set[int] = set()
-    for part in argument.split(","):
-        first, _, last = part.partition("-")
-        found.update(range(int(first), min(int(last or first), MOST_ROWS) + 1))
-    return frozenset(found)
+        raise argparse.ArgumentTypeError(f"{argument!r} is not as 2,7-9 or 7-")
+    return argument
 
 
 def command_line() -> Parser:
@@ -170,8 +169,12 @@ def add_choice_options(parser: argparse.ArgumentParser) -> None:
     first = "begin at this cell of the first page (1)"
     count = reads("3", 1, int)
     add("--first", metavar="N", type=count, default=PrintOptions.first, help=first)
-    only = "print these rows of the table alone, such as 2,7-9"
-    add("--only", metavar="ROWS", type=rows, help=only)
+    only = "print these rows of the table alone, such as 2,7-9 or 7- for all from 7 on"
+    add("--only", metavar="ROWS", type=rows, dest="rows_only", help=only)
+    code = "print the label with this code alone, or those of @FILE, a code on each line"
+    add("--only-code", metavar="CODE", action="append", default=[], dest="codes", help=code)
+    unique = "leave out a line whose code was there before, as on tickets and serial numbers"
+    add("--unique", action="store_true", dest="is_unique", help=unique)
     options = "options of labels, such as '--level H'"
     add("--labels", metavar="WORDS", type=option_words, dest="words", default=(), help=options)
     read = "read each label as it is drawn, before anything goes out"
@@ -187,8 +190,16 @@ def add_output_options(parser: argparse.ArgumentParser) -> None:
     add("--dpi", metavar="N", type=count, help=dpi)
     out = parser.add_mutually_exclusive_group().add_argument
     out("--each", metavar="NAME", help="a file for each label: %%d is its number, %%s its data")
-    queue = "print on this queue of CUPS, in place of standard output"
+    queue = "print on this queue of CUPS, or on tcp://HOST, in place of standard output"
     out("--print", metavar="QUEUE", dest="queue", help=queue)
+    journal = (
+        "write each label into this file before it goes out; one that is there goes out no more"
+    )
+    add("--journal", metavar="FILE", help=journal)
+    again = "with --only or --only-code: print what the journal has of this printer once more"
+    add("--again", metavar="PRINTER", help=again)
+    stream = "print each label as soon as its line has come in, and answer on standard error"
+    add("--stream", action="store_true", dest="is_stream", help=stream)
     dots = "escpos: dots across the paper (576)"
     add("--dots", metavar="N", type=count, default=PrintOptions.dots, help=dots)
     cut = "escpos: do not cut after each label"
@@ -276,9 +287,9 @@ def check_count(job: PrintJob, prints: Prints, is_each: bool) -> None:
         raise ToolError(Text("--to {} has one page", job.form.name), hint)
 
 
-def summary_of(job: PrintJob, prints: Prints) -> Text:
-    """Returns what was written, and the line that prints it."""
-    text = counted("{} label", "{} labels", len(prints))
+def summary_of(job: PrintJob, prints: Prints, items: Sequence[LaidOut] = ()) -> Text:
+    """Returns what was written, with the names of labels, and the line that prints it."""
+    text = with_names(counted("{} label", "{} labels", len(prints)), items)
     if not job.form.is_roll:
         pages = counted("{} page", "{} pages", job.pages_of(len(prints)))
         text = Text("{} on {}", text, pages)
@@ -290,7 +301,48 @@ def summary_of(job: PrintJob, prints: Prints) -> Text:
 def options_of(arguments: argparse.Namespace) -> PrintOptions:
     """Returns the options that the arguments are."""
     names = PrintOptions.__dataclass_fields__
-    return PrintOptions(**{name: value for name, value in vars(arguments).items() if name in names})
+    given = {name: value for name, value in vars(arguments).items() if name in names}
+    given["only"] = selection_of(arguments.rows_only, arguments.codes)
+    given["is_unique"] = arguments.is_unique or arguments.journal is not None
+    return PrintOptions(**given)
+
+
+def check_arguments(arguments: argparse.Namespace, job: PrintJob) -> None:
+    """Raises `ToolError` where arguments do not go together."""
+    form = job.form
+    queue: str = arguments.queue or ""
+    is_network = queue.startswith(SCHEME)
+    wants = "--journal" if arguments.journal else "--stream" if arguments.is_stream else ""
+    if (is_network or wants) and not form.is_roll:
+        what = Text("{} needs labels one by one", wants or queue)
+        raise ToolError(what, Text("give --to zpl or escpos"), BAD_ARGUMENTS)
+    if wants and arguments.each:
+        what = Text("{} and --each do not go together", wants)
+        raise ToolError(what, status=BAD_ARGUMENTS)
+    if wants and queue and not is_network:
+        what = Text("{}: {} is a queue of CUPS", wants, queue)
+        hint = Text("CUPS prints a broken run again from its beginning; give --print tcp://HOST")
+        raise ToolError(what, hint, BAD_ARGUMENTS)
+    if arguments.again and not (arguments.journal and (arguments.rows_only or arguments.codes)):
+        what = Text("--again needs --journal and rows or codes")
+        hint = Text("say what is printed again by --only or --only-code")
+        raise ToolError(what, hint, BAD_ARGUMENTS)
+    if arguments.is_stream and (arguments.rows_only or arguments.codes):
+        what = Text("--stream prints each line")
+        raise ToolError(what, Text("leave out --only"), BAD_ARGUMENTS)
+
+
+def sender_of(arguments: argparse.Namespace) -> Sender:
+    """Returns what sends labels one by one."""
+    queue: str = arguments.queue or ""
+    outlet: Outlet = StandardOutput()
+    if queue:
+        outlet = NetworkPrinter(queue)
+    journal = Journal(arguments.journal, outlet.name) if arguments.journal else None
+    if journal is not None and journal.is_mended:
+        what = Text("{}: its last line was cut off, and was taken out", arguments.journal)
+        write_message(TOOL, Text("{}: its label was not sent", what))
+    return Sender(outlet, journal, arguments.again)
 
 
 def listed(wanted: str) -> int:
@@ -313,11 +365,17 @@ def run() -> int:
         return listed(arguments.list_stock)
     job = planned(options)
     forget()
+    check_arguments(arguments, job)
     queue: Optional[str] = arguments.queue
-    if queue is not None:
+    is_single = bool(arguments.journal or (queue or "").startswith(SCHEME))
+    if queue is not None and not is_single:
         require_printable(job, queue)
-    elif options.each is None:
+    elif queue is None and options.each is None:
         standard_output()  # a closed one is said before the input is read
+    if arguments.is_stream:
+        from labeltools import stream
+
+        return stream.run(options, job, arguments.lines, sender_of(arguments))
     talk = PrintTalk()
     found = found_labels(options, job, arguments.lines, talk)
     say(found)
@@ -327,13 +385,55 @@ def run() -> int:
     check_count(job, prints, options.each is not None)
     if options.each is not None:
         write_files(press, items, paths_of(items, options.each))
+    elif is_single:
+        return send_each(arguments, press, found)
     elif queue is not None:
         write_message(TOOL, Text("{}", print_on(press, prints, queue)))
     else:
         write(press, prints)
         if arguments.summary or sys.stderr.isatty():
-            write_message(TOOL, summary_of(job, prints))
+            write_message(TOOL, summary_of(job, prints, items if options.only else ()))
     return 1 if found.left_out else 0
+
+
+def with_names(text: Text, items: Sequence[LaidOut]) -> Text:
+    """Returns a text with the labels that were asked for one by one, where they are few."""
+    if not items or len(items) > MOST_NAMED:
+        return text
+    records = [item.label.record for item in items]
+    names = [
+        joined(", ", (one.place.text, one.data.decode("utf-8", "backslashreplace")))
+        for one in records
+    ]
+    return Text("{}: {}", text, joined("; ", names))
+
+
+def send_each(arguments: argparse.Namespace, press: Press, found: Prepared) -> int:
+    """Sends labels one by one; returns 1 where one is left out or doubtful."""
+    sender = sender_of(arguments)
+    prints = found.prints
+    try:
+        sender.send_all(press, prints)
+    finally:
+        doubtful = list(sender.doubtful(prints))
+        for start in range(0, len(doubtful), MOST_NAMED):  # each of them is named
+            for message in report(doubtful[start : start + MOST_NAMED], found.tables):
+                write_message(TOOL, message)
+    text = counted("{} label", "{} labels", sender.taken)
+    is_printer = sender.outlet.name != OUTPUT
+    if is_printer:
+        text = Text("{} taken by {}", text, sender.outlet.name)
+    if arguments.rows_only or arguments.codes:
+        text = with_names(text, sender.sent)
+    known = sender.known - len(doubtful)
+    if known > 0:
+        there = counted(
+            "{} label in {} already", "{} labels in {} already", known, arguments.journal
+        )
+        text = joined("; ", (text, there))
+    if known > 0 or is_printer or arguments.summary or sys.stderr.isatty():
+        write_message(TOOL, text)
+    return 1 if found.left_out or doubtful else 0
 
 
 def found_labels(

@@ -23,6 +23,7 @@ from labeltools.names import listed
 from labeltools.press import Press, PrintJob, Prints, pens_of, with_copies
 from labeltools.read_back import fault_of
 from labeltools.report import LeftOut, places_text
+from labeltools.selection import Selection
 from labeltools.stock import Grid, Sheet, Size, grid_sheet, stock_sheet
 
 A4 = (210.0, 297.0)
@@ -32,6 +33,7 @@ MOST_DPI = 2400
 WORKBOOK = b"PK\x03\x04"  # what .xlsx and .ods begin with
 UNKNOWN = "unknown symbology"  # what labels(1) says
 TABLE_FIRST = Text("a table goes through label-table first")
+CUT_OFF = Text("has no line end, so it may be cut off: end it with a line feed")
 DENSE = 0.33  # millimetres: modules of QR below it are said
 
 
@@ -39,8 +41,9 @@ DENSE = 0.33  # millimetres: modules of QR below it are said
 class PrintOptions:
     """What is asked for. Lengths are in millimetres; None is what suits the form and the paper.
 
-    One of `stock`, `paper` and `cell` names the sheet. `only` are rows of the table, or lines where
-    no rows are known; `note` is a line of text for all labels; `words` are options of labels(1).
+    One of `stock`, `paper` and `cell` names the sheet. `only` are the labels that are printed;
+    `note` is a line of text for all labels; `words` are options of labels(1); `is_unique` is
+    whether each code is printed once.
     """
 
     stock: Optional[str] = None
@@ -60,7 +63,7 @@ class PrintOptions:
     edge: Optional[Edges] = None
     shift: Size = (0.0, 0.0)
     first: int = 1
-    only: Optional[frozenset[int]] = None
+    only: Optional[Selection] = None
     each: Optional[str] = None
     font: str = Fonts.texts
     digits: str = Fonts.digits
@@ -70,6 +73,7 @@ class PrintOptions:
     is_cut: bool = True
     is_compressed: bool = False
     read_back: bool = False
+    is_unique: bool = False
 
 
 @dataclass(frozen=True)
@@ -141,7 +145,8 @@ def planned(options: PrintOptions) -> PrintJob:
         )
         raise ToolError(what, status=BAD_ARGUMENTS)
     fonts = Fonts(options.font, options.digits)
-    return PrintJob(plan, form, fonts, options.first, options.is_cut, options.is_compressed)
+    how = (options.first, options.is_cut, options.is_compressed, options.words)
+    return PrintJob(plan, form, fonts, *how)
 
 
 def form_of(options: PrintOptions) -> Form:
@@ -205,6 +210,10 @@ def drawn_lines(options: PrintOptions, name: str, data: bytes, talk: Talk) -> Dr
         raise ToolError(Text("{} is a workbook", name), TABLE_FIRST)
     lines = read_lines(data, name, "--escapes" in options.words)
     drawn = run_labels(data, options.words, talk)
+    if lines.records and not data.endswith(b"\n"):
+        cut = lines.records[-1].number
+        drawn.pictures.pop(cut, None)
+        drawn.refused[cut] = CUT_OFF
     if not drawn.pictures and set(drawn.refused.values()) == {UNKNOWN}:
         raise ToolError(
             Text("{}: no line begins with a symbology, such as ean13", name), TABLE_FIRST
@@ -212,14 +221,24 @@ def drawn_lines(options: PrintOptions, name: str, data: bytes, talk: Talk) -> Dr
     return DrawnLines(lines, drawn)
 
 
-def prepared(options: PrintOptions, job: PrintJob, found: DrawnLines, talk: Talk) -> Prepared:
-    """Returns the labels of lines that labels(1) has drawn, laid out."""
+def prepared(
+    options: PrintOptions,
+    job: PrintJob,
+    found: DrawnLines,
+    talk: Talk,
+    letters: Optional[Letters] = None,
+) -> Prepared:
+    """Returns the labels of lines that labels(1) has drawn, laid out; `letters` may be those of an
+    earlier call.
+    """
     lines = found.lines
     drawn = found.drawn
-    letters = Letters(job.fonts)
+    letters = letters or Letters(job.fonts)
     labels = drawn_labels(lines, drawn, options.note)
     reasons: dict[int, Text] = dict(drawn.refused)
     reasons.update(letters.missing(labels))
+    if options.is_unique:
+        reasons.update(doubles(lines, reasons))
     if reasons:
         labels = [label for label in labels if label.record.number not in reasons]
     laid_out = lay_out(labels, job.plan.area, letters, talk)
@@ -240,6 +259,22 @@ def prepared(options: PrintOptions, job: PrintJob, found: DrawnLines, talk: Talk
     return Prepared(job, laid_out, tuple(left_out), tuple(remarks), tables, letters)
 
 
+def doubles(lines: LinesFile, refused: Mapping[int, Text]) -> Mapping[int, Text]:
+    """Returns why lines are left out that have the code of an earlier one, or copies."""
+    first: dict[tuple[str, bytes], Place] = {}
+    found: dict[int, Text] = {}
+    for record in lines.records:
+        if record.number in refused or not record.label.copies:
+            continue
+        if record.label.copies > 1:
+            found[record.number] = Text("has copies, and each code is printed once")
+            continue
+        earlier = first.setdefault((record.symbology, record.data), record.place)
+        if earlier != record.place:
+            found[record.number] = Text("has the code of {}", earlier.text)
+    return found
+
+
 def drawn_labels(lines: LinesFile, drawn: Drawn, note: str) -> list[PrintLabel]:
     """Returns the labels of the lines that labels(1) drew, but those of which none is printed."""
     labels = []
@@ -250,18 +285,15 @@ def drawn_labels(lines: LinesFile, drawn: Drawn, note: str) -> list[PrintLabel]:
     return labels
 
 
-def without_line(lines: LinesFile, only: Optional[frozenset[int]]) -> Iterable[LeftOut]:
-    """Yields what is not printed without a line of its own: rows that are asked for and not there,
-    and those that label-table left out.
+def without_line(lines: LinesFile, only: Optional[Selection]) -> Iterable[LeftOut]:
+    """Yields what is not printed without a line of its own: what is asked for and not there, and
+    the rows that label-table left out.
     """
     named = list(lines.left_out)
     count = lines.left_out_count
     if only is not None:
-        known = {record.place.number for record in lines.records}
-        known.update(place.number for place in named)
-        for row in sorted(only - known):
-            yield LeftOut(Place("", "row", row), "", Text("of --only, but not in the input"))
-        named = [place for place in named if place.number in only]
+        yield from only.missing(lines.records, named)
+        named = [place for place in named if only.has_row(place)]
         count = len(named)
     reason = Text("left out by label-table")
     if count > len(named):
@@ -272,23 +304,23 @@ def without_line(lines: LinesFile, only: Optional[frozenset[int]]) -> Iterable[L
         yield LeftOut(None, "", reason)
 
 
-def only_wanted(items: Sequence[LaidOut], only: Optional[frozenset[int]]) -> list[LaidOut]:
-    """Returns the labels of the rows that are asked for."""
-    return [item for item in items if is_wanted(item.label.record.place, only)]
+def only_wanted(items: Sequence[LaidOut], only: Optional[Selection]) -> list[LaidOut]:
+    """Returns the labels that are asked for."""
+    return [item for item in items if is_wanted(item.label.record, only)]
 
 
-def is_wanted(place: Place, only: Optional[frozenset[int]]) -> bool:
-    """Returns whether a row is printed."""
-    return only is None or place.number in only
+def is_wanted(record: LineRecord, only: Optional[Selection]) -> bool:
+    """Returns whether the label of a line is printed."""
+    return only is None or only.has(record)
 
 
 def refused_labels(
-    lines: LinesFile, reasons: Mapping[int, Text], only: Optional[frozenset[int]]
+    lines: LinesFile, reasons: Mapping[int, Text], only: Optional[Selection]
 ) -> Iterable[LeftOut]:
     """Yields the lines that are not printed, with their reasons."""
     for record in lines.records:
         reason = reasons.get(record.number)
-        if reason is not None and is_wanted(record.place, only):
+        if reason is not None and is_wanted(record, only):
             data = record.data.decode("utf-8", "backslashreplace")
             yield LeftOut(record.place, data, reason)
 
@@ -305,9 +337,10 @@ def faults(
             yield item.label.record, fault
 
 
-def several(items: Sequence[LaidOut], only: Optional[frozenset[int]]) -> Iterable[Remark]:
+def several(items: Sequence[LaidOut], only: Optional[Selection]) -> Iterable[Remark]:
     """Yields that rows that are asked for are in several tables of the file."""
-    places = [item.label.record.place for item in items if only is not None]
+    named = [item.label.record.place for item in items]
+    places = [place for place in named if only is not None and only.has_row(place)]
     counts = Counter(place.number for place in places)
     rows = sorted(number for number, count in counts.items() if count > 1)
     if rows:

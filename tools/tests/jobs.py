@@ -106,8 +106,13 @@ def data_of_run_lengths(text: bytes, size: int) -> bytes:
     return bytes.fromhex("".join(rows))
 
 
+PAPER = 4000  # dots: wider than any label of a test
+
+
 def dots_of_escpos(job: bytes, cut: bytes = CUT) -> List[numpy.ndarray]:
-    """The labels of an ESC/POS job, each of them some images and, where there is one, a cut."""
+    """The labels of an ESC/POS job, each of them some images and, where there is one, a cut, on a
+    paper that is wider than all of them.
+    """
     stream = BytesIO(job)
     if stream.read(2) != RESET:
         raise JobError("no ESC @ at the start")
@@ -119,11 +124,10 @@ def dots_of_escpos(job: bytes, cut: bytes = CUT) -> List[numpy.ndarray]:
             data = stream.read(size * height)
             if not 0 < height <= 255 or len(data) != size * height:
                 raise JobError(f"an image of {size} by {height} bytes is not whole, or too high")
-            bands.append(
-                numpy.unpackbits(
-                    numpy.frombuffer(data, dtype=numpy.uint8).reshape(height, size), axis=1
-                )
+            dots = numpy.unpackbits(
+                numpy.frombuffer(data, numpy.uint8).reshape(height, size), axis=1
             )
+            bands.append(numpy.pad(dots, ((0, 0), (0, PAPER - 8 * size))))
         elif head + stream.read(len(cut) - 4) == cut and bands:
             labels.append(numpy.vstack(bands))
             bands = []

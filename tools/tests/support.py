@@ -16,6 +16,7 @@ import subprocess
 import sys
 import tempfile
 import unittest
+from functools import cache
 from importlib import import_module
 from pathlib import Path
 from typing import Any, Dict, List, NoReturn, Optional, Sequence, Tuple, Union
@@ -124,7 +125,27 @@ def labels_program() -> Path:
         skip(
             f"{program} is not built: run (cd crates/labels && rt run < /dev/null), or set $LABELS"
         )
+    make_library()
     return program
+
+
+@cache
+def make_library() -> None:
+    """Makes liblabels of the sources, by which the tools draw, where its proved part is built and
+    $LABELS_LIBRARY names no other one.
+    """
+    proved = TOP / "crates/labels_c/out/liblabels_c.a"
+    if proved.exists() and not os.environ.get("LABELS_LIBRARY"):
+        words = (
+            "make",
+            "-s",
+            "-C",
+            TOP / "lib",
+            f"PROVED={proved}",
+            f"OUT={TOP / 'out/lib'}",
+            "all",
+        )
+        subprocess.run(words, check=True, stdout=subprocess.DEVNULL)
 
 
 def draw(lines: Union[str, bytes], *options: str) -> Tuple[bytes, bytes, int]:

@@ -24,6 +24,7 @@ VALUES: Dict[str, Optional[str]] = {
     "label-print --design": "article shelf",
     "label-print --to": "pdf svg png pbm zpl escpos",
     "label-print --each": None,
+    "label-print --journal": None,
 }
 NUMBERS = "1 2 3 4 5 6 7 8 9 10"
 OF_LABELS = {

@@ -358,34 +358,6 @@ class ReadBack(unittest.TestCase):
         changed = Picture(picture.width, picture.height, tuple(rows))
         self.assertEqual(fault_in(changed, item), "its bars as drawn are not those of labels")
 
-    def test_a_program_that_draws_other_labels(self) -> None:
-        with tempfile.TemporaryDirectory() as folder:
-            program = Path(folder, "labels")
-            wrong = "sed 's/^ean13 .*/ean13 501234567890/'"
-            program.write_text(
-                f'#!/bin/bash\n{wrong} "${{@: -1}}" | {support.labels_program()} "${{@:1:$#-1}}"\n'
-            )
-            program.chmod(0o755)
-            data = support.file_of(SHELF[:2])
-            arguments = ("--paper", "60x40", "--dpi", "203", "--to", "zpl", "--read-back")
-            done = support.printed(*arguments, input=data, LABELS=str(program))
-            self.assertEqual((done.returncode, done.stdout), (1, b""), done.stderr)
-            self.assertIn(b"rows 2-3: as drawn it is read as b'5012345678900'", done.stderr)
-            for body in (
-                "exit 0",
-                "echo P1; exit 0",
-                "echo 'labels: no memory' >&2; exit 3",
-                "exit 2",
-            ):
-                program.write_text(f"#!/bin/sh\ncat > /dev/null; {body}\n")
-                done = support.printed(*arguments, input=data, LABELS=str(program))
-                self.assertEqual(
-                    (done.returncode, done.stdout), (2 if body == "exit 2" else 3, b""), body
-                )
-            done = support.printed(*arguments, input=data, LABELS=f"{folder}/nothing")
-            self.assertEqual((done.returncode, done.stdout), (1, b""))
-            self.assertIn(b"install labels with its tools", done.stderr)
-
 
 if __name__ == "__main__":
     unittest.main()

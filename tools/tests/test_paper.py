@@ -10,7 +10,6 @@ import re
 import signal
 import subprocess
 import tempfile
-import time
 import unittest
 from pathlib import Path
 from typing import Any, NamedTuple, Optional, Sequence
@@ -643,31 +642,6 @@ class Users(unittest.TestCase):
             self.assertNotEqual(done.returncode, 0)
             self.assertNotIn(b"Traceback", done.stderr)
 
-    def test_a_program_that_hangs_ends_with_its_parent(self) -> None:
-        with tempfile.TemporaryDirectory() as folder:
-            program = Path(folder, "labels")
-            program.write_text(f"#!/bin/sh\necho $$ > {folder}/pid; exec sleep 300\n")
-            program.chmod(0o755)
-            environment = {**support.environment(), "LABELS": str(program)}
-            words = [str(support.TOOLS / "label-print"), *self.ROLL, "/dev/stdin"]
-            run = subprocess.Popen(words, stdin=subprocess.PIPE, env=environment)
-            assert run.stdin is not None
-            run.stdin.write(b"ean8 7351353\n")
-            run.stdin.close()
-            kept = Path(folder, "pid")
-            while not (kept.exists() and kept.read_text().strip()):
-                self.assertIsNone(run.poll())
-            child = int(kept.read_text())
-            run.kill()
-            run.wait()
-            end = time.monotonic() + 60
-            while is_running(child) and time.monotonic() < end:
-                time.sleep(0.05)
-            is_left = is_running(child)
-            if is_left:
-                os.kill(child, signal.SIGKILL)
-            self.assertFalse(is_left)
-
     def test_a_signal_while_it_starts(self) -> None:
         """It ends by the signal and says nothing, whatever module it was loading."""
         for tool in ("label-print", "label-table"):
@@ -719,47 +693,10 @@ class Users(unittest.TestCase):
             self.assertEqual((done.returncode, os.listdir(folder)), (1, []))
             self.assertIn(f"{folder}: File too large; make room", done.stderr.decode())
 
-    def test_a_program_that_is_killed(self) -> None:
-        with tempfile.TemporaryDirectory() as folder:
-            program = Path(folder, "labels")
-            program.write_text("#!/bin/sh\nprintf 'P1\\n81 1\\n0101'; kill -KILL $$\n")
-            program.chmod(0o755)
-            data = b"ean8 7351353\n"
-            done = support.run("label-print", *self.ROLL, input=data, LABELS=str(program))
-            self.assertEqual((done.returncode, done.stdout), (3, b""))
-            self.assertIn(b"SIGKILL", done.stderr)
-
-    def test_another_program_on_the_path(self) -> None:
-        """The program is that of these tools, or one of the same version."""
-        with tempfile.TemporaryDirectory() as folder:
-            program = Path(folder, "labels")
-            good = support.labels_program()
-            other = "sed 's/^ean13 .*/ean13 501234567890/' /dev/stdin"
-            help_text = "[ $1 != --help ] || { echo labels 0.9.0; exit 0; }"
-            program.write_text(f"#!/bin/sh\n{help_text}\n{other} | {good} $*\n")
-            program.chmod(0o755)
-            path = f"{folder}{os.pathsep}{os.environ['PATH']}"
-            data = support.file_of([(EAN, PRICED)])
-            arguments = roll((60.0, 40.0), 203, "--to", "pbm")
-            done = support.run("label-print", *arguments, input=data, LABELS="", PATH=path)
-            codes = [code_in(dots) for dots in jobs.pictures_of_pbm(done.stdout)]
-            self.assertIn(codes, ([], ["4006381333931"]), done.stderr)
-            if not codes:
-                self.assertIn(b"is another labels than that of these tools", done.stderr)
-
 
 def heed_signals() -> None:
     """Ends the ignoring of signals that a shell begins for what runs beside it."""
     signal.signal(signal.SIGINT, signal.SIG_DFL)
-
-
-def is_running(process: int) -> bool:
-    """Whether a process is there and has not ended."""
-    try:
-        state = Path(f"/proc/{process}/stat").read_text()
-    except OSError:
-        return False
-    return not re.sub(r"^.*\) ", "", state).startswith("Z")
 
 
 if __name__ == "__main__":

@@ -1,10 +1,8 @@
 """label-print and CUPS: the line to type, --print, and the edges of a page."""
 
 import os
-import re
 import subprocess
 import tempfile
-import time
 import unittest
 from pathlib import Path
 from typing import Any, Optional
@@ -257,72 +255,43 @@ class Hostile(unittest.TestCase):
             self.assertNotEqual(done.returncode, 0, option)
             self.assertNotIn(b"Traceback", done.stderr, option)
 
-    def test_a_program_that_hangs_ends_with_its_parent(self) -> None:
+    def test_a_library_that_is_not_there(self) -> None:
         with tempfile.TemporaryDirectory() as folder:
-            program = Path(folder, "labels")
-            program.write_text('#!/bin/sh\necho $$ > "$KEPT/pid"; exec sleep 300\n')
-            program.chmod(0o755)
-            lines = Path(folder, "lines")
-            lines.write_bytes(LINES)
-            command = [str(support.TOOLS / "label-print"), "--paper", "60x40", str(lines)]
-            names = {**support.environment(), "LABELS": str(program), "KEPT": folder}
-            run = subprocess.Popen(command, stdout=subprocess.DEVNULL, env=names)
-            kept = Path(folder, "pid")
-            while not (kept.exists() and kept.read_text().strip()):
-                self.assertIsNone(run.poll())
-            child = int(kept.read_text())
-            run.kill()
-            run.wait()
-            end = time.monotonic() + support.SECONDS
-            while not is_gone(child):
-                self.assertLess(time.monotonic(), end)
-                time.sleep(0.05)
+            named = f"{folder}/liblabels.so.1"
+            done = support.run("label-print", "--paper", "60x40", input=LINES, LABELS_LIBRARY=named)
+            self.assertEqual((done.returncode, done.stdout), (1, b""))
+            self.assertIn(f"the library liblabels is not there: {named}".encode(), done.stderr)
 
-    def test_a_program_that_is_killed(self) -> None:
-        with tempfile.TemporaryDirectory() as folder:
-            program = Path(folder, "labels")
-            program.write_text("#!/bin/sh\nprintf 'P1\\n81 1\\n0101'; kill -KILL $$\n")
-            program.chmod(0o755)
-            done = support.printed("--paper", "60x40", input=LINES, LABELS=str(program))
-            self.assertEqual((done.returncode, done.stdout), (3, b""))
-            self.assertIn(b"ended by signal 9 (SIGKILL)", done.stderr)
+    def test_another_version_of_the_library(self) -> None:
+        from labeltools import engine
 
-    def test_another_program_on_the_path_draws_nothing(self) -> None:
-        """The program is the package's own, unless LABELS names another one; one on the path has to
-        be of the same version.
-        """
-        with tempfile.TemporaryDirectory() as folder:
-            program = Path(folder, "labels")
-            drawn = f"[ $1 = --help ] || touch {folder}/drawn"
-            program.write_text(f"#!/bin/sh\n{drawn}; echo labels 0.9.0\n")
-            program.chmod(0o755)
-            path = f"{folder}{os.pathsep}{os.environ['PATH']}"
-            done = support.printed("--paper", "60x40", input=LINES, LABELS="", PATH=path)
-            self.assertFalse(Path(folder, "drawn").exists())
-            built = support.TOP / "crates/labels/out/labels"
-            self.assertEqual(done.returncode, 0 if os.access(built, os.X_OK) else 1, done.stderr)
-            if done.returncode:
-                self.assertIn(b"is another labels than that of these tools", done.stderr)
+        self.assertEqual(engine.library().version(), engine.VERSION)
 
-    def test_the_version_of_the_program(self) -> None:
-        from labeltools.engine import HELP, check_version
+    def test_options_are_those_of_the_program(self) -> None:
+        """Each that the program takes or refuses."""
+        from labeltools.engine import settings_of
         from labeltools.messages import ToolError
 
-        program = support.labels_program()
-        shown = subprocess.run([str(program), "--help"], capture_output=True).stdout
-        self.assertTrue(shown.startswith(HELP))
-        check_version(str(program))
-        with self.assertRaisesRegex(ToolError, "is another labels than that of these tools"):
-            check_version("/bin/echo")
-
-
-def is_gone(process: int) -> bool:
-    """Whether a process has ended and only its parent has not seen it."""
-    try:
-        state = Path(f"/proc/{process}/stat").read_text()
-    except OSError:
-        return True
-    return re.sub(r"^.*\) ", "", state).startswith("Z")
+        values = {
+            "--level": ["L", "H", "h", ""],
+            "--min-version": ["1", "10", "+2", "011", "0", "11", "-0", "x"],
+            "--mask": ["0", "7", "007", "8", "auto", ""],
+            "--escapes": ["1"],
+            "--scale": ["1"],
+            "--esc": ["1"],
+        }
+        words = [[name, text] for name, texts in values.items() for text in texts]
+        words += [["=".join(pair)] for pair in words] + [["--escapes"], ["x"], ["--", "x"]]
+        words += [["--level", "H", "--level", "L"], ["--escapes", "--escapes"]]
+        own = ["--format", "pbm", "--scale", "1", "--height", "1"]
+        for asked in words:
+            program = [str(support.labels_program()), *asked, *own, "/dev/null"]
+            is_taken = subprocess.run(program, capture_output=True).returncode == 0
+            try:
+                settings_of(asked)
+                self.assertTrue(is_taken, asked)
+            except ToolError as error:
+                self.assertEqual((is_taken, error.status), (False, 2), asked)
 
 
 if __name__ == "__main__":

@@ -1,29 +1,54 @@
 """ESC/POS of receipt printers."""
 
 import struct
+from itertools import groupby
+from typing import Iterator
 
-from labeltools.engine import bytes_a_row
 from labeltools.forms.dots import Picture
 
 START = b"\x1b@"  # of a job: resets the printer
 CUT = b"\x1bd\x03\x1dV\x42\x00"  # feeds three lines, and cuts
 MOST_ROWS = 255  # of an image
+LEAST_BLANK = 16  # rows without a dot that are an image of their own
 
 
 def escpos(picture: Picture, is_first: bool, is_cut: bool) -> bytes:
     """Returns a label as raster images, one below the other; before the first one the printer is
     reset.
+
+    What is light at the right is left away: a row without a dot is one byte. No command feeds,
+    since how far a printer feeds depends on its model.
     """
-    images = [image(band, picture.width) for band in bands(picture)]
+    images = [image(band) for band in bands(picture)]
     return START * is_first + b"".join(images) + CUT * is_cut
 
 
-def bands(picture: Picture) -> list[tuple[bytes, ...]]:
-    """Returns the rows of a label in parts that fit into an image."""
-    tops = range(0, picture.height, MOST_ROWS)
-    return [picture.rows[top : top + MOST_ROWS] for top in tops]
+def bands(picture: Picture) -> Iterator[tuple[bytes, ...]]:
+    """Yields the rows of a label in parts that are images: rows with dots, and blank ones."""
+    start = 0
+    for is_blank, end in runs(picture.rows):
+        for top in range(start, end, MOST_ROWS):
+            rows = picture.rows[top : min(end, top + MOST_ROWS)]
+            size = 1 if is_blank else max(len(row.rstrip(b"\0")) for row in rows)
+            yield tuple(row[: max(1, size)] for row in rows)
+        start = end
 
 
-def image(rows: tuple[bytes, ...], width: int) -> bytes:
+def runs(rows: tuple[bytes, ...]) -> Iterator[tuple[bool, int]]:
+    """Yields whether rows are blank, and where they end; a few blank ones are as those around
+    them.
+    """
+    start = 0
+    for is_blank, group in groupby(rows, key=lambda row: not any(row)):
+        end = start + len(list(group))
+        if is_blank and end - start >= LEAST_BLANK:
+            if start:
+                yield False, start
+            yield True, end
+        start = end
+    yield False, start
+
+
+def image(rows: tuple[bytes, ...]) -> bytes:
     """Returns a raster image."""
-    return b"\x1dv0\0" + struct.pack("<HH", bytes_a_row(width), len(rows)) + b"".join(rows)
+    return b"\x1dv0\0" + struct.pack("<HH", len(rows[0]), len(rows)) + b"".join(rows)

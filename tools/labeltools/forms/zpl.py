@@ -3,6 +3,7 @@
 import binascii
 import re
 import zlib
+from functools import cache
 from itertools import chain
 
 from labeltools.engine import bytes_a_row
@@ -69,7 +70,13 @@ def run_lengths_of(row: bytes) -> str:
     rest = RESTS.get(text[-1:], "")
     if rest:
         text = text.rstrip(text[-1])
-    return OFTEN.sub(lambda run: count_of(len(run[0])) + run[1], text) + rest
+    return OFTEN.sub(lambda run: run_length_of(run[0]), text) + rest
+
+
+@cache
+def run_length_of(run: str) -> str:
+    """Returns digits that are all the same as a count and one digit."""
+    return count_of(len(run)) + run[0]
 
 
 def count_of(number: int) -> str:

@@ -1,0 +1,90 @@
+"""Which labels of a file are printed: rows, ranges of them, and codes."""
+
+import re
+from dataclasses import dataclass
+from pathlib import Path
+from typing import Iterable, Iterator, Optional
+
+from labeltools.lines_file import LineRecord
+from labeltools.messages import Place, ToolError
+from labeltools.report import LeftOut
+from labeltools.text import Text
+
+MOST_ROWS = 1_048_576
+ROWS = re.compile(r"(?:\d{1,7}(?:-\d{1,7})?,)*\d{1,7}(?:-(?:\d{1,7})?)?", re.ASCII)
+FILE = "@"  # before the name of a file of codes
+
+
+@dataclass(frozen=True)
+class Selection:
+    """Rows of the table, or lines where no rows are known; all from a row on; codes."""
+
+    rows: frozenset[int] = frozenset()
+    start: Optional[int] = None
+    codes: frozenset[bytes] = frozenset()
+
+    def has_row(self, place: Place) -> bool:
+        """Returns whether a row is asked for by its number."""
+        return place.number in self.rows or (self.start is not None and place.number >= self.start)
+
+    def has(self, record: LineRecord) -> bool:
+        """Returns whether the label of a line is asked for."""
+        if self.codes and not self.codes.isdisjoint(names_of(record)):
+            return True
+        return self.has_row(record.place)
+
+    def missing(self, records: Iterable[LineRecord], known: Iterable[Place]) -> Iterator[LeftOut]:
+        """Yields what is asked for and not in the input; `known` are rows without a line."""
+        rows = {place.number for place in known}
+        codes: set[bytes] = set()
+        for record in records:
+            rows.add(record.place.number)
+            if self.codes:
+                codes.update(names_of(record))
+        for row in sorted(self.rows - rows):
+            yield LeftOut(Place("", "row", row), "", Text("of --only, but not in the input"))
+        if self.start is not None and all(row < self.start for row in rows):
+            yield LeftOut(Place("", "row", self.start), "", Text("of --only, but not in the input"))
+        for code in sorted(self.codes - codes):
+            text = code.decode("utf-8", "backslashreplace")
+            yield LeftOut(None, text, Text("{}: of --only-code, but not in the input", text))
+
+
+def names_of(record: LineRecord) -> set[bytes]:
+    """Returns how the code of a line may be named: its data, of a number without its check digit
+    too.
+    """
+    if record.symbology in ("ean13", "ean8", "upca"):
+        return {record.data, record.data[:-1]}
+    return {record.data}
+
+
+def selection_of(rows: Optional[str], codes: Iterable[str]) -> Optional[Selection]:
+    """Returns what is asked for: rows such as 2,7-9 or 7-, and codes or files of them; None where
+    nothing is. Raises `ToolError` and `OSError`.
+    """
+    wanted: set[bytes] = set()
+    for code in codes:
+        wanted |= codes_of(code)
+    if rows is None and not wanted:
+        return None
+    found: set[int] = set()
+    start: Optional[int] = None
+    for part in (rows or "").split(","):
+        first, dash, last = part.partition("-")
+        if dash and not last:
+            start = int(first)
+        elif part:
+            found.update(range(int(first), min(int(last or first), MOST_ROWS) + 1))
+    return Selection(frozenset(found), start, frozenset(wanted))
+
+
+def codes_of(argument: str) -> set[bytes]:
+    """Returns the code that an argument is, or those of the lines of a file, as in @damaged.txt."""
+    if not argument.startswith(FILE):
+        return {argument.encode("utf-8", "surrogateescape")}
+    found = {line.strip() for line in Path(argument[len(FILE) :]).read_bytes().splitlines()}
+    found.discard(b"")
+    if not found:
+        raise ToolError(Text("{}: there is no code", argument[len(FILE) :]))
+    return found

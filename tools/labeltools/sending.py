@@ -1,0 +1,156 @@
+"""Sends labels one by one, to a printer in the network or standard output, with a journal or
+without one.
+"""
+
+from io import BytesIO
+from typing import Iterator, Optional, Protocol
+
+from labeltools.command_line import hold_signals, standard_output
+from labeltools.files import send
+from labeltools.forms import ZPL
+from labeltools.journal import Journal
+from labeltools.layout import LaidOut
+from labeltools.messages import ToolError, sentence
+from labeltools.network import Broken
+from labeltools.press import Press, Prints
+from labeltools.report import LeftOut
+from labeltools.text import Text, counted
+
+OUTPUT = "standard output"
+
+
+class Outlet(Protocol):
+    """Where labels go. `open` is called before a label is written into the journal."""
+
+    name: str
+
+    def open(self) -> object:
+        """Makes sure that there is a way out; raises `ToolError` where nothing can be sent."""
+
+    def send(self, data: bytes) -> None:
+        """Sends a whole label; raises `Broken` where a part of it may have gone out."""
+
+    def close(self) -> None:
+        """Ends the way out after what was sent."""
+
+
+class StandardOutput:
+    """Standard output."""
+
+    name = OUTPUT
+
+    def open(self) -> object:
+        """Raises `ToolError` where it is closed."""
+        return standard_output()
+
+    def send(self, data: bytes) -> None:
+        """Writes a whole label; raises `OSError`."""
+        send(BytesIO(data), standard_output().fileno())
+
+    def close(self) -> None:
+        """Does nothing: it is closed at the end of the tool."""
+
+
+class Sender:
+    """Sends labels that a press writes; `again` is a printer whose labels of earlier runs are sent
+    once more.
+    """
+
+    def __init__(
+        self, outlet: Outlet, journal: Optional[Journal] = None, again: Optional[str] = None
+    ) -> None:
+        self.outlet = outlet
+        self.journal = journal
+        self.again = again
+        self.sent: list[LaidOut] = []
+        self.taken = 0
+        self.known = 0
+
+    def send_all(self, press: Press, prints: Prints) -> None:
+        """Sends labels with their copies; raises `ToolError` where the printer does not take them,
+        with what to do then.
+        """
+        done = 0
+        for item, copies in prints.runs():
+            try:
+                self.send(press, item, copies, not self.sent)
+            except Broken as error:
+                what = Text("{}: {}", error.what, self.so_far())
+                raise ToolError(what, self.advice(item)) from error
+            except ToolError as error:
+                place = item.label.record.place.text
+                what = Text("{}: {} and what follows it were not sent", error.what, place)
+                raise ToolError(what, error.hint, error.status) from error
+            done += copies
+            press.talk.go_on(done, len(prints))
+        self.outlet.close()
+
+    def send(self, press: Press, item: LaidOut, copies: int, is_first: bool) -> int:
+        """Sends a label, and returns how many bytes it has; 0 where the journal has it."""
+        record = item.label.record
+        if self.journal is not None and self.is_known(item):
+            self.known += 1
+            return 0
+        documents = list(written(press, item, copies, is_first))
+        self.outlet.open()
+        if self.journal is not None and not self.journal.claim(record, self.again):
+            self.known += 1
+            return 0
+        with hold_signals():
+            for document in documents:
+                self.outlet.send(document)
+            if self.journal is not None:
+                self.journal.take(record)
+        self.taken += copies
+        self.sent.append(item)
+        return sum(map(len, documents))
+
+    def is_known(self, item: LaidOut) -> bool:
+        """Returns whether the journal is known to have a label, without looking into it again."""
+        assert self.journal is not None
+        return self.again is None and self.journal.entry(item.label.record) is not None
+
+    def so_far(self) -> Text:
+        """Returns how many labels went out whole."""
+        return counted("it took {} label whole", "it took {} labels whole", self.taken)
+
+    def advice(self, item: LaidOut) -> Text:
+        """Returns what to do where a label went out in part."""
+        place = item.label.record.place
+        if self.journal is not None:
+            return Text(
+                "{} may be on paper: look there, then give the same command again", place.text
+            )
+        return Text(
+            "look at the last one on paper, then print from {} on by --only {}-",
+            place.text,
+            place.number,
+        )
+
+    def doubtful(self, prints: Prints) -> Iterator[LeftOut]:
+        """Yields labels of which it is not known whether they are on paper: their lane has
+        ended.
+        """
+        if self.journal is None:
+            return
+        for item in prints.items:
+            record = item.label.record
+            if self.journal.is_doubtful(record):
+                entry = self.journal.entry(record)
+                printer = entry.printer if entry else ""
+                reason = Text("may be on paper, from {}: look for it", printer)
+                hint = Text("if it is not there, give --only-code CODE --again {}", printer)
+                data = record.data.decode("utf-8", "backslashreplace")
+                yield LeftOut(record.place, data, sentence(reason, hint))
+
+
+def written(press: Press, item: LaidOut, copies: int, is_first: bool) -> Iterator[bytes]:
+    """Yields what a label with its copies is in the form of a job; raises `ToolError`."""
+    if press.job.form == ZPL:
+        with press.label(item, copies) as file:
+            yield file.read()
+        return
+    page = [(item, press.job.plan.places[0])]
+    for number in range(copies):
+        with press.document(page, is_first and number == 0) as file:
+            yield file.read()

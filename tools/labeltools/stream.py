@@ -1,0 +1,173 @@
+"""Prints each label as soon as its line has come in: for a till, a warehouse or a ticket desk,
+whose program keeps label-print running. Each line with data has one answer on standard error, in
+order: a word, the number of the line, and more.
+
+    taken 2 928 qr T00001                       its bytes: printer or standard output has it
+    refused 3 check digit is 2, should be 1     do not send it again
+    known 4 qr T00001                           it was sent before, by the journal or --unique
+    unsent 5 tcp://till-3: Connection refused   nothing went out: send it again
+    doubtful 6 tcp://till-3: ..                 a part went out: look before you send it again
+
+A label is laid out by itself, as in a run for its line alone. An object before a line belongs to
+it, as in the file of label-table; its first and last remarks are skipped.
+"""
+
+import os
+import stat
+import sys
+from contextlib import suppress
+from typing import BinaryIO, Iterator, NamedTuple, Optional
+
+from labeltools.engine import LABELS_FAILED, run_labels
+from labeltools.letters import Letters
+from labeltools.lines_file import OBJECT, LineRecord, read_lines
+from labeltools.messages import Silence, ToolError, sentence, visible
+from labeltools.network import Broken, Unreachable
+from labeltools.press import Press, PrintJob
+from labeltools.print_job import DrawnLines, Prepared, PrintOptions, prepared
+from labeltools.sending import Sender
+from labeltools.text import NOTHING, Text, translated
+
+SKIPPED = (b'#{"labels"', b'#{"end"')
+LONGEST = 65_536  # bytes of a line
+TAKEN = "taken"
+REFUSED = "refused"
+KNOWN = "known"
+UNSENT = "unsent"
+DOUBTFUL = "doubtful"
+
+
+class Refused(Exception):
+    """Why a line has no label."""
+
+    def __init__(self, reason: Text) -> None:
+        super().__init__(reason)
+        self.reason = reason
+
+
+class Known(Exception):
+    """A line whose code was sent before."""
+
+
+class Job(NamedTuple):
+    """A line with its number and the object before it; what is wrong with it where something is."""
+
+    number: int
+    remark: bytes
+    line: bytes
+    fault: Text = NOTHING
+
+
+def source_of(path: Optional[str]) -> BinaryIO:
+    """Returns what lines come from. A FIFO is kept open when its last writer has gone."""
+    if path is None or path == "-":
+        if sys.stdin is None:
+            raise ToolError(Text("standard input is closed"))
+        return sys.stdin.buffer
+    is_fifo = stat.S_ISFIFO(os.stat(path).st_mode)
+    return os.fdopen(os.open(path, os.O_RDWR if is_fifo else os.O_RDONLY), "rb")
+
+
+def jobs(source: BinaryIO) -> Iterator[Job]:
+    """Yields each line with data as soon as it is there."""
+    remark = b""
+    number = 0
+    while line := source.readline(LONGEST):
+        number += 1
+        fault = NOTHING
+        if not line.endswith(b"\n"):
+            fault = Text("cut off before its line end")
+            if len(line) == LONGEST:
+                fault = Text("longer than {} bytes", LONGEST)
+                while (rest := source.readline(LONGEST)) and not rest.endswith(b"\n"):
+                    pass
+        data = line.removesuffix(b"\n")
+        if not fault and data.startswith(OBJECT):
+            remark = b"" if data.startswith(SKIPPED) else line
+        elif data and (fault or not data.startswith(b"#")):
+            yield Job(number, remark, data, fault)
+            remark = b""
+
+
+class Stream:
+    """Prints lines one by one."""
+
+    def __init__(self, options: PrintOptions, job: PrintJob, sender: Sender) -> None:
+        self.options = options
+        self.job = job
+        self.sender = sender
+        self.letters = Letters(job.fonts)
+        self.presses: dict[bool, Press] = {}
+        self.seen: set[tuple[str, bytes]] = set()
+
+    def answer(self, job: Job) -> tuple[str, Text]:
+        """Prints a line, and returns the word and the text of its answer."""
+        text = job.line.decode("utf-8", "backslashreplace")
+        try:
+            return TAKEN, Text("{} {}", self.print(job), text)
+        except Known:
+            return KNOWN, Text("{}", text)
+        except Refused as refused:
+            return REFUSED, refused.reason
+        except Unreachable as error:
+            return UNSENT, sentence(error.what, error.hint)
+        except Broken as error:
+            return DOUBTFUL, sentence(error.what, error.hint)
+
+    def print(self, job: Job) -> int:
+        """Prints a label and returns how many bytes it has; raises `Refused`, `Known`,
+        `Unreachable` and `Broken`.
+        """
+        if job.fault:
+            raise Refused(job.fault)
+        record, found = self.laid_out(job)
+        code = record.symbology, record.data
+        if self.options.is_unique and code in self.seen:
+            raise Known
+        size = 0
+        for item in found.labels:
+            copies = item.label.record.label.copies
+            size = self.sender.send(self.press(found), item, copies, True)
+            self.sender.sent.clear()
+            if not size:
+                raise Known
+        self.sender.outlet.close()
+        if self.options.is_unique and self.sender.journal is None:
+            self.seen.add(code)
+        return size
+
+    def laid_out(self, job: Job) -> tuple[LineRecord, Prepared]:
+        """Returns a line with its label; raises `Refused`."""
+        data = job.remark + job.line + b"\n"
+        try:
+            lines = read_lines(data, Text("the line"), "--escapes" in self.options.words)
+            drawn = run_labels(data, self.options.words, Silence())
+            found = DrawnLines(lines, drawn)
+            done = prepared(self.options, self.job, found, Silence(), self.letters)
+        except ToolError as error:
+            if error.status == LABELS_FAILED:
+                raise
+            raise Refused(sentence(error.what, error.hint)) from error
+        if done.left_out:
+            raise Refused(done.left_out[0].reason)
+        return lines.records[0], done
+
+    def press(self, found: Prepared) -> Press:
+        """Returns what draws labels of an area; it is kept, with its fonts."""
+        is_turned = found.laid_out.area.is_turned
+        if is_turned not in self.presses:
+            self.presses[is_turned] = found.press(Silence())
+        return self.presses[is_turned]
+
+
+def run(options: PrintOptions, job: PrintJob, path: Optional[str], sender: Sender) -> int:
+    """Prints the lines of a source and answers each; returns 1 where one is not printed."""
+    status = 0
+    stream = Stream(options, job, sender)
+    for one in jobs(source_of(path)):
+        word, text = stream.answer(one)
+        status = status if word == TAKEN else 1
+        with suppress(OSError):
+            said = visible(translated(text))
+            print(word, one.number, said, file=sys.stderr, flush=True)
+    return status
