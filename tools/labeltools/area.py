@@ -39,6 +39,7 @@ class Design:
     full_qr: float
 
 
+OWN = Design("own", 0.0, 0.0)  # of a file: its places say it
 ARTICLE = Design("article", 0.5, 40.0)
 SHELF = Design("shelf", 0.25, 60.0)
 DESIGNS = {design.name: design for design in (ARTICLE, SHELF)}
@@ -147,6 +148,27 @@ def plan_of(sheet: Sheet, dpi: int, edges: Edges, wishes: Wishes) -> Plan:
     ]
     page = round(sheet.page[0] / dot), round(sheet.page[1] / dot)
     return Plan(sheet, dpi, page, tuple(places), Area(width, height, dot, wishes))
+
+
+def whole_plan_of(sheet: Sheet, dpi: int, wishes: Wishes) -> Plan:
+    """Returns the plan of a sheet whose areas are the cells from edge to edge."""
+    dot = MILLIMETRES / dpi
+    places = tuple((round(x / dot), round(y / dot)) for x, y in sheet.places)
+    page = round(sheet.page[0] / dot), round(sheet.page[1] / dot)
+    width, height = (math.floor(side / dot + TINY) for side in sheet.cell)
+    return Plan(sheet, dpi, page, places, Area(width, height, dot, wishes))
+
+
+def white_of(sheet: Sheet, edges: Edges) -> Edges:
+    """Returns how much of a cell's edges is within those of its page, in any cell."""
+    lefts = [x for x, _ in sheet.places]
+    tops = [y for _, y in sheet.places]
+    return (
+        max(0.0, edges[0] - min(lefts)),
+        max(0.0, edges[1] - min(tops)),
+        max(0.0, max(lefts) + sheet.cell[0] - sheet.page[0] + edges[2]),
+        max(0.0, max(tops) + sheet.cell[1] - sheet.page[1] + edges[3]),
+    )
 
 
 def across(start: float, sheet: Sheet, edges: Edges, dot: float) -> Dots:

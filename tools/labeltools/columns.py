@@ -26,10 +26,13 @@ MARKS = "\u200e\u200f\u061c"  # of the direction, which spreadsheets put around 
 
 @dataclass(frozen=True)
 class Column:
-    """A column that was asked for: its place, from 0, and how messages call it."""
+    """A column that was asked for: its place, from 0, how messages call it, and the name of its
+    texts in a design: its own where that is sure, else its number.
+    """
 
     place: int
     title: Text
+    name: str
 
     def error(self, problem: RowError) -> RowError:
         """Returns the error of a cell, with the column in front."""
@@ -202,10 +205,9 @@ def column_of(argument: str, head: Head) -> Column:
     name = head.names[place] if place < len(head.names) else ""
     if by_name:
         refuse_wide_name(place, name, head.row)
-    return Column(
-        place,
-        Text("column {} ({})", place + 1, quoted(name)) if name else Text("column {}", place + 1),
-    )
+    number = place + 1
+    title = Text("column {} ({})", number, quoted(name)) if name else Text("column {}", number)
+    return Column(place, title, column_word(head.names, place) if name else str(number))
 
 
 def column_word(names: Sequence[str], place: int) -> str:

@@ -43,6 +43,7 @@ class Draft(NamedTuple):
     code: Code
     title: str
     text: tuple[str, ...]
+    names: tuple[str, ...]  # of the columns of the texts
     copies: int
     price: Price | None
     unit: Price | None
@@ -132,15 +133,16 @@ class RowReader:
             return None
         columns = self.columns
         code = self.code(row)
-        title = "\n".join(self.texts(columns.title, row, code))
-        text = tuple(self.texts(columns.text, row, code))
+        title = "\n".join(self.texts(columns.title, row, code).values())
+        texts = self.texts(columns.text, row, code)
+        text = tuple(texts.values())
         currency = self.currency(row)
         copies = columns.copies.copies(row) if columns.copies else 1
         price = self.price(columns.price, row, currency)
         unit = self.price(columns.unit_price, row, currency)
         was = self.price(columns.old_price, row, currency)
         self.noticed.prices(row.number, price, was)
-        return Draft(row.number, code, title, text, copies, price, unit, was)
+        return Draft(row.number, code, title, text, tuple(texts), copies, price, unit, was)
 
     def is_names(self, row: Row) -> bool:
         """Returns whether a row is the row of names again; its code is the name of the column
@@ -198,17 +200,19 @@ class RowReader:
             allow_zeros=rules.allow_zeros,
         )
 
-    def texts(self, columns: Sequence[Column], row: Row, code: Code) -> Iterator[str]:
-        """Yields the texts of columns that are not empty; that of the codes gives the code, with
-        all its digits.
+    def texts(self, columns: Sequence[Column], row: Row, code: Code) -> dict[str, str]:
+        """Returns the texts of columns that are not empty, by their names; that of the codes gives
+        the code, with all its digits.
         """
+        found = {}
         for column in columns:
             is_code = column.place == self.columns.code.place
             if is_code:
-                yield code.whole
+                found[column.name] = code.whole
             elif text := column.text(row):
                 self.noticed.text(column, row, text)
-                yield text
+                found[column.name] = text
+        return found
 
     def currency(self, row: Row) -> str | None:
         """Returns the currency of a row, None where the table has no column of them; raises

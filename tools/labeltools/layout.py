@@ -12,7 +12,7 @@ from labeltools.area import PAD, Area, size_of
 from labeltools.engine import Modules
 from labeltools.frames import HINTING, Box, Frame, Need, frame_of, module_in
 from labeltools.lines_file import LineRecord
-from labeltools.messages import Talk
+from labeltools.messages import Place, Talk
 from labeltools.stock import Size, size_text
 from labeltools.symbologies import SYMBOLOGIES, Symbology
 from labeltools.text import Text, joined
@@ -124,12 +124,14 @@ class LaidOut:
 @dataclass(frozen=True)
 class LaidOutFile:
     """Labels that were laid out, in their order, the area that they are in (which may be turned),
-    and why others are left out, by the numbers of their lines.
+    why others are left out, by the numbers of their lines, and what is said of a design, with the
+    places of the first labels.
     """
 
     labels: tuple[LaidOut, ...]
     area: Area
     left_out: Mapping[int, Text]
+    said: tuple[tuple[Place, Text], ...] = ()
 
 
 def print_label(record: LineRecord, modules: Modules, note: str) -> PrintLabel:

@@ -156,15 +156,19 @@ class Letters:
         """Measures a letter; None where it may change beside others."""
         if not any(first <= ord(letter) <= last for first, last in SIMPLE):
             return None
-        ink, logical = self.extents(letter, is_bold)
-        right = logical.width - ink.x - ink.width
-        top = ink.y - self.layouts[is_bold].get_baseline() / (MEASURED * Pango.SCALE)
-        return Sign(logical.width, ink.x, right, top, top + ink.height)
+        return self.whole_sign(letter, is_bold)
 
     def whole(self, text: str, is_bold: bool) -> Extent:
         """Returns the extent of a line of text as Pango lays it out."""
         ink, _ = self.extents(text, is_bold)
         return Extent(ink.width, ink.height) if ink.width > 0 else NOTHING
+
+    def whole_sign(self, text: str, is_bold: bool) -> Sign:
+        """Returns what a line of text takes as Pango lays it out."""
+        ink, logical = self.extents(text, is_bold)
+        right = logical.width - ink.x - ink.width
+        top = ink.y - self.layouts[is_bold].get_baseline() / (MEASURED * Pango.SCALE)
+        return Sign(logical.width, ink.x, right, top, top + ink.height)
 
     def extents(self, text: str, is_bold: bool) -> tuple["Rectangle", "Rectangle"]:
         """Returns the rectangles of the ink of a text and of its line."""

@@ -148,7 +148,7 @@ class LineWriter:
         """Writes the lines of a label, and counts what the summary needs."""
         settings = f",{self.options.settings}" if self.options.settings else ""
         line = f"{draft.code.symbology}{settings} {draft.code.data}"
-        label = Label(draft.row, *content, draft.copies)
+        label = Label(draft.row, *content, draft.copies, draft.names)
         self.output += label_lines(label, line, self.has_copies).encode()
         if len(self.output) > LARGEST_OUTPUT:
             raise ToolError(

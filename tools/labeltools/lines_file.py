@@ -2,7 +2,7 @@
 each label.
 
     #{"labels":1,"table":"articles.xlsx"}
-    #{"row":2,"title":"Pencil","price":"0,80 €","copies":3}
+    #{"row":2,"title":"Pencil","text":{"Colour":"red"},"price":"0,80 €","copies":3}
     ean13 4006381333931
     #{"end":1,"lines":1,"left_out":[5],"left_out_count":1}
 
@@ -28,12 +28,13 @@ MOST_LEFT_OUT = 20  # rows that the last remark names
 OBJECT = b"#{"
 FIRST = '#{"labels"'  # how the first remark begins
 LAST = '#{"end"'  # and the last one
-# the keys of the object before a line, and of all objects: a number, a text, or a list of one of
-# these
+# the keys of the object before a line, and of all objects: a number, a text, a list of one of
+# these, or `NAMED`, which is a list of texts, or an object of them by their names
+NAMED = {str: str}
 FIELDS: dict[str, Any] = {
     "row": int,
     "title": str,
-    "text": [str],
+    "text": NAMED,
     "price": str,
     "unit": str,
     "was": str,
@@ -64,7 +65,7 @@ class Label:
 
     `row` is that of the table, 0 where it is not known; `price` is printed as it stands, `unit` is
     the unit price that belongs to it, and `was` the old price; `copies` is 1 where the table has no
-    such column.
+    such column. `names` are the columns of the texts, one for each, or none at all.
     """
 
     row: int = 0
@@ -74,6 +75,7 @@ class Label:
     unit: str = ""
     was: str = ""
     copies: int = 1
+    names: tuple[str, ...] = ()
 
 
 @dataclass(frozen=True, slots=True)
@@ -126,7 +128,9 @@ def label_lines(label: Label, line: str, has_copies: bool) -> str:
     found = [f'#{{"row":{label.row}']  # put together by hand, which takes a fifth of the time
     if label.title:
         found.append(f'"title":{encode(label.title)}')
-    if label.text:
+    if label.names:
+        found.append(f'"text":{encode(dict(zip(label.names, label.text)))}')
+    elif label.text:
         found.append(f'"text":[{",".join(map(encode, label.text))}]')
     if label.price:
         found.append(f'"price":{encode(label.price)}')
@@ -266,6 +270,9 @@ def is_of(value: object, kind: Any) -> bool:
     """Returns whether a value is a whole number from 0, a text that can be printed, or a list of
     these.
     """
+    if kind is NAMED:
+        texts = value if isinstance(value, list) else named_texts(value)
+        return is_of(texts, [str])
     if isinstance(kind, list):
         return isinstance(value, list) and all(is_of(one, kind[0]) for one in value)
     if isinstance(value, int):
@@ -273,19 +280,28 @@ def is_of(value: object, kind: Any) -> bool:
     return type(value) is kind and not UNPRINTABLE.search(str(value))
 
 
+def named_texts(value: object) -> object:
+    """Returns the names and the texts of an object as one list; another value as it is."""
+    return [*value, *value.values()] if isinstance(value, dict) else value
+
+
 def label_of(found: dict[str, Any]) -> Label:
     """Returns the label of an object that is understood."""
     if not found:
         return Label()
-    texts = (text.strip() for text in found.get("text", ()))
+    texts = found.get("text", ())
+    named = texts if isinstance(texts, dict) else {}
+    filled = [(name, text.strip()) for name, text in named.items() if text.strip()]
+    values = named.values() if named else texts
     return Label(
         row=found.get("row", 0),
         title=found.get("title", "").strip(),
-        text=tuple(text for text in texts if text),
+        text=tuple(text.strip() for text in values if text.strip()),
         price=sys.intern(found.get("price", "").strip()),  # many labels have the same price
         unit=sys.intern(found.get("unit", "").strip()),
         was=sys.intern(found.get("was", "").strip()),
         copies=found.get("copies", 1),
+        names=tuple(sys.intern(name) for name, _ in filled),
     )
 
 

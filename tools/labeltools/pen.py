@@ -4,7 +4,7 @@ import math
 import re
 from dataclasses import dataclass
 from functools import cache
-from typing import Any, Iterable, Iterator, NamedTuple, Optional, Sequence
+from typing import Any, Iterable, Iterator, Mapping, NamedTuple, Optional, Protocol, Sequence
 
 import cairo
 
@@ -75,6 +75,22 @@ class Fitted(NamedTuple):
     y: int
 
 
+class Symbol(Protocol):
+    """A symbol as it is drawn: its module in dots, and the boxes of its bars and digits."""
+
+    @property
+    def symbology(self) -> Symbology:
+        """Its symbology."""
+
+    @property
+    def module(self) -> int:
+        """The dots of a module."""
+
+    @property
+    def boxes(self) -> Mapping[str, Box]:
+        """Its boxes, by `bars` and `digits`."""
+
+
 class DigitPlace(NamedTuple):
     """Digits of the data, their size and where they begin below the bars."""
 
@@ -143,7 +159,7 @@ class Pen:
         if kind == "bars":
             self.draw_modules(canvas, label.modules, layout)
         elif kind == "digits":
-            self.draw_data(canvas, label, layout)
+            self.draw_data(canvas, label.record.data, layout)
         elif kind == "title":
             self.draw_head(canvas, label, layout)
         else:
@@ -339,7 +355,7 @@ class Pen:
         else:
             show_layout(canvas, text.layout)
 
-    def draw_modules(self, canvas: Any, modules: Modules, layout: Layout) -> None:
+    def draw_modules(self, canvas: Any, modules: Modules, layout: Symbol) -> None:
         """Draws the modules of a label, and the longer guards of bars."""
         box = layout.boxes["bars"]
         module = layout.module
@@ -355,10 +371,10 @@ class Pen:
         mask.set_matrix(scaled(place, modules.width, high, 0.0 if self.medium.is_dots else INSET))
         canvas.mask(mask)
 
-    def draw_data(self, canvas: Any, label: PrintLabel, layout: Layout) -> None:
+    def draw_data(self, canvas: Any, whole: bytes, layout: Symbol) -> None:
         """Draws what is below the bars: digits in their places, or all data in the middle."""
         box = layout.boxes["digits"]
-        data = label.record.data.decode("ascii", "replace")
+        data = whole.decode("ascii", "replace")
         if layout.symbology.is_number:
             self.draw_digits(canvas, data, layout)
             return
@@ -367,7 +383,7 @@ class Pen:
         text = self.fitted(data.translate(SHOWN), style, box.width, box.height)
         self.show(canvas, text, style.family, box.left, box.top)
 
-    def draw_digits(self, canvas: Any, data: str, layout: Layout) -> None:
+    def draw_digits(self, canvas: Any, data: str, layout: Symbol) -> None:
         """Draws the digits of EAN and UPC in their places."""
         box = layout.boxes["digits"]
         module = layout.module

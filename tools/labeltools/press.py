@@ -9,7 +9,7 @@ from io import BytesIO
 from itertools import accumulate
 from pathlib import Path
 from shutil import copyfileobj
-from typing import IO, Any, Iterator, Sequence
+from typing import IO, Any, Iterator, Optional, Sequence
 
 from labeltools.area import Plan
 from labeltools.compare import Comparison
@@ -22,13 +22,16 @@ from labeltools.forms.zpl import zpl
 from labeltools.layout import LaidOut, LaidOutFile
 from labeltools.letters import Fonts, Letters
 from labeltools.messages import Talk
+from labeltools.own_design import OwnDesign
+from labeltools.own_pen import OwnPen
 from labeltools.pen import Medium, Page, Pen
 
 
 @dataclass(frozen=True)
 class PrintJob:
     """How labels go out: on which sheet, in which form and fonts, from which cell of the first page
-    on; whether ESC/POS cuts after each label, and whether ZPL is compressed; options of labels(1).
+    on; whether ESC/POS cuts after each label, and whether ZPL is compressed; options of labels(1);
+    a design of the user's own.
     """
 
     plan: Plan
@@ -38,6 +41,7 @@ class PrintJob:
     is_cut: bool = True
     is_compressed: bool = False
     words: tuple[str, ...] = ()
+    design: Optional[OwnDesign] = None
 
     def pages_of(self, labels: int) -> int:
         """Returns how many pages so many labels take."""
@@ -230,8 +234,15 @@ def pens_of(job: PrintJob, letters: Letters) -> list[Pen]:
     dpi = job.plan.dpi
     fonts = job.fonts
     if not job.form.is_drawn:
-        return [Pen(Medium(dpi, True), fonts, letters)]
+        return [pen_of(job, Medium(dpi, True), letters)]
     outlines = (frozenset[str](), frozenset({fonts.digits}), frozenset({fonts.digits, fonts.texts}))
     is_smooth = job.form == SVG
     wanted = outlines[:1] if is_smooth else outlines
-    return [Pen(Medium(dpi, False, is_smooth, shapes), fonts, letters) for shapes in wanted]
+    return [pen_of(job, Medium(dpi, False, is_smooth, shapes), letters) for shapes in wanted]
+
+
+def pen_of(job: PrintJob, medium: Medium, letters: Letters) -> Pen:
+    """Returns what draws labels of a job on a medium."""
+    if job.design:
+        return OwnPen(medium, job.fonts, letters, job.design)
+    return Pen(medium, job.fonts, letters)

@@ -25,6 +25,7 @@ from labeltools.journal import Journal
 from labeltools.layout import LaidOut
 from labeltools.messages import BAD_ARGUMENTS, ToolError, write_message
 from labeltools.network import SCHEME, NetworkPrinter
+from labeltools.own_design import is_file
 from labeltools.press import PrintJob, Press, Prints, once
 from labeltools.print_job import (
     DRAWING_DPI,
@@ -94,6 +95,14 @@ def edges(argument: str) -> tuple[float, float, float, float]:
     return left, top, right, bottom
 
 
+def design_of(argument: str) -> str:
+    """Returns the name of a design, or the file of a user's own."""
+    if argument not in DESIGNS and not is_file(argument):
+        known = f"{', '.join(DESIGNS)}, or a file such as rack.svg"
+        raise argparse.ArgumentTypeError(f"{argument!r} is none of {known}")
+    return argument
+
+
 def rows(argument: str) -> str:
     """Returns rows such as 2,7-9 or 7-."""
     if not ROWS.fullmatch(argument):
@@ -118,7 +127,7 @@ def add_sheet_options(parser: argparse.ArgumentParser) -> None:
     """Adds the options of the paper."""
     count = reads("3", 1, int)
     size = reads("63x38", 0.0001)
-    one = parser.add_mutually_exclusive_group(required=True).add_argument
+    one = parser.add_mutually_exclusive_group().add_argument
     stock = "the sheet of labels by its name, such as 'Avery L7160' or l7160"
     one("--stock", metavar="NAME", help=stock)
     one("--list-stock", metavar="WORD", help="list the sheets that have these words or this size")
@@ -146,8 +155,8 @@ def add_size_options(parser: argparse.ArgumentParser) -> None:
     """Adds the options of how labels look."""
     add = parser.add_argument
     length = reads("38.1", 0.0001)
-    design = "article: bars for a till (the default); shelf: a large price"
-    add("--design", choices=tuple(DESIGNS), default=PrintOptions.design, help=design)
+    design = "article: bars for a till (the default); shelf: a large price; or a page of SVG"
+    add("--design", metavar="NAME", type=design_of, default=PrintOptions.design, help=design)
     turn = parser.add_mutually_exclusive_group().add_argument
     turned = "turn labels to the right (they are where more of them fit so)"
     turn("--turn", action="store_const", const=True, help=turned)

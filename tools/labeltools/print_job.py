@@ -11,16 +11,20 @@ from dataclasses import dataclass, replace
 from typing import Iterable, Iterator, Mapping, Optional, Sequence
 
 from labeltools.text import Text
-from labeltools.area import ARTICLE, DESIGNS, Edges, Wishes, plan_of
+from labeltools.area import ARTICLE, DESIGNS, OWN, Edges, Wishes
+from labeltools.area import plan_of, white_of, whole_plan_of
 from labeltools.engine import Drawn, run_labels
 from labeltools.forms import ESCPOS, FORMS, PDF, Form
 from labeltools.layout import LaidOut, LaidOutFile, PrintLabel, lay_out, print_label
 from labeltools.letters import Fonts, Letters
 from labeltools.lines_file import UNPRINTABLE, LineRecord, LinesFile, read_lines
 from labeltools.messages import BAD_ARGUMENTS, Place, Talk, ToolError
+from labeltools.own_design import is_file, read_design, size_of_page
+from labeltools.own_layout import OwnLayouts
+from labeltools.own_pen import check_drawing
 from labeltools.pen import Medium, Pen
 from labeltools.names import listed
-from labeltools.press import Press, PrintJob, Prints, pens_of, with_copies
+from labeltools.press import Press, PrintJob, Prints, pen_of, pens_of, with_copies
 from labeltools.read_back import fault_of
 from labeltools.report import LeftOut, places_text
 from labeltools.selection import Selection
@@ -34,6 +38,8 @@ WORKBOOK = b"PK\x03\x04"  # what .xlsx and .ods begin with
 UNKNOWN = "unknown symbology"  # what labels(1) says
 TABLE_FIRST = Text("a table goes through label-table first")
 CUT_OFF = Text("has no line end, so it may be cut off: end it with a line feed")
+NO_GRID = Text("a grid needs --columns, --rows and --cell")
+NO_PAPER = Text("one of --stock, --paper, --cell and a --design of SVG is needed")
 DENSE = 0.33  # millimetres: modules of QR below it are said
 
 
@@ -114,6 +120,8 @@ class Prepared:
 
 def planned(options: PrintOptions) -> PrintJob:
     """Returns how labels go out; raises `ToolError` where options do not go together."""
+    if is_file(options.design) and not (options.stock or options.paper or options.cell):
+        options = replace(options, paper=size_of_page(options.design))
     form = form_of(options)
     if not form.is_drawn and not options.dpi:
         hint = Text("the dots an inch of the printer, such as 203 or 300")
@@ -131,21 +139,29 @@ def planned(options: PrintOptions) -> PrintJob:
     if edges is None:
         edge = 0.0 if sheet.is_single else EDGE
         edges = edge, edge, edge, edge
+    own = None
+    if is_file(options.design):
+        if options.height is not None:
+            what = Text("--height is not for a design of one's own")
+            hint = Text("the places of a design say how high bars are")
+            raise ToolError(what, hint, BAD_ARGUMENTS)
+        own = read_design(options.design, sheet.cell, white_of(sheet, edges), options.turn)
+        check_drawing(own)
     wishes = Wishes(
-        DESIGNS[options.design],
+        OWN if own else DESIGNS[options.design],
         options.module,
         options.height,
         options.turn,
         options.paper is not None,
     )
-    plan = plan_of(sheet, dpi, edges, wishes)
+    plan = whole_plan_of(sheet, dpi, wishes) if own else plan_of(sheet, dpi, edges, wishes)
     if form == ESCPOS and plan.page[0] > options.dots:
         what = Text(
             "a label has {} dots, and the printer has {} (--dots)", plan.page[0], options.dots
         )
         raise ToolError(what, status=BAD_ARGUMENTS)
     fonts = Fonts(options.font, options.digits)
-    how = (options.first, options.is_cut, options.is_compressed, options.words)
+    how = (options.first, options.is_cut, options.is_compressed, options.words, own)
     return PrintJob(plan, form, fonts, *how)
 
 
@@ -179,7 +195,7 @@ def named_sheet(options: PrintOptions) -> Sheet:
     if options.paper:
         return Sheet(options.paper, options.paper, ((0.0, 0.0),))
     if not options.cell or not options.columns or not options.rows:
-        raise ToolError(Text("a grid needs --columns, --rows and --cell"), status=BAD_ARGUMENTS)
+        raise ToolError(NO_GRID if options.cell else NO_PAPER, status=BAD_ARGUMENTS)
     grid = Grid(
         options.page, options.cell, options.columns, options.rows, options.margin, options.gap
     )
@@ -241,7 +257,12 @@ def prepared(
         reasons.update(doubles(lines, reasons))
     if reasons:
         labels = [label for label in labels if label.record.number not in reasons]
-    laid_out = lay_out(labels, job.plan.area, letters, talk)
+    if job.design:
+        area = job.plan.area.turned() if job.design.is_turned else job.plan.area
+        own = OwnLayouts(job.design, area, letters, options.note, options.words)
+        laid_out = own.lay_out(labels, talk)
+    else:
+        laid_out = lay_out(labels, job.plan.area, letters, talk)
     reasons.update(laid_out.left_out)
     wanted = only_wanted(laid_out.labels, options.only)
     if options.read_back:
@@ -329,7 +350,7 @@ def faults(
     items: Sequence[LaidOut], laid_out: LaidOutFile, job: PrintJob, letters: Letters, talk: Talk
 ) -> Iterator[tuple[LineRecord, Text]]:
     """Yields the lines of labels that are not drawn as they have to be, and what is wrong."""
-    pen = Pen(Medium(job.plan.dpi, True), job.fonts, letters)
+    pen = pen_of(job, Medium(job.plan.dpi, True), letters)
     for done, item in enumerate(items):
         talk.go_on(done, len(items))
         fault = fault_of(item, laid_out.area, pen)
@@ -353,6 +374,8 @@ def remarks_on(
 ) -> Iterable[Remark]:
     """Yields what is to be said of labels that are printed, each once for a file."""
     dot = laid_out.area.dot
+    for place, said in laid_out.said:
+        yield Remark(place, said)
     if laid_out.area.wishes.design == ARTICLE:
         low = [item for item in items if has_low_bars(item)]
         if low:

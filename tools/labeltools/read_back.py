@@ -10,8 +10,11 @@ from labeltools.forms.dots import Picture, drawn_page
 from labeltools.frames import Box
 from labeltools.layout import LaidOut
 from labeltools.messages import ToolError
+from labeltools.own_layout import OwnLayout, OwnSymbol
 from labeltools.pen import Pen, bits_of
 
+NOT_READ = Text("as drawn it is not read")
+NOT_DRAWN = Text("its bars as drawn are not those of labels")
 PIXELS = bytes.maketrans(b"01", b"\xff\0")
 
 
@@ -20,7 +23,33 @@ def fault_of(item: LaidOut, area: Area, pen: Pen) -> Optional[Text]:
     `ToolError` where zxing-cpp is not there.
     """
     size = area.width, area.height
-    return fault_in(drawn_page(size, pen, [(item, (0, 0))]), item)
+    picture = drawn_page(size, pen, [(item, (0, 0))])
+    if isinstance(item.layout, OwnLayout):
+        return own_fault_in([bits_of(row) for row in picture.rows], item.layout)
+    return fault_in(picture, item)
+
+
+def own_fault_in(rows: list[str], layout: OwnLayout) -> Optional[Text]:
+    """Returns what is wrong with one of the symbols of a label, each read in its place alone."""
+    for symbol in layout.symbols:
+        box = symbol.box
+        place = [row[box.left : box.right] for row in rows[box.top : box.bottom]]
+        for _ in range(symbol.place.quarters):
+            place = ["".join(column) for column in zip(*place)][::-1]  # back to the left
+        fault = fault_of_symbol(place, symbol)
+        if fault is not None:
+            return Text("place {}: {}", symbol.place.title, fault)
+    return None
+
+
+def fault_of_symbol(rows: list[str], symbol: OwnSymbol) -> Optional[Text]:
+    """Returns what is wrong with a symbol in dots of its place."""
+    found = code_in(rows, re.sub("[- ]", "", symbol.symbology.title))
+    if found is None:
+        return NOT_READ
+    if found != symbol.data:
+        return Text("as drawn it is read as {}", repr(found))
+    return None if is_drawn(rows, symbol.modules, symbol.boxes["bars"]) else NOT_DRAWN
 
 
 def fault_in(picture: Picture, item: LaidOut) -> Optional[Text]:
@@ -30,12 +59,12 @@ def fault_in(picture: Picture, item: LaidOut) -> Optional[Text]:
     rows = [bits_of(row) for row in picture.rows]
     found = code_in(rows, re.sub("[- ]", "", item.layout.symbology.title))
     if found is None:
-        return Text("as drawn it is not read")
+        return NOT_READ
     if found != item.label.record.data:
         return Text("as drawn it is read as {}", repr(found))
     box = item.layout.boxes["bars"]
     if not is_drawn(rows, item.label.modules, box):
-        return Text("its bars as drawn are not those of labels")
+        return NOT_DRAWN
     return None
 
 

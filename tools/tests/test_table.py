@@ -40,6 +40,9 @@ def parts_of(output: bytes) -> Tuple[Label, List[Tuple[Label, str]], Label]:
     for text, remark in zip((texts[0], *texts[1::2]), remarks):
         if text != "#" + json.dumps(remark, ensure_ascii=False, separators=(",", ":")):
             raise AssertionError(f"not as a remark is written: {text}")
+    for remark in remarks:
+        if "text" in remark:
+            remark["text"] = list(remark["text"].values())
     if rest or len(texts) % 2 or any(line.startswith("#") for line in texts[2::2]):
         raise AssertionError(f"no remark before each line, or no line end: {output!r}")
     return remarks[0], list(zip(remarks[1:-1], texts[2::2])), remarks[-1]
@@ -142,8 +145,8 @@ class Encodings(TableTest):
                     "label-table", *self.ARGUMENTS, *arguments, input=data, locale=locale
                 )
                 self.assertEqual(support.messages(done), [])
-                pencil = f'#{{"row":2,"title":"Käse","text":["ß"]}}\nean13 {PENCIL}\n'
-                small = f'#{{"row":3,"title":"Öl €","text":["ü"]}}\nean8 {SMALL}\n'
+                pencil = f'#{{"row":2,"title":"Käse","text":{{"Größe":"ß"}}}}\nean13 {PENCIL}\n'
+                small = f'#{{"row":3,"title":"Öl €","text":{{"Größe":"ü"}}}}\nean8 {SMALL}\n'
                 end = '#{"end":1,"lines":2,"left_out":[],"left_out_count":0}\n'
                 self.assertEqual(done.stdout.decode(), '#{"labels":1}\n' + pencil + small + end)
 
@@ -564,7 +567,7 @@ class Texts(TableTest):
         self.assertEqual((done.returncode, support.messages(done)), (1, problems))
         written = [
             '#{"labels":1}',
-            '#{"row":2,"title":"Käse","text":["rot"],"price":"1,20","copies":2}',
+            '#{"row":2,"title":"Käse","text":{"colour":"rot"},"price":"1,20","copies":2}',
             f"ean13 {PENCIL}",
             '#{"row":4,"copies":0}',
             f"ean8 {SMALL}",

@@ -829,9 +829,9 @@ class OldTables(RulesTest):
         )
         lines = [
             '#{"labels":1}',
-            '#{"row":2,"title":"Pencil\\n2B","text":["red"],"price":"0,80 €","copies":3}',
+            '#{"row":2,"title":"Pencil\\n2B","text":{"Size":"red"},"price":"0,80 €","copies":3}',
             f"ean13 {PENCIL}",
-            '#{"row":3,"title":"Soap","text":["100 g"],"price":"0,99 €","copies":1}',
+            '#{"row":3,"title":"Soap","text":{"Size":"100 g"},"price":"0,99 €","copies":1}',
             "ean13 0036000291452",
             '#{"end":1,"lines":2,"left_out":[],"left_out_count":0}',
         ]

@@ -1,0 +1,484 @@
+"""Lays out labels in a design of a user's own: letters as large as their place takes, alike on
+nearly all labels, and symbols of the largest module that it takes. Lengths are in dots, those of
+texts in sizes of their letters.
+"""
+
+import math
+from collections import Counter
+from dataclasses import dataclass, field
+from typing import Iterable, Iterator, Mapping, NamedTuple, Optional, Sequence
+
+from labeltools.area import LARGEST_MODULE, TINY, Area
+from labeltools.engine import Modules, run_labels
+from labeltools.frames import DIGITS_ROOM, HINTING, LEAST_TEXT, LINE, LOWEST, Box, Frame, share
+from labeltools.layout import ASKED, LaidOut, LaidOutFile, Layout, PrintLabel, short
+from labeltools.letters import BLANK, Fonts, Letters, Sign
+from labeltools.lines_file import symbology_and_data
+from labeltools.messages import Place as LinePlace
+from labeltools.messages import Talk, quoted
+from labeltools.own_design import PARTS, OwnDesign, Place, key_of
+from labeltools.stock import size_text
+from labeltools.symbologies import SYMBOLOGIES, Symbology
+from labeltools.text import Text
+
+SIDE = 1 / 8  # white at both sides of wrapped lines, in letters
+STEP = 0.97  # the next smaller size of letters that is tried
+STEPS = 160  # of these: from the largest letters to less than a hundredth of them
+PRICES = ("price", "unit", "was")
+MOST_LINES = 20  # of a text in a place
+ENLARGE = Text("enlarge it")
+NO_FRAME = Frame("own", {}, {}, 0, 0, 0, 0, 0, 0, True, 0.0)
+
+
+@dataclass(frozen=True, slots=True)
+class OwnText:
+    """A text in a place: its letters and lines, and its base line from the top of its box; whether
+    it is cut.
+    """
+
+    place: Place
+    text: str
+    box: Box
+    size: int
+    lines: int
+    base: int
+    is_cut: bool
+
+
+@dataclass(frozen=True, slots=True)
+class OwnSymbol:
+    """A symbol in a place: its box, its data and modules, and where its bars and digits are in
+    that.
+    """
+
+    place: Place
+    box: Box
+    data: bytes
+    modules: Modules
+    symbology: Symbology
+    module: int
+    boxes: Mapping[str, Box]
+
+
+@dataclass(frozen=True, slots=True)
+class OwnLayout(Layout):
+    """What is on a label beside the drawing; as a layout it is that of its finest symbol of QR, or
+    else of its finest one.
+    """
+
+    texts: tuple[OwnText, ...]
+    symbols: tuple[OwnSymbol, ...]
+
+
+# symbols by their places and texts: their modules and data, or why they are refused
+Made = dict[tuple[Place, str], tuple[Modules, bytes] | Text]
+
+
+class NoRoom(Exception):
+    """Why a price or a symbol has no room in its place."""
+
+    def __init__(self, reason: Text) -> None:
+        super().__init__(reason)
+        self.reason = reason
+
+
+class Fit(NamedTuple):
+    """The largest letters of a text in a place, how many lines it has then, whether it is cut."""
+
+    size: int
+    lines: int
+    is_cut: bool = False
+
+
+@dataclass
+class Room:
+    """The room of a place, and what is known of the texts of all labels in it."""
+
+    place: Place
+    box: Box
+    letters: Letters
+    dot: float
+    top: float = 0.0
+    bottom: float = 0.0
+    least: int = 1  # the smallest letters before a text is cut,
+    most_lines: int = 1  # and the most lines, which have these
+    common: int = 0
+    fits: dict[str, Fit] = field(default_factory=dict)
+
+    @property
+    def wide(self) -> int:
+        """Its width as it is read."""
+        return self.box.height if self.place.quarters % 2 else self.box.width
+
+    @property
+    def high(self) -> int:
+        """Its height as it is read."""
+        return self.box.width if self.place.quarters % 2 else self.box.height
+
+    def largest(self, lines: int) -> int:
+        """Returns the largest letters of a number of lines."""
+        size = int(self.high / ((lines - 1) * LINE + self.bottom - self.top))
+        wished = int(self.place.size / self.dot)
+        return min(size, wished) if wished else size
+
+    def take(self, counts: Counter[str]) -> None:
+        """Finds the letters of all texts that come here, which are given with how often."""
+        is_bold = self.place.is_bold
+        lines = {line for text in counts for line in text.split("\n")}
+        signs = [sign_of(self.letters, line, is_bold) for line in lines]
+        self.top = min(sign.top for sign in signs)
+        self.bottom = max(sign.bottom for sign in signs)
+        if self.bottom - self.top <= 0:
+            self.top, self.bottom = -1.0, 0.0
+        self.least = max(1, min(math.ceil(LEAST_TEXT / self.dot), self.largest(1)))
+        most = int(self.place.lines) or MOST_LINES
+        while self.most_lines < most and self.largest(self.most_lines + 1) >= self.least:
+            self.most_lines += 1
+        sizes: Counter[float] = Counter()
+        for text, labels in counts.items():
+            fit = self.largest_fit(text)
+            self.fits[text] = fit
+            sizes[1 / fit.size] += labels
+        self.common = round(1 / share(sizes))
+
+    def largest_fit(self, text: str) -> Fit:
+        """Returns the largest letters in which a text is whole, or else the least ones."""
+        paragraphs = [self.widths(line) for line in text.split("\n")]
+        best = Fit(self.least, self.most_lines, True)
+        sizes = sizes_between(self.least, self.largest(len(paragraphs)))
+        first = 0
+        last = len(sizes)
+        while first < last:  # the sizes fall: the first one in which it is whole
+            middle = (first + last) // 2
+            if fit := self.fit(paragraphs, sizes[middle]):
+                best = fit
+                last = middle
+            else:
+                first = middle + 1
+        return best
+
+    def fit(self, paragraphs: Sequence[Sequence[float]], size: int) -> Optional[Fit]:
+        """Returns how a text fits in letters of a size; None where it does not."""
+        room = self.wide / size / HINTING
+        if len(paragraphs) == 1 and sum(paragraphs[0]) <= room:
+            return Fit(size, 1)
+        lines = 0
+        for words in paragraphs:
+            found = lines_of(words, room - SIDE, self.space)
+            if not found:
+                return None
+            lines += found
+        is_fitting = lines <= self.most_lines and size <= self.largest(lines)
+        return Fit(size, lines) if is_fitting else None
+
+    @property
+    def space(self) -> float:
+        """The width of a space."""
+        return self.letters.spaces[self.place.is_bold]
+
+    def widths(self, line: str) -> list[float]:
+        """Returns the widths of words, each but the first with the space before it; prices are
+        one word.
+        """
+        found: list[float] = []
+        for word in [line] if self.is_price else line.split(" "):
+            advance = sign_of(self.letters, word, self.place.is_bold).advance
+            found.append(advance + (self.space if found else 0.0))
+        return found
+
+    @property
+    def is_price(self) -> bool:
+        """Whether its texts are never cut, and stay on one line."""
+        return self.place.part in PRICES
+
+    def text(self, text: str) -> OwnText:
+        """Returns where a text is; raises `NoRoom` for a price that would be cut."""
+        fit = self.fits[text]
+        if fit.is_cut and self.is_price:
+            what = Text("{} has no room in the place {}", quoted(text), self.place.title)
+            raise NoRoom(Text("{}: {}", what, ENLARGE))
+        size = min(fit.size, self.common)
+        lines = fit.lines
+        if size < fit.size and lines > 1:
+            found = self.fit([self.widths(line) for line in text.split("\n")], size)
+            lines = found.lines if found else lines
+        tall = ((lines - 1) * LINE + self.bottom - self.top) * size
+        base = (self.high - tall) * self.place.down - self.top * size
+        return OwnText(self.place, text, self.box, size, lines, round(base), fit.is_cut)
+
+
+def sign_of(letters: Letters, line: str, is_bold: bool) -> Sign:
+    """Returns what a line of text takes, also where letters change beside others."""
+    if not line.strip():
+        return BLANK
+    found = letters.line(line, is_bold)
+    return found if found else letters.whole_sign(line, is_bold)
+
+
+def sizes_between(least: int, most: int) -> list[int]:
+    """Returns sizes of letters from the largest to the least one."""
+    sizes = {max(least, int(most * STEP**step)) for step in range(STEPS)}
+    return sorted(sizes, reverse=True)
+
+
+def lines_of(words: Sequence[float], room: float, space: float) -> int:
+    """Returns how many lines words take; 0 where one is too wide."""
+    lines = 1
+    used = 0.0
+    for number, word in enumerate(words):
+        bare = word - (space if number else 0.0)
+        if bare > room:
+            return 0
+        if used and used + word > room:
+            lines += 1
+            used = bare
+        else:
+            used += word if used else bare
+    return lines
+
+
+class Values(NamedTuple):
+    """What a label has for places: texts by their keys, and the other names of these keys."""
+
+    texts: Mapping[str, str]
+    names: Mapping[str, str]
+
+
+def values_of(label: PrintLabel, note: str, own: frozenset[str]) -> Values:
+    """Returns the texts of a label: those with a place of their own by their names, the others
+    together as its text.
+    """
+    record = label.record
+    whole = record.label
+    texts = {"title": short(whole.title), "price": whole.price, "unit": whole.unit}
+    texts["was"] = whole.was
+    texts["code"] = record.data.decode("utf-8", "surrogateescape")
+    names = {key: key for key in texts}
+    rest = []
+    for number, text in enumerate(whole.text):
+        name = whole.names[number] if whole.names else ""
+        key = key_of(name)
+        if key in own and key not in PARTS and key not in texts:
+            texts[key] = short(text)
+            names[key] = name
+        else:
+            rest.append((name, text))
+    if note and "note" in own:
+        texts["note"] = names["note"] = note
+    elif note:
+        rest.append(("note", note))
+    texts["text"] = short("\n".join(text for _, text in rest))
+    names["text"] = ", ".join(dict.fromkeys(name or "text" for name, _ in rest))
+    return Values({key: text for key, text in texts.items() if text}, names)
+
+
+@dataclass
+class OwnLayouts:
+    """Lays out labels in a design."""
+
+    design: OwnDesign
+    area: Area
+    letters: Letters
+    note: str
+    words: tuple[str, ...]
+    left_out: dict[int, Text] = field(default_factory=dict)
+
+    def __post_init__(self) -> None:
+        self.places = self.design.places
+        self.own = frozenset(key_of(place.name) for place in self.places)
+        self.own |= frozenset(place.part for place in self.places)
+        self.boxes = {place: self.box_of(place) for place in self.places}
+
+    def box_of(self, place: Place) -> Box:
+        """Returns the dots of a place that the paper takes."""
+        dot = self.area.dot
+        first = [max(0, math.ceil(start / dot - TINY)) for start in (place.left, place.top)]
+        right = math.floor((place.left + place.width) / dot + TINY)
+        bottom = math.floor((place.top + place.height) / dot + TINY)
+        wide = min(right, self.area.width) - first[0]
+        high = min(bottom, self.area.height) - first[1]
+        return Box(first[0], first[1], max(1, wide), max(1, high))
+
+    def lay_out(self, labels: Sequence[PrintLabel], talk: Talk) -> LaidOutFile:
+        """Returns labels with their layouts, why others are left out, and what is said of all."""
+        values = [values_of(label, self.note, self.own) for label in labels]
+        symbols = self.second_symbols(values, talk)
+        rooms = self.rooms(values)
+        placed = []
+        for number, label in enumerate(labels):
+            if number % ASKED == 0:
+                talk.go_on(number, 0)
+            try:
+                layout = self.layout(label, values[number], rooms, symbols)
+            except NoRoom as problem:
+                self.left_out[label.record.number] = problem.reason
+            else:
+                placed.append(LaidOut(label, layout))
+        said = tuple(self.said(labels, values))
+        return LaidOutFile(tuple(placed), self.area, self.left_out, said)
+
+    def text_at(self, place: Place, values: Values) -> str:
+        """Returns the text of a label in a place."""
+        return values.texts.get(key_of(place.name)) or values.texts.get(place.part) or ""
+
+    def rooms(self, values: Iterable[Values]) -> dict[Place, Room]:
+        """Returns the rooms of texts."""
+        counts: dict[Place, Counter[str]] = {}
+        for place in self.places:
+            if not place.is_symbol:
+                counts[place] = Counter()
+        for value in values:
+            for place, counter in counts.items():
+                if text := self.text_at(place, value):
+                    counter[text] += 1
+        rooms = {}
+        known = {"": self.letters}
+        for place, counter in counts.items():
+            if place.font not in known:
+                known[place.font] = Letters(Fonts(place.font))
+            if counter:
+                rooms[place] = Room(place, self.boxes[place], known[place.font], self.area.dot)
+                rooms[place].take(counter)
+        return rooms
+
+    def second_symbols(self, values: Iterable[Values], talk: Talk) -> Made:
+        """Returns the symbols that are made of texts, or why they are refused."""
+        wanted: dict[tuple[Place, str], int] = {}
+        lines: list[bytes] = []
+        made = [place for place in self.places if place.symbology]
+        for value in values:
+            for place in made:
+                text = self.text_at(place, value)
+                if text and (place, text) not in wanted:
+                    lines.append(line_of(place, text))
+                    wanted[place, text] = len(lines)
+        if not lines:
+            return {}
+        words = self.words if "--escapes" in self.words else (*self.words, "--escapes")
+        drawn = run_labels(b"".join(line + b"\n" for line in lines), words, talk)
+        found: Made = {}
+        for key, number in wanted.items():
+            modules = drawn.pictures.get(number)
+            _, data = symbology_and_data(lines[number - 1], True)
+            found[key] = (modules, data) if modules else drawn.refused[number]
+        return found
+
+    def layout(
+        self,
+        label: PrintLabel,
+        values: Values,
+        rooms: Mapping[Place, Room],
+        made: Made,
+    ) -> OwnLayout:
+        """Returns the layout of a label; raises `NoRoom`."""
+        texts = []
+        symbols = []
+        for place in self.places:
+            text = self.text_at(place, values)
+            if not text:
+                continue
+            if place.symbology:
+                second = made[place, text]
+                if isinstance(second, Text):
+                    raise NoRoom(Text("place {}: {}", place.title, second))
+                symbols.append(self.symbol(place, SYMBOLOGIES[place.symbology], *second))
+            elif place.is_symbol:
+                data = label.record.data
+                symbols.append(self.symbol(place, label.symbology, label.modules, data))
+            else:
+                texts.append(rooms[place].text(text))
+        finest = min(symbols, key=lambda one: (one.symbology.nominal > 0, one.module))
+        found = (finest.symbology, finest.module, finest.boxes, False)
+        return OwnLayout(NO_FRAME, *found, tuple(texts), tuple(symbols))
+
+    def symbol(
+        self, place: Place, symbology: Symbology, modules: Modules, data: bytes
+    ) -> OwnSymbol:
+        """Returns a symbol in the middle of its place; raises `NoRoom`."""
+        box = self.boxes[place]
+        room = Box(0, 0, box.height, box.width) if place.quarters % 2 else box
+        least, most = self.allowed(place, symbology)
+        rows = modules.height if modules.height > 1 else 0  # else bars are as high as there is room
+        below = DIGITS_ROOM if symbology.nominal else 0
+        lowest = rows * least or math.ceil(LOWEST / self.area.dot)
+        module = min(most, room.width // modules.width)
+        if rows:
+            module = min(module, room.height // (rows + below))
+        high = rows * module or room.height - below * module
+        if module < least or high < lowest:
+            wanted = modules.width * least, lowest + below * least
+            raise NoRoom(self.no_room(place, symbology, wanted))
+        high -= high % module
+        left = (room.width - modules.width * module) // 2
+        top = (room.height - high - below * module) // 2
+        bars = Box(left, top, modules.width * module, high)
+        boxes = {"bars": bars}
+        if below:
+            boxes["digits"] = bars._replace(top=bars.bottom, height=below * module)
+        return OwnSymbol(place, box, data, modules, symbology, module, boxes)
+
+    def allowed(self, place: Place, symbology: Symbology) -> tuple[int, int]:
+        """Returns the least and the most dots of a module. EAN and UPC have a largest one."""
+        dot = self.area.dot
+        least = max(1, math.ceil(self.area.smallest(symbology) / dot - TINY))
+        wished = place.module or self.area.wishes.module
+        if wished:
+            least = max(least, round(wished / dot))
+            return least, least
+        most = int(LARGEST_MODULE / dot + TINY) if symbology.is_number else self.area.width
+        return least, max(least, most)
+
+    def no_room(self, place: Place, symbology: Symbology, wanted: tuple[int, int]) -> Text:
+        """Returns why a symbol, which takes so many dots at least, has no room in its place."""
+        wide, high = (math.ceil(side * self.area.dot * 10) / 10 for side in wanted)
+        sides = (place.width, place.height)
+        has = size_text(sides[::-1] if place.quarters % 2 else sides)
+        hint = ENLARGE if symbology.is_number else Text("enlarge it, or take shorter data")
+        what = Text(
+            "{} needs {}, and the place {} of {} has {}",
+            symbology.title,
+            size_text((wide, high)),
+            place.title,
+            self.design.file,
+            has,
+        )
+        return Text("{}: {}", what, hint)
+
+    def said(
+        self, labels: Sequence[PrintLabel], values: Sequence[Values]
+    ) -> Iterator[tuple[LinePlace, Text]]:
+        """Yields what is said of places that are smaller than drawn, of parts without a place, and
+        of places for which no label has anything.
+        """
+        if not labels:
+            return
+        first = labels[0].record.place
+        file = self.design.file
+        if self.design.smaller:
+            why = Text("an edge of the page takes no ink there (--edge)")
+            named = ", ".join(self.design.smaller)
+            yield first, Text("{}: smaller than drawn: {}: {}", file, named, why)
+        names: dict[str, str] = {}
+        for value in values:
+            for key in value.texts:
+                names.setdefault(key, value.names[key])
+        lost = [name for key, name in names.items() if key not in self.own]
+        if lost:
+            named = ", ".join(lost)
+            yield first, Text("{} has no place for {}: not on the labels", file, named)
+        known = {*names, *PARTS}
+        empty = [one for one in self.places if not known & {key_of(one.name), one.part}]
+        if empty:
+            named = ", ".join(place.title for place in empty)
+            hint = Text(
+                "name a column so, by label-table --text {}, or take the name away",
+                quoted(empty[0].title),
+            )
+            yield first, Text("{}: no label has anything for {}: {}", file, named, hint)
+
+
+def line_of(place: Place, text: str) -> bytes:
+    """Returns the line of labels(1) that draws a text as a symbol."""
+    escaped = text.replace("\\", "\\\\").replace("\n", "\\n")
+    line = f"{','.join((place.symbology, *place.settings))} {escaped}"
+    return line.encode("utf-8", "surrogateescape")
