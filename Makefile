@@ -96,7 +96,7 @@ deb: $(LABELS) $(PROVED)
 	rm -rf out/deb && mkdir -p out/deb/source
 	git archive HEAD | tar -x -C out/deb/source
 	debian/changelog.py > out/deb/source/debian/changelog
-	cd out/deb/source && LABELS=$(abspath $(LABELS)) PROVED=$(abspath $(PROVED)) dpkg-buildpackage -b -us -uc
+	cd out/deb/source && MAKEFLAGS= LABELS=$(abspath $(LABELS)) PROVED=$(abspath $(PROVED)) dpkg-buildpackage -b -us -uc
 	ls out/deb/*.deb
 
 # A fresh Debian in out/root; MIRROR names another mirror.
