@@ -11,6 +11,8 @@ LABELS ?= out/labels
 PROVED ?= out/liblabels_c.a
 SOURCES := $(shell find crates -name out -prune -o -name '*.rt' -print -o -name '*.antt' -print)
 TOOLS := $(notdir $(wildcard tools/label-*))
+# The window has no completion: a link would take away that of file names.
+COMPLETED := $(filter-out label-window,$(TOOLS))
 MODULES := $(shell cd tools && find labeltools -name '*.py' -o -name '*.ui' -o -name messages.txt)
 LANGUAGES := $(patsubst tools/po/%.po,%,$(wildcard tools/po/*.po))
 WINDOW = org.labels.Window
@@ -72,7 +74,7 @@ install: all
 	install -D -m 644 completions/labels.bash $(DESTDIR)$(DATADIR)/bash-completion/completions/labels
 	install -D -m 644 -t $(DESTDIR)$(DATADIR)/fish/vendor_completions.d completions/labels.fish
 	install -D -m 644 -t $(DESTDIR)$(ZSHDIR) completions/_labels
-	set -e; for tool in $(TOOLS); do \
+	set -e; for tool in $(COMPLETED); do \
 	    $(call link,labels,$(DATADIR)/bash-completion/completions/$$tool); \
 	    $(call link,labels.fish,$(DATADIR)/fish/vendor_completions.d/$$tool.fish); done
 	$(call library,install DESTDIR=$(DESTDIR) PREFIX=$(PREFIX) LIBDIR=$(LIBDIR) PYTHONDIR=$(PYTHONDIR))

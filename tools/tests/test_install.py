@@ -58,6 +58,17 @@ class Install(InFolder):
             helped = subprocess.run([self.folder / "bin" / tool, "--help"], **how)
             self.assertEqual((helped.returncode, helped.stderr), (0, b""), tool)
 
+    def test_completions_are_of_commands_that_they_complete(self) -> None:
+        make("install", f"PREFIX={self.folder}")
+        share = self.folder / "share"
+        completion = share / "bash-completion/completions"
+        named = re.findall(
+            r"(?m)^complete .* -F _labels (.*)$", (completion / "labels").read_text()
+        )
+        self.assertEqual(sorted(os.listdir(completion)), sorted(" ".join(named).split()))
+        fish = [path.stem for path in (share / "fish/vendor_completions.d").iterdir()]
+        self.assertEqual(sorted(fish), sorted(os.listdir(completion)))
+
     def test_manuals_name_pages_that_are_there(self) -> None:
         make("install", f"PREFIX={self.folder}")
         share = self.folder / "share"
