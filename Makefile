@@ -63,7 +63,8 @@ install: all
 	    install -D -m 644 tools/$$file $(DESTDIR)$(DATADIR)/label-tools/$$file; done
 	set -e; for language in $(LANGUAGES); do \
 	    folder=$(DESTDIR)$(DATADIR)/label-tools/labeltools/locale/$$language/LC_MESSAGES; install -d $$folder; \
-	    msgfmt --check-format -o $$folder/label-tools.mo tools/po/$$language.po; done
+	    msgfmt --check-format -o $$folder/label-tools.mo tools/po/$$language.po; \
+	    chmod 644 $$folder/label-tools.mo; done
 	install -D -m 644 -t $(DESTDIR)$(DATADIR)/applications tools/data/$(WINDOW).desktop
 	install -D -m 644 -t $(DESTDIR)$(DATADIR)/icons/hicolor/scalable/apps tools/data/$(WINDOW).svg
 	install -D -m 644 -t $(DESTDIR)$(DATADIR)/metainfo tools/data/$(WINDOW).metainfo.xml

@@ -58,6 +58,16 @@ class Install(InFolder):
             helped = subprocess.run([self.folder / "bin" / tool, "--help"], **how)
             self.assertEqual((helped.returncode, helped.stderr), (0, b""), tool)
 
+    def test_all_users_can_read_what_is_installed(self) -> None:
+        """Also where the one who installs it keeps new files for himself."""
+        before = os.umask(0o077)
+        try:
+            make("install", f"PREFIX={self.folder}")
+        finally:
+            os.umask(before)
+        installed = [*self.folder.rglob("*")]
+        self.assertEqual([path for path in installed if path.stat().st_mode & 0o044 != 0o044], [])
+
     def test_completions_are_of_commands_that_they_complete(self) -> None:
         make("install", f"PREFIX={self.folder}")
         share = self.folder / "share"
