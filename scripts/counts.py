@@ -6,8 +6,9 @@ of it is a line of the diff. With no option it compares the numbers that the tex
 that README.md and PROOF.md have of it. It also looks at HANDLES, which has to allow nothing, and at the root file of
 each crate, which has to ask for the tactic `auto`. The status is 1 where something differs, a line for each.
 
---write makes the file anew; for the last lines of the counted steps it runs these, most of which need the proved
-program, crates/labels/out/labels.
+--write makes the numbers of the text anew, in seconds, and keeps the last lines of the counted steps: where one is no
+longer right, the gate says so. With --run it runs these too, most of which need the proved program,
+crates/labels/out/labels.
 """
 
 import glob
@@ -117,11 +118,15 @@ def faults_of_pages(wanted):
 def main():
     parser = sources.parser_of(__doc__, has_top=False)
     parser.add_argument("--write", action="store_true", help=f"make {gate.COUNTS} anew")
+    parser.add_argument("--run", action="store_true", help="with --write: run the counted steps, and take their lines")
     given = parser.parse_args()
+    if given.run and not given.write:
+        parser.error("--run goes with --write")
     os.chdir(sources.TOP)
     found = {name: str(number) for name, number in counts_of_text()}
     if given.write:
-        found |= {step: last_line_of(step) for step in gate.COUNTED}
+        before = {} if given.run else gate.counts_kept()
+        found |= {step: before.get(step) or last_line_of(step) for step in gate.COUNTED}
         with open(gate.COUNTS, "w", encoding="utf-8") as file:
             file.write(HEAD + "".join(f"{name}: {text}\n" for name, text in found.items()))
         return 0
