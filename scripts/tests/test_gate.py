@@ -194,14 +194,16 @@ PART = """import sys
 steps = dict(quick=["one"], built={built!r}).get(sys.argv[-1], [])
 print(*(f"ok: {{step}}, 1.5 s" for step in steps), sep="\\n")
 print("{name}", *sys.argv[1:], "ran")
+print({more!r})
 print({last!r})
 sys.exit({status})
 """
+REFUSED = "one: 2 refused, 1 accepted, in 1 checks"
 RT = "[ $1 != version ] || {{ echo 'kit-1 logic {version}'; exit; }}; echo rt ci ran; {then}"
 
 
-def part(name, last, status=0, built=("two", "tests of three")):
-    return {f"scripts/{name}.py": PART.format(name=name, last=last, status=status, built=built)}
+def part(name, last, status=0, built=("two", "tests of three"), more=REFUSED):
+    return {f"scripts/{name}.py": PART.format(name=name, last=last, status=status, built=built, more=more)}
 
 
 def program(name, text):
@@ -215,7 +217,7 @@ def kit(then="echo '3 passed, 0 failed (30 minutes)'", version=2):
 PARTS = {
     ".ci/run": read(os.path.join(TOP, ".ci/run")),
     "scripts/packages.txt": read(os.path.join(TOP, "scripts/packages.txt")),
-    "scripts/counts.txt": "steps of quick: one\nsteps of built: two, tests of three\n",
+    "scripts/counts.txt": "steps of quick: one\nsteps of built: two, tests of three\none: 2 wrong-bodies, 1 tests\n",
     "docs/PROOF.md": "The kit: `kit-1 logic 2`.\n",
     **kit(),
     **part("gate", "5 passed, 0 failed"),
@@ -278,6 +280,14 @@ class Run(InFolder):
             ),
             (part("wrong_bodies", "1 passed, 1 failed", 1), {}, 1, parts, "1 passed, 1 failed", "14 passed, 1 failed"),
             (part("wrong_bodies", "Traceback", 1), {}, 1, parts, "Traceback", "13 passed, 1 failed"),
+            (
+                part("wrong_bodies", "1 passed, 0 failed", more="one: 1 refused, 0 accepted, in 1 checks"),
+                {},
+                1,
+                parts,
+                "1 wrong bodies were refused, and scripts/counts.txt has 2",
+                "14 passed, 1 failed",
+            ),
             # What needs the program does not run without it.
             (
                 part("plain_builds", "not proved", 1),
