@@ -9,8 +9,8 @@ crates/labels_c/out/liblabels_c.a. STEP: these steps alone, each a script of scr
 
 Of a step that fails all is printed that it wrote, of another one its last line. Nothing is skipped: a test that is
 skipped, a step that ends with 77, a program or a folder that is missing is a failure, and so is a last line of a
-counted step that is not the one in scripts/counts.txt. A step counts as one, but one whose last line is `N passed, M
-failed` as these. The last line is the sum of them.
+counted step, or a number of tests that passed, that is not the one in scripts/counts.txt. A step counts as one, but one
+whose last line is `N passed, M failed` as these. The last line is the sum of them.
 """
 
 import re
@@ -68,9 +68,13 @@ def passed_and_failed(step):
     good, bad = map(int, numbers.groups()) if numbers else (int(status == 0), int(status != 0))
     if (status != 0) != (bad > 0) or not good + bad:
         return 0, 1, f"{said}status {status}"
-    wanted = counts_kept().get(step)
+    kept = counts_kept()
+    wanted = kept.get(step)
     if step in COUNTED and not bad and last != wanted:
         return 0, 1, f"{said}{COUNTS} has {wanted or 'no such line'}"
+    tests = kept.get(step.removeprefix("run_tests.py "))
+    if step.startswith("run_tests.py ") and not bad and tests not in (None, str(good)):
+        return 0, 1, f"{said}{COUNTS} has {tests} tests"
     return good, bad, f"{said}status {status}" if bad else last
 
 

@@ -146,6 +146,13 @@ class TakenAway(InCopy):
             status, said = self.gate("run_tests.py tools/tests --without-program")
             self.assertEqual((status, said.split("\n")[-2]), (before, f"1 passed, {before} failed"), said)
 
+    def test_fewer_tests_than_there_are(self):
+        """Where a runner leaves some out, what is printed is as if there were no more."""
+        self.move("lib/tests", "lib/tests-away")
+        self.addCleanup(shutil.rmtree, self.path("lib/tests"))
+        write(self.path("lib/tests/test_one.py"), SKIPPED.replace('raise unittest.SkipTest("{}")', "pass"))
+        self.assert_fails("run_tests.py lib/tests", "2 passed, 0 failed\nscripts/counts.txt has ")
+
     def test_no_labels_to_compare(self):
         text = read(self.path("scripts/compare_symbols.py"))
         self.replace("scripts/compare_symbols.py", text.replace("return [label for", "return [] and [label for"))
