@@ -253,7 +253,7 @@ class Run(InFolder):
 
     def test_runs(self):
         quick, proofs, bodies, built = parts = ["gate quick", "rt ci", "wrong_bodies --built", "gate built"]
-        missing = f"packages are missing; as root: apt-get update && {INSTALL}"
+        missing = f"packages are missing; as root: .ci/run --install, or apt-get update && {INSTALL}"
         another = "docs/PROOF.md does not name the kit on the path: kit-1 logic 3"
         none = "rt, the command of the Rattle kit, is not on the path"
         for changes, environment, status, ran, said, last in (
