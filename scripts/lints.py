@@ -26,7 +26,8 @@ ENDINGS = {".py": "python", ".bash": "completion", ".1": "manual", ".3": "manual
 # black puts a space before the colon of a slice, which E203 is against.
 STYLE = "flake8 --isolated --extend-ignore E203 --max-line-length"
 LAYOUT = f"black --config {os.devnull} --quiet --check --line-length"
-TYPES = f"mypy --no-error-summary --cache-dir {os.devnull} --config-file scripts/mypy.ini"
+# It keeps what it read of the typed files, in a folder that is not committed.
+TYPES = "mypy --no-error-summary --cache-dir out/mypy --config-file scripts/mypy.ini"
 
 
 @dataclass(frozen=True)

@@ -30,6 +30,8 @@ OPENING = {"(", "[", "{"}
 CLOSING = {")", "]", "}"}
 MODIFIERS = {"abbrev", "unfoldable", "pub", "record", "data", "ruleset"}
 KINDS = {"fn", "struct", "enum", "trait", "impl", "mod", "const", "ghost", "use", "type", "static"}
+# The files that were read, by their paths below the repository and their texts.
+FILES_READ = {}
 RELATIONS = {"≡", "≢", "≤", "<", "↔"}
 
 
@@ -310,7 +312,14 @@ def files_of(top, crates, *parts):
 
 
 def files_at(top, paths):
-    return [File(top, path, tokens) for path, tokens in zip(paths, tokens_of(paths))]
+    """The files of these paths. One that was read before in this process, with the same path and text, is not read
+    again: the tests judge a copy of the repository many times, each with one file changed."""
+    keys = [(os.path.relpath(path, top), sources.read(path)) for path in paths]
+    new = [path for path, key in zip(paths, keys) if key not in FILES_READ]
+    for path, tokens in zip(new, tokens_of(new)):
+        file = File(top, path, tokens)
+        FILES_READ[file.path, file.text] = file
+    return [FILES_READ[key] for key in keys]
 
 
 # ---- what tokens name

@@ -11,12 +11,13 @@ PYTHON = "/usr/bin/python3"
 TOP = os.path.dirname(os.path.dirname(os.path.abspath(__file__)))
 
 
-def run(command, folder=TOP, **more):
-    """The status of a command in a folder, and what it wrote. A program that is not there is status 127."""
+def run(command, folder=None, **more):
+    """The status of a command in a folder (that of the repository), and what it wrote. A program that is not there is
+    status 127."""
     environment = {**os.environ, "PYTHONDONTWRITEBYTECODE": "1", **more}
     how = {"stdin": subprocess.DEVNULL, "stdout": subprocess.PIPE, "stderr": subprocess.STDOUT}
     try:
-        done = subprocess.run(command, env=environment, cwd=folder, encoding="utf-8", errors="replace", **how)
+        done = subprocess.run(command, env=environment, cwd=folder or TOP, encoding="utf-8", errors="replace", **how)
     except FileNotFoundError:
         return 127, f"not installed: {command[0]}\n"
     return done.returncode, done.stdout

@@ -10,7 +10,7 @@ import sys
 import unittest
 from unittest import mock
 
-from support import TOP, InCopy, module, read, run
+from support import TOP, InCopy, in_copy, module, read
 
 believed_rows = module("believed_rows")
 
@@ -25,11 +25,11 @@ class Believed(InCopy):
     def setUpClass(cls):
         """A copy of the repository whose page and README are right."""
         super().setUpClass()
-        if run("believed.py", "--write", "--top", cls.folder)[0] != 0:
+        if in_copy(cls.folder, "believed.py", "--write")[0] != 0:
             raise AssertionError("believed.py --write failed")
 
     def check(self):
-        return run("believed.py", "--check", "--top", self.folder)
+        return self.judged("believed.py", "--check")
 
     def test_what_write_leaves_is_right(self):
         status, said = self.check()
@@ -75,7 +75,7 @@ class Rows(InCopy):
     """The results of judged changes are compared with the definitions and the worked values."""
 
     def check(self):
-        return run("believed_rows.py", "--top", self.folder)
+        return self.judged("believed_rows.py")
 
     def test_as_it_is(self):
         """With another comment too."""

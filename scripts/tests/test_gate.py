@@ -13,7 +13,7 @@ import sys
 import tempfile
 import unittest
 
-from support import PYTHON, SCRIPTS, TOP, InCopy, InFolder, module, read, run_command, write
+from support import PYTHON, SCRIPTS, TOP, InCopy, InFolder, in_copy, module, read, run_command, write
 
 SKIPPED = """import unittest
 class One(unittest.TestCase):
@@ -28,8 +28,6 @@ DIFFER = "crates.txt and the folders crates/*/src differ in: "
 # What is moved away for each step, and what that step says.
 MOVED = {
     "counts.py": (
-        ("scripts/tests", "scripts/t", "scripts/tests: 0, and "),
-        ("tools/tests", "tools/t", "tools/tests: 0, and "),
         (BODIES, "crates/device/bodies", "device: 1 worked values, and 24 wrong-bodies, "),
         (f"{BODIES}/{BODY}", "away", "device: 23 wrong-bodies, "),
         (f"{BODIES}/{BODY}", f"{BODIES}/{BODY}.old", ".old, which no script reads"),
@@ -56,10 +54,15 @@ MOVED = {
 }
 END, HANDLES = "\n## ", "Handles allowed: none."
 ROW = "| device | a source or a sink | own | `device` | `crates.txt` |\n"
+# What is written in the place of a text of the scripts themselves, and what counts.py says.
+CHANGED_SCRIPTS = (
+    ("scripts/gate.py", '    "instructions.py --check",\n', "", "steps of built: believed"),
+    ("scripts/compare_symbols.py", "[label for part", "[] and [label for part", "compare: 0, and "),
+)
 # What is written in the place of a text, the first one in a file, for each step, and what that step says.
 CHANGED = {
     "counts.py": (
-        ("scripts/tests/test_gate.py", "def " "test_all_is_there(", "def all_is_there(", "scripts/tests: "),
+        ("scripts/counts.txt", "lib/tests: ", "lib/test: ", "has no number of tests of lib/tests"),
         ("crates.txt", "gf256:", "# gf256:", "differ in: gf256"),
         ("docs/RECIPES.md", "```sh\n", "```text\n", "blocks: "),
         ("HANDLES", HANDLES, "Handles allowed: Net.", f"HANDLES is not: {HANDLES}"),
@@ -70,12 +73,9 @@ CHANGED = {
             "crates/gf256: no line #![tactic(auto)] in its root file",
         ),
         ("scripts/counts.txt", "device: ", "device: 9\ndevice: ", "two lines of the name device"),
-        ("scripts/gate.py", '    "instructions.py --check",\n', "", "steps of built: believed"),
-        ("tools/tests/test_man.py", "import", "import no_such\nimport", "tools/tests cannot be read"),
         ("README.md", "drew the same 5", "drew the same 6", "README.md: drew the same 6"),
         ("docs/PROOF.md", "believed definitions", "definitions", "docs/PROOF.md: no operator of"),
         ("README.md", "read all ", "read many ", "README.md: no read all"),
-        ("scripts/compare_symbols.py", "[label for part", "[] and [label for part", "compare: 0, and "),
     ),
     "unused.py": (("crates.txt", "gf256:", "# gf256:", "differ in: gf256"),),
     "believed_rows.py": (("crates/labelcore/specs/HeldLine.antt", "1100", "1101", "labelcore/HeldLine"),),
@@ -109,6 +109,10 @@ class TakenAway(InCopy):
         status, text = self.gate(step, **environment)
         self.assertEqual((status, said in text), (1, True), text)
 
+    def assert_step_fails(self, step, said):
+        status, text = self.judged(*step.split())
+        self.assertEqual((status, said in text), (1, True), text)
+
     def test_all_is_there(self):
         status, said = self.gate("counts.py", "pages.py")
         self.assertEqual((status, said.split("\n")[-2]), (0, "2 passed, 0 failed"), said)
@@ -122,12 +126,19 @@ class TakenAway(InCopy):
             for old, new, said in rows:
                 with self.subTest(step=step, old=old, new=new):
                     self.move(old, new)
-                    self.assert_fails(step, said)
+                    self.assert_step_fails(step, said)
                 self.doCleanups()
 
     def test_what_is_written_otherwise(self):
         for step, changes in CHANGED.items():
-            self.assert_changes_fail(changes, lambda: self.gate(step))
+            self.assert_changes_fail(changes, lambda: self.judged(*step.split()))
+        self.assert_changes_fail(CHANGED_SCRIPTS, lambda: self.gate("counts.py"))
+
+    def test_tests_that_cannot_be_read(self):
+        self.move("lib/tests", "lib/tests-away")
+        self.addCleanup(shutil.rmtree, self.path("lib/tests"))
+        write(self.path("lib/tests/test_one.py"), "import no_such\n")
+        self.assert_fails("run_tests.py lib/tests", "0 passed, 1 failed")
 
     def test_tests_that_are_not_found(self):
         self.move("tools/tests", "tools/tests-away")
@@ -139,19 +150,23 @@ class TakenAway(InCopy):
         """A test that is skipped is a failure, but before the proofs one that draws."""
         self.move("tools/tests", "tools/tests-away")
         self.addCleanup(shutil.rmtree, self.path("tools/tests"))
-        for reason, before in (("not installed: zint", 1), ("/not/built is not built: run (cd ..)", 0)):
+        kept = read(self.path("scripts/counts.txt"))
+        self.replace("scripts/counts.txt", re.sub("(?m)^tools/tests: .*", "tools/tests: 2", kept))
+        draws = (0, "1 passed, 0 failed, 1 left out", "1 passed, 0 failed")
+        skipped = (1, "1 passed, 1 failed", "1 passed, 1 failed")
+        for reason, before in (("not installed: zint", skipped), ("/not/built is not built: run (cd ..)", draws)):
             write(self.path("tools/tests/test_one.py"), SKIPPED.format(reason))
             status, said = self.gate("run_tests.py tools/tests")
             self.assertEqual((status, said.split("\n")[-2]), (1, "1 passed, 1 failed"), said)
-            status, said = self.gate("run_tests.py tools/tests --without-program")
-            self.assertEqual((status, said.split("\n")[-2]), (before, f"1 passed, {before} failed"), said)
+            status, said = self.gate("run_tests.py tools/tests --quick")
+            self.assertEqual((status, before[1] in said, said.split("\n")[-2]), (before[0], True, before[2]), said)
 
     def test_fewer_tests_than_there_are(self):
         """Where a runner leaves some out, what is printed is as if there were no more."""
         self.move("lib/tests", "lib/tests-away")
         self.addCleanup(shutil.rmtree, self.path("lib/tests"))
         write(self.path("lib/tests/test_one.py"), SKIPPED.replace('raise unittest.SkipTest("{}")', "pass"))
-        self.assert_fails("run_tests.py lib/tests", "2 passed, 0 failed\nscripts/counts.txt has ")
+        self.assert_fails("run_tests.py lib/tests", "2 passed, 0 failed\n2 tests, and scripts/counts.txt has ")
 
     def test_no_labels_to_compare(self):
         text = read(self.path("scripts/compare_symbols.py"))
@@ -177,23 +192,37 @@ class TakenAway(InCopy):
         status, said = self.gate("lints.py", PATH=f"{self.path('bin')}:{os.environ['PATH']}")
         found = (status, said.count(" finds nothing in: "), said.split("\n")[-2])
         self.assertEqual(found, (1, 8, "0 passed, 8 failed"))
-        self.move("completions/labels.bash", "completions/labels.old")
-        self.assert_fails("lints.py", "shellcheck --norc --shell=bash reads no file")
 
     def test_files_that_no_lint_would_read(self):
-        """Another first line, and settings beside the code that the lints do not look at."""
+        """Another first line, a lint without files, and settings beside the code that the lints do not look at. The
+        files are a few, since the lints read all that are there."""
         first = "#!/usr/bin/python3 -B"
-        self.replace("tools/label-other", f"{first}\nimport os\n")
-        self.assert_fails("lints.py", f"tools/label-other: no lint knows {first}")
-        self.doCleanups()
-        self.replace(".flake8", "[flake8]\nextend-ignore = F\n")
-        self.replace("pyproject.toml", "[tool.black]\nexclude = '.'\n")
-        self.replace(".shellcheckrc", "disable=all\n")
-        self.replace("scripts/planted.py", "import os\nx = 'one'\n")
-        self.replace("scripts/planted.sh", "#!/bin/sh\nrm $1\n")
-        status, said = self.gate("lints.py")
-        found = ["F401" in said, "SC2086" in said, "119 found something" in said]
-        self.assertEqual((status, found), (1, [True] * 3), said)
+        texts = {
+            "scripts/mypy.ini": read(self.path("scripts/mypy.ini")),
+            "scripts/planted.py": "import os\nx = 'one'\n",
+            "scripts/planted.sh": "#!/bin/sh\nrm $1\n",
+            "tools/labeltools/one.py": "number: int = 'one'\n",
+            "tools/label-other": f"{first}\nimport os\n",
+            ".flake8": "[flake8]\nextend-ignore = F\n",
+            "pyproject.toml": "[tool.black]\nexclude = '.'\n",
+            ".shellcheckrc": "disable=all\n",
+        }
+        with tempfile.TemporaryDirectory(prefix="test-lints-") as folder:
+            for name in module("lints").FOLDERS:
+                os.mkdir(os.path.join(folder, name))
+            for name, text in texts.items():
+                write(os.path.join(folder, name), text)
+            status, said = in_copy(folder, "lints.py")
+        for wanted in (
+            "F401",
+            "SC2086",
+            "119 found something",
+            "Incompatible types",
+            f"tools/label-other: no lint knows {first}",
+            "shellcheck --norc --shell=bash reads no file",
+        ):
+            self.assertIn(wanted, said)
+        self.assertEqual(status, 1)
 
 
 # Stands in for a part of the gate. Of gate.py `quick` runs one step, `built` two.

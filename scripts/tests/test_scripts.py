@@ -14,7 +14,7 @@ import sys
 import unittest
 from unittest import mock
 
-from support import SCRIPTS, InCopy, InFolder, module, read, run, write
+from support import SCRIPTS, TOP, InCopy, InFolder, in_copy, module, read, run, write
 
 compare_symbols = module("compare_symbols")
 instructions = module("instructions")
@@ -33,12 +33,12 @@ class Arguments(InFolder):
 
     def test_help(self):
         for name in self.names():
-            status, said = run(name, "--help")
+            status, said = in_copy(TOP, name, "--help")
             self.assertEqual((name, status, "usage: " in said), (name, 0, True))
 
     def test_unknown_flag(self):
         for name in self.names():
-            status, said = run(name, "--no-such-flag")
+            status, said = in_copy(TOP, name, "--no-such-flag")
             self.assertEqual((name, status, "usage: " in said), (name, 2, True))
 
     def test_no_such_program(self):
@@ -373,7 +373,7 @@ class Unused(InCopy):
             texts[file] = texts[file].replace(old, new, 1) if old else texts[file] + new
         for file, text in texts.items():
             self.replace(file, text)
-        status, said = run("unused.py", "--top", self.folder)
+        status, said = self.judged("unused.py")
         *lines, last = said.rstrip("\n").split("\n")
         found = []
         for file, number, text in (line.split(":", 2) for line in lines):
@@ -386,10 +386,10 @@ class Unused(InCopy):
     def test_what_cannot_be_read(self):
         """A file of which the kit can make no words; no crate at all."""
         self.replace(FIELD, "fn one() ensures { 1 ")
-        self.assertEqual(run("unused.py", "--top", self.folder)[0], 1)
+        self.assertEqual(self.judged("unused.py")[0], 1)
         self.move("crates", "boxes")
         self.replace("crates.txt", "")
-        self.assertEqual(run("unused.py", "--top", self.folder)[0], 1)
+        self.assertEqual(self.judged("unused.py")[0], 1)
 
 
 if __name__ == "__main__":

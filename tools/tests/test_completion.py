@@ -178,6 +178,7 @@ class Completion(unittest.TestCase):
             )
             self.assertEqual(proposed(shell, "labels --format a", self.folder), ["ascii"], shell)
 
+    @support.slow
     def test_files(self) -> None:
         """A file name with a space, plain and with a backslash, as the line that the shell then runs."""
         shells = {
