@@ -7,6 +7,8 @@ LIBDIR ?= $(PREFIX)/lib
 PYTHONDIR ?= $(LIBDIR)/python3/dist-packages
 ZSHDIR ?= $(DATADIR)/zsh/site-functions
 CPU ?= x86-64
+# make cuts names at spaces, and would look for files that are not there.
+$(foreach name,CURDIR PREFIX DESTDIR,$(if $(word 2,$($(name))),$(error make cannot handle the space in $(name): $($(name)))))
 LABELS ?= out/labels
 PROVED ?= out/liblabels_c.a
 SOURCES := $(shell find crates -name out -prune -o -name '*.rt' -print -o -name '*.antt' -print)

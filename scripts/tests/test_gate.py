@@ -270,13 +270,28 @@ IN_CI, ZINT = {"CI": "true", "MISSING": "zint"}, {"MISSING": "zint"}
 class Run(InFolder):
     """`.ci/run` over stand-ins of its parts: what is missing, the order, the status, the last line."""
 
-    def run_gate(self, changes, environment):
+    def test_folder_with_a_space(self):
+        """It stops before anything runs: the Makefile would fail late."""
+        folder = self.path("a folder")
+        for name, text in PARTS.items():
+            write(os.path.join(folder, name), text, is_program=name.startswith("bin/"))
+        path = f"{folder}/bin:/usr/bin:/bin"
+        found = run_command(["bash", os.path.join(folder, ".ci/run")], CI="", PATH=path)
+        self.assertEqual(found, (1, f"make cannot handle the space in the name of this folder: {folder}\n"))
+
+    def test_arguments(self):
+        """--install is as CI=true, and anything else is refused."""
+        for words, status, said in ((["--install"], 0, INSTALL), (["--instal"], 2, "usage: .ci/run [--install]")):
+            found = self.run_gate({}, ZINT, *words)
+            self.assertEqual((found[0], said in found[2]), (status, True), found)
+
+    def run_gate(self, changes, environment, *words):
         """The status, the parts that ran, and the lines that are printed."""
         folder = tempfile.mkdtemp(dir=self.folder)
         for name, text in {**PARTS, **changes}.items():
             write(os.path.join(folder, name), text, is_program=name.startswith("bin/"))
         environment = {"CI": "", "PATH": f"{folder}/bin:/usr/bin:/bin", **environment}
-        status, said = run_command(["bash", os.path.join(folder, ".ci/run")], **environment)
+        status, said = run_command(["bash", os.path.join(folder, ".ci/run"), *words], **environment)
         lines = said.rstrip("\n").split("\n")
         return status, [line.removesuffix(" ran") for line in lines if line.endswith(" ran")], lines
 
