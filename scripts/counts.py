@@ -61,6 +61,14 @@ def counts_of_crate(crate, files):
     yield len(glob.glob(f"crates/{crate}/stdout")), "stored runs"
 
 
+def sizes_of_tests():
+    """The constants of tests that say how much is tried, each with its file."""
+    for folder in gate.TESTS:
+        for path in sources.files_below(folder, ".py"):
+            for name, size in re.findall(r'^(LINES|MUTANTS|ROUNDS) = "?([\d_]+)', sources.read(path), re.MULTILINE):
+                yield f"{os.path.basename(path)} {name} {int(size)}"
+
+
 def joined(numbers):
     """Numbers and what they count, as a text."""
     return ", ".join(f"{number} {what}" for number, what in numbers if number) or "nothing"
@@ -80,7 +88,10 @@ def counts_of_text():
     yield "pages", joined([(len(texts), "pages"), (links, "links"), (len(glob.glob("man/*.[13]")), "manuals")])
     yield "blocks", joined((languages[language], language) for language in sorted(pages.LANGUAGES))
     yield "terms of the glossary", len([*pages.terms_of(texts[pages.GLOSSARY])])
-    yield "labels to compare", len(compare_symbols.all_labels())
+    labels = compare_symbols.all_labels()
+    heads, with_zint = {label.head for label in labels}, [label for label in labels if label.zint]
+    yield "labels to compare", f"{len(labels)} with {len(heads)} heads, {len(with_zint)} for zint"
+    yield "what tests try", ", ".join(sizes_of_tests())
 
 
 def last_line_of(step):

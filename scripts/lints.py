@@ -23,8 +23,11 @@ INTERPRETERS = {
     "#!/usr/bin/make -f": "",
 }
 ENDINGS = {".py": "python", ".bash": "completion", ".1": "manual", ".3": "manual"}
+# What flake8 has to find in WRONG: an import and a variable that nothing uses, and a name that is not there.
+WRONG = "import os  # noqa\n\n\ndef one():\n    two = three\n"
+FINDS = ("F401", "F841", "F821")
 # black puts a space before the colon of a slice, which E203 is against.
-STYLE = "flake8 --isolated --extend-ignore E203 --max-line-length"
+STYLE = "flake8 --isolated --disable-noqa --extend-ignore E203 --max-line-length"
 LAYOUT = f"black --config {os.devnull} --quiet --check --line-length"
 # It keeps what it read of the typed files, in a folder that is not committed.
 TYPES = "mypy --no-error-summary --cache-dir out/mypy --config-file scripts/mypy.ini"
@@ -38,6 +41,7 @@ class Lint:
     files: list
     wrong_name: str
     wrong: str
+    finds: tuple = ()  # what it has to say of that file, each
 
     def fault(self):
         """What it finds, or that it reads no file, or that it finds nothing in what is wrong."""
@@ -47,8 +51,10 @@ class Lint:
             wrong = os.path.join(folder, self.wrong_name)
             with open(wrong, "w", encoding="utf-8") as file:
                 file.write(self.wrong)
-            if not self.findings([wrong]):
-                return f"{self.command} finds nothing in: {self.wrong}"
+            found = self.findings([wrong])
+            unseen = [it for it in self.finds if f": {it} " not in found]
+            if not found or unseen:
+                return f"{self.command} finds nothing in: {', '.join(unseen) or self.wrong}"
         return self.findings(self.files)
 
     def findings(self, files):
@@ -88,8 +94,8 @@ def all_lints(files):
         Lint("shellcheck --norc --shell=bash", files["completion"], "wrong.bash", "rm $1\n"),
         Lint(f"{LAYOUT} 100", tools, "wrong.py", "x = 'one'\n"),
         Lint(f"{LAYOUT} 119", others, "wrong.py", "x = 'one'\n"),
-        Lint(f"{STYLE} 100", used, "wrong.py", "import os\n"),
-        Lint(f"{STYLE} 119", [path for path in files["python"] if path not in used], "wrong.py", "import os\n"),
+        Lint(f"{STYLE} 100", used, "wrong.py", WRONG, FINDS),
+        Lint(f"{STYLE} 119", [path for path in files["python"] if path not in used], "wrong.py", WRONG, FINDS),
         Lint(TYPES, typed, "wrong.py", "number: int = 'one'\n"),
         Lint("mandoc -Tlint -W warning", files["manual"], "wrong.1", ".TH WRONG 1\n.SH NAME\n.XX\n"),
     )

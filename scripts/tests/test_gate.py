@@ -57,7 +57,7 @@ ROW = "| device | a source or a sink | own | `device` | `crates.txt` |\n"
 # What is written in the place of a text of the scripts themselves, and what counts.py says.
 CHANGED_SCRIPTS = (
     ("scripts/gate.py", '    "instructions.py --check",\n', "", "steps of built: believed"),
-    ("scripts/compare_symbols.py", "[label for part", "[] and [label for part", "compare: 0, and "),
+    ("scripts/compare_symbols.py", "[label for part", "[] and [label for part", "compare: 0 with 0 heads"),
 )
 # What is written in the place of a text, the first one in a file, for each step, and what that step says.
 CHANGED = {
@@ -76,6 +76,7 @@ CHANGED = {
         ("README.md", "drew the same 5", "drew the same 6", "README.md: drew the same 6"),
         ("docs/PROOF.md", "believed definitions", "definitions", "docs/PROOF.md: no operator of"),
         ("README.md", "read all ", "read many ", "README.md: no read all"),
+        ("tools/tests/test_table_mutants.py", "MUTANTS = 4000", "MUTANTS = 4", "MUTANTS 4, test_calls.py "),
     ),
     "unused.py": (("crates.txt", "gf256:", "# gf256:", "differ in: gf256"),),
     "believed_rows.py": (("crates/labelcore/specs/HeldLine.antt", "1100", "1101", "labelcore/HeldLine"),),
@@ -94,6 +95,12 @@ CHANGED = {
         ("docs/GLOSSARY.md", ROW, ROW + ROW, "device: also in line"),
         ("docs/GLOSSARY.md", "| Term | Meaning |", "| Term | Sense |", "no term"),
         ("README.md", "](docs/PROOF.md", "](docs/PROOFS.md", "a link to no file: docs/PROOFS.md"),
+        (
+            "README.md",
+            "](docs/PROOF.md",
+            "](docs/PROOF.md#the-promis",
+            "a link to no heading: docs/PROOF.md#the-promis",
+        ),
         ("README.md", "](docs/PROOF.md", "](docs/PROOF.md#none", "a link to no heading: docs/PROOF.md#none"),
     ),
 }

@@ -243,11 +243,13 @@ class Judges(unittest.TestCase):
     """A judge that passes everything is found by the wrong cases that it is shown in each run."""
 
     def test_symbols(self):
-        picture = pictures.pixels_of(b"9 9\n" + b"0" * 81 + b"\n")
-        turned = compare_symbols.with_turned_module(picture)
-        self.assertEqual((turned != picture).nonzero(), (4, 4))
+        picture = pictures.pixels_of(b"9 9\n" + b"0" * 81 + b"\n").copy()
+        picture[2:7, 1:8] = 1
+        for place, wanted in (("first", (2, 1)), ("middle", (4, 4)), ("last", (6, 1))):
+            turned = compare_symbols.with_turned_module(picture, place)
+            self.assertEqual((turned != picture).nonzero(), wanted)
         with mock.patch.object(compare_symbols, "pictures_of", return_value=[picture]):
-            for is_same, unread, count in ((True, [], 2), (False, [], 1), (True, ["it"], 1), (False, ["it"], 0)):
+            for is_same, unread, count in ((True, [], 5), (False, [], 2), (True, ["it"], 3), (False, ["it"], 0)):
                 bent = {"is_as_zint": lambda *given: is_same, "not_read_back": lambda *given: unread}
                 with mock.patch.multiple(compare_symbols, **bent):
                     self.assertEqual(len([*compare_symbols.not_seen(None)]), count)
@@ -255,10 +257,10 @@ class Judges(unittest.TestCase):
     def test_recipes(self):
         self.assertEqual([*run_recipes.unseen()], [])
         for where, name, bent, count in (
-            (run_recipes.Commands, "fault", lambda *given: "", 3),
-            (run_recipes, "fault_of_picture", lambda *given: "", 2),
-            (run_recipes, "judged", lambda *given: (1, 1), 5),
-            (run_recipes, "judged", lambda *given: (1, 0), 5),
+            (run_recipes.Commands, "fault", lambda *given: "", 4),
+            (run_recipes, "fault_of_picture", lambda *given: "", 3),
+            (run_recipes, "judged", lambda *given: (1, 1), 7),
+            (run_recipes, "judged", lambda *given: (1, 0), 7),
         ):
             with mock.patch.object(where, name, bent):
                 self.assertEqual(len([*run_recipes.unseen()]), count)
