@@ -26,6 +26,9 @@ ENDINGS = {".py": "python", ".bash": "completion", ".1": "manual", ".3": "manual
 # What flake8 has to find in WRONG: an import and a variable that nothing uses, and a name that is not there.
 WRONG = "import os  # noqa\n\n\ndef one():\n    two = three\n"
 FINDS = ("F401", "F841", "F821")
+# The scripts that are laid out as the tools are, and others that are typed as they are.
+AS_TOOLS = tuple(f"scripts/{name}.py" for name in ("believed_rows", "changes", "edits", "judging", "wrong_bodies"))
+TYPED = ("scripts/libraries.py", "scripts/reader.py", "scripts/sources.py")
 # black puts a space before the colon of a slice, which E203 is against.
 STYLE = "flake8 --isolated --disable-noqa --extend-ignore E203 --max-line-length"
 LAYOUT = f"black --config {os.devnull} --quiet --check --line-length"
@@ -84,11 +87,11 @@ def files_by_kind():
 
 
 def all_lints(files):
-    """The lints over these files. Python is 100 columns wide in tools/, where the texts are too, and 119 elsewhere."""
-    tools = [path for path in files["python"] if path.startswith("tools/")]
+    """The lints over these files. Python is 100 columns wide where it is laid out as the tools are, else 119."""
+    tools = [path for path in files["python"] if path.startswith("tools/") or path in AS_TOOLS]
     used = [path for path in tools if "/tests/" not in path]
     others = [path for path in files["python"] if path not in tools]
-    typed = [*used, *(path for path in others if path.startswith("lib/python/"))]
+    typed = [*used, *(path for path in others if path.startswith("lib/python/") or path in TYPED)]
     return (
         Lint("shellcheck --norc", files["shell"], "wrong.sh", "#!/bin/sh\nrm $1\n"),
         Lint("shellcheck --norc --shell=bash", files["completion"], "wrong.bash", "rm $1\n"),

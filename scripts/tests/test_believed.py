@@ -13,6 +13,7 @@ from unittest import mock
 from support import TOP, InCopy, in_copy, module, read
 
 believed_rows = module("believed_rows")
+changes = module("changes")
 
 PAGE = "docs/DEFINITIONS.md"
 RESULTS = "scripts/believed_rows.txt"
@@ -110,7 +111,7 @@ class Sample(unittest.TestCase):
     def sampled(self, refuses):
         """The status of --sample and its last line, where `refuses` says whether a change is refused."""
 
-        def judge(_given, _crate, changes, values):
+        def judge(_top, _as_left, _crate, changes, values):
             for change in changes:
                 self.assertIn(change.file.title, values)
                 change.by = "value" if refuses(change) else ""
@@ -135,12 +136,12 @@ class Sample(unittest.TestCase):
 
     def test_judged_by_own_values(self):
         """A worked value that is not in the line of a file does not judge it."""
-        (file,) = believed_rows.reader.files_at(TOP, [f"{TOP}/crates/gf256/proofs/Examples.antt"])
-        worked = [one.name for one in file.declarations if believed_rows.is_worked(one)]
-        left = believed_rows.with_values(file, worked[:1])
+        (file,) = module("reader").files_at(TOP, [f"{TOP}/crates/gf256/proofs/Examples.antt"])
+        worked = [one.name for one in file.declarations if changes.is_worked(one)]
+        left = changes.with_values(file, worked[:1])
         self.assertEqual([name for name in worked if f"\n{name} :" in left], worked[:1])
-        self.assertEqual(believed_rows.with_values(file, worked), file.text)
-        self.assertEqual(believed_rows.with_values(file, ["gone"]), "")
+        self.assertEqual(changes.with_values(file, worked), file.text)
+        self.assertEqual(changes.with_values(file, ["gone"]), "")
 
 
 if __name__ == "__main__":

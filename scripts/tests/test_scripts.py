@@ -17,6 +17,7 @@ from unittest import mock
 from support import SCRIPTS, TOP, InCopy, InFolder, in_copy, module, read, run, write
 
 compare_symbols = module("compare_symbols")
+edits = module("edits")
 instructions = module("instructions")
 run_recipes = module("run_recipes")
 pictures = module("pictures")
@@ -202,17 +203,72 @@ class Outcomes(InFolder):
         """A copy has the text of its own body and a proof of its own; the function stands as it is."""
         self.edit(EDIT.format("2"))
         self.edit(EDIT.format("3"), name="two")
-        copies = list(wrong_bodies.copies_of(wrong_bodies.bodies_of(self.folder), self.folder))
-        text = wrong_bodies.with_copies(copies, self.folder)["src/lib.rt"]
+        copies = list(edits.copies_of(edits.bodies_of(self.folder), self.folder))
+        text = edits.with_copies(copies, self.folder)["src/lib.rt"]
         self.assertTrue(text.startswith(ONE.rstrip()))
         names = [*zip(re.findall(r"pub fn (\w+)\(", text), re.findall(r"^    (\d)$", text, re.M))]
         self.assertEqual(sorted(names), [("one", "1"), ("one_0", "2"), ("one_1", "3"), ("one_as_it_is", "1")])
         for name in ("one.Goals", "one_more.Goals"):
             write(self.path("proofs/one", f"{name}.antt"), f"use Rattle.small.proofs.{name} as goal\n")
-        wrong_bodies.copy_proof(copies[1], "small", self.folder)
+        edits.copy_proof(copies[1], "small", self.folder)
         goals = read(self.path("proofs/one_1/one.Goals.antt"))
         self.assertEqual(goals, "use Rattle.small.proofs.one_1.Goals as goal\n")
         self.assertNotIn("one_1", read(self.path("proofs/one_1/one_more.Goals.antt")))
+
+    def whole(self, text, name="one"):
+        """Writes a wrong body that is a text in place of that of `one`."""
+        self.edit(f"refused: one\nbody: {text}\n", name=name)
+
+    def test_a_body_as_a_text(self):
+        """It is always a copy, beside the function that it can call, and a control."""
+        self.whole("one() + 1")
+        (copy, control) = edits.copies_of(edits.bodies_of(self.folder), self.folder)
+        self.assertEqual(
+            copy.text, ONE.partition("\n")[2].partition("{\n")[0].replace("one(", "one_0(") + "{ one() + 1 }"
+        )
+        # The proof of the function would refuse it for its form.
+        self.assertEqual((copy.has_proof, control.has_proof), (False, True))
+        self.assertEqual(edits.code_of(control.text), edits.code_of(ONE.replace("one(", "one_as_it_is(")))
+        said = "fn small::one_0: {}\nfn small::one_as_it_is: proved\nonly=2 proved=1\n"
+        self.assertEqual(self.tried(said.format("not proved")), (1, 1, []))
+        self.assertEqual(self.tried(said.format("proved")), (0, 1, ["one: NOT REFUSED"]))
+
+    def test_texts_that_are_not_tried(self):
+        self.whole("2", "first")
+        for text, said in (
+            (" 2", "it leaves the same text as first"),
+            ("1", "it changes no code"),
+            ("fn two() -> u8 ensures { result ≡ 1 } { 1 } 3", "it has a clause, a ghost item or an attribute"),
+            ("#[inline] 3", "it has a clause, a ghost item or an attribute"),
+        ):
+            with self.subTest(text):
+                self.whole(text, "second")
+                tried = self.tried(
+                    SAID.format("not proved") + "fn small::one_0: not proved\nfn small::one_as_it_is: proved\n"
+                )
+                self.assertEqual(tried, (1, 1, [f"second: {said}"]))
+        self.edit("refused: other\nbody: 2\n", name="second")
+        self.assertIn(
+            "second: other is no function that can be there twice: write old: and new:", self.tried("only=1\n")[2]
+        )
+        for text in ("refused: one\nbody: 2\nfile: src/lib.rt\nold:     1\nnew: 2\n", "refused: one\n", "body: 2\n"):
+            self.edit(text, name="second")
+            with self.subTest(text), self.assertRaises(SystemExit):
+                edits.bodies_of(self.folder)
+
+    def test_status(self):
+        """What is wrong with a body is printed and makes the status 1; so does a run without a right body."""
+        one = wrong_bodies.Tried
+        for results, are_all, wanted in (
+            ([one("a", 2, 1)], True, (0, "3 passed, 0 failed\n")),
+            ([one("a", 2, 0)], False, (0, "2 passed, 0 failed\n")),
+            ([one("a", 2, 1, lines=["b: NOT REFUSED"])], True, (1, "a/b: NOT REFUSED\n3 passed, 1 failed\n")),
+        ):
+            with contextlib.redirect_stdout(io.StringIO()) as said:
+                self.assertEqual((wrong_bodies.judged(results, are_all), said.getvalue()), wanted)
+        with contextlib.redirect_stdout(io.StringIO()) as said:
+            self.assertEqual(wrong_bodies.judged([one("a", 2, 0)], True), 1)
+        self.assertIn("no right body was accepted", said.getvalue())
 
     def test_no_copies(self):
         """What is more than one function, one of a trait, or one that calls itself, is tried in its place."""
@@ -221,7 +277,8 @@ class Outcomes(InFolder):
         write(self.path("src/cycle.rt"), "#[cycle(one)]\nfn one() -> u8 { 1 }\n")
 
         def copy_of(functions, changes):
-            return wrong_bodies.copy_of(wrong_bodies.Body("", functions, changes), 0, self.folder)
+            body = edits.Body("", tuple(functions), "", tuple(edits.Change(*one) for one in changes))
+            return edits.copy_of(body, "0", self.folder)
 
         one = ("src/part.rt", "{ 1 }", "{ 2 }")
         copy = copy_of(["part::Some::one"], [one])
