@@ -7,6 +7,8 @@ LIBDIR ?= $(PREFIX)/lib
 PYTHONDIR ?= $(LIBDIR)/python3/dist-packages
 ZSHDIR ?= $(DATADIR)/zsh/site-functions
 CPU ?= x86-64
+# make cuts names at spaces, and would look for files that are not there.
+$(foreach name,CURDIR PREFIX DESTDIR,$(if $(word 2,$($(name))),$(error make cannot handle the space in $(name): $($(name)))))
 LABELS ?= out/labels
 PROVED ?= out/liblabels_c.a
 SOURCES := $(shell find crates -name out -prune -o -name '*.rt' -print -o -name '*.antt' -print)
@@ -22,7 +24,7 @@ library = $(MAKE) -C lib OUT=$(CURDIR)/out/lib PROVED=$(abspath $(PROVED)) $(1)
 link = ln -sfn $(1) $(DESTDIR)$(2)
 
 help:
-	@echo 'make quick     the texts, the lints and the tests that need no program: minutes'
+	@echo 'make quick     the texts, the lints and the quick tests that need no program: two minutes'
 	@echo 'make check     proves and tests every crate: 10 to 20 minutes'
 	@echo 'make gate      all that a change has to pass'
 	@echo 'make gate-test the same in a fresh Debian, as root'

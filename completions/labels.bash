@@ -1,4 +1,4 @@
-# Completion of labels, label-table, label-print and label-lines for bash: options, their values, and files.
+# Completion of labels and its tools; completions/make.py makes it.
 _labels() {
     local word=${COMP_WORDS[COMP_CWORD]} before=${COMP_WORDS[COMP_CWORD - 1]} option options values
     # bash cuts --option=value into three words
@@ -9,25 +9,10 @@ _labels() {
     fi
     # An option with its values, with = alone a text of any kind, with =FILE the name of a file.
     case ${1##*/} in
-        labels)
-            options='--format=pbm,ascii --scale=1,2,3,4,5,6,7,8 --height= --level=L,M,Q,H'
-            options+=' --min-version=1,2,3,4,5,6,7,8,9,10 --mask=0,1,2,3,4,5,6,7 --escapes --help'
-            ;;
-        label-table)
-            options='--code= --title= --text= --price= --unit-price= --old-price= --currency= --copies= --where='
-            options+=' --new-since=FILE --symbology=auto,ean13,ean8,upca,code128,qr --symbology-column= --settings='
-            options+=' --fill-zeros --without-check-digit --allow-zeros --links --price-as= --price-text'
-            options+=' --currency-name= --sheet= --hidden --decimal= --date-as= --delimiter= --encoding='
-            options+=' --header --no-header --header-row= --summary --help'
-            ;;
-        label-print)
-            options='--stock= --list-stock= --paper= --page= --columns= --rows= --cell= --margin= --gap='
-            options+=' --dpi=203,300,600 --module= --height= --design=article,shelf --turn --no-turn --note='
-            options+=' --first= --only= --only-code= --unique --edge= --shift= --to=pdf,svg,png,pbm,zpl,escpos'
-            options+=' --each=FILE --print= --journal=FILE --again= --stream'
-            options+=' --dots= --no-cut --compress --font= --digits= --labels= --read-back --summary --help'
-            ;;
-        *) options='--labels= --help' ;;
+        labels) options='--format=pbm,ascii --scale=1,2,3,4,5,6,7,8 --height= --level=L,M,Q,H --min-version=1,2,3,4,5,6,7,8,9,10 --mask=0,1,2,3,4,5,6,7 --escapes --help' ;;
+        label-table) options='--help --code= --title= --text= --price= --unit-price= --old-price= --currency= --copies= --where= --new-since=FILE --symbology=auto,ean8,upca,ean13,code128,qr --symbology-column= --settings= --fill-zeros --without-check-digit --allow-zeros --links --price-as= --price-text --currency-name= --sheet= --hidden --decimal= --date-as= --delimiter= --encoding= --header --no-header --header-row= --summary' ;;
+        label-print) options='--help --stock= --list-stock= --paper= --cell= --columns= --rows= --page= --margin= --gap= --edge= --shift= --design=article,shelf --turn --no-turn --module= --height= --note= --font= --digits= --first= --only= --labels= --read-back --to=pdf,svg,png,pbm,zpl,escpos --dpi=203,300,600 --each=FILE --print= --dots= --no-cut --compress --summary' ;;
+        label-lines) options='--help --labels=' ;;
     esac
     COMPREPLY=()
     for option in $options; do

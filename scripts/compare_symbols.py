@@ -10,9 +10,9 @@ The labels are the same in every run: all five symbologies, every error correcti
 pixels a module. For zbarimg there is white above and below, which a linear label lacks.
 
 The last line is `N labels: R read back, S of T as zint draws them`. Any other label is printed with its line, and the
-status is then 1, as where there are no labels. In each run both comparisons are shown a wrong case that they have to
-report: a picture with a turned module, and a picture of other data. Status 2: bad arguments, no such program, a
-third-party program missing."""
+status is then 1, as where there are no labels. In each run both comparisons are shown wrong cases that they have to
+report: pictures with one turned module, in a corner of the symbol too, and data that differ in the first or the last
+byte. Status 2: bad arguments, no such program, a third-party program missing."""
 
 import dataclasses
 import random
@@ -165,11 +165,12 @@ def is_as_zint(label, picture):
     return ours == [row[: len(ours[0])] for row in theirs]
 
 
-def with_turned_module(pixels):
-    """A picture of a QR symbol with the module in its middle turned."""
-    height, width = pixels.shape
+def with_turned_module(pixels, place):
+    """A picture of a QR symbol with a module turned: the one in its middle, or in a corner of what is dark."""
+    left, top, right, bottom = box_of(pixels)
+    places = {"first": (top, left), "middle": ((top + bottom) // 2, (left + right) // 2), "last": (bottom - 1, left)}
     turned = pixels.copy()
-    turned[height // 2, width // 2] ^= 1
+    turned[places[place]] ^= 1
     return turned
 
 
@@ -177,10 +178,13 @@ def not_seen(program):
     """The wrong cases that the comparisons do not report."""
     zint = ("-b", "QRCODE", "--secure=1", "--vers=1", "--mask=0", "-d", "WRONG")
     label = Label("qr,level=L,min-version=1,mask=0", b"WRONG", b"WRONG", 2, zint=zint)
-    if is_as_zint(label, with_turned_module(pictures_of(program, [label])[0])):
-        yield "a picture with a turned module passes as zint's"
-    if not [*not_read_back(program, [dataclasses.replace(label, full=b"RIGHT")])]:
-        yield "a picture of other data passes as read back"
+    (picture,) = pictures_of(program, [label])
+    for place in ("first", "middle", "last"):
+        if is_as_zint(label, with_turned_module(picture, place)):
+            yield f"a picture whose {place} module is turned passes as zint's"
+    for other in (b"PRONG", b"WRONT"):
+        if not [*not_read_back(program, [dataclasses.replace(label, full=other)])]:
+            yield f"a picture of WRONG passes as read back as {other.decode()}"
 
 
 def main():

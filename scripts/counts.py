@@ -3,11 +3,13 @@
 
 A test, a wrong body or a list of labels that is gone makes nothing fail. So each number is in that file, and a change
 of it is a line of the diff. With no option it compares the numbers that the text of the repository gives, and those
-that README.md and PROOF.md have of it. It also looks at HANDLES, which has to allow nothing, and at the root file of
+that README.md and PROOF.md have of it. How many tests there are gate.py compares, with those that ran, and `.ci/run`
+how many wrong bodies were refused. It also looks at HANDLES, which has to allow nothing, and at the root file of
 each crate, which has to ask for the tactic `auto`. The status is 1 where something differs, a line for each.
 
---write makes the file anew; for the last lines of the counted steps it runs these, most of which need the proved
-program, crates/labels/out/labels.
+--write makes the numbers of the text anew, in seconds, and keeps the last lines of the counted steps: where one is no
+longer right, the gate says so. With --run it runs these too, most of which need the proved program,
+crates/labels/out/labels.
 """
 
 import glob
@@ -23,7 +25,6 @@ import reader
 import sources
 
 HEAD = "# What the gate looks at. `scripts/counts.py --write` makes this file anew; the gate compares each line.\n"
-TESTS = ("scripts/tests", "tools/tests", "lib/tests")
 FOLDERS_OF_EDITS = ("wrong-bodies", "right-bodies", "must-fail")
 NO_HANDLES = "Handles allowed: none.\n"
 AUTO = "#![tactic(auto)]"
@@ -38,9 +39,7 @@ IN_PAGES = (
 
 
 def count_tests(folder):
-    """How many tests unittest finds below a folder; none where it is not there."""
-    if not os.path.isdir(folder):
-        return 0
+    """How many tests unittest finds below a folder."""
     status, said = sources.run([sources.PYTHON, "scripts/run_tests.py", "--count", folder])
     if status:
         sys.exit(f"the tests of {folder} cannot be read\n{said}")
@@ -62,6 +61,14 @@ def counts_of_crate(crate, files):
     yield len(glob.glob(f"crates/{crate}/stdout")), "stored runs"
 
 
+def sizes_of_tests():
+    """The constants of tests that say how much is tried, each with its file."""
+    for folder in gate.TESTS:
+        for path in sources.files_below(folder, ".py"):
+            for name, size in re.findall(r'^(LINES|MUTANTS|ROUNDS) = "?([\d_]+)', sources.read(path), re.MULTILINE):
+                yield f"{os.path.basename(path)} {name} {int(size)}"
+
+
 def joined(numbers):
     """Numbers and what they count, as a text."""
     return ", ".join(f"{number} {what}" for number, what in numbers if number) or "nothing"
@@ -75,15 +82,16 @@ def counts_of_text():
     yield "steps of built", ", ".join(gate.BUILT)
     for crate in crates:
         yield crate, joined(counts_of_crate(crate, files))
-    for folder in TESTS:
-        yield folder, count_tests(folder)
     texts = pages.texts()
     languages = Counter(block.language for text in texts.values() for block in pages.blocks_of(text))
     links = sum(len([*pages.links_of(text)]) for text in texts.values())
     yield "pages", joined([(len(texts), "pages"), (links, "links"), (len(glob.glob("man/*.[13]")), "manuals")])
     yield "blocks", joined((languages[language], language) for language in sorted(pages.LANGUAGES))
     yield "terms of the glossary", len([*pages.terms_of(texts[pages.GLOSSARY])])
-    yield "labels to compare", len(compare_symbols.all_labels())
+    labels = compare_symbols.all_labels()
+    heads, with_zint = {label.head for label in labels}, [label for label in labels if label.zint]
+    yield "labels to compare", f"{len(labels)} with {len(heads)} heads, {len(with_zint)} for zint"
+    yield "what tests try", ", ".join(sizes_of_tests())
 
 
 def last_line_of(step):
@@ -117,17 +125,24 @@ def faults_of_pages(wanted):
 def main():
     parser = sources.parser_of(__doc__, has_top=False)
     parser.add_argument("--write", action="store_true", help=f"make {gate.COUNTS} anew")
+    parser.add_argument("--run", action="store_true", help="with --write: run the counted steps, and take their lines")
     given = parser.parse_args()
+    if given.run and not given.write:
+        parser.error("--run goes with --write")
     os.chdir(sources.TOP)
     found = {name: str(number) for name, number in counts_of_text()}
     if given.write:
-        found |= {step: last_line_of(step) for step in gate.COUNTED}
+        before = {} if given.run else gate.counts_kept()
+        found |= {folder: str(count_tests(folder)) for folder in gate.TESTS}
+        found |= {step: before.get(step) or last_line_of(step) for step in gate.COUNTED}
         with open(gate.COUNTS, "w", encoding="utf-8") as file:
             file.write(HEAD + "".join(f"{name}: {text}\n" for name, text in found.items()))
         return 0
     kept = gate.counts_kept()
     faults = [*faults_of_rules(), *faults_of_pages(kept)]
-    wanted = {name: text for name, text in kept.items() if name not in gate.COUNTED}
+    wanted = {name: text for name, text in kept.items() if name not in (*gate.COUNTED, *gate.TESTS)}
+    if lacking := [folder for folder in gate.TESTS if not kept.get(folder, "").isdigit()]:
+        faults.append(f"{gate.COUNTS} has no number of tests of {', '.join(lacking)}")
     for name in {**wanted, **found}:
         if wanted.get(name) != found.get(name):
             faults.append(f"{name}: {found.get(name, 'none')}, and {wanted.get(name, 'none')} in {gate.COUNTS}")

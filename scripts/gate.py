@@ -4,13 +4,14 @@
 usage: scripts/gate.py quick | built | STEP..
 
 quick: what needs no program and no proof: the texts, the lints, the tests of the scripts, and those of the tools that
-draw nothing. built: what needs the proved program, crates/labels/out/labels, and the proved library,
-crates/labels_c/out/liblabels_c.a. STEP: these steps alone, each a script of scripts/ with its arguments.
+draw nothing and take no seconds; less than two minutes of a processor. built: what needs the proved program,
+crates/labels/out/labels, and the proved library, crates/labels_c/out/liblabels_c.a; it has all tests of the tools.
+STEP: these steps alone, each a script of scripts/ with its arguments.
 
 Of a step that fails all is printed that it wrote, of another one its last line. Nothing is skipped: a test that is
 skipped, a step that ends with 77, a program or a folder that is missing is a failure, and so is a last line of a
-counted step that is not the one in scripts/counts.txt. A step counts as one, but one whose last line is `N passed, M
-failed` as these. The last line is the sum of them.
+counted step, or a number of tests that ran, that is not the one in scripts/counts.txt. A step counts as one, but one
+whose last line is `N passed, M failed` as these. The last line is the sum of them.
 """
 
 import re
@@ -27,7 +28,7 @@ QUICK = (
     "pages.py",
     "lints.py",
     "run_tests.py scripts/tests",
-    "run_tests.py tools/tests --without-program",
+    "run_tests.py tools/tests --quick",
 )
 BUILT = (
     "believed_rows.py --sample --built",
@@ -42,6 +43,9 @@ BUILT = (
 # The steps whose last line is in the file of counts: those that judge what is built, and one before.
 COUNTED = ("believed_rows.py", *(step for step in BUILT if not step.startswith("run_tests.py")))
 COUNTS = "scripts/counts.txt"
+# The folders of tests: as many have to run as the file of counts has.
+TESTS = ("scripts/tests", "tools/tests", "lib/tests")
+PASSED = re.compile(r"(\d+) passed, (\d+) failed(?:, (\d+) left out)?")
 
 
 def counts_kept():
@@ -61,16 +65,29 @@ def run(step):
     return status, said, said.rstrip("\n").split("\n")[-1]
 
 
+def fault_of_count(step, last, ran):
+    """What the file of counts has in place of a step's last line, or of the number of its tests; or nothing."""
+    kept = counts_kept()
+    if step in COUNTED and last != kept.get(step):
+        return f"{COUNTS} has {kept.get(step, 'no such line')}"
+    folder = step.split()[1] if step.startswith("run_tests.py ") else ""
+    if folder in TESTS and str(ran) != kept.get(folder):
+        return f"{ran} tests, and {COUNTS} has {kept.get(folder, 'no such line')}"
+    return ""
+
+
 def passed_and_failed(step):
     """How many of a step passed and failed, and what is printed of it."""
     status, said, last = run(step)
-    numbers = re.fullmatch(r"(\d+) passed, (\d+) failed", last)
-    good, bad = map(int, numbers.groups()) if numbers else (int(status == 0), int(status != 0))
+    numbers = PASSED.fullmatch(last)
+    good, bad, left_out = map(int, numbers.groups("0") if numbers else (status == 0, status != 0, 0))
+    if left_out and "--quick" not in step:
+        return 0, 1, f"{said}{left_out} tests were left out"
     if (status != 0) != (bad > 0) or not good + bad:
         return 0, 1, f"{said}status {status}"
-    wanted = counts_kept().get(step)
-    if step in COUNTED and not bad and last != wanted:
-        return 0, 1, f"{said}{COUNTS} has {wanted or 'no such line'}"
+    fault = "" if bad else fault_of_count(step, last, good + left_out)
+    if fault:
+        return 0, 1, f"{said}{fault}"
     return good, bad, f"{said}status {status}" if bad else last
 
 

@@ -23,10 +23,17 @@ INTERPRETERS = {
     "#!/usr/bin/make -f": "",
 }
 ENDINGS = {".py": "python", ".bash": "completion", ".1": "manual", ".3": "manual"}
+# What flake8 has to find in WRONG: an import and a variable that nothing uses, and a name that is not there.
+WRONG = "import os  # noqa\n\n\ndef one():\n    two = three\n"
+FINDS = ("F401", "F841", "F821")
+# The scripts that are laid out as the tools are, and others that are typed as they are.
+AS_TOOLS = tuple(f"scripts/{name}.py" for name in ("believed_rows", "changes", "edits", "judging", "wrong_bodies"))
+TYPED = ("scripts/libraries.py", "scripts/reader.py", "scripts/sources.py")
 # black puts a space before the colon of a slice, which E203 is against.
-STYLE = "flake8 --isolated --extend-ignore E203 --max-line-length"
+STYLE = "flake8 --isolated --disable-noqa --extend-ignore E203 --max-line-length"
 LAYOUT = f"black --config {os.devnull} --quiet --check --line-length"
-TYPES = f"mypy --no-error-summary --cache-dir {os.devnull} --config-file scripts/mypy.ini"
+# It keeps what it read of the typed files, in a folder that is not committed.
+TYPES = "mypy --no-error-summary --cache-dir out/mypy --config-file scripts/mypy.ini"
 
 
 @dataclass(frozen=True)
@@ -37,6 +44,7 @@ class Lint:
     files: list
     wrong_name: str
     wrong: str
+    finds: tuple = ()  # what it has to say of that file, each
 
     def fault(self):
         """What it finds, or that it reads no file, or that it finds nothing in what is wrong."""
@@ -46,8 +54,10 @@ class Lint:
             wrong = os.path.join(folder, self.wrong_name)
             with open(wrong, "w", encoding="utf-8") as file:
                 file.write(self.wrong)
-            if not self.findings([wrong]):
-                return f"{self.command} finds nothing in: {self.wrong}"
+            found = self.findings([wrong])
+            unseen = [it for it in self.finds if f": {it} " not in found]
+            if not found or unseen:
+                return f"{self.command} finds nothing in: {', '.join(unseen) or self.wrong}"
         return self.findings(self.files)
 
     def findings(self, files):
@@ -77,18 +87,18 @@ def files_by_kind():
 
 
 def all_lints(files):
-    """The lints over these files. Python is 100 columns wide in tools/, where the texts are too, and 119 elsewhere."""
-    tools = [path for path in files["python"] if path.startswith("tools/")]
+    """The lints over these files. Python is 100 columns wide where it is laid out as the tools are, else 119."""
+    tools = [path for path in files["python"] if path.startswith("tools/") or path in AS_TOOLS]
     used = [path for path in tools if "/tests/" not in path]
     others = [path for path in files["python"] if path not in tools]
-    typed = [*used, *(path for path in others if path.startswith("lib/python/"))]
+    typed = [*used, *(path for path in others if path.startswith("lib/python/") or path in TYPED)]
     return (
         Lint("shellcheck --norc", files["shell"], "wrong.sh", "#!/bin/sh\nrm $1\n"),
         Lint("shellcheck --norc --shell=bash", files["completion"], "wrong.bash", "rm $1\n"),
         Lint(f"{LAYOUT} 100", tools, "wrong.py", "x = 'one'\n"),
         Lint(f"{LAYOUT} 119", others, "wrong.py", "x = 'one'\n"),
-        Lint(f"{STYLE} 100", used, "wrong.py", "import os\n"),
-        Lint(f"{STYLE} 119", [path for path in files["python"] if path not in used], "wrong.py", "import os\n"),
+        Lint(f"{STYLE} 100", used, "wrong.py", WRONG, FINDS),
+        Lint(f"{STYLE} 119", [path for path in files["python"] if path not in used], "wrong.py", WRONG, FINDS),
         Lint(TYPES, typed, "wrong.py", "number: int = 'one'\n"),
         Lint("mandoc -Tlint -W warning", files["manual"], "wrong.1", ".TH WRONG 1\n.SH NAME\n.XX\n"),
     )

@@ -14,6 +14,7 @@
 The last line is `N pages, B blocks, T terms, F faults`. The status is 1 where there is a fault, a line for each.
 """
 
+import functools
 import glob
 import os
 import re
@@ -63,10 +64,16 @@ def texts():
     return {path: sources.read(path) for path in paths}
 
 
+@functools.lru_cache(maxsize=None)
+def parsed(text):
+    """The tokens of the text of a page."""
+    return MARKDOWN.parse(text)
+
+
 def blocks_of(text):
     """The blocks of a page."""
     lines = text.split("\n")
-    tokens = MARKDOWN.parse(text)
+    tokens = parsed(text)
     for before, token in zip([None, *tokens], tokens):
         if token.type == "fence":
             start, end = token.map
@@ -104,7 +111,7 @@ def is_in_files(code, above):
 
 def anchors_of(text):
     """The names by which links lead to the headings of a page."""
-    tokens = MARKDOWN.parse(text)
+    tokens = parsed(text)
     headings = [inline.content for token, inline in zip(tokens, tokens[1:]) if token.type == "heading_open"]
     return [re.sub(r"[^\w\- ]", "", heading.lower()).replace(" ", "-") for heading in headings]
 
@@ -122,7 +129,7 @@ def fault_of_link(page, link):
 
 def links_of(text):
     """The links of a page to files of the repository, each with the number of its line."""
-    for token in MARKDOWN.parse(text):
+    for token in parsed(text):
         links = [part.attrs.get("href") or part.attrs.get("src") for part in token.children or []]
         yield from ((token.map[0] + 1, link) for link in links if link and ":" not in link)
 

@@ -12,24 +12,51 @@ import re
 import subprocess
 import sys
 import tempfile
-from collections import namedtuple
 from dataclasses import dataclass, field
+from typing import Callable, Hashable, Iterable, Iterator, NamedTuple, Sequence, TypeVar
 
 import libraries
 import sources
 
-# `start` is the place in the text of the file, `column` that in its line.
-Token = namedtuple("Token", "kind text line column start")
-# What a definition, a lemma or an item is named by; `part` is "specs", "proofs" or "src". Of a whole file the name is
-# empty.
-Key = namedtuple("Key", "crate part module name")
-# A name that a line brings in: as it is written there, and what it names, if it is one of ours. Of the code also
-# whether it is one of the logic, and the tokens that can have it.
-Import = namedtuple("Import", "name place target is_ghost scope", defaults=(None, False, ()))
+
+class Token(NamedTuple):
+    """A word of a file; `start` is its place in the text, `column` that in its line."""
+
+    kind: str
+    text: str
+    line: int
+    column: int
+    start: int
+
+
+class Key(NamedTuple):
+    """What a definition, a lemma or an item is named by; `part` is "specs", "proofs" or "src". Of a whole file the
+    name is empty."""
+
+    crate: str
+    part: str
+    module: str
+    name: str
+
+
+class Import(NamedTuple):
+    """A name that a line brings in: as it is written there, and what it names, if it is one of ours. Of the code also
+    whether it is one of the logic, and the tokens that can have it."""
+
+    name: str
+    place: str
+    target: Key | None = None
+    is_ghost: bool = False
+    scope: Sequence[Token] = ()
+
+
 OPENING = {"(", "[", "{"}
 CLOSING = {")", "]", "}"}
 MODIFIERS = {"abbrev", "unfoldable", "pub", "record", "data", "ruleset"}
 KINDS = {"fn", "struct", "enum", "trait", "impl", "mod", "const", "ghost", "use", "type", "static"}
+# The files that were read, by their paths below the repository and their texts.
+FILES_READ: dict[tuple[str, str], "File"] = {}
+One = TypeVar("One", bound=Hashable)
 RELATIONS = {"≡", "≢", "≤", "<", "↔"}
 
 
@@ -46,33 +73,33 @@ class Declaration:
     place: str
     is_public: bool
     about: str
-    tokens: list
-    stated: list
-    attributes: list = field(default_factory=list)
-    inner: list = field(default_factory=list)
-    statements: list = field(default_factory=list)
+    tokens: list[Token]
+    stated: list[Token]
+    attributes: list[Token] = field(default_factory=list)
+    inner: list["Declaration"] = field(default_factory=list)
+    statements: list[list[Token]] = field(default_factory=list)
 
     @property
-    def name(self):
+    def name(self) -> str:
         return self.key.name
 
     @property
-    def lines(self):
+    def lines(self) -> int:
         """How many lines it has, without blank lines, comments, attributes and bodies of functions."""
         first = {token.line: token.text for token in reversed(self.stated)}
         return sum(text != "#" for text in first.values())
 
-    def clauses(self):
+    def clauses(self) -> Iterator[list[Token]]:
         """The tokens after the first sign = of each clause."""
         for statement in self.statements:
             texts = [token.text for token in statement]
             if texts[0] == self.name and "=" in texts and not is_signature(statement):
                 yield statement[texts.index("=") + 1 :]
 
-    def worked_values(self):
+    def worked_values(self) -> int:
         """How many statements without variables it makes, those of a module too, of a product each for one: they are
         computed."""
-        words = [token.text for token in next(filter(is_signature, self.statements), [])]
+        words = [token.text for token in next(filter(is_signature, self.statements), list[Token]())]
         is_open = self.tokens[0].column > 0 or "→" in words
         return 0 if is_open else sum(word in RELATIONS for word in words)
 
@@ -81,12 +108,16 @@ class File:
     """A file: its text, tokens, imports, what it passes on to callers, and what it declares; of the logic also by each
     name that it gives."""
 
-    def __init__(self, top, path, tokens):
+    def __init__(self, top: str, path: str, tokens: list[Token]) -> None:
         self.path = os.path.relpath(path, top)
         self.crate, self.part, *parts = self.path.removeprefix("crates/").split(os.sep)
         self.module = os.path.splitext(".".join(parts))[0]
         self.text, self.tokens = sources.read(path), tokens
-        self.imports, self.passed_on, self.declarations, self.of_name, self.rest = [], [], [], {}, []
+        self.imports: list[Import] = []
+        self.passed_on: list[Import] = []
+        self.declarations: list[Declaration] = []
+        self.of_name: dict[str, Declaration] = {}
+        self.rest: list[Token] = []
         if self.part == "src":
             self.declarations = list(self.items(tokens))
             for item in self.declarations:
@@ -96,26 +127,26 @@ class File:
             self.take(tokens)
 
     @property
-    def title(self):
+    def title(self) -> str:
         return f"{self.crate}/{self.module}"
 
-    def key(self, name=""):
+    def key(self, name: str = "") -> Key:
         return Key(self.crate, self.part, self.module, name)
 
-    def place(self, token):
+    def place(self, token: Token) -> str:
         return f"{self.path}:{token.line}"
 
-    def extent(self, tokens):
+    def extent(self, tokens: Sequence[Token]) -> tuple[int, int]:
         """Where the text from the first to the last of tokens begins and ends."""
         return tokens[0].start, tokens[-1].start + len(tokens[-1].text)
 
-    def text_of(self, tokens):
+    def text_of(self, tokens: Sequence[Token]) -> str:
         begin, end = self.extent(tokens)
         return self.text[begin:end]
 
-    def about(self, token, mark, skipped):
+    def about(self, token: Token, mark: str, skipped: str) -> str:
         """The comment above a token, as one line; between them are lines that begin with what is skipped."""
-        found = []
+        found: list[str] = []
         for line in map(str.strip, reversed(self.text.split("\n")[: token.line - 1])):
             if line.startswith(mark):
                 found.append(line.removeprefix(mark).strip())
@@ -123,9 +154,9 @@ class File:
                 break
         return " ".join(reversed(found))
 
-    def cites(self, tokens):
+    def cites(self, tokens: Sequence[Token]) -> Iterator[Key]:
         """What tokens name, in their order: definitions of the file itself, and what it imports of the logic."""
-        targets = {}
+        targets: dict[str, list[Key]] = {}
         for one in self.imports:
             if one.target:
                 targets.setdefault(one.name, []).append(one.target)
@@ -142,9 +173,10 @@ class File:
 
     # ---- the logic
 
-    def take(self, tokens):
+    def take(self, tokens: list[Token]) -> None:
         """Cuts the tokens of a file or of a module into imports and declarations."""
-        current, before = None, []
+        current: Declaration | None = None
+        before: list[Token] = []
         for statement in statements(tokens):
             words = [token.text for token in statement]
             modifiers = list(itertools.takewhile(MODIFIERS.__contains__, words))
@@ -169,7 +201,7 @@ class File:
                 if current:
                     current.statements.append(statement[len(modifiers) :])
 
-    def declare(self, name, modifiers, before, statement):
+    def declare(self, name: str, modifiers: list[str], before: list[Token], statement: list[Token]) -> Declaration:
         kind = next((it for it in ("data", "record", "ruleset") if it in modifiers), "definition")
         place, about = self.place(statement[0]), self.about(statement[0], "--", "infix")
         tokens = [*before, *statement]
@@ -184,9 +216,9 @@ class File:
 
     # ---- the code
 
-    def items(self, tokens):
+    def items(self, tokens: list[Token]) -> Iterator[Declaration]:
         """The items of code side by side: those of a file, or of what an item has between braces."""
-        attributes = []
+        attributes: list[Token] = []
         for statement in statements(tokens):
             if statement[0].text == "#":
                 attributes += statement
@@ -200,7 +232,7 @@ class File:
                 yield self.item(kinds[0], statement, attributes)
             attributes = []
 
-    def item(self, kind, tokens, attributes):
+    def item(self, kind: str, tokens: list[Token], attributes: list[Token]) -> Declaration:
         braces = [at for at, token in enumerate(tokens) if (token.kind, token.text) == ("Code", "{")]
         body = braces[0] if braces else len(tokens)
         key = self.key(name_of_item(kind, [token.text for token in tokens[:body]]))
@@ -215,7 +247,7 @@ class File:
             one.stated = [token for token in tokens if token not in bodies]
         return one
 
-    def imports_in(self, item):
+    def imports_in(self, item: Declaration) -> Iterator[Import]:
         """The names that an item at the top brings in, or that lines in it bring in for it."""
         scope = self.tokens if item.kind == "use" else item.tokens
         for at, token in enumerate(item.tokens):
@@ -225,9 +257,10 @@ class File:
                     yield one._replace(is_ghost=token.kind == "Head", scope=scope)
 
 
-def statements(tokens):
+def statements(tokens: Sequence[Token]) -> list[list[Token]]:
     """What stands side by side: each begins in the column of the first token, outside of brackets."""
-    found, depth = [], 0
+    found: list[list[Token]] = []
+    depth = 0
     for token in tokens:
         if token.column == tokens[0].column and depth == 0 and token.text not in ("{", "where"):
             found.append([])
@@ -236,12 +269,12 @@ def statements(tokens):
     return found
 
 
-def is_signature(statement):
+def is_signature(statement: Sequence[Token]) -> bool:
     """Whether it says the type of a name: it has a colon, and before it no sign =."""
     return next((token.text for token in statement if token.text in (":", "=")), "") == ":"
 
 
-def imported(tokens, place):
+def imported(tokens: Iterable[Token], place: str) -> Iterator[Import]:
     """The names that an import brings in, each with what it names, if it is one of ours: a name of a file, or the file
     as a whole."""
     words = [token.text for token in tokens]
@@ -250,15 +283,17 @@ def imported(tokens, place):
             name = words[at - 2] if words[at - 1] == "as" else word
             file, inside = (words[0], name) if words[1:2] == ["."] else (name, "")
             of_ours = re.fullmatch(r"Rattle\.(\w+)\.(specs|proofs)\.([\w.+-]+)", file)
-            yield Import(word.split(".")[-1], place, Key(*of_ours.groups(), inside) if of_ours else None)
+            target = Key(of_ours[1], of_ours[2], of_ours[3], inside) if of_ours else None
+            yield Import(word.split(".")[-1], place, target)
 
 
-def name_of_item(kind, words):
+def name_of_item(kind: str, words: list[str]) -> str:
     """The name of an item, by its head: of an `impl` the type, or `Trait for Type`, without parameters."""
     after = words[words.index(kind) + 1 :]
     if kind != "impl":
         return after[0]
-    depth, kept = 0, []
+    depth = 0
+    kept: list[str] = []
     for word in itertools.takewhile(lambda it: it != "where", after):
         depth += {"<": 1, ">": -1}.get(word, 0)
         if depth == 0 and word.isidentifier():
@@ -270,7 +305,7 @@ def name_of_item(kind, words):
 # ---- files
 
 
-def tokens_of(paths):
+def tokens_of(paths: Sequence[str]) -> list[list[Token]]:
     """The tokens of each file."""
     if not paths:
         return []
@@ -281,7 +316,7 @@ def tokens_of(paths):
     return [list(tokens_in(rows, sources.read(path))) for rows, path in zip(parts, paths)]
 
 
-def tokens_in(rows, text):
+def tokens_in(rows: str, text: str) -> Iterator[Token]:
     """The tokens of a text by the kit's rows: the line, the first and last byte, the kind and the text of each."""
     data, byte, place = text.encode(), 0, 0
     lines = [0, 0, *(match.end() for match in re.finditer("\n", text))]
@@ -294,7 +329,7 @@ def tokens_in(rows, text):
             yield Token(kind, word, int(line), place - lines[int(line)], place)
 
 
-def tokens_of_text(text):
+def tokens_of_text(text: str) -> list[Token]:
     """The tokens of a text of the code."""
     with tempfile.NamedTemporaryFile("w", encoding="utf-8", suffix=".rt") as file:
         file.write(text)
@@ -302,26 +337,33 @@ def tokens_of_text(text):
         return tokens_of([file.name])[0]
 
 
-def files_of(top, crates, *parts):
+def files_of(top: str, crates: Iterable[str], *parts: str) -> list[File]:
     """The files of src/, specs/ or proofs/ of crates, but for the lists of modules."""
     folders = [os.path.join(top, "crates", crate, part) for crate in crates for part in parts]
     paths = [path for folder in folders for path in sources.files_below(folder, (".rt", ".antt"))]
     return files_at(top, [path for path in paths if os.path.basename(path) != "Lib.antt"])
 
 
-def files_at(top, paths):
-    return [File(top, path, tokens) for path, tokens in zip(paths, tokens_of(paths))]
+def files_at(top: str, paths: Sequence[str]) -> list[File]:
+    """The files of these paths. One that was read before in this process, with the same path and text, is not read
+    again: the tests judge a copy of the repository many times, each with one file changed."""
+    keys = [(os.path.relpath(path, top), sources.read(path)) for path in paths]
+    new = [path for path, key in zip(paths, keys) if key not in FILES_READ]
+    for path, tokens in zip(new, tokens_of(new)):
+        file = File(top, path, tokens)
+        FILES_READ[file.path, file.text] = file
+    return [FILES_READ[key] for key in keys]
 
 
 # ---- what tokens name
 
 
-def names_in(tokens):
+def names_in(tokens: Iterable[Token]) -> set[str]:
     """The names in tokens: of a path its first part too."""
     return {name for token in tokens for name in (token.text, token.text.split(".")[0])}
 
 
-def is_named_in(name, names):
+def is_named_in(name: str, names: set[str]) -> bool:
     """Whether names have a name; of an operator they have to have each part."""
     if "◌" not in name or name in names:
         return name in names
@@ -330,7 +372,7 @@ def is_named_in(name, names):
     return all(part in names for part in name.split("◌") if part)
 
 
-def reach(roots, next_of):
+def reach(roots: Iterable[One], next_of: Callable[[One], Iterable[One]]) -> list[One]:
     """All that roots lead to, step by step, in the order of a walk in breadth."""
     found = dict.fromkeys(roots)
     waiting = list(found)
@@ -339,3 +381,29 @@ def reach(roots, next_of):
         found.update(dict.fromkeys(new))
         waiting += new
     return waiting
+
+
+# ---- what is ghost in code
+
+
+def without_uses(tokens: Iterable[Token]) -> Iterator[Token]:
+    """The tokens of code that are in no import."""
+    is_use = False
+    for token in tokens:
+        is_use = is_use or (token.text == "use" and token.kind in ("Code", "Head"))
+        if not is_use:
+            yield token
+        is_use = is_use and token.text != ";"
+
+
+def attributes_in(tokens: Sequence[Token]) -> Iterator[list[Token]]:
+    """The tokens of attributes of code, each attribute by itself."""
+    for at, token in enumerate(tokens):
+        if (token.kind, token.text) == ("Code", "#"):
+            yield list(itertools.takewhile(lambda it: it.text != "]", tokens[at:]))
+
+
+def ghost_tokens(tokens: Sequence[Token], kinds: Sequence[str] = ("Antt", "Text")) -> list[Token]:
+    """Of code: what is in contracts, ghost items and attributes."""
+    found = [token for token in without_uses(tokens) if token.kind in kinds]
+    return found + [token for attribute in attributes_in(tokens) for token in attribute]

@@ -8,9 +8,9 @@ A run is good where it does what it does when no growth is refused, with the sam
 it writes nothing on standard output and `labels: no memory` on standard error, and ends with status 3, as a run of
 each command has to. Any other run is reported, and makes the status of this script 1.
 
-In each run it is shown a program that loses its output without a word where a growth is refused, which it has to
-report. The last line is `N growths: K no memory, L unaffected, M wrong`. Status 2: bad arguments, no such program, no
-C compiler.
+In each run it is shown programs that it has to report: one that loses its output without a word where a growth is
+refused, and one that says something else. The last line is `N growths: K no memory, L unaffected, M wrong`. Status 2:
+bad arguments, no such program, no C compiler.
 """
 
 import contextlib
@@ -56,14 +56,16 @@ static int is_refused(void) {
 void *malloc(size_t size) { return is_refused() ? NULL : __libc_malloc(size); }
 void *realloc(void *old, size_t size) { return is_refused() ? NULL : __libc_realloc(old, size); }
 """
-# Writes what it has no memory for as nothing at all, and ends as if all were well.
+# Says nothing where it has no memory, or something else than it has to, and ends with STATUS.
 LOSER = """
 #include <stdlib.h>
 #include <unistd.h>
 
 int main(void) {
     void *volatile room = malloc(1);
-    return room && write(STDOUT_FILENO, "all", 3) != 3;
+    if (room)
+        return write(STDOUT_FILENO, "all", 3) != 3;
+    return STATUS && write(STDERR_FILENO, "labels: no memory!\\n", 19) != 19 ? 1 : STATUS;
 }
 """
 
@@ -117,12 +119,15 @@ def main():
     with tempfile.TemporaryDirectory() as name:
         folder = Path(name)
         build(REFUSE, folder / "refuse", "-fPIC", "-shared")
-        build(LOSER, folder / "loser")
-        with contextlib.redirect_stdout(io.StringIO()) as said:
-            outcomes, _ = refuse_each(folder, [folder / "loser"])
-        if outcomes != Counter(wrong=2) or "growth 1: status 0, 0 bytes" not in said.getvalue():
-            print("a program that loses its output where memory is refused is not reported")
-            return 1
+        for status in (0, NO_MEMORY[0]):
+            build(LOSER, folder / "loser", f"-DSTATUS={status}")
+            with contextlib.redirect_stdout(io.StringIO()) as said:
+                outcomes, _ = refuse_each(folder, [folder / "loser"])
+            if outcomes != Counter(wrong=2) or f"growth 1: status {status}, 0 bytes" not in said.getvalue():
+                print(
+                    f"a program that loses its output where memory is refused, with status {status}, is not reported"
+                )
+                return 1
         for arguments in (STORED, [*STORED, "stdin"], *OTHERS):
             outcomes, whole = refuse_each(folder, [program, *arguments])
             found += outcomes

@@ -16,8 +16,8 @@ clone of what is committed, README.md first, and the other pages with the progra
 
 Besides, the pictures that RECIPES.md makes must be those of docs/pictures but window.png, pixel for pixel. The last
 line is `N of N as printed`; where one is not, the status is 1. In each run this is shown wrong cases first, each of
-which it has to report: a command that prints something else than the page says, one that fails, and a picture that is
-another.
+which it has to report: commands that print something else than the page says, if only in the last letter, one that
+fails, and pictures that are others, if only in one pixel.
 """
 
 import contextlib
@@ -152,6 +152,16 @@ def judged(name, faults):
     return count, good
 
 
+def with_turned_pixel(picture, folder):
+    """A copy of a picture whose last pixel is another, so that nothing but that tells them apart."""
+    pixels = subprocess.run(["pngtopnm", picture], capture_output=True, check=True).stdout
+    turned = subprocess.run(
+        ["pnmtopng"], input=pixels[:-1] + bytes([pixels[-1] ^ 0x80]), capture_output=True, check=True
+    )
+    (folder / "turned.png").write_bytes(turned.stdout)
+    return folder / "turned.png"
+
+
 def unseen():
     """The wrong cases that are not reported, by their names."""
     one, another = sorted(PICTURES.glob("*.png"))[:2]
@@ -160,9 +170,11 @@ def unseen():
         folder = Path(name)
         cases = {
             "other output": replace(right, printed="wrong\n").fault(folder, {}),
+            "another last letter": replace(right, printed="righs\n").fault(folder, {}),
             "no output": replace(right, text="true\n").fault(folder, {}),
             "a failure": replace(right, text="echo right; false").fault(folder, {}),
             "another picture": fault_of_picture(one, another),
+            "another pixel": fault_of_picture(one, with_turned_pixel(one, folder)),
             "no picture": fault_of_picture(one, folder / one.name),
         }
     for name, fault in cases.items():

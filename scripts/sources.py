@@ -5,24 +5,34 @@ import glob
 import os
 import subprocess
 import sys
+from typing import Sequence
 
 # Debian's Python, which has the modules that the tools need, whatever is first on the path.
 PYTHON = "/usr/bin/python3"
 TOP = os.path.dirname(os.path.dirname(os.path.abspath(__file__)))
 
 
-def run(command, folder=TOP, **more):
-    """The status of a command in a folder, and what it wrote. A program that is not there is status 127."""
+def run(command: Sequence[str], folder: str | None = None, **more: str) -> tuple[int, str]:
+    """The status of a command in a folder (that of the repository), and what it wrote. A program that is not there is
+    status 127."""
     environment = {**os.environ, "PYTHONDONTWRITEBYTECODE": "1", **more}
-    how = {"stdin": subprocess.DEVNULL, "stdout": subprocess.PIPE, "stderr": subprocess.STDOUT}
     try:
-        done = subprocess.run(command, env=environment, cwd=folder, encoding="utf-8", errors="replace", **how)
+        done = subprocess.run(
+            command,
+            env=environment,
+            cwd=folder or TOP,
+            stdin=subprocess.DEVNULL,
+            stdout=subprocess.PIPE,
+            stderr=subprocess.STDOUT,
+            encoding="utf-8",
+            errors="replace",
+        )
     except FileNotFoundError:
         return 127, f"not installed: {command[0]}\n"
     return done.returncode, done.stdout
 
 
-def parser_of(description, has_top=True):
+def parser_of(description: str | None, has_top: bool = True) -> argparse.ArgumentParser:
     """A parser of the arguments of a script; --top names the repository, which else is that of this script."""
     parser = argparse.ArgumentParser(description=description, formatter_class=argparse.RawDescriptionHelpFormatter)
     if has_top:
@@ -30,7 +40,7 @@ def parser_of(description, has_top=True):
     return parser
 
 
-def program_given(description):
+def program_given(description: str | None) -> str:
     """The program `labels` that an argument names, the proved one where none does. Stops where it is not there."""
     parser = parser_of(description, has_top=False)
     default = os.path.join(TOP, "crates", "labels", "out", "labels")
@@ -41,13 +51,13 @@ def program_given(description):
         metavar="PROGRAM",
         help="the program (crates/labels/out/labels, which `rt run` in crates/labels makes)",
     )
-    program = os.path.abspath(parser.parse_args().program)
+    program = os.path.abspath(str(parser.parse_args().program))
     if not os.path.isfile(program) or not os.access(program, os.X_OK):
         parser.error(f"{program} is no program: run `rt run < /dev/null` in crates/labels, or name another one")
     return program
 
 
-def crates_of(top):
+def crates_of(top: str) -> list[str]:
     """The crates of crates.txt, in its order. Stops where one has no code, or a folder with code is not listed."""
     with open(os.path.join(top, "crates.txt"), encoding="utf-8") as lines:
         listed = [line.partition(":")[0].split()[0] for line in lines if line.strip() and not line.startswith("#")]
@@ -57,20 +67,20 @@ def crates_of(top):
     return listed
 
 
-def read(path):
+def read(path: str) -> str:
     with open(path, encoding="utf-8") as file:
         return file.read()
 
 
-def write(path, text):
+def write(path: str, text: str) -> None:
     os.makedirs(os.path.dirname(path), exist_ok=True)
     with open(path, "w", encoding="utf-8") as file:
         file.write(text)
 
 
-def files_below(folder, ending):
+def files_below(folder: str, ending: str | tuple[str, ...]) -> list[str]:
     """The files below a folder with this ending, or one of these, sorted by path."""
-    found = []
+    found: list[str] = []
     for where, folders, names in os.walk(folder):
         folders[:] = [name for name in folders if name not in ("out", "__pycache__")]
         found += [os.path.join(where, name) for name in names if name.endswith(ending)]

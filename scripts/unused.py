@@ -29,33 +29,10 @@ READ_BY_CHECK = ("Answers", "Invariants", "Proof")
 TRAITS_OF_STD = {"Read", "Write", "BufRead", "Model", "Error"}
 
 
-def without_uses(tokens):
-    """The tokens of code that are in no import."""
-    is_use = False
-    for token in tokens:
-        is_use = is_use or (token.text == "use" and token.kind in ("Code", "Head"))
-        if not is_use:
-            yield token
-        is_use = is_use and token.text != ";"
-
-
-def attributes_in(tokens):
-    """The tokens of attributes of code, each attribute by itself."""
-    for at, token in enumerate(tokens):
-        if (token.kind, token.text) == ("Code", "#"):
-            yield list(itertools.takewhile(lambda it: it.text != "]", tokens[at:]))
-
-
-def ghost_tokens(tokens, kinds=("Antt", "Text")):
-    """Of code: what is in contracts, ghost items and attributes."""
-    found = [token for token in without_uses(tokens) if token.kind in kinds]
-    return found + [token for attribute in attributes_in(tokens) for token in attribute]
-
-
 def cited_by_code(file):
     """The definitions and lemmas that a file of code cites: in contracts by imported names, in attributes by paths."""
-    yield from file.cites(ghost_tokens(file.tokens))
-    for attribute in attributes_in(file.tokens):
+    yield from file.cites(reader.ghost_tokens(file.tokens))
+    for attribute in reader.attributes_in(file.tokens):
         text = "".join(token.text for token in attribute)
         for crate, part, path in re.findall(r"\b(\w+)::(specs|proofs)((?:::[\w-]+)+)", text):
             *module, name = path[2:].split("::")
@@ -107,7 +84,7 @@ def unused_imports(logic, code):
 def unused_in_code(imports, traits):
     """The names that are imported for some tokens of code and not used there."""
     scope = imports[0].scope
-    tokens, ghost_names = list(without_uses(scope)), reader.names_in(ghost_tokens(scope))
+    tokens, ghost_names = list(reader.without_uses(scope)), reader.names_in(reader.ghost_tokens(scope))
     names = {token.text for token in tokens} | TRAITS_OF_STD
     called = {token.text for before, token in zip(tokens, tokens[1:]) if before.text in (".", ":")}
     for one in imports:

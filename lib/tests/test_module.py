@@ -68,6 +68,41 @@ for name, (line, message) in json.loads(sys.argv[1]).items():
         print(name, why.code, message == str(why))
 """
 
+# What labels_code_text says of each code.
+TEXTS = {
+    "LABELS_OK": "done",
+    "LABELS_NO_ROOM": "the room is too small",
+    "LABELS_BAD_OPTION": "an option is out of its range",
+    "LABELS_BAD_SYMBOLOGY": "unknown symbology",
+    "LABELS_NO_DATA": "no data",
+    "LABELS_NOT_A_DIGIT": "not a digit",
+    "LABELS_WRONG_NUMBER_OF_DIGITS": "wrong number of digits",
+    "LABELS_WRONG_CHECK_DIGIT": "wrong check digit",
+    "LABELS_DATA_TOO_LONG": "data is longer than 80 bytes",
+    "LABELS_NOT_ASCII": "a byte is not ASCII",
+    "LABELS_DOES_NOT_FIT": "data does not fit version 10",
+    "LABELS_LINE_TOO_LONG": "line is longer than 1100 bytes",
+    "LABELS_BAD_SETTING": "bad setting",
+    "LABELS_BAD_ESCAPE": "bad escape",
+    "LABELS_SKIPPED": "an empty line or a comment",
+    "LABELS_NOT_ONE_LINE": "the line has a line feed",
+    "LABELS_NULL": "a pointer is NULL",
+    "LABELS_REFUSED": "a line is refused",
+}
+CODE_TEXTS = """
+import ctypes, json, os, sys
+code_text = ctypes.CDLL(os.environ["LABELS_LIBRARY"]).labels_code_text
+code_text.restype = ctypes.c_char_p
+print(json.dumps([code_text(code).decode() for code in range(-1, int(sys.argv[1]) + 1)]))
+"""
+
+
+def names_of_codes() -> list[str]:
+    """The names of the codes in labels.h, in the order of their numbers."""
+    header = (LIB / "labels.h").read_text(encoding="utf-8")
+    enum = header.partition("enum labels_code {")[2].partition("};")[0]
+    return re.findall(r"^ +(LABELS_\w+)", enum, re.M)
+
 
 class Module(WithLibrary):
     def wrong_module(self, old: str, new: str) -> Path:
@@ -97,11 +132,15 @@ class Module(WithLibrary):
 
     def test_codes(self) -> None:
         """The numbers of the refusals are those that labels.h has for them."""
-        header = (LIB / "labels.h").read_text(encoding="utf-8")
-        enum = header.partition("enum labels_code {")[2].partition("};")[0]
-        names = re.findall(r"^ +(LABELS_\w+)", enum, re.M)
+        names = names_of_codes()
         said = self.run_ok(PYTHON, "-c", CODES, json.dumps(REFUSALS)).decode().splitlines()
         self.assertEqual(said, [f"{name} {names.index(name)} True" for name in REFUSALS])
+
+    def test_texts_of_codes(self) -> None:
+        names = names_of_codes()
+        below, *texts, above = json.loads(self.run_ok(PYTHON, "-c", CODE_TEXTS, str(len(names))))
+        self.assertEqual(dict(zip(names, texts, strict=True)), TEXTS)
+        self.assertEqual((below, above), ("unknown code", "unknown code"))
 
     def test_lines_of_the_program(self) -> None:
         self.run_ok(PYTHON, TESTS / "compare_lines.py", PROGRAM, "1", LINES)

@@ -7,6 +7,7 @@ import stat
 import subprocess
 import sys
 import tempfile
+import traceback
 import unittest
 
 TOP = os.path.dirname(os.path.dirname(os.path.dirname(os.path.abspath(__file__))))
@@ -28,6 +29,45 @@ def run_command(command, **environment):
 def run(script, *arguments, **environment):
     """The status of a script of scripts/ and all that it prints."""
     return run_command([PYTHON, os.path.join(SCRIPTS, script), *arguments], **environment)
+
+
+def in_copy(folder, name, *arguments):
+    """The status of a script of this repository over a copy of it, and all that it prints.
+
+    It runs in a fork of this process, which has read the files before: the script reads what is changed in the copy.
+    """
+    script = module(name.removesuffix(".py"))
+    with tempfile.TemporaryFile() as said:
+        child = os.fork()
+        if child == 0:
+            os.dup2(said.fileno(), 1)
+            os.dup2(said.fileno(), 2)
+            sys.stdout = sys.stderr = open(1, "w", encoding="utf-8", errors="backslashreplace", closefd=False)
+            sys.argv = [name, *arguments]
+            module("sources").TOP = folder
+            status = 1
+            try:
+                os.chdir(folder)
+                status = script.main()
+            except SystemExit as end:
+                print("" if isinstance(end.code, int) else end.code)
+                status = end.code if isinstance(end.code, int) else 1
+            except BaseException:
+                traceback.print_exc()
+            finally:
+                sys.stdout.flush()
+                os._exit(status)
+        status = os.waitstatus_to_exitcode(os.waitpid(child, 0)[1])
+        said.seek(0)
+        return status, said.read().decode()
+
+
+def read_files():
+    """Has this process read the crates and the pages, so that its forks read what is changed alone."""
+    os.chdir(TOP)
+    module("reader").files_of(TOP, module("sources").crates_of(TOP), "src", "specs", "proofs")
+    for text in module("pages").texts().values():
+        module("pages").parsed(text)
 
 
 def read(path):
@@ -63,12 +103,17 @@ class InCopy(unittest.TestCase):
 
     @classmethod
     def setUpClass(cls):
+        read_files()
         cls.folder = os.path.join(tempfile.mkdtemp(prefix="test-copy-"), "labels")
         cls.addClassCleanup(shutil.rmtree, os.path.dirname(cls.folder))
         shutil.copytree(TOP, cls.folder, ignore=shutil.ignore_patterns("out", ".git", "__pycache__"))
 
     def path(self, *names):
         return os.path.join(self.folder, *names)
+
+    def judged(self, name, *arguments):
+        """The status of a script over the copy, and all that it prints."""
+        return in_copy(self.folder, name, *arguments)
 
     def move(self, old, new):
         """Renames a file or folder until the end of this test."""

@@ -10,9 +10,10 @@ import sys
 import unittest
 from unittest import mock
 
-from support import TOP, InCopy, module, read, run
+from support import TOP, InCopy, in_copy, module, read
 
 believed_rows = module("believed_rows")
+changes = module("changes")
 
 PAGE = "docs/DEFINITIONS.md"
 RESULTS = "scripts/believed_rows.txt"
@@ -25,11 +26,11 @@ class Believed(InCopy):
     def setUpClass(cls):
         """A copy of the repository whose page and README are right."""
         super().setUpClass()
-        if run("believed.py", "--write", "--top", cls.folder)[0] != 0:
+        if in_copy(cls.folder, "believed.py", "--write")[0] != 0:
             raise AssertionError("believed.py --write failed")
 
     def check(self):
-        return run("believed.py", "--check", "--top", self.folder)
+        return self.judged("believed.py", "--check")
 
     def test_what_write_leaves_is_right(self):
         status, said = self.check()
@@ -75,7 +76,7 @@ class Rows(InCopy):
     """The results of judged changes are compared with the definitions and the worked values."""
 
     def check(self):
-        return run("believed_rows.py", "--top", self.folder)
+        return self.judged("believed_rows.py")
 
     def test_as_it_is(self):
         """With another comment too."""
@@ -110,7 +111,7 @@ class Sample(unittest.TestCase):
     def sampled(self, refuses):
         """The status of --sample and its last line, where `refuses` says whether a change is refused."""
 
-        def judge(_given, _crate, changes, values):
+        def judge(_top, _as_left, _crate, changes, values):
             for change in changes:
                 self.assertIn(change.file.title, values)
                 change.by = "value" if refuses(change) else ""
@@ -135,12 +136,12 @@ class Sample(unittest.TestCase):
 
     def test_judged_by_own_values(self):
         """A worked value that is not in the line of a file does not judge it."""
-        (file,) = believed_rows.reader.files_at(TOP, [f"{TOP}/crates/gf256/proofs/Examples.antt"])
-        worked = [one.name for one in file.declarations if believed_rows.is_worked(one)]
-        left = believed_rows.with_values(file, worked[:1])
+        (file,) = module("reader").files_at(TOP, [f"{TOP}/crates/gf256/proofs/Examples.antt"])
+        worked = [one.name for one in file.declarations if changes.is_worked(one)]
+        left = changes.with_values(file, worked[:1])
         self.assertEqual([name for name in worked if f"\n{name} :" in left], worked[:1])
-        self.assertEqual(believed_rows.with_values(file, worked), file.text)
-        self.assertEqual(believed_rows.with_values(file, ["gone"]), "")
+        self.assertEqual(changes.with_values(file, worked), file.text)
+        self.assertEqual(changes.with_values(file, ["gone"]), "")
 
 
 if __name__ == "__main__":

@@ -13,7 +13,7 @@ import sys
 import tempfile
 import unittest
 
-from support import PYTHON, SCRIPTS, TOP, InCopy, InFolder, module, read, run_command, write
+from support import PYTHON, SCRIPTS, TOP, InCopy, InFolder, in_copy, module, read, run_command, write
 
 SKIPPED = """import unittest
 class One(unittest.TestCase):
@@ -28,8 +28,6 @@ DIFFER = "crates.txt and the folders crates/*/src differ in: "
 # What is moved away for each step, and what that step says.
 MOVED = {
     "counts.py": (
-        ("scripts/tests", "scripts/t", "scripts/tests: 0, and "),
-        ("tools/tests", "tools/t", "tools/tests: 0, and "),
         (BODIES, "crates/device/bodies", "device: 1 worked values, and 24 wrong-bodies, "),
         (f"{BODIES}/{BODY}", "away", "device: 23 wrong-bodies, "),
         (f"{BODIES}/{BODY}", f"{BODIES}/{BODY}.old", ".old, which no script reads"),
@@ -56,10 +54,15 @@ MOVED = {
 }
 END, HANDLES = "\n## ", "Handles allowed: none."
 ROW = "| device | a source or a sink | own | `device` | `crates.txt` |\n"
+# What is written in the place of a text of the scripts themselves, and what counts.py says.
+CHANGED_SCRIPTS = (
+    ("scripts/gate.py", '    "instructions.py --check",\n', "", "steps of built: believed"),
+    ("scripts/compare_symbols.py", "[label for part", "[] and [label for part", "compare: 0 with 0 heads"),
+)
 # What is written in the place of a text, the first one in a file, for each step, and what that step says.
 CHANGED = {
     "counts.py": (
-        ("scripts/tests/test_gate.py", "def " "test_all_is_there(", "def all_is_there(", "scripts/tests: "),
+        ("scripts/counts.txt", "lib/tests: ", "lib/test: ", "has no number of tests of lib/tests"),
         ("crates.txt", "gf256:", "# gf256:", "differ in: gf256"),
         ("docs/RECIPES.md", "```sh\n", "```text\n", "blocks: "),
         ("HANDLES", HANDLES, "Handles allowed: Net.", f"HANDLES is not: {HANDLES}"),
@@ -70,12 +73,10 @@ CHANGED = {
             "crates/gf256: no line #![tactic(auto)] in its root file",
         ),
         ("scripts/counts.txt", "device: ", "device: 9\ndevice: ", "two lines of the name device"),
-        ("scripts/gate.py", '    "instructions.py --check",\n', "", "steps of built: believed"),
-        ("tools/tests/test_man.py", "import", "import no_such\nimport", "tools/tests cannot be read"),
         ("README.md", "drew the same 5", "drew the same 6", "README.md: drew the same 6"),
         ("docs/PROOF.md", "believed definitions", "definitions", "docs/PROOF.md: no operator of"),
         ("README.md", "read all ", "read many ", "README.md: no read all"),
-        ("scripts/compare_symbols.py", "[label for part", "[] and [label for part", "compare: 0, and "),
+        ("tools/tests/test_table_mutants.py", "MUTANTS = 4000", "MUTANTS = 4", "MUTANTS 4, test_calls.py "),
     ),
     "unused.py": (("crates.txt", "gf256:", "# gf256:", "differ in: gf256"),),
     "believed_rows.py": (("crates/labelcore/specs/HeldLine.antt", "1100", "1101", "labelcore/HeldLine"),),
@@ -94,6 +95,12 @@ CHANGED = {
         ("docs/GLOSSARY.md", ROW, ROW + ROW, "device: also in line"),
         ("docs/GLOSSARY.md", "| Term | Meaning |", "| Term | Sense |", "no term"),
         ("README.md", "](docs/PROOF.md", "](docs/PROOFS.md", "a link to no file: docs/PROOFS.md"),
+        (
+            "README.md",
+            "](docs/PROOF.md",
+            "](docs/PROOF.md#the-promis",
+            "a link to no heading: docs/PROOF.md#the-promis",
+        ),
         ("README.md", "](docs/PROOF.md", "](docs/PROOF.md#none", "a link to no heading: docs/PROOF.md#none"),
     ),
 }
@@ -109,6 +116,10 @@ class TakenAway(InCopy):
         status, text = self.gate(step, **environment)
         self.assertEqual((status, said in text), (1, True), text)
 
+    def assert_step_fails(self, step, said):
+        status, text = self.judged(*step.split())
+        self.assertEqual((status, said in text), (1, True), text)
+
     def test_all_is_there(self):
         status, said = self.gate("counts.py", "pages.py")
         self.assertEqual((status, said.split("\n")[-2]), (0, "2 passed, 0 failed"), said)
@@ -122,12 +133,19 @@ class TakenAway(InCopy):
             for old, new, said in rows:
                 with self.subTest(step=step, old=old, new=new):
                     self.move(old, new)
-                    self.assert_fails(step, said)
+                    self.assert_step_fails(step, said)
                 self.doCleanups()
 
     def test_what_is_written_otherwise(self):
         for step, changes in CHANGED.items():
-            self.assert_changes_fail(changes, lambda: self.gate(step))
+            self.assert_changes_fail(changes, lambda: self.judged(*step.split()))
+        self.assert_changes_fail(CHANGED_SCRIPTS, lambda: self.gate("counts.py"))
+
+    def test_tests_that_cannot_be_read(self):
+        self.move("lib/tests", "lib/tests-away")
+        self.addCleanup(shutil.rmtree, self.path("lib/tests"))
+        write(self.path("lib/tests/test_one.py"), "import no_such\n")
+        self.assert_fails("run_tests.py lib/tests", "0 passed, 1 failed")
 
     def test_tests_that_are_not_found(self):
         self.move("tools/tests", "tools/tests-away")
@@ -139,12 +157,23 @@ class TakenAway(InCopy):
         """A test that is skipped is a failure, but before the proofs one that draws."""
         self.move("tools/tests", "tools/tests-away")
         self.addCleanup(shutil.rmtree, self.path("tools/tests"))
-        for reason, before in (("not installed: zint", 1), ("/not/built is not built: run (cd ..)", 0)):
+        kept = read(self.path("scripts/counts.txt"))
+        self.replace("scripts/counts.txt", re.sub("(?m)^tools/tests: .*", "tools/tests: 2", kept))
+        draws = (0, "1 passed, 0 failed, 1 left out", "1 passed, 0 failed")
+        skipped = (1, "1 passed, 1 failed", "1 passed, 1 failed")
+        for reason, before in (("not installed: zint", skipped), ("/not/built is not built: run (cd ..)", draws)):
             write(self.path("tools/tests/test_one.py"), SKIPPED.format(reason))
             status, said = self.gate("run_tests.py tools/tests")
             self.assertEqual((status, said.split("\n")[-2]), (1, "1 passed, 1 failed"), said)
-            status, said = self.gate("run_tests.py tools/tests --without-program")
-            self.assertEqual((status, said.split("\n")[-2]), (before, f"1 passed, {before} failed"), said)
+            status, said = self.gate("run_tests.py tools/tests --quick")
+            self.assertEqual((status, before[1] in said, said.split("\n")[-2]), (before[0], True, before[2]), said)
+
+    def test_fewer_tests_than_there_are(self):
+        """Where a runner leaves some out, what is printed is as if there were no more."""
+        self.move("lib/tests", "lib/tests-away")
+        self.addCleanup(shutil.rmtree, self.path("lib/tests"))
+        write(self.path("lib/tests/test_one.py"), SKIPPED.replace('raise unittest.SkipTest("{}")', "pass"))
+        self.assert_fails("run_tests.py lib/tests", "2 passed, 0 failed\n2 tests, and scripts/counts.txt has ")
 
     def test_no_labels_to_compare(self):
         text = read(self.path("scripts/compare_symbols.py"))
@@ -170,23 +199,37 @@ class TakenAway(InCopy):
         status, said = self.gate("lints.py", PATH=f"{self.path('bin')}:{os.environ['PATH']}")
         found = (status, said.count(" finds nothing in: "), said.split("\n")[-2])
         self.assertEqual(found, (1, 8, "0 passed, 8 failed"))
-        self.move("completions/labels.bash", "completions/labels.old")
-        self.assert_fails("lints.py", "shellcheck --norc --shell=bash reads no file")
 
     def test_files_that_no_lint_would_read(self):
-        """Another first line, and settings beside the code that the lints do not look at."""
+        """Another first line, a lint without files, and settings beside the code that the lints do not look at. The
+        files are a few, since the lints read all that are there."""
         first = "#!/usr/bin/python3 -B"
-        self.replace("tools/label-other", f"{first}\nimport os\n")
-        self.assert_fails("lints.py", f"tools/label-other: no lint knows {first}")
-        self.doCleanups()
-        self.replace(".flake8", "[flake8]\nextend-ignore = F\n")
-        self.replace("pyproject.toml", "[tool.black]\nexclude = '.'\n")
-        self.replace(".shellcheckrc", "disable=all\n")
-        self.replace("scripts/planted.py", "import os\nx = 'one'\n")
-        self.replace("scripts/planted.sh", "#!/bin/sh\nrm $1\n")
-        status, said = self.gate("lints.py")
-        found = ["F401" in said, "SC2086" in said, "119 found something" in said]
-        self.assertEqual((status, found), (1, [True] * 3), said)
+        texts = {
+            "scripts/mypy.ini": read(self.path("scripts/mypy.ini")),
+            "scripts/planted.py": "import os\nx = 'one'\n",
+            "scripts/planted.sh": "#!/bin/sh\nrm $1\n",
+            "tools/labeltools/one.py": "number: int = 'one'\n",
+            "tools/label-other": f"{first}\nimport os\n",
+            ".flake8": "[flake8]\nextend-ignore = F\n",
+            "pyproject.toml": "[tool.black]\nexclude = '.'\n",
+            ".shellcheckrc": "disable=all\n",
+        }
+        with tempfile.TemporaryDirectory(prefix="test-lints-") as folder:
+            for name in module("lints").FOLDERS:
+                os.mkdir(os.path.join(folder, name))
+            for name, text in texts.items():
+                write(os.path.join(folder, name), text)
+            status, said = in_copy(folder, "lints.py")
+        for wanted in (
+            "F401",
+            "SC2086",
+            "119 found something",
+            "Incompatible types",
+            f"tools/label-other: no lint knows {first}",
+            "shellcheck --norc --shell=bash reads no file",
+        ):
+            self.assertIn(wanted, said)
+        self.assertEqual(status, 1)
 
 
 # Stands in for a part of the gate. Of gate.py `quick` runs one step, `built` two.
@@ -194,14 +237,16 @@ PART = """import sys
 steps = dict(quick=["one"], built={built!r}).get(sys.argv[-1], [])
 print(*(f"ok: {{step}}, 1.5 s" for step in steps), sep="\\n")
 print("{name}", *sys.argv[1:], "ran")
+print({more!r})
 print({last!r})
 sys.exit({status})
 """
+REFUSED = "one: 2 refused, 1 accepted, in 1 checks"
 RT = "[ $1 != version ] || {{ echo 'kit-1 logic {version}'; exit; }}; echo rt ci ran; {then}"
 
 
-def part(name, last, status=0, built=("two", "tests of three")):
-    return {f"scripts/{name}.py": PART.format(name=name, last=last, status=status, built=built)}
+def part(name, last, status=0, built=("two", "tests of three"), more=REFUSED):
+    return {f"scripts/{name}.py": PART.format(name=name, last=last, status=status, built=built, more=more)}
 
 
 def program(name, text):
@@ -215,7 +260,7 @@ def kit(then="echo '3 passed, 0 failed (30 minutes)'", version=2):
 PARTS = {
     ".ci/run": read(os.path.join(TOP, ".ci/run")),
     "scripts/packages.txt": read(os.path.join(TOP, "scripts/packages.txt")),
-    "scripts/counts.txt": "steps of quick: one\nsteps of built: two, tests of three\n",
+    "scripts/counts.txt": "steps of quick: one\nsteps of built: two, tests of three\none: 2 wrong-bodies, 1 tests\n",
     "docs/PROOF.md": "The kit: `kit-1 logic 2`.\n",
     **kit(),
     **part("gate", "5 passed, 0 failed"),
@@ -232,19 +277,34 @@ IN_CI, ZINT = {"CI": "true", "MISSING": "zint"}, {"MISSING": "zint"}
 class Run(InFolder):
     """`.ci/run` over stand-ins of its parts: what is missing, the order, the status, the last line."""
 
-    def run_gate(self, changes, environment):
+    def test_folder_with_a_space(self):
+        """It stops before anything runs: the Makefile would fail late."""
+        folder = self.path("a folder")
+        for name, text in PARTS.items():
+            write(os.path.join(folder, name), text, is_program=name.startswith("bin/"))
+        path = f"{folder}/bin:/usr/bin:/bin"
+        found = run_command(["bash", os.path.join(folder, ".ci/run")], CI="", PATH=path)
+        self.assertEqual(found, (1, f"make cannot handle the space in the name of this folder: {folder}\n"))
+
+    def test_arguments(self):
+        """--install is as CI=true, and anything else is refused."""
+        for words, status, said in ((["--install"], 0, INSTALL), (["--instal"], 2, "usage: .ci/run [--install]")):
+            found = self.run_gate({}, ZINT, *words)
+            self.assertEqual((found[0], said in found[2]), (status, True), found)
+
+    def run_gate(self, changes, environment, *words):
         """The status, the parts that ran, and the lines that are printed."""
         folder = tempfile.mkdtemp(dir=self.folder)
         for name, text in {**PARTS, **changes}.items():
             write(os.path.join(folder, name), text, is_program=name.startswith("bin/"))
         environment = {"CI": "", "PATH": f"{folder}/bin:/usr/bin:/bin", **environment}
-        status, said = run_command(["bash", os.path.join(folder, ".ci/run")], **environment)
+        status, said = run_command(["bash", os.path.join(folder, ".ci/run"), *words], **environment)
         lines = said.rstrip("\n").split("\n")
         return status, [line.removesuffix(" ran") for line in lines if line.endswith(" ran")], lines
 
     def test_runs(self):
         quick, proofs, bodies, built = parts = ["gate quick", "rt ci", "wrong_bodies --built", "gate built"]
-        missing = f"packages are missing; as root: apt-get update && {INSTALL}"
+        missing = f"packages are missing; as root: .ci/run --install, or apt-get update && {INSTALL}"
         another = "docs/PROOF.md does not name the kit on the path: kit-1 logic 3"
         none = "rt, the command of the Rattle kit, is not on the path"
         for changes, environment, status, ran, said, last in (
@@ -278,6 +338,14 @@ class Run(InFolder):
             ),
             (part("wrong_bodies", "1 passed, 1 failed", 1), {}, 1, parts, "1 passed, 1 failed", "14 passed, 1 failed"),
             (part("wrong_bodies", "Traceback", 1), {}, 1, parts, "Traceback", "13 passed, 1 failed"),
+            (
+                part("wrong_bodies", "1 passed, 0 failed", more="one: 1 refused, 0 accepted, in 1 checks"),
+                {},
+                1,
+                parts,
+                "1 wrong bodies were refused, and scripts/counts.txt has 2",
+                "14 passed, 1 failed",
+            ),
             # What needs the program does not run without it.
             (
                 part("plain_builds", "not proved", 1),

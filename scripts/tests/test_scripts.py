@@ -14,9 +14,10 @@ import sys
 import unittest
 from unittest import mock
 
-from support import SCRIPTS, InCopy, InFolder, module, read, run, write
+from support import SCRIPTS, TOP, InCopy, InFolder, in_copy, module, read, run, write
 
 compare_symbols = module("compare_symbols")
+edits = module("edits")
 instructions = module("instructions")
 run_recipes = module("run_recipes")
 pictures = module("pictures")
@@ -33,12 +34,12 @@ class Arguments(InFolder):
 
     def test_help(self):
         for name in self.names():
-            status, said = run(name, "--help")
+            status, said = in_copy(TOP, name, "--help")
             self.assertEqual((name, status, "usage: " in said), (name, 0, True))
 
     def test_unknown_flag(self):
         for name in self.names():
-            status, said = run(name, "--no-such-flag")
+            status, said = in_copy(TOP, name, "--no-such-flag")
             self.assertEqual((name, status, "usage: " in said), (name, 2, True))
 
     def test_no_such_program(self):
@@ -202,17 +203,72 @@ class Outcomes(InFolder):
         """A copy has the text of its own body and a proof of its own; the function stands as it is."""
         self.edit(EDIT.format("2"))
         self.edit(EDIT.format("3"), name="two")
-        copies = list(wrong_bodies.copies_of(wrong_bodies.bodies_of(self.folder), self.folder))
-        text = wrong_bodies.with_copies(copies, self.folder)["src/lib.rt"]
+        copies = list(edits.copies_of(edits.bodies_of(self.folder), self.folder))
+        text = edits.with_copies(copies, self.folder)["src/lib.rt"]
         self.assertTrue(text.startswith(ONE.rstrip()))
         names = [*zip(re.findall(r"pub fn (\w+)\(", text), re.findall(r"^    (\d)$", text, re.M))]
         self.assertEqual(sorted(names), [("one", "1"), ("one_0", "2"), ("one_1", "3"), ("one_as_it_is", "1")])
         for name in ("one.Goals", "one_more.Goals"):
             write(self.path("proofs/one", f"{name}.antt"), f"use Rattle.small.proofs.{name} as goal\n")
-        wrong_bodies.copy_proof(copies[1], "small", self.folder)
+        edits.copy_proof(copies[1], "small", self.folder)
         goals = read(self.path("proofs/one_1/one.Goals.antt"))
         self.assertEqual(goals, "use Rattle.small.proofs.one_1.Goals as goal\n")
         self.assertNotIn("one_1", read(self.path("proofs/one_1/one_more.Goals.antt")))
+
+    def whole(self, text, name="one"):
+        """Writes a wrong body that is a text in place of that of `one`."""
+        self.edit(f"refused: one\nbody: {text}\n", name=name)
+
+    def test_a_body_as_a_text(self):
+        """It is always a copy, beside the function that it can call, and a control."""
+        self.whole("one() + 1")
+        (copy, control) = edits.copies_of(edits.bodies_of(self.folder), self.folder)
+        self.assertEqual(
+            copy.text, ONE.partition("\n")[2].partition("{\n")[0].replace("one(", "one_0(") + "{ one() + 1 }"
+        )
+        # The proof of the function would refuse it for its form.
+        self.assertEqual((copy.has_proof, control.has_proof), (False, True))
+        self.assertEqual(edits.code_of(control.text), edits.code_of(ONE.replace("one(", "one_as_it_is(")))
+        said = "fn small::one_0: {}\nfn small::one_as_it_is: proved\nonly=2 proved=1\n"
+        self.assertEqual(self.tried(said.format("not proved")), (1, 1, []))
+        self.assertEqual(self.tried(said.format("proved")), (0, 1, ["one: NOT REFUSED"]))
+
+    def test_texts_that_are_not_tried(self):
+        self.whole("2", "first")
+        for text, said in (
+            (" 2", "it leaves the same text as first"),
+            ("1", "it changes no code"),
+            ("fn two() -> u8 ensures { result ≡ 1 } { 1 } 3", "it has a clause, a ghost item or an attribute"),
+            ("#[inline] 3", "it has a clause, a ghost item or an attribute"),
+        ):
+            with self.subTest(text):
+                self.whole(text, "second")
+                tried = self.tried(
+                    SAID.format("not proved") + "fn small::one_0: not proved\nfn small::one_as_it_is: proved\n"
+                )
+                self.assertEqual(tried, (1, 1, [f"second: {said}"]))
+        self.edit("refused: other\nbody: 2\n", name="second")
+        self.assertIn(
+            "second: other is no function that can be there twice: write old: and new:", self.tried("only=1\n")[2]
+        )
+        for text in ("refused: one\nbody: 2\nfile: src/lib.rt\nold:     1\nnew: 2\n", "refused: one\n", "body: 2\n"):
+            self.edit(text, name="second")
+            with self.subTest(text), self.assertRaises(SystemExit):
+                edits.bodies_of(self.folder)
+
+    def test_status(self):
+        """What is wrong with a body is printed and makes the status 1; so does a run without a right body."""
+        one = wrong_bodies.Tried
+        for results, are_all, wanted in (
+            ([one("a", 2, 1)], True, (0, "3 passed, 0 failed\n")),
+            ([one("a", 2, 0)], False, (0, "2 passed, 0 failed\n")),
+            ([one("a", 2, 1, lines=["b: NOT REFUSED"])], True, (1, "a/b: NOT REFUSED\n3 passed, 1 failed\n")),
+        ):
+            with contextlib.redirect_stdout(io.StringIO()) as said:
+                self.assertEqual((wrong_bodies.judged(results, are_all), said.getvalue()), wanted)
+        with contextlib.redirect_stdout(io.StringIO()) as said:
+            self.assertEqual(wrong_bodies.judged([one("a", 2, 0)], True), 1)
+        self.assertIn("no right body was accepted", said.getvalue())
 
     def test_no_copies(self):
         """What is more than one function, one of a trait, or one that calls itself, is tried in its place."""
@@ -221,7 +277,8 @@ class Outcomes(InFolder):
         write(self.path("src/cycle.rt"), "#[cycle(one)]\nfn one() -> u8 { 1 }\n")
 
         def copy_of(functions, changes):
-            return wrong_bodies.copy_of(wrong_bodies.Body("", functions, changes), 0, self.folder)
+            body = edits.Body("", tuple(functions), "", tuple(edits.Change(*one) for one in changes))
+            return edits.copy_of(body, "0", self.folder)
 
         one = ("src/part.rt", "{ 1 }", "{ 2 }")
         copy = copy_of(["part::Some::one"], [one])
@@ -243,11 +300,13 @@ class Judges(unittest.TestCase):
     """A judge that passes everything is found by the wrong cases that it is shown in each run."""
 
     def test_symbols(self):
-        picture = pictures.pixels_of(b"9 9\n" + b"0" * 81 + b"\n")
-        turned = compare_symbols.with_turned_module(picture)
-        self.assertEqual((turned != picture).nonzero(), (4, 4))
+        picture = pictures.pixels_of(b"9 9\n" + b"0" * 81 + b"\n").copy()
+        picture[2:7, 1:8] = 1
+        for place, wanted in (("first", (2, 1)), ("middle", (4, 4)), ("last", (6, 1))):
+            turned = compare_symbols.with_turned_module(picture, place)
+            self.assertEqual((turned != picture).nonzero(), wanted)
         with mock.patch.object(compare_symbols, "pictures_of", return_value=[picture]):
-            for is_same, unread, count in ((True, [], 2), (False, [], 1), (True, ["it"], 1), (False, ["it"], 0)):
+            for is_same, unread, count in ((True, [], 5), (False, [], 2), (True, ["it"], 3), (False, ["it"], 0)):
                 bent = {"is_as_zint": lambda *given: is_same, "not_read_back": lambda *given: unread}
                 with mock.patch.multiple(compare_symbols, **bent):
                     self.assertEqual(len([*compare_symbols.not_seen(None)]), count)
@@ -255,10 +314,10 @@ class Judges(unittest.TestCase):
     def test_recipes(self):
         self.assertEqual([*run_recipes.unseen()], [])
         for where, name, bent, count in (
-            (run_recipes.Commands, "fault", lambda *given: "", 3),
-            (run_recipes, "fault_of_picture", lambda *given: "", 2),
-            (run_recipes, "judged", lambda *given: (1, 1), 5),
-            (run_recipes, "judged", lambda *given: (1, 0), 5),
+            (run_recipes.Commands, "fault", lambda *given: "", 4),
+            (run_recipes, "fault_of_picture", lambda *given: "", 3),
+            (run_recipes, "judged", lambda *given: (1, 1), 7),
+            (run_recipes, "judged", lambda *given: (1, 0), 7),
         ):
             with mock.patch.object(where, name, bent):
                 self.assertEqual(len([*run_recipes.unseen()]), count)
@@ -373,7 +432,7 @@ class Unused(InCopy):
             texts[file] = texts[file].replace(old, new, 1) if old else texts[file] + new
         for file, text in texts.items():
             self.replace(file, text)
-        status, said = run("unused.py", "--top", self.folder)
+        status, said = self.judged("unused.py")
         *lines, last = said.rstrip("\n").split("\n")
         found = []
         for file, number, text in (line.split(":", 2) for line in lines):
@@ -386,10 +445,10 @@ class Unused(InCopy):
     def test_what_cannot_be_read(self):
         """A file of which the kit can make no words; no crate at all."""
         self.replace(FIELD, "fn one() ensures { 1 ")
-        self.assertEqual(run("unused.py", "--top", self.folder)[0], 1)
+        self.assertEqual(self.judged("unused.py")[0], 1)
         self.move("crates", "boxes")
         self.replace("crates.txt", "")
-        self.assertEqual(run("unused.py", "--top", self.folder)[0], 1)
+        self.assertEqual(self.judged("unused.py")[0], 1)
 
 
 if __name__ == "__main__":

@@ -11,14 +11,19 @@ from labeltools.text import Text
 TOOL = "label-lines"
 
 
-def run() -> int:
-    """Returns 0 where each line is drawn."""
+def command_line() -> Parser:
+    """Returns the parser of the arguments."""
     parser = Parser(TOOL, None, __doc__, allow_abbrev=False)
     options = "options of labels, such as '--level H'"
     parser.add_argument("--labels", metavar="WORDS", type=option_words, default=(), help=options)
     lines_help = "lines of labels (standard input)"
     parser.add_argument("lines", metavar="LINES", nargs="?", help=lines_help)
-    arguments = parser.parse_args()
+    return parser
+
+
+def run() -> int:
+    """Returns 0 where each line is drawn."""
+    arguments = command_line().parse_args()
     _, data = read_input(arguments.lines)
     drawn = run_labels(data, arguments.labels, CommandTalk(TOOL))
     lines = list(lines_of(data))

@@ -35,6 +35,8 @@ if str(OURS) not in sys.path:
     sys.path.insert(0, str(OURS))
 
 Finished = subprocess.CompletedProcess
+# A test that takes seconds of a processor: `make quick` leaves it to the gate, which runs all.
+slow = unittest.skipIf(os.environ.get("QUICK"), "takes seconds: the gate runs it")
 
 
 def run(

@@ -131,6 +131,7 @@ class EveryTool(unittest.TestCase):
             self.assertEqual((status, out), (1, b""), tool)
             self.assertTrue(messages and messages[0].startswith(f"{tool}: "), messages)
 
+    @support.slow
     def test_messages_that_nobody_takes(self) -> None:
         for redirection in ("2> /dev/full", "2>&-"):
             for tool, (arguments, data) in COMPLAINING.items():

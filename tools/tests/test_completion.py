@@ -6,6 +6,7 @@ import re
 import select
 import shlex
 import subprocess
+import sys
 import tempfile
 import unittest
 from pathlib import Path
@@ -142,19 +143,22 @@ class Completion(unittest.TestCase):
                 with self.subTest(command=command, shell=shell):
                     self.assertEqual(proposed(shell, f"{command} --", self.folder), options)
 
+    def test_made(self) -> None:
+        """The files are what completions/make.py makes of the commands as they are."""
+        environment = {**support.environment(), "LABELS": str(support.labels_program())}
+        make = [sys.executable, COMPLETIONS / "make.py", "--check"]
+        done = subprocess.run(make, capture_output=True, text=True, env=environment)
+        self.assertEqual((done.returncode, done.stdout, done.stderr), (0, "", ""))
+
     def test_values(self) -> None:
-        """Each value of the help text is proposed, and no file."""
-        for command in ("labels", *TOOLS):
-            for option in [option for option, taken in options_of(command).items() if taken]:
-                values = VALUES.get(f"{command} {option}", "")
-                wanted = ["my label.txt"] if values is None else sorted(values.split())
-                for shell in SHELLS:
-                    with self.subTest(command=command, option=option, shell=shell):
-                        found = proposed(shell, f"{command} {option} ", self.folder)
-                        # in bash readline proposes the files
-                        self.assertEqual(
-                            found, [] if values is None and shell == "bash" else wanted
-                        )
+        """Each value of an option is proposed, and no file; of one that takes any text nothing."""
+        for name, values in {**VALUES, "label-table --code": "", "label-print --stock": ""}.items():
+            wanted = ["my label.txt"] if values is None else sorted(values.split())
+            for shell in SHELLS:
+                with self.subTest(name=name, shell=shell):
+                    found = proposed(shell, f"{name} ", self.folder)
+                    # in bash readline proposes the files
+                    self.assertEqual(found, [] if values is None and shell == "bash" else wanted)
 
     def test_values_of_labels_are_those_of_its_help(self) -> None:
         shown_values = {
@@ -179,6 +183,7 @@ class Completion(unittest.TestCase):
             )
             self.assertEqual(proposed(shell, "labels --format a", self.folder), ["ascii"], shell)
 
+    @support.slow
     def test_files(self) -> None:
         """A file name with a space, plain and with a backslash, as the line that the shell then runs."""
         shells = {
@@ -202,16 +207,6 @@ class Completion(unittest.TestCase):
                         lines_too = f"{lines}\n{name}() {{ printf '<%s>' \"$@\"; }}"
                         said = typed(arguments, lines_too, f"{command} {start}\t\n", self.folder)
                         self.assertIn("<my label.txt>", said)
-
-    def test_every_tool_has_it(self) -> None:
-        texts = {path.name: path.read_text(encoding="utf-8") for path in COMPLETIONS.iterdir()}
-        self.assertEqual(sorted(texts), ["_labels", "labels.bash", "labels.fish"])
-        names = " ".join(
-            ["labels", *sorted(TOOLS, key=["label-table", "label-print", "label-lines"].index)]
-        )
-        self.assertIn(f"-F _labels {names}\n", texts["labels.bash"])
-        self.assertIn(f"for command in {names}\n", texts["labels.fish"])
-        self.assertTrue(texts["_labels"].startswith(f"#compdef {names}\n"))
 
 
 if __name__ == "__main__":

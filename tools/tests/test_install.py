@@ -58,6 +58,15 @@ class Install(InFolder):
             helped = subprocess.run([self.folder / "bin" / tool, "--help"], **how)
             self.assertEqual((helped.returncode, helped.stderr), (0, b""), tool)
 
+    def test_a_folder_with_a_space_is_refused_at_once(self) -> None:
+        for words in ([f"PREFIX={self.folder}/a b"], [f"DESTDIR={self.folder}/a b"]):
+            done = subprocess.run(
+                ["make", "-s", "-C", support.TOP, "install", *words], capture_output=True
+            )
+            self.assertEqual((done.returncode, done.stdout), (2, b""), words)
+            self.assertIn(b"make cannot handle the space in ", done.stderr)
+        self.assertEqual([*self.folder.iterdir()], [])
+
     def test_all_users_can_read_what_is_installed(self) -> None:
         """Also where the one who installs it keeps new files for himself."""
         before = os.umask(0o077)

@@ -57,6 +57,7 @@ class Hostile(TableTest):
         data = xlsx(f'<row r="1">{line}</row>', strings=f"<si><t>{'x' * 1_000_000}</t></si>")
         self.assertIn("more than 1 MB", self.ended(data))
 
+    @support.slow
     def test_one_text_in_many_rows(self) -> None:
         line = [SMALL, '<c t="s"><v>0</v></c>']
         data = xlsx(
@@ -72,6 +73,7 @@ class Hostile(TableTest):
             )
             self.assertIn("which is not understood", self.ended(data, "--text", "x"))
 
+    @support.slow
     def test_many_elements_that_are_none_of_ours(self) -> None:
         parts = unpacked(xlsx(rows(["EAN"], [SMALL])))
         sheet = "xl/worksheets/sheet1.xml"
@@ -81,6 +83,7 @@ class Hostile(TableTest):
             archive.writestr(sheet, f"{begin}{'<a/>' * MANY}<sheetData>{end}")
         self.assertIn("more than 1 MB", self.ended(stream.getvalue()))
 
+    @support.slow
     def test_a_manifest_of_250_mb(self) -> None:
         parts = unpacked(ods(table(["EAN"], [SMALL])))
         self.assertEqual(
@@ -91,6 +94,7 @@ class Hostile(TableTest):
             self.ended(self.large_part(parts, "META-INF/manifest.xml", b" " * (1 << 20), 257)),
         )
 
+    @support.slow
     def test_lines_of_csv(self) -> None:
         self.assertIn("has more than 40 MB", self.ended(b"EAN;" + b"a," * 30_000_000))
         self.assertIn("has a line of more than 1 MB", self.ended(b"EAN;" + b"a," * 15_000_000))
@@ -102,6 +106,7 @@ class Hostile(TableTest):
         self.assertIn("line ends", self.ended(b"\n" * 39_000_000 + b"x;y\n"))
         self.assertIn("no column", self.ended(b"\n" * 1_100_000 + b"x;y\n"))
 
+    @support.slow
     def test_all_rows_are_wrong(self) -> None:
         text = "EAN;Name\n" + "x;y\n" * 150_000
         self.assertIn("left out for the same reason as row 2", self.ended(text.encode()))

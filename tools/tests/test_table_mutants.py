@@ -244,6 +244,7 @@ def read_all(first: int, last: int) -> None:
 
 
 class Mutants(unittest.TestCase):
+    @support.slow
     def test_mutants(self) -> None:
         count = int(os.environ.get("MUTANTS", MUTANTS))
         step = -(-count // 4)

@@ -835,6 +835,7 @@ class Hostile(WorkbookTest):
             stream.getvalue(), f'has a part of more than 256 MB, "xl/media/image1.png": {AGAIN}'
         )
 
+    @support.slow
     def test_huge_cells_rows_and_nesting_take_no_memory(self) -> None:
         # Kept in memory, so many bytes or elements take more than the limit below.
         size, many = 60_000_000, 3_000_000
@@ -958,6 +959,7 @@ class Hostile(WorkbookTest):
 
 
 class LongTables(WorkbookTest):
+    @support.slow
     def test_many_rows_in_seconds(self) -> None:
         lines = rows(
             ["EAN", "Name", "Price"], *([PENCIL, "a", cell(0.5, style=1)] for _ in range(20000))

@@ -1,0 +1,250 @@
+"""The small changes of believed definitions, and the worked values that are to refuse them.
+
+A change puts another word in the place of one word of a definition of crates/*/specs: a number one
+off, another cell of a table, `<` for `<=`, `+` for `-`, `and` for `or`, the other truth value, the
+row for the column. Propositions are left out, since they are proved, but for the ranges of the
+options and what damage is little.
+"""
+
+import hashlib
+import re
+from dataclasses import dataclass
+from typing import Container, Iterable, Iterator, Sequence
+
+import reader
+from reader import Declaration, File, Token
+
+CRATES = [
+    *("device", "testing", "gf256", "linear", "qrdata"),
+    *("qrmatrix", "picture", "labelcore", "filter", "command"),
+]
+# The files of worked values, the quick ones first, and the crate that has them where it is another.
+FILES = {
+    "filter": ["DamageExamples", "Examples"],
+    "linear": ["Examples", "DamageExamples"],
+    "qrmatrix": ["ListedTables", "WorkedModules", "Examples", "LargerSymbol", "PositionExamples"],
+}
+HOME = {"device": "labelcore"}
+# These propositions are no promises: they say the ranges of the options, and what damage is little.
+RANGES = {"Damage AreClose", "Damage AreNear", "Ranges IsInRange", "Ranges IsMask"}
+# What takes the place of a word and it of that, of a word alone, and of a sign between blanks.
+PAIRS = (
+    *(("true", "false"), ("nat_le", "nat_lt"), ("take", "drop"), ("list_all", "list_any")),
+    *(("min", "max"), ("is_none", "is_some"), ("left", "right"), ("top", "bottom")),
+    *(("width", "height"), ("x", "y"), ("i", "j"), ("row", "column"), ("rows", "columns")),
+    ("first", "second"),
+)
+SINGLE = {"not": "itself", "reverse": "itself", "beq": "differ", "bytes_eq": "bytes_differ"}
+LEVELS = {"L": "M", "M": "Q", "Q": "H", "H": "L", "A": "B", "B": "A", "C": "A"}
+WORDS = {**dict(PAIRS), **{new: old for old, new in PAIRS}, **SINGLE, **LEVELS}
+SIGNS = {
+    **{"&&": "||", "||": "&&", "+": "-", "-": "+", "*": "+"},
+    **{"/": "%", "%": "/", "^": "*", "==": "=!="},
+}
+OF_RANGES = {"≤": "<", "<": "≤"}
+REPLACED = {**WORDS, **SIGNS, **OF_RANGES}
+# These are in a definition only where it binds them, and else after a point.
+VARIABLES = {*"x y i j row column rows columns first second width height".split()}
+FIRST_CELLS = "0123456789A"
+
+
+@dataclass(eq=False)
+class Change:
+    """One word of a definition in another's place; `by` is the worked value that refuses it, and
+    `is_same` whether it means the same.
+    """
+
+    definition: Declaration
+    file: File
+    at: int
+    old: str
+    new: str
+    by: str = ""
+    is_same: bool = False
+
+    def __str__(self) -> str:
+        line = self.file.text.count("\n", 0, self.at) + 1
+        where = f"{self.file.title} {self.definition.name}: line {line}"
+        return f"{where}: {self.old} replaced by {self.new}"
+
+    def text(self) -> str:
+        """Returns the text of the file with it."""
+        return self.file.text[: self.at] + self.new + self.file.text[self.at + len(self.old) :]
+
+
+@dataclass
+class Crate:
+    """The files of specs/ of a crate, and those of worked values that judge them, the quick ones
+    first, each by its module.
+    """
+
+    specs: dict[str, File]
+    examples: dict[str, File]
+
+    def checksum(self, definitions: Iterable[Declaration], values: Iterable[str]) -> str:
+        """Returns the checksum of definitions and of worked values by their names, without
+        comments and layout.
+        """
+        worked = {one.name: one for file in self.examples.values() for one in file.declarations}
+        found = [*definitions, *(worked[name] for name in values if name in worked)]
+        words = [[token.text for token in one.tokens] for one in found]
+        return hashlib.sha256(repr(words).encode()).hexdigest()[:8]
+
+    def resting_on(self, name: str, file: File) -> list[str]:
+        """Returns the names of what rests on a definition, of specs/ and of a file of worked
+        values.
+        """
+        users: dict[str, list[str]] = {}
+        for one in [one for it in (*self.specs.values(), file) for one in it.declarations]:
+            for word in reader.names_in(one.tokens):
+                users.setdefault(word, []).append(one.name)
+        return reader.reach([name], lambda it: users.get(it, ()))
+
+
+# ---- crates
+
+
+def read_crates(top: str) -> dict[str, Crate]:
+    """Returns the crates by their names."""
+    specs: dict[str, dict[str, File]] = {name: {} for name in CRATES}
+    for file in reader.files_of(top, CRATES, "specs"):
+        if not file.module.startswith("Private"):
+            specs[file.crate][file.module] = file
+    homes = {name: HOME.get(name, name) for name in CRATES}
+    names = {home: FILES.get(home, ["Examples"]) for home in homes.values()}
+    paths = [f"{top}/crates/{it}/proofs/{name}.antt" for it in names for name in names[it]]
+    files = reader.files_at(top, paths)
+    examples = {home: {it.module: it for it in files if it.crate == home} for home in names}
+    return {name: Crate(specs[name], examples[homes[name]]) for name in CRATES}
+
+
+def is_worked(declaration: Declaration) -> bool:
+    """Returns whether it is a worked value."""
+    words = [token.text for token in declaration.tokens]
+    return "refl" in words or ("omega", "arith") in zip(words, words[1:])
+
+
+def with_values(file: File, names: Container[str]) -> str:
+    """Returns the text of a file of worked values with these alone; nothing where it has none."""
+    worked = [one for one in file.declarations if is_worked(one)]
+    text = file.text if any(one.name in names for one in worked) else ""
+    for one in reversed(worked):
+        if text and one.name not in names:
+            begin, end = file.extent(one.tokens)
+            text = text[:begin] + text[end:]
+    return text
+
+
+# ---- changes
+
+
+def is_range(definition: Declaration) -> bool:
+    """Returns whether it is a proposition that is changed all the same."""
+    return f"{definition.key.module} {definition.name}" in RANGES
+
+
+def is_changed(definition: Declaration) -> bool:
+    """Returns whether it is changed: no operator, no type, no proposition but of the ranges."""
+    words = [token.text for token in definition.tokens]
+    is_type = definition.kind == "data" or ("Type", "0") in zip(words, words[1:])
+    return "◌" not in definition.name and (is_range(definition) or not is_type)
+
+
+def words_of(tokens: Sequence[Token]) -> Iterator[tuple[int, str]]:
+    """Yields the words of tokens, each with its place in the text; of a path its parts."""
+    for token in tokens:
+        at = token.start
+        is_path = token.kind == "Antt" and token.text != "."
+        for number, part in enumerate(token.text.split(".") if is_path else [token.text]):
+            if number and part.isdigit():
+                yield at - 1, f".{part}"
+            elif part:
+                yield at, part
+            at += len(part) + 1
+
+
+def uses_in(words: Sequence[tuple[int, str]]) -> Iterator[tuple[int, str]]:
+    """Yields the words of a clause that can be changed, with their places: none that binds a name,
+    and none of the type of types.
+    """
+    is_bound = False
+    none = (0, "")
+    for (_, before), (at, word), (_, after) in zip([none, *words], words, [*words[1:], none]):
+        is_bound = word == "λ" or is_bound and word != "."
+        is_name = word in WORDS and (is_bound or after in ("=", "←", ":"))
+        is_value = word[0] == '"' or word[0].isdigit() or word in (".0", ".1")
+        if is_value and before != "Type" or word in REPLACED and not is_name:
+            yield at, word
+
+
+@dataclass(frozen=True)
+class Other:
+    """A text in the place of some letters of a word, from `offset` on."""
+
+    offset: int
+    length: int
+    text: str
+
+
+def other_words(word: str) -> list[Other]:
+    """Returns what is tried in the place of a word."""
+    if word[0] == '"':
+        return other_texts(word[1:-1])
+    if word[0].isdigit():
+        number, is_hex = int(word, 0), word.startswith("0x")
+        near = [it for it in (number + 1, number - 1) if it >= 0]
+        return [Other(0, len(word), hex(it) if is_hex else str(it)) for it in near]
+    if word[0] == ".":
+        return [Other(1, 1, str(1 - int(word[1])))]
+    return [Other(0, len(word), REPLACED[word])]
+
+
+def other_texts(inner: str) -> list[Other]:
+    """Returns what is tried in a text: each cell of a table, each border of two widths, or else
+    the first letter.
+    """
+    for letters in ("01", "AB"):
+        if re.fullmatch(rf"[{letters}]+( [{letters}]+)*", inner) and len(inner) > 1:
+            cells = [(at, it) for at, it in enumerate(inner) if it != " "]
+            return [Other(1 + at, 1, letters[it == letters[0]]) for at, it in cells]
+    if re.fullmatch(r"[1-4]+( [1-4]+)* ?", inner):
+        return other_widths(inner)
+    if inner.startswith(FIRST_CELLS):
+        return [Other(1 + at, 1, "~") for at in range(len(inner))]
+    return [Other(1, 2 if inner.startswith("\\") else 1, "~")] if inner else []
+
+
+def other_widths(inner: str) -> list[Other]:
+    """Returns the moved borders of widths side by side: one of the two wider, the other less."""
+    found = []
+    for at in range(len(inner) - 1):
+        if " " not in inner[at : at + 2]:
+            one, two = int(inner[at]), int(inner[at + 1])
+            pair = (one + 1, two - 1) if two > 1 else (one - 1, two + 1)
+            if 0 not in pair:
+                found.append(Other(1 + at, 2, f"{pair[0]}{pair[1]}"))
+    return found
+
+
+def changes_of(definition: Declaration, file: File) -> Iterator[Change]:
+    """Yields the changes of a definition."""
+    of_range = is_range(definition)
+    names = {word for _, word in words_of(definition.tokens)}
+    for clause in [definition.tokens] if of_range else definition.clauses():
+        for at, word in uses_in([*words_of(clause)]):
+            if (word in OF_RANGES) != (of_range and not word[0].isdigit()):
+                continue
+            is_field = file.text[at - 1] == "."
+            for it in other_words(word):
+                is_free = it.text not in VARIABLES or it.text in names or is_field
+                if word not in WORDS or is_free:
+                    first = at + it.offset
+                    old = file.text[first : first + it.length]
+                    yield Change(definition, file, first, old, it.text)
+
+
+def all_changes(crates: dict[str, Crate]) -> list[Change]:
+    """Returns the changes of all definitions."""
+    files = [file for crate in crates.values() for file in crate.specs.values()]
+    found = [(one, file) for file in files for one in file.declarations if is_changed(one)]
+    return [it for one, file in found for it in changes_of(one, file)]
