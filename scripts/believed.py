@@ -1,141 +1,189 @@
 #!/usr/bin/python3
-"""What has to be believed: every definition that the contract of the program's own call rests on.
+"""What has to be believed of the contracts that users rely on, in lines and by name.
 
---write makes the lists of docs/DEFINITIONS.md and the number of lines in README.md anew. --check compares both with
-what --write would leave: status 1 where they differ. The last line says how many lines there are.
+The contracts are the clauses of the program's own call, `shows` and `runs`, each alone and both
+together, and those of the functions that the C library exports. --check compares the numbers in
+README.md and the table in docs/PROOF.md with what the files give, and the names of std in
+docs/DEFINITIONS.md with those that the program's call leans on: status 1 where they differ. --write
+makes the numbers and the table anew. Each number counts definitions without blank lines and
+comments, the contract itself with the types, traits and views that it speaks by, and a line for
+each name of std and of the kit's clap. What stands behind clap's names is counted apart.
 
-The first list has the definitions that the call rests on, the second the other definitions of specs/, but for modules
-whose name begins with Private: contracts inside a crate alone cite these. The third has what contracts speak by and is
-no definition: the contract itself, traits, types and views of the code. The fourth is written by hand: it says what
-each name of std and of the kit's clap means, and has to have just those that the definitions and the contract of the
-call lean on. README's number counts all that a sceptic has to read: the lines of the first list, those that the third
-one has of the call, and a line for each name of the fourth.
-
-The first comment of a file says what the file is about. Lines `-- Why: ` after it say what its definitions follow:
+--show prints what a contract rests on, in reading order, each with its comment: `shows`, `runs`,
+`program` for both, or `library`. `other` is what other public contracts speak of. The first comment
+of a file says what the file is about. Lines `-- Why: ` after it say what its definitions follow:
 names between backticks, a colon, and the clause of a standard or a page.
 
-It reads texts alone. A definition rests on each name in it that is defined in its file or imported by a line `use`. A
-name that is bound in a definition and means something else in its file counts as that name: the list may be too long
-because of that, never too short.
+--axioms compares docs/PROOF.md with how many contracts of C functions the kit's check of the
+program assumes. What `rt ci` said of it, in LOG, is taken where it is there; else the program is
+checked, in a minute, over libraries that are built where they are not.
 """
 
+import argparse
 import difflib
 import itertools
 import os
 import re
+import signal
 import sys
 import textwrap
-from dataclasses import dataclass
+from typing import Iterable, Iterator, Sequence
 
+import bases
 import declared
-import reader
+import libraries
 import sources
+from bases import Base, Lines, Repository
+from declared import CodeItem
+from reader import Declaration, File
 
-# The program's own call: its crate, its file and its name.
+# The program's own call: its crate, its file, its name and its clauses.
 CALL = ("command", "entry", "program")
+CLAUSES = ("shows", "runs")
 PROGRAM = "labels"
-# The crates in the order in which a reader meets them, from the headline down.
-CRATES = "filter labelcore device picture linear qrmatrix qrdata gf256 command capi testing".split()
-# The crates on whose contracts no other crate rests.
-AT_THE_TOP = {"reading", "labels", "labels_c", "examples", "tests"}
+README = "README.md"
+PROOF = os.path.join("docs", "PROOF.md")
 PAGE = os.path.join("docs", "DEFINITIONS.md")
 OF_STD = "## Names of std"
-README = "README.md"
-README_NUMBER = re.compile(r"[\d,]+(?=\s+lines\s+of\s+\[definitions\])")
+BEGIN, END = "<!-- believed: begin -->", "<!-- believed: end -->"
+# The numbers of README, by what stands after each.
+NUMBERS = {
+    "shows": re.compile(r"[\d,]+(?=\s+lines\s+of\s+\[definitions\])"),
+    "more": re.compile(r"[\d,]+(?=\s+more\s+say\s+which\s+picture)"),
+    "clap": re.compile(r"[\d,]+(?=\s+lines\s+of\s+`clap`)"),
+}
+AXIOMS = re.compile(r"[\d,]+(?=\s+contracts\s+of\s+C\s+functions)")
+ASSUMED = re.compile(r"^logic=proved .*\baxioms=(\d+)", re.M)
 # The names of a `Why: `, before its first colon.
 WHY = re.compile(r"Why: ((?:`[^`]+`,? )*`[^`]+`): ")
 
 
-@dataclass
-class Lists:
-    """What the page lists: definitions that the call rests on and others, items of code of the call and others, and
-    the names of std that the call leans on."""
-
-    files: dict
-    reached: list
-    others: list
-    code_of_call: list
-    other_code: list
-    of_std: set
-
-    def lines(self):
-        """How many lines there are to be believed: of definitions, of code, and of names of std."""
-        of_code = sum(one.lines for one in self.code_of_call)
-        return sum(one.lines for one in self.reached), of_code, len(self.of_std)
+# ---- contracts
 
 
-# ---- what the files give
-
-
-def read_files(top):
-    """The files of specs/ by crate and module, and those of the code."""
-    unknown = set(sources.crates_of(top)) - {*CRATES} - AT_THE_TOP
-    if unknown:
-        names = ", ".join(sorted(unknown))
-        sys.exit(f"crates.txt has {names}: scripts/believed.py has to name it in CRATES or AT_THE_TOP")
-    files = reader.files_of(top, CRATES, "specs", "src")
-    specs = {(file.crate, file.module): file for file in files if file.part == "specs"}
-    return specs, [file for file in files if file.part == "src"]
-
-
-def definition_of(files, key):
-    """The definition of a name, or nothing: the code's own type, or a name of std or of a lemma."""
-    if key.crate not in CRATES or key.part != "specs" or key.module.startswith("declared"):
-        return None
-    file = files.get((key.crate, key.module))
-    if not file or key.name not in file.of_name:
-        sys.exit(f"crates/{key.crate}/specs/{key.module}.antt has no {key.name}, which another file names")
-    return file.of_name[key.name]
-
-
-def cited_from(files, roots):
-    """All that names lead to, in reading order: names of definitions, of the code's own types and of std."""
-
-    def cited_by(key):
-        one = definition_of(files, key)
-        return [one.key, *files[one.key.crate, one.key.module].cites(one.tokens)] if one else []
-
-    return reader.reach(roots, cited_by)
-
-
-def definitions_in(files, keys):
-    found = (definition_of(files, key) for key in keys)
-    return list(dict.fromkeys(one for one in found if one))
-
-
-def read_lists(top):
-    files, code = read_files(top)
-    call = declared.contract_of(code, *CALL)
-    if call is None:
-        sys.exit(f"no function {CALL[2]} in crates/{CALL[0]}/src/{CALL[1]}.rt")
+def call_of(repository: Repository, top: str, names: Sequence[str] = ()) -> CodeItem:
+    """Returns the contract of the program's own call, or its clauses of these names. Stops where it
+    is gone, or where the program does not make that call.
+    """
+    crate, module, function = CALL
+    files = [it for it in repository.code if (it.crate, it.module) == (crate, module)]
+    found = [(file, it) for file in files for it in file.declarations if it.name == function]
+    if not found:
+        sys.exit(f"no function {function} in crates/{crate}/src/{module}.rt")
     program = os.path.join(top, "crates", PROGRAM, "src")
-    if not any(f"{CALL[2]}(" in sources.read(path) for path in sources.files_below(program, ".rt")):
-        sys.exit(f"crates/{PROGRAM} does not call {CALL[2]}: CALL in scripts/believed.py names the call that it makes")
-    items, of_call, before = list(declared.code_items(code)), [call], []
-    while len(before) < len(of_call):
-        # What a trait, a view or members say cites more definitions, and these more types.
-        before = of_call
-        cited = cited_from(files, [key for item in of_call for key in item.cites])
-        named = {*declared.keys_of(cited)}
-        words = frozenset().union(*(item.words for item in of_call))
-        of_call = [call, *(item for item in items if item.is_of(named, words))]
-    reached = definitions_in(files, cited)
-    public = [file for (_, module), file in files.items() if not module.startswith("Private")]
-    others = [one for file in public for one in file.declarations if one not in reached]
-    cited_by_others = [key for one in others for key in files[one.key.crate, one.key.module].cites(one.tokens)]
-    named |= {*declared.keys_of(cited_by_others)}
-    other_code = [item for item in items if item not in of_call and item.is_of(named)]
-    of_std = {key.name for key in cited if key.crate not in CRATES and key.name}
-    return Lists(files, reached, others, of_call, other_code, of_std)
+    texts = [sources.read(path) for path in sources.files_below(program, ".rt")]
+    if not any(f"{function}(" in text for text in texts):
+        says = "CALL in scripts/believed.py names the call that it makes"
+        sys.exit(f"crates/{PROGRAM} does not call {function}: {says}")
+    return declared.contract_of(*found[0], names)
 
 
-# ---- what the page says
+def exports(repository: Repository) -> list[CodeItem]:
+    """Returns the contracts of the functions that the C library exports."""
+    files = [it for it in repository.code if it.crate == bases.EXPORTS]
+    functions = [(file, it) for file in files for it in file.declarations if it.kind == "fn"]
+    contracts = [declared.contract_of(file, it) for file, it in functions]
+    return [it for it in contracts if "ensures" in it.words]
 
 
-def about(file):
-    """The texts of the first comment of a file: what it is about, and each `Why: `."""
-    texts = []
-    for line in itertools.takewhile(lambda line: line.startswith("--"), file.text.split("\n")):
+def all_bases(repository: Repository, top: str) -> dict[str, Base]:
+    """Returns what each contract rests on, by its name."""
+    contracts = {it: [call_of(repository, top, [it])] for it in CLAUSES}
+    contracts["program"] = [call_of(repository, top)]
+    contracts["library"] = exports(repository)
+    return {name: bases.base_of(repository, its) for name, its in contracts.items()}
+
+
+# ---- numbers
+
+
+def rows(found: dict[str, Base]) -> list[tuple[str, Lines]]:
+    """Returns the lines of the table: what has to be read, and how much of it."""
+    behind = sum(it.lines for it in bases.definitions_of_clap(found["program"].of_clap))
+    count = sum(it.kind == "contract" for it in found["library"].code)
+    return [
+        ("the clause `shows` of `program`", found["shows"].lines),
+        ("the clause `runs` of `program`", found["runs"].lines),
+        ("both clauses of `program`", found["program"].lines),
+        (f"the {count} exports of the C library", found["library"].lines),
+        ("apart: what stands behind the names of `clap`", Lines(behind, 0, 0)),
+    ]
+
+
+def table(found: dict[str, Base]) -> Iterator[str]:
+    """Yields the lines of the table of PROOF."""
+    yield "| What has to be read | Definitions | Code | Names | Lines |"
+    yield "|---|---|---|---|---|"
+    for what, lines in rows(found):
+        numbers = " | ".join(f"{it:,}" for it in (*lines, lines.all))
+        yield f"| {what} | {numbers} |"
+
+
+def with_table(proof: str, found: dict[str, Base]) -> str:
+    """Returns PROOF with its table made anew. Stops where it has no place for it."""
+    before, found_begin, rest = proof.partition(BEGIN)
+    _, found_end, after = rest.partition(END)
+    if not found_begin or not found_end:
+        sys.exit(f"{PROOF} lacks the line '{BEGIN}' or, after it, the line '{END}'")
+    return "\n".join([before + BEGIN, "", *table(found), "", END + after])
+
+
+def with_numbers(readme: str, found: dict[str, Base]) -> str:
+    """Returns README with its numbers made anew. Stops where it has none of a kind."""
+    lines = {name: base.lines.all for name, base in found.items()}
+    behind = sum(it.lines for it in bases.definitions_of_clap(found["program"].of_clap))
+    values = {"shows": lines["shows"], "more": lines["program"] - lines["shows"], "clap": behind}
+    for name, pattern in NUMBERS.items():
+        if len(pattern.findall(readme)) != 1:
+            sys.exit(f"{README} has to have one number where {pattern.pattern} is looked for")
+        readme = pattern.sub(f"{values[name]:,}", readme)
+    return readme
+
+
+def faults_of_names(page: str, base: Base) -> list[str]:
+    """Returns which names of std and of clap the page says nothing of, or does not need to."""
+    listed = re.findall(r"^\| `(\S+)` \|", page.partition(OF_STD)[2], re.M)
+    said = {name.replace("\\|", "|") for name in listed}
+    wanted = base.of_std | {it.name for it in base.of_clap}
+    missing = [f"{PAGE} does not say what {it} means" for it in sorted(wanted - said)]
+    unused = [f"{PAGE} says what {it} means, which is not needed" for it in sorted(said - wanted)]
+    return missing + unused
+
+
+def differences(name: str, was: str, text: str) -> list[str]:
+    """Returns how a page differs from what the files give."""
+    names = f"{name} as it is", f"{name} as the files give it"
+    return [*difflib.unified_diff(was.split("\n"), text.split("\n"), *names, lineterm="", n=1)]
+
+
+def compared(top: str, found: dict[str, Base], writes: bool) -> int:
+    """Compares the pages with what the files give, or writes them, prints the numbers, and returns
+    the status.
+    """
+    wrong = faults_of_names(sources.read(os.path.join(top, PAGE)), found["program"])
+    for name, anew in ((README, with_numbers), (PROOF, with_table)):
+        path = os.path.join(top, name)
+        was = sources.read(path)
+        text = anew(was, found)
+        if writes:
+            sources.write(path, text)
+        else:
+            wrong += differences(name, was, text)
+    print(*wrong, sep="\n", end="\n" if wrong else "")
+    for what, lines in rows(found):
+        parts = f"{lines.definitions} of definitions, {lines.code} of code, {lines.names} names"
+        print(f"{what}: {lines.all} lines, {parts}")
+    print(f"{len(wrong)} faults" + ("; see scripts/believed.py --write" if wrong else ""))
+    return 1 if wrong else 0
+
+
+# ---- lists
+
+
+def about(file: File) -> list[str]:
+    """Returns the texts of the first comment of a file: what it is about, and each `Why: `."""
+    texts = list[str]()
+    for line in itertools.takewhile(lambda it: it.startswith("--"), file.text.split("\n")):
         text = line.removeprefix("--").strip()
         if not texts or text.startswith("Why: "):
             texts.append(text)
@@ -144,108 +192,127 @@ def about(file):
     return texts or [""]
 
 
-def names_in(file, why):
-    """The names of a `Why: ` of a file. Stops where it has none, or the file does not define one."""
+def names_in(file: File, why: str) -> set[str]:
+    """Returns the names of a `Why: ` of a file. Stops where it has none, or the file does not
+    define one.
+    """
     match = WHY.match(why)
-    names = set(re.findall(r"`([^`]+)`", match.group(1))) if match else set()
+    names = {*re.findall(r"`([^`]+)`", match[1])} if match else set[str]()
     gone = sorted(names - {*file.of_name})
     if gone or not names:
-        sys.exit(f"{file.path}: '{why[:60]}' names {', '.join(gone) or 'nothing'}: write definitions of this file")
+        says = f"names {', '.join(gone) or 'nothing'}: write definitions of this file"
+        sys.exit(f"{file.path}: '{why[:60]}' {says}")
     return names
 
 
-def cell(text):
-    return text.replace("|", "\\|")
-
-
-def part(files, definitions):
-    """A list of definitions as the page has it, file by file, crates and files in reading order."""
-    groups = {crate: {} for crate in CRATES}
+def shown_definitions(repository: Repository, definitions: Iterable[Declaration]) -> Iterator[str]:
+    """Yields a list of definitions file by file, crates and files in reading order."""
+    groups: dict[str, dict[str, list[Declaration]]] = {crate: {} for crate in bases.CRATES}
     for one in definitions:
         groups[one.key.crate].setdefault(one.key.module, []).append(one)
     for crate, modules in groups.items():
-        if modules:
-            yield from ("", f"### `{crate}`")
         for module, inside in modules.items():
-            file, here = files[crate, module], {one.name for one in inside}
+            file, here = repository.specs[crate, module], {it.name for it in inside}
             what, *whys = about(file)
             whys = [why for why in whys if names_in(file, why) & here]
-            for text in ["", f"**`{module}`**: {what}", *whys]:
-                yield from (*textwrap.wrap(text, 118, break_long_words=False, break_on_hyphens=False), "")
-            yield from ("| Definition | What it says |", "|---|---|")
-            yield from (f"| `{one.name}` | {cell(one.about)} |" for one in inside)
+            yield from ("", f"{file.path}: {what}")
+            yield from (text for why in whys for text in textwrap.wrap(why, 100))
+            for one in inside:
+                yield from textwrap.wrap(f"- {one.name}: {one.about}", 100, subsequent_indent="  ")
 
 
-def counts_of_code(items):
-    """How many items of each kind there are, and their lines, in words."""
-    for kind in declared.KINDS:
-        lines = [one.lines for one in items if one.kind == kind]
-        if lines:
-            many = kind if kind == "members" or len(lines) == 1 else f"{kind}s"
-            yield f"{len(lines)} {many}, {sum(lines)} {'line' if sum(lines) == 1 else 'lines'}"
-
-
-def code_part(heading, items):
-    """A list of items of code as the page has it."""
-    yield from ("", f"### {heading}", "", f"{'; '.join(counts_of_code(items))}.", "")
-    yield from ("| Item | Of `crates/` | Lines | What it says |", "|---|---|---|---|")
+def shown_code(items: Iterable[CodeItem]) -> Iterator[str]:
+    """Yields a list of items of code."""
+    yield from ("", "Code:")
     for one in items:
-        yield f"| {one.kind} `{one.name}` | `{one.crate}/src/{one.file}.rt` | {one.lines} | {cell(one.about)} |"
+        where = f"crates/{one.crate}/src/{one.file}.rt"
+        text = f"- {one.kind} {one.name}, {where}, {one.lines} lines: {one.about}"
+        yield from textwrap.wrap(text, 100, subsequent_indent="  ")
 
 
-def page_anew(page, lists):
-    """The page with its lists made anew. Stops where its own list has other names of std than are leaned on."""
-    of_call = code_part("Of the program's call", lists.code_of_call)
-    other_code = code_part("Of other public contracts", lists.other_code)
-    made = {
-        "believed": part(lists.files, lists.reached),
-        "other": part(lists.files, lists.others),
-        "code": [*of_call, *other_code],
+def others(repository: Repository, found: dict[str, Base]) -> Base:
+    """Returns what public contracts speak of beside what the program's call rests on."""
+    of_call = found["program"]
+    kept = {*of_call.definitions}
+    rest = [it for file in repository.public for it in file.declarations if it not in kept]
+    cited = [key for one in rest for key in repository.cites(one)]
+    named = {
+        *declared.keys_of(cited),
+        *declared.keys_of(k for it in of_call.code for k in it.cites),
     }
-    for name, lines in made.items():
-        begin, end = f"<!-- {name}: begin -->", f"<!-- {name}: end -->"
-        before, found_begin, rest = page.partition(begin)
-        _, found_end, after = rest.partition(end)
-        if not found_begin or not found_end:
-            sys.exit(f"{PAGE} lacks the line '{begin}' or, after it, the line '{end}'")
-        page = "\n".join([before + begin, *lines, "", end + after])
-    said = {name.replace("\\|", "|") for name in re.findall(r"^\| `(\S+)` \|", page.partition(OF_STD)[2], re.M)}
-    for name in sorted(lists.of_std - said):
-        sys.exit(f"{PAGE} does not say what {name} means, which definitions lean on")
-    for name in sorted(said - lists.of_std):
-        sys.exit(f"{PAGE} says what {name} means, on which no definition leans: drop its line")
-    return page
+    code = [it for it in repository.items if it not in of_call.code and it.is_of(named)]
+    return Base(rest, code, set(), [])
 
 
-def readme_anew(readme, lists):
-    if not README_NUMBER.search(readme):
-        sys.exit(f"{README} has no number of lines of [definitions]")
-    return README_NUMBER.sub(f"{sum(lists.lines()):,}", readme)
+def show(repository: Repository, base: Base) -> None:
+    """Prints what contracts rest on, as much as a reader takes."""
+    signal.signal(signal.SIGPIPE, signal.SIG_DFL)
+    print(*shown_definitions(repository, base.definitions), sep="\n")
+    print(*shown_code(base.code), sep="\n")
+    names = sorted(base.of_std | {it.name for it in base.of_clap})
+    if names:
+        said = f"Names of std and of clap ({PAGE}): {', '.join(names)}"
+        print("", *textwrap.wrap(said, 100), sep="\n")
 
 
-def main():
+# ---- what the kit's check assumes
+
+
+def verdict_in(log: str) -> str:
+    """Returns what `rt ci` said of the program, or nothing where it proved it before."""
+    return log.partition(f"\n== {PROGRAM}\n")[2].partition("\n== ")[0]
+
+
+def check_of_program(top: str, as_left: bool) -> str:
+    """Returns what the kit's check says of the program. Stops where a library is not proved."""
+    rtlib = libraries.kit()
+    crate = next(it for it in rtlib.crates_below(top) if it.name == PROGRAM)
+    if not_proved := libraries.build(crate.below(), as_left):
+        sys.exit(f"{not_proved} is not proved: run rt check in its folder")
+    words = crate.words(["--jobs", "1"], keeps=False)
+    return libraries.check(rtlib, os.path.join(top, "crates", PROGRAM), words)
+
+
+def compared_axioms(top: str, log: str, as_left: bool) -> int:
+    """Compares the number of PROOF with that of the check, and returns the status."""
+    said = verdict_in(log) or check_of_program(top, as_left)
+    verdict = ASSUMED.search(said)
+    if not verdict:
+        sys.exit(f"crates/{PROGRAM} is not proved:\n{said[-2000:]}")
+    written = AXIOMS.findall(sources.read(os.path.join(top, PROOF)))
+    is_right = written == [verdict[1]]
+    says = "" if is_right else f", and {PROOF} has {' and '.join(written) or 'no number'}"
+    print(f"{verdict[1]} contracts of C functions are assumed{says}")
+    return 0 if is_right else 1
+
+
+def arguments() -> argparse.Namespace:
+    """Returns what the arguments ask for."""
     parser = sources.parser_of(__doc__)
-    way = parser.add_mutually_exclusive_group(required=True)
-    way.add_argument("--write", action="store_true", help="make the lists and the number anew")
-    way.add_argument("--check", action="store_true", help="compare them with the files")
-    given = parser.parse_args()
-    lists, are_right = read_lists(given.top), True
-    for name, anew in ((PAGE, page_anew), (README, readme_anew)):
-        path = os.path.join(given.top, name)
-        was, text = sources.read(path), anew(sources.read(path), lists)
-        if given.write:
-            sources.write(path, text)
-        elif was != text:
-            are_right = False
-            names = f"{name} as it is", f"{name} as the files give it"
-            print(*difflib.unified_diff(was.split("\n"), text.split("\n"), *names, lineterm="", n=1), sep="\n")
-    definitions, of_code, of_std = lists.lines()
-    print(
-        f"{definitions + of_code + of_std} lines to believe: {definitions} of definitions, {of_code} of the code,",
-        end=" ",
-    )
-    print(f"{of_std} of std" + ("" if are_right else "; scripts/believed.py --write makes what differs"))
-    return 0 if are_right else 1
+    ways = parser.add_mutually_exclusive_group(required=True)
+    ways.add_argument("--check", action="store_true", help="compare the pages with the files")
+    ways.add_argument("--write", action="store_true", help="make the numbers and the table anew")
+    names = [*CLAUSES, "program", "library", "other"]
+    ways.add_argument("--show", choices=names, help="print what a contract rests on")
+    axioms = "compare the number of contracts of C functions that are assumed; LOG is of `rt ci`"
+    ways.add_argument("--axioms", nargs="?", const=os.devnull, metavar="LOG", help=axioms)
+    built = "with --axioms: take the libraries as `rt ci` left them, if it did"
+    parser.add_argument("--built", action="store_true", help=built)
+    return parser.parse_args()
+
+
+def main() -> int:
+    """Does what the arguments ask for, and returns the status."""
+    given = arguments()
+    if given.axioms:
+        return compared_axioms(given.top, sources.read(given.axioms), given.built)
+    repository = bases.read_repository(given.top)
+    found = all_bases(repository, given.top)
+    if given.show:
+        shown = found | {"other": others(repository, found)}
+        show(repository, shown[given.show])
+        return 0
+    return compared(given.top, found, given.write)
 
 
 if __name__ == "__main__":

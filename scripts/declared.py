@@ -1,25 +1,37 @@
-"""What contracts speak by and is no definition of specs/: a contract itself, traits, types, views, constants.
+"""What contracts speak by and is no definition of specs/: contracts, traits, types, views.
 
+- A contract: the head of a function and its clauses, or those of some names.
 - A trait: its members and the clauses of its functions, without the bodies that it gives.
 - A type: an enum or a struct that definitions name.
 - A view: what contracts see of a type with private fields, its `impl Model`.
 - Members: what the names of a trait mean for a type, the ghost members of its `impl`.
 - A constant that definitions name.
 
-A trait, a view or members count where the crate's lib.rt names the trait and the type for callers. The lines
-`ghost use` of a file say which definitions its items name.
+A trait, a view or members count where the crate's lib.rt names the trait and the type for callers.
+The lines `ghost use` of a file say which definitions its items name.
 """
 
+import dataclasses
+import itertools
+import re
+import sys
 from dataclasses import dataclass
+from typing import Container, Iterable, Iterator, Sequence
+
+from reader import Declaration, File, Key, Token
 
 KINDS = ("contract", "trait", "type", "view", "members", "constant")
 OF_CODE = {"trait": "trait", "enum": "type", "struct": "type", "const": "constant"}
+# The name of an item: its crate, its file and its own name.
+Name = tuple[str, str, str]
 
 
 @dataclass(frozen=True)
 class CodeItem:
-    """An item: its crate, its file in src/ without the ending, its description, how many lines it has, what these
-    cite, and the words of the type that it is or shows, or of the contract: they name more types."""
+    """An item: its crate, its file in src/ without the ending, its description, how many lines it
+    has, what these cite, the words of the type that it is or shows, or of the contract, which name
+    more types, and the members of types that it names, as `remaining` in `R.remaining`.
+    """
 
     kind: str
     name: str
@@ -27,38 +39,63 @@ class CodeItem:
     file: str
     about: str
     lines: int
-    cites: tuple
-    words: frozenset
+    cites: tuple[Key, ...]
+    words: frozenset[str]
+    members: frozenset[str]
 
     @property
-    def key(self):
+    def key(self) -> Name:
         return self.crate, self.file, self.name
 
-    def is_of(self, named, words=None):
-        """Whether it is one of these names, or what is named by words or by any: of members the trait and the type."""
+    def is_of(self, named: Container[Name], words: Container[str] | None = None) -> bool:
+        """Returns whether it is one of these names, or what is named by words or by any: of members
+        the trait and the type.
+        """
         if self.kind in ("type", "constant") or self.key in named:
             return self.key in named
         return words is None or all(name in words for name in self.name.split(" for "))
 
 
-def words_of(declarations):
-    return frozenset(word for one in declarations for token in one.stated for word in token.text.split("."))
+def words_of(declarations: Iterable[Declaration]) -> frozenset[str]:
+    """Returns the words of declarations, those of a path apart."""
+    return frozenset(
+        word for one in declarations for token in one.stated for word in token.text.split(".")
+    )
 
 
-def item_of(kind, name, file, about, declarations):
-    """An item made of declarations of a file."""
+def members_in(declarations: Iterable[Declaration]) -> frozenset[str]:
+    """Returns the members of types that declarations name."""
+    texts = (token.text for one in declarations for token in one.stated)
+    return frozenset(it.split(".")[-1] for it in texts if re.match(r"[A-Z]\w*\.", it))
+
+
+def item_of(
+    kind: str, name: str, file: File, about: str, declarations: Sequence[Declaration]
+) -> CodeItem:
+    """Returns an item made of declarations of a file."""
     cites = dict.fromkeys(key for one in declarations for key in file.cites(one.stated))
-    lines = sum(one.lines for one in declarations)
     wanted = ("fn" if kind == "contract" else "struct", name)
-    words = words_of(one for one in file.declarations if (one.kind, one.name) == wanted)
-    return CodeItem(kind, name, file.crate, file.module.replace(".", "/"), about, lines, tuple(cites), words)
+    return CodeItem(
+        kind=kind,
+        name=name,
+        crate=file.crate,
+        file=file.module.replace(".", "/"),
+        about=about,
+        lines=sum(one.lines for one in declarations),
+        cites=tuple(cites),
+        words=words_of(one for one in file.declarations if (one.kind, one.name) == wanted),
+        members=members_in(declarations),
+    )
 
 
-def of_impl(file, item, types, traits):
-    """What an `impl` adds: a view of a type, or the members of a trait for a type."""
+def of_impl(
+    file: File, item: Declaration, types: Container[str], traits: Container[str]
+) -> Iterator[CodeItem]:
+    """Yields what an `impl` adds: a view of a type, or the members of a trait for a type."""
     trait, _, name = item.name.partition(" for ")
     # A member that a private lemma proves is a law of the trait, and says nothing more.
-    laws = {one.name for one in file.imports if one.target and one.target.module.startswith("Private")}
+    private = (it for it in file.imports if it.target and it.target.module.startswith("Private"))
+    laws = {it.name for it in private}
     members = [it for it in item.inner if it.kind == "ghost" and not laws & words_of([it])]
     if name not in types or not members:
         return
@@ -67,15 +104,18 @@ def of_impl(file, item, types, traits):
         shown = " ".join(file.text_of(value[4:-2]).split())
         yield item_of("view", name, file, f"what contracts see of `{name}`: `{shown}`", members)
     elif trait in traits:
-        yield item_of("members", item.name, file, ", ".join(f"`{it.name}`" for it in members), members)
+        names = ", ".join(f"`{it.name}`" for it in members)
+        yield item_of("members", item.name, file, names, members)
 
 
-def code_items(code):
-    """The traits, types, views, members and constants of files of code, in their order."""
-    public = {file.crate: {one.name for one in file.passed_on} for file in code if file.module == "lib"}
-    all_public = set().union(*public.values())
+def code_items(code: Sequence[File]) -> Iterator[CodeItem]:
+    """Yields the traits, types, views, members and constants of files of code, in their order."""
+    public = {
+        file.crate: {it.name for it in file.passed_on} for file in code if file.module == "lib"
+    }
+    all_public = set[str]().union(*public.values())
     for file in code:
-        types = public[file.crate] | {one.name for one in file.imports} & all_public
+        types = public[file.crate] | {it.name for it in file.imports} & all_public
         for item in file.declarations:
             if item.kind == "impl":
                 yield from of_impl(file, item, types, all_public)
@@ -83,18 +123,39 @@ def code_items(code):
                 yield item_of(OF_CODE[item.kind], item.name, file, item.about, [item])
 
 
-def keys_of(cited):
-    """The types and constants of the code that cited names belong to, as (crate, file, name)."""
+def keys_of(cited: Iterable[Key]) -> Iterator[Name]:
+    """Yields the types and constants of the code that cited names belong to."""
     for crate, _, module, name in cited:
         if module.startswith("declared"):
-            *parts, last = [part for part in module.split(".")[1:] if part != "TheVariants"]
+            *parts, last = [it for it in module.split(".")[1:] if it != "TheVariants"]
             yield crate, "/".join(parts), name if last == "TheConstants" else last
 
 
-def contract_of(code, crate, module, function):
-    """The contract of a function, its head and its clauses, as an item. None where it is gone."""
-    files = [file for file in code if (file.crate, file.module) == (crate, module)]
-    found = (
-        (file, item) for file in files for item in file.declarations if (item.kind, item.name) == ("fn", function)
-    )
-    return next((item_of("contract", function, file, item.about, [item]) for file, item in found), None)
+# ---- contracts
+
+
+def clauses_of(stated: Sequence[Token]) -> tuple[list[Token], dict[str, list[Token]]]:
+    """Returns the head of a function, and its clauses by their names, which may be empty."""
+    head = list(itertools.takewhile(lambda it: it.kind != "Head", stated))
+    clauses: dict[str, list[Token]] = {}
+    current: list[Token] = []
+    for token, after in itertools.pairwise([*stated[len(head) :], stated[-1]]):
+        if token.kind == "Head" and token.text in ("ensures", "requires"):
+            current = clauses.setdefault(after.text if after.text != "{" else "", [])
+        current.append(token)
+    return head, clauses
+
+
+def contract_of(file: File, item: Declaration, names: Sequence[str] = ()) -> CodeItem:
+    """Returns the contract of a function of a file: its head and its clauses, or those of these
+    names. Stops where it has no clause of a name.
+    """
+    head, clauses = clauses_of(item.stated)
+    if gone := [it for it in names if it not in clauses]:
+        sys.exit(f"{item.name} in {file.path} has no clause {', '.join(gone)}")
+    stated = item.stated
+    if names:
+        stated = [*head, *(token for it in names for token in clauses[it])]
+    shown = dataclasses.replace(item, stated=stated)
+    made = item_of("contract", item.name, file, item.about, [shown])
+    return dataclasses.replace(made, words=words_of([shown]))

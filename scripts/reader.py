@@ -181,6 +181,8 @@ class File:
             words = [token.text for token in statement]
             modifiers = list(itertools.takewhile(MODIFIERS.__contains__, words))
             name = words[len(modifiers)] if len(words) > len(modifiers) else ""
+            if words[:2] == ["pub", "use"]:
+                self.passed_on += imported(statement[2:], self.place(statement[0]))
             if words[0] == "use":
                 self.imports += imported(statement[1:], self.place(statement[0]))
             elif name in ("module", "mutual"):

@@ -10,21 +10,22 @@ import sys
 import unittest
 from unittest import mock
 
-from support import TOP, InCopy, in_copy, module, read
+from support import TOP, InCopy, in_copy, module, read, write
 
 believed_rows = module("believed_rows")
 changes = module("changes")
 
 PAGE = "docs/DEFINITIONS.md"
+PROOF = "docs/PROOF.md"
 RESULTS = "scripts/believed_rows.txt"
 
 
 class Believed(InCopy):
-    """The page and README's number are compared with the files, word for word."""
+    """The numbers, the table and the names of std on the pages are compared with the files."""
 
     @classmethod
     def setUpClass(cls):
-        """A copy of the repository whose page and README are right."""
+        """A copy of the repository whose pages are right."""
         super().setUpClass()
         if in_copy(cls.folder, "believed.py", "--write")[0] != 0:
             raise AssertionError("believed.py --write failed")
@@ -33,43 +34,87 @@ class Believed(InCopy):
         return self.judged("believed.py", "--check")
 
     def test_what_write_leaves_is_right(self):
+        """Each contract has a line, and the second needs less than both."""
         status, said = self.check()
         self.assertEqual(status, 0, said)
-        self.assertRegex(said, r"^\d{4} lines to believe: \d+ of definitions, \d+ of the code, \d+ of std\n$")
+        found = re.findall(r"^(.*): (\d+) lines, (\d+) of definitions, (\d+) of code, (\d+) names$", said, re.M)
+        lines = {what: [int(it) for it in numbers] for what, *numbers in found}
+        clauses = [f"the clause `{name}` of `program`" for name in ("shows", "runs")]
+        apart = "apart: what stands behind the names of `clap`"
+        both = "both clauses of `program`"
+        self.assertEqual([*lines], [*clauses, both, "the 6 exports of the C library", apart])
+        self.assertTrue(all(it[0] == sum(it[1:]) for it in lines.values()), said)
+        shows, runs = (lines[it][0] for it in clauses)
+        self.assertTrue(max(shows, runs) < lines[both][0] < shows + runs, said)
 
     def test_changes(self):
-        """Another row, reason, mark or number on the pages; another comment, clause, call or crate in the files."""
-        feed, why, says = "| `LF` | the line feed |", "Why: `penalty`: in the manner of 7.8.3.", "as the files give it"
+        """Another number, table or name of std on the pages; another clause, definition or crate in the files."""
         number = re.search(r"[\d,]+ lines of \[definitions", read(self.path("README.md"))).group()
-        fault = re.search(r"\| type `Fault` .*\n", read(self.path(PAGE))).group()
-        lines, penalty = "crates/labelcore/specs/Lines.antt", "crates/qrmatrix/specs/Penalty.antt"
-        entry, held_line = "crates/command/src/entry.rt", "crates/labelcore/specs/HeldLine.antt"
-        for_take = "| `take` | the first n elements of a list |\n"
+        clap = re.search(r"[\d,]+ lines of `clap`", read(self.path("README.md"))).group()
+        row = re.search(r"\| the clause `shows` .*\n", read(self.path(PROOF))).group()
+        held_line, entry = "crates/labelcore/specs/HeldLine.antt", "crates/command/src/entry.rt"
+        says, for_take = "as the files give it", "| `take` | the first n elements of a list |\n"
         changes = (
-            (PAGE, feed, "| `LF` | purple elephants |", f"-| `LF` | purple elephants |\n+{feed}"),
-            (PAGE, f"{feed}\n", "", f"+{feed}"),
-            (PAGE, why, "Why: `penalty`: elephants.", f"+{why}"),
-            (PAGE, fault, "", f"+{fault}"),
-            (
-                PAGE,
-                "<!-- code: end -->",
-                "",
-                "lacks the line '<!-- code: begin -->' or, after it, the line '<!-- code: end",
-            ),
             (PAGE, for_take, "", "does not say what take means"),
-            (PAGE, for_take, f"{for_take}| `no` | a name |\n", "says what no means, on which no definition leans"),
-            ("README.md", number, f"9,{number}", f"{number}"),
-            ("README.md", number, "few lines of [definitions", "has no number of lines"),
-            (lines, "-- the line feed", "-- the carriage return", "+| `LF` | the carriage"),
-            (penalty, "`penalty`: in the", "`fine`: in the", f"{penalty}: 'Why: "),
-            (penalty, "`penalty`: in the", "in the", f"{penalty}: 'Why: "),
-            ("crates/device/src/sink.rt", "        requires { 0 < length bytes.now }\n", "", "trait `Sink`"),
+            (PAGE, for_take, f"{for_take}| `no` | a name |\n", "says what no means, which is not needed"),
+            (PAGE, "| `remaining` |", "| `contents` |", "does not say what remaining means"),
+            ("README.md", number, f"9,{number}", number),
+            ("README.md", clap, f"9,{clap}", clap),
+            ("README.md", number, "few lines of [definitions", "has to have one number where"),
+            ("README.md", "more say which picture", "less say which picture", "has to have one number where"),
+            (PROOF, row, row.replace("`shows` of `program` | 1,", "`shows` of `program` | 2,"), says),
+            (PROOF, row, "", says),
+            (PROOF, "<!-- believed: end -->", "", "lacks the line '<!-- believed: begin -->' or, after it"),
+            ("crates/device/src/sink.rt", "        requires { 0 < length bytes.now }\n", "", says),
             (entry, "known.items)))\n        (λ early", "known.items))) (λ early", says),
+            (
+                entry,
+                "ensures shows {",
+                "ensures draws {",
+                "program in crates/command/src/entry.rt has no clause shows",
+            ),
             ("crates.txt", "gf256:", "gf65536:\ngf256:", "gf65536"),
             ("crates/labels/src/main.rt", "from(program(", "from(other(", "does not call program"),
             (held_line, "pub line_limit :", "pub line_bound :", "has no line_limit"),
         )
         self.assert_changes_fail(changes, self.check)
+
+    def test_show(self):
+        """A list has what a clause rests on, with its comment, and says by which clause of a standard."""
+        feed, penalty = "- LF: the line feed\n", "Why: `penalty`: in the manner of 7.8.3.\n"
+        for name, has, has_not in (
+            ("shows", (feed, "- contract program, ", "- IsShown: "), (penalty, "- Produces: ")),
+            ("runs", (feed, penalty, "- Produces: "), ("- IsShown: ",)),
+            ("program", (feed, penalty, "- Produces: ", "- IsShown: "), ("- NotADefinition: ",)),
+            ("library", (feed, penalty, "- contract labels_proved_draw, "), ("- contract program, ",)),
+            ("other", ("- IsSymbolOf: ",), (feed, "- contract ")),
+        ):
+            with self.subTest(name):
+                status, said = self.judged("believed.py", "--show", name)
+                self.assertEqual(status, 0, said)
+                self.assertEqual([it for it in has if it not in said], [])
+                self.assertEqual([it for it in has_not if it in said], [])
+
+    def test_show_changes(self):
+        """A `Why: ` names definitions of its file."""
+        penalty = "crates/qrmatrix/specs/Penalty.antt"
+        changes = (
+            (penalty, "`penalty`: in the", "`fine`: in the", f"{penalty}: 'Why: "),
+            (penalty, "`penalty`: in the", "in the", f"{penalty}: 'Why: "),
+        )
+        self.assert_changes_fail(changes, lambda: self.judged("believed.py", "--show", "program"))
+
+    def test_axioms(self):
+        """The number of PROOF is that of the verdict on the program, and not one of another crate."""
+        log = self.path("log")
+        for assumed, status, says in ((39, 0, "39 contracts"), (38, 1, "and docs/PROOF.md has 39")):
+            verdict = f"logic=proved functions=3 axioms={assumed} target=x86_64\n"
+            other = "logic=proved functions=14 axioms=3 target=x86_64\n"
+            write(log, f"== examples\n{other}\n== labels\n{verdict}\n== labels: its tests\n{other}")
+            with self.subTest(assumed):
+                ended, said = self.judged("believed.py", "--axioms", log)
+                self.assertEqual(ended, status, said)
+                self.assertIn(says, said)
 
 
 class Rows(InCopy):

@@ -78,18 +78,23 @@ side_range n m r read =
     let is = IsReading-of n m r read in
     (omega (arith, is.side, is.least), omega (arith, is.side, is.most))
 
+-- what is read as nothing whatever it would be read as
+is_none : (o : Option (List ℕ)) → ((full : List ℕ) → o ≡ Some full → ⊥) → o ≡ None
+is_none None never = refl
+is_none (Some full) never = absurd (never full refl)
+
 holds_no_bars : (line : List Bool) → length line ≤ 65 → HoldsNoBars line
-holds_no_bars line short Ean13 before part after byte bytes e read =
-    omega (arith, short, fits line before part after 11 7 e, ean13_long part (byte ∷ bytes) read)
-holds_no_bars line short Ean8 before part after byte bytes e read =
-    omega (arith, short, fits line before part after 7 7 e, ean8_long part (byte ∷ bytes) read)
-holds_no_bars line short UpcA before part after byte bytes e read =
-    omega (arith, short, fits line before part after 9 9 e, upca_long part (byte ∷ bytes) read)
-holds_no_bars line short Code128 before part after byte bytes e read =
-    omega (arith, short, fits line before part after 10 10 e, code128_long part byte bytes read)
-holds_no_bars line short Qr before part after byte bytes e read =
-    let square = square_read (part ∷ []) (byte ∷ bytes) read in
-    omega (arith, (side_range 1 (value_at (part ∷ [])) square.0 square.1).0)
+holds_no_bars line short Ean13 before part after e = is_none _ (λ full read.
+    omega (arith, short, fits line before part after 11 7 e, ean13_long part full read))
+holds_no_bars line short Ean8 before part after e = is_none _ (λ full read.
+    omega (arith, short, fits line before part after 7 7 e, ean8_long part full read))
+holds_no_bars line short UpcA before part after e = is_none _ (λ full read.
+    omega (arith, short, fits line before part after 9 9 e, upca_long part full read))
+holds_no_bars line short Code128 before part after e = is_none _ (λ full read.
+    omega (arith, short, fits line before part after 10 10 e, code128_long part full read))
+holds_no_bars line short Qr before part after e = is_none _ (λ full read.
+    let square = square_read (part ∷ []) full read in
+    omega (arith, (side_range 1 (value_at (part ∷ [])) square.0 square.1).0))
 
 square_alone : (rows : List (List Bool)) (full : List ℕ) → read_modules Qr rows ≡ Some full
     → (common_row rows ≡ None) × IsUpright (length rows) (value_at rows)

@@ -340,16 +340,16 @@ not_alone_qr alone = none-some (modules first_8) (sym alone.0)
 not_alone_8 : IsAlone Ean8 (modules (codes "1000001") ∷ []) → ⊥
 not_alone_8 alone = (alone.1 (modules (codes "1000001")) refl).1 (true ∷ []) (true ∷ []) refl
 
--- The line of an EAN-8 with its quiet zones, 81 modules, holds a bar code; so does the shortest that any rule reads as
--- data, a Code 128 of one character, of 66.
+-- The line of an EAN-8 with its quiet zones, 81 modules, holds a bar code; so does the shortest that any rule reads, a
+-- Code 128 of one character, of 66.
 line_8 : HoldsNoBars (replicate 7 false ++ (modules first_8 ++ replicate 7 false)) → ⊥
 unfolding first_8 number_set_a
-line_8 holds = holds Ean8 [] (modules first_8) [] 48 (codes "2000008") refl refl
+line_8 holds = none-some (codes "02000008") (sym (holds Ean8 [] (modules first_8) [] refl))
 
 line_128 : (length (replicate 10 false ++ (code128_row (codes "A") ++ replicate 10 false)) ≡ 66)
     × (HoldsNoBars (replicate 10 false ++ (code128_row (codes "A") ++ replicate 10 false)) → ⊥)
 unfolding character_widths
-line_128 = (refl, λ holds. holds Code128 [] (code128_row (codes "A")) [] 65 [] refl refl)
+line_128 = (refl, λ holds. none-some (codes "A") (sym (holds Code128 [] (code128_row (codes "A")) [] refl)))
 
 -- a line of a square of 57 modules has 65
 line_57 : IsAlone Qr (replicate 57 []) → HoldsNoBars (replicate 65 false)

@@ -2,9 +2,11 @@
 use mathlib.Core.Bool.{xor}
 use Rattle.std.proofs.Common.{◌≡◌, ℕ, List, [], ◌∷◌, map, refl, None, Some, Err, codes, false, Bool, ◌++◌, drop}
 use Rattle.std.proofs.Common.{Ok, arith, replicate, reverse, sym, true}
+use Rattle.std.proofs.Common.{ap, get_or, inl, inr, ◌∙◌}
 use Rattle.std.specs.List.{filter_map}
+use Rattle.std.specs.Result.{result_ok}
 use Rattle.labelcore.specs.declared.symbology.Symbology.{Symbology}
-use Rattle.std.specs.Prelude.{◌==◌, slice_set, slice_index_or}
+use Rattle.std.specs.Prelude.{◌==◌, slice_set, slice_index_or, unwrap_or}
 use Rattle.labelcore.specs.Lines.{lines, ended_lines, open_line}
 use Rattle.gf256.specs.BinaryPolynomial.{binary_product, binary_remainder}
 use Rattle.gf256.specs.Field.{field_product, field_power}
@@ -27,17 +29,18 @@ use Rattle.labelcore.specs.declared.options.Format.TheVariants.{Pbm, Ascii}
 use Rattle.qrdata.specs.declared.level.Level.TheVariants.{M}
 use Rattle.labelcore.specs.declared.options.Options.{Options}
 use Rattle.std.specs.Fmt.{digits}
-use Rattle.labelcore.specs.LineItem.{request, head_read, symbology_named}
+use Rattle.labelcore.specs.LineItem.{Request, drawn, head_read, refused, request, skipped, symbology_named}
+use Rattle.labelcore.specs.declared.fault.Fault.{Fault}
 use Rattle.labelcore.specs.HeldLine.{line_limit}
 use Rattle.linear.specs.Tables.{number_set_a}
-use Rattle.labelcore.specs.declared.fault.Fault.TheVariants.{NoData, WrongNumberOfDigits}
+use Rattle.labelcore.specs.declared.fault.Fault.TheVariants.{NoData, UnknownSymbology, WrongNumberOfDigits}
 use Rattle.labelcore.specs.declared.symbology.Symbology.TheVariants.{Ean13, Ean8, UpcA, Code128, Qr}
 use Rattle.picture.specs.declared.quiet_zone.QuietZone.{QuietZone}
 use Rattle.filter.specs.declared.status.Status.TheVariants.{Clean, Refused}
 use Rattle.filter.specs.Symbol.{Symbol, symbol_of, quiet_zone}
 use Rattle.filter.specs.Output.{Images, Messages, drawn_symbols, ended_script, events_after, line_number, outcome}
 use Rattle.filter.specs.Output.{script, sent, status_of}
-use Rattle.filter.specs.Shown.{full_data, image as sent_image, image_in, is_told, messages_after, nothing, told}
+use Rattle.filter.specs.Shown.{IsShown, full_data, image as sent_image, image_in, is_told, messages_after, nothing, told}
 use Rattle.filter.specs.Reading.{modules_in, read_image, read_modules}
 
 abbrev settings : Options
@@ -116,6 +119,35 @@ told_of : (messages_after 0 (nothing ∷ sent_image (codes "P1\n") ∷ told NoDa
 unfolding digits
 told_of = (refl, refl, refl)
 
+-- what a line asks for that is drawn
+asked : Symbology → List ℕ → Request
+asked symbology bytes = record { symbology = symbology; options = settings.label; bytes = bytes }
+
+unlike_faults : UnknownSymbology ≡ NoData → ⊥
+unlike_faults same = cc
+
+no_fault : (full : List ℕ) (fault : Fault) → Ok full ≡ Err fault → ⊥
+no_fault full fault same = cc
+
+no_qr : Ean8 ≡ Qr → ⊥
+no_qr same = cc
+
+-- a line that is skipped is not told, one that is refused is told as just its fault, and one that is drawn is neither
+-- passed over nor told
+not_shown : (IsShown settings.run skipped (told NoData) → ⊥)
+    × (IsShown settings.run (refused NoData) nothing → ⊥)
+    × (IsShown settings.run (refused NoData) (told UnknownSymbology) → ⊥)
+    × (IsShown settings.run (drawn (asked Ean8 (codes "7351353"))) nothing → ⊥)
+    × (IsShown settings.run (drawn (asked Ean8 (codes "7351353"))) (told NoData) → ⊥)
+unfolding asked
+not_shown = (
+  λ shown. shown,
+  λ shown. shown,
+  λ shown. unlike_faults shown,
+  λ shown. shown,
+  λ shown. elim shown [ inl wrong ↦ no_fault (codes "73513537") NoData wrong | inr full ↦ no_qr full.0 ],
+)
+
 -- ---- reading
 
 -- modules written as rows of 0 and 1
@@ -141,6 +173,15 @@ image_read : (read_image Pbm 1 Ean8 image ≡ Some (codes "73513537")) × (read_
     (codes "P1\n81 1\n1000000101011101101111010110001001100101010100001010011101000010100010\n01010000000\n") ≡ None)
 unfolding read_image modules_in image pbm_pixels ascii_pixels sample lines ended_lines open_line number_set_a
 image_read = (refl, refl, refl, refl, refl)
+
+-- nor is it what is shown of another number, whose full data is 73513520
+other_number : IsShown settings.run (drawn (asked Ean8 (codes "7351352"))) (sent_image image) → ⊥
+unfolding asked
+other_number shown =
+    let same : Some (codes "73513520") ≡ Some (codes "73513537") =
+    ap result_ok shown.2 ∙ sym shown.3.full ∙ ap (λ symbology. read_image Pbm 1 symbology image) shown.1
+    ∙ image_read.0 in
+    absurd (omega (arith, ap (λ full. get_or (unwrap_or full []) 6 0) same))
 
 -- ISO/IEC 18004, Annex I: 01234567 in version 1-M, and a row that is a module longer than the others
 qr_rows : List (List ℕ)

@@ -1,6 +1,6 @@
 -- What the definitions draw reads back as the full data of its line, whoever computes it.
 use Rattle.filter.proofs.FilterLaws.{are_bytes, enlarged}
-use Rattle.filter.proofs.Words.{All, ⊤, ◌≡◌, ◌+◌, ◌*◌, ◌++◌, Some, refl, Bool, true, ◌==◌, None, item, Ean8, UpcA, sent}
+use Rattle.filter.proofs.Words.{All, ⊤, ◌≡◌, ◌≢◌, ◌+◌, ◌*◌, ◌++◌, Some, refl, Bool, true, ◌==◌, None, item, Ean8, UpcA, sent}
 use Rattle.filter.proofs.Words.{Fits, IfOk, ok_or, List, arith, subst, false, lines, drawn, Fault, Ean13, Event, le-ltb}
 use Rattle.filter.proofs.Words.{w8, ℕ, ◌^◌, ◌<◌, ◌≤◌, [], ◌∷◌, map, ap, Ok, Err, sym, ◌∙◌, inl, inr, Qr}
 use Rattle.filter.proofs.Words.{nat_lt, skipped, refused, Outcome, Request, Options, Code128, of_line, flushes, text_of}
@@ -13,8 +13,9 @@ use Rattle.std.proofs.Math.Nat.{mul-pos}
 use Rattle.labelcore.proofs.LinesLaws.{AllOf-lines}
 use Rattle.labelcore.specs.declared.options.Format.{Format}
 use Rattle.labelcore.specs.declared.options.Format.TheVariants.{Pbm, Ascii}
+use Rattle.labelcore.specs.LineItem.{HasData}
 use Rattle.labelcore.specs.declared.symbology.Symbology.{Symbology}
-use Rattle.labelcore.proofs.KeptLaws.{AreBytes, AreInRange, HasRanges, item-ranges}
+use Rattle.labelcore.proofs.KeptLaws.{AreBytes, AreInRange, HasRanges, item-has_data, item-ranges}
 use Rattle.picture.specs.Picture.{Picture, bars}
 use Rattle.picture.specs.Reading.{raster, common_row}
 use Rattle.picture.specs.ReadingLaws.{IsDrawable}
@@ -176,30 +177,34 @@ module _ (run : RunValues) (label : LabelValues) (range : AreInRange run label) 
   qr_is_readable bytes w (Some version) e = modules_readable bytes version w e
 
   -- what is drawn of data is read as its full data
-  symbol_readable : (symbology : Symbology) (bytes : List ℕ) → AreBytes bytes
+  symbol_readable : (symbology : Symbology) (bytes : List ℕ) → bytes ≢ [] → AreBytes bytes
       → HasReadable (outcome_of (symbol_of label symbology bytes))
   unfolding symbol_of
-  symbol_readable Ean13 bytes w = linear_readable Ean13 ean13_row read_ean13 (λ rows. refl) refl (full_digits 12 bytes)
+  symbol_readable Ean13 bytes some w = linear_readable Ean13 ean13_row read_ean13 (λ rows. refl) refl (full_digits 12 bytes)
       (ean13_read_back bytes) (ean13_short bytes)
-  symbol_readable Ean8 bytes w = linear_readable Ean8 ean8_row read_ean8 (λ rows. refl) refl (full_digits 7 bytes)
+  symbol_readable Ean8 bytes some w = linear_readable Ean8 ean8_row read_ean8 (λ rows. refl) refl (full_digits 7 bytes)
       (ean8_read_back bytes) (ean8_short bytes)
-  symbol_readable UpcA bytes w = linear_readable UpcA upca_row read_upca (λ rows. refl) refl (full_digits 11 bytes)
+  symbol_readable UpcA bytes some w = linear_readable UpcA upca_row read_upca (λ rows. refl) refl (full_digits 11 bytes)
       (upca_read_back bytes) (upca_short bytes)
-  symbol_readable Code128 bytes w = linear_readable Code128 code128_row read_code128 (λ rows. refl) refl
-      (full_code128 bytes) (code128_read_back bytes) (code128_short bytes)
-  symbol_readable Qr bytes w =
+  symbol_readable Code128 bytes some w = linear_readable Code128 code128_row read_code128 (λ rows. refl) refl
+      (full_code128 bytes) (code128_read_back bytes some) (code128_short bytes)
+  symbol_readable Qr bytes some w =
       qr_is_readable bytes w (chosen_version label.min_version label.level bytes) refl
 
-item_readable : (run : RunValues) (asked : Outcome Request) → HasRanges run asked → HasReadable (outcome_of_item asked)
-item_readable run skipped h = tt
-item_readable run (refused fault) h = tt
-item_readable run (drawn asked) h = symbol_readable run asked.options h.0 asked.symbology asked.bytes h.1
+item_readable : (run : RunValues) (asked : Outcome Request) → HasRanges run asked → HasData asked
+    → HasReadable (outcome_of_item asked)
+item_readable run skipped h has = tt
+item_readable run (refused fault) h has = tt
+item_readable run (drawn asked) h has =
+    let some : asked.bytes ≢ [] = λ none. omega (arith, ap length none, has.0) in
+    symbol_readable run asked.options h.0 asked.symbology asked.bytes some h.1
 
 -- the modules of what is drawn of a line of bytes are read
 outcome_readable : (options : Options) → AreInRange options.run options.label → (line : List ℕ) → AreBytes line
     → HasReadable (outcome options line)
 unfolding outcome
-outcome_readable options range line w = item_readable options.run (item options line) (item-ranges options line range w)
+outcome_readable options range line w = item_readable options.run (item options line)
+    (item-ranges options line range w) (item-has_data options line)
 
 -- the quiet zones are narrow
 zone_small : (symbology : Symbology) → ((quiet_zone symbology).left + (quiet_zone symbology).right ≤ 20)
@@ -315,11 +320,11 @@ module _ (run : RunValues) (label : LabelValues) (range : AreInRange run label) 
 
 module _ (options : Options) (range : AreInRange options.run options.label) where
   -- the image of data is read as its full data
-  pub image_of_data_read : (symbology : Symbology) (bytes : List ℕ) → ((i : ℕ) → Fits w8 (get_or bytes i 0))
+  pub image_of_data_read : (symbology : Symbology) (bytes : List ℕ) → bytes ≢ [] → ((i : ℕ) → Fits w8 (get_or bytes i 0))
       → IfOk (symbol_of options.label symbology bytes)
       (λ symbol. IsRead options.run.format options.run.scale (image_of options.run (drawn symbol)) symbol)
-  image_of_data_read symbology bytes fits = outcome_read options.run options.label range _
-      (symbol_readable options.run options.label range symbology bytes (recursion_from_All (λ b. b < 256) bytes
+  image_of_data_read symbology bytes some fits = outcome_read options.run options.label range _
+      (symbol_readable options.run options.label range symbology bytes some (recursion_from_All (λ b. b < 256) bytes
       (are_bytes bytes fits)))
 
   modules_of_outcome_read : (found : Result Symbol Fault) → HasReadable (outcome_of found) → IfOk found IsReadInModules
@@ -331,10 +336,11 @@ module _ (options : Options) (range : AreInRange options.run options.label) wher
   modules_of_outcome_read (Err fault) h = tt
 
   -- the modules of data are read as its full data
-  pub modules_of_data_read : (symbology : Symbology) (bytes : List ℕ) → ((i : ℕ) → Fits w8 (get_or bytes i 0))
+  pub modules_of_data_read : (symbology : Symbology) (bytes : List ℕ) → bytes ≢ []
+      → ((i : ℕ) → Fits w8 (get_or bytes i 0))
       → IfOk (symbol_of options.label symbology bytes) IsReadInModules
-  modules_of_data_read symbology bytes fits = modules_of_outcome_read _
-      (symbol_readable options.run options.label range symbology bytes (recursion_from_All (λ b. b < 256) bytes
+  modules_of_data_read symbology bytes some fits = modules_of_outcome_read _
+      (symbol_readable options.run options.label range symbology bytes some (recursion_from_All (λ b. b < 256) bytes
       (are_bytes bytes fits)))
 
   script_readable : (before : ℕ) (lines : List (List ℕ)) → AllByRecursion AreBytes lines

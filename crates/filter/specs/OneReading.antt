@@ -1,6 +1,6 @@
 -- In what other way an image could be read, and is not.
 -- Why: `HoldsNoBars`, `IsAlone`: a scanner is told neither the symbology nor the direction, nor where a symbol begins.
-use Rattle.std.specs.Prelude.{◌≡◌, ◌≢◌, ℕ, ◌+◌, Bool, false, List, [], ◌∷◌, ◌++◌, length, replicate, None, Some}
+use Rattle.std.specs.Prelude.{◌≡◌, ◌+◌, Bool, false, List, [], ◌∷◌, ◌++◌, length, replicate, None, Some}
 use Rattle.labelcore.specs.declared.symbology.Symbology.{Symbology}
 use Rattle.labelcore.specs.declared.symbology.Symbology.TheVariants.{Qr}
 use Rattle.linear.specs.Scanning.{HasNoGap, HasNoPart, HasOneReading}
@@ -10,13 +10,13 @@ use Rattle.picture.specs.Reading.{common_row}
 use Rattle.filter.specs.Reading.{read_modules}
 use Rattle.filter.specs.Symbol.{quiet_zone}
 
--- nothing in a line of modules, with the quiet zone of its symbology on either side, is read as data
+-- nothing in a line of modules, with the quiet zone of its symbology on either side, is read
 abbrev pub HoldsNoBars : List Bool → Type 0
 HoldsNoBars line =
-    (symbology : Symbology) (before part after : List Bool) (byte : ℕ) (bytes : List ℕ)
+    (symbology : Symbology) (before part after : List Bool)
     → line ≡ before ++ (replicate (quiet_zone symbology).left false
     ++ (part ++ (replicate (quiet_zone symbology).right false ++ after)))
-    → read_modules symbology (part ∷ []) ≢ Some (byte ∷ bytes)
+    → read_modules symbology (part ∷ []) ≡ None
 
 -- A linear symbol is not read as a QR symbol, and its row has no second reading, no gap and no part that is read. A QR
 -- symbol is not read as a linear one, in a mirror, or turned, and no line as long as its image is wide holds a bar code.

@@ -1,5 +1,5 @@
 -- A row of characters is read as their values (ISO/IEC 15417, symbol structure).
-use Rattle.std.proofs.Common.{ℕ, [], ◌∷◌, ◌≡◌, eq-eqb, ◌+◌, ◌-◌, ◌*◌, ◌/◌, Bool, List}
+use Rattle.std.proofs.Common.{ℕ, [], ◌∷◌, ◌≡◌, eq-eqb, ◌+◌, ◌-◌, ◌*◌, ◌/◌, ◌≤◌, le-leb, Bool, List}
 use Rattle.std.proofs.Common.{◌++◌, length, refl, arith, length-append}
 use Rattle.std.specs.Prelude.{flat_map}
 use Rattle.linear.specs.Code128.{character_modules}
@@ -26,16 +26,17 @@ length-row values a = omega (
   length-stop,
 )
 
--- a row of characters and the stop character is read as the characters' data
-pub read_code128-characters : (values : List ℕ) → AreCharacters values
+-- a row of three characters or more and the stop character is read as the characters' data
+pub read_code128-characters : (values : List ℕ) → AreCharacters values → 3 ≤ length values
     → read_code128 (flat_map character_modules values ++ character_modules 106) ≡ symbol_data values
-read_code128-characters values a =
+read_code128-characters values a some =
     let row : List Bool = flat_map character_modules values ++ character_modules 106 in
     let groups = character_groups values a in
     let long : length row ≡ 11 * length values + 13 = length-row values a in
     let count : (length row - 13) / 11 ≡ length values = omega arith in
     rw (
       count,
+      le-leb 3 (length values) some,
       eq-eqb (length row) (11 * length values + 13) long,
       drop-append (11 * length values) (flat_map character_modules values) (character_modules 106) groups.long,
       same_modules-stop,

@@ -1,5 +1,5 @@
 -- What is drawn as Code 128 is read back (ISO/IEC 15417, symbol structure).
-use Rattle.std.proofs.Common.{ℕ, ◌≡◌, ◌+◌, ◌-◌, ◌*◌, ◌<◌, ◌≤◌, Bool, true, false, cond, ltb, Option, Some, None, Ok}
+use Rattle.std.proofs.Common.{ℕ, ◌≡◌, ◌≢◌, ◌+◌, ◌-◌, ◌*◌, ◌<◌, ◌≤◌, Bool, true, false, cond, ltb, Option, Some, None, Ok}
 use Rattle.std.proofs.Common.{Err, List, [], ◌∷◌, ◌++◌, length, take}
 use Rattle.std.proofs.Common.{leb, refl, ap, ◌∙◌, arith, length-append, lit<}
 use Rattle.std.specs.Prelude.{option_and_then, get_or, position, find, slice_range, All, IfOk}
@@ -87,24 +87,50 @@ length-written (pair {set = set} {first = first} {second = second} {values = val
   length-written w,
 )
 
--- what is drawn of data is read back
-pub code128_reads : (bytes : List ℕ) → IsCode128Data bytes → ReadsBack read_code128 (code128_row bytes) bytes
-code128_reads bytes valid =
+some_pair_values : (set : CodeSet) (first second : ℕ) → 0 < length (pair_values set first second)
+some_pair_values A first second = omega arith
+some_pair_values B first second = omega arith
+some_pair_values C first second = omega arith
+
+-- some data is written in some values
+some_written : {set : CodeSet} {bytes values : List ℕ} → Written set bytes values → bytes ≢ [] → 0 < length values
+some_written nothing some = absurd (some refl)
+some_written (plain below odd has w) some = omega arith
+some_written (shifted below odd has is w) some = omega arith
+some_written (changed below odd has is next picked has_next w) some = omega arith
+some_written (pair {set = set} {first = first} {second = second} {values = values} even d e w) some =
+    omega (arith, length-append (pair_values set first second) values, some_pair_values set first second)
+
+-- what is drawn of data is short
+pub code128_is_short : (bytes : List ℕ) → IsCode128Data bytes → length (code128_row bytes) ≤ 1795
+code128_is_short bytes valid =
+    let ascii = recursion_from_All (λ byte. byte < 128) bytes valid.ascii in
+    let set = start_set bytes in
+    let values = data_values set bytes in omega (
+      arith,
+      length-row (with_check set values) (AreCharacters-with_check bytes ascii),
+      length-append values (check_value (start_value set) values ∷ []),
+      length-written (data_values-written set bytes ascii),
+      valid.few,
+    )
+
+-- what is drawn of some data is read back
+pub code128_reads : (bytes : List ℕ) → IsCode128Data bytes → bytes ≢ []
+    → ReadsBack read_code128 (code128_row bytes) bytes
+code128_reads bytes valid some =
     let ascii = recursion_from_All (λ byte. byte < 128) bytes valid.ascii in
     let set = start_set bytes in
     let values = data_values set bytes in
     let written = data_values-written set bytes ascii in
-    let characters = AreCharacters-with_check bytes ascii in
+    let three : 3 ≤ length (with_check set values) = omega (
+      arith,
+      length-append values (check_value (start_value set) values ∷ []),
+      some_written written some,
+    ) in
     record {
-      read = read_code128-characters (with_check set values) characters ∙ symbol_data-with_check set values
-          ∙ read_values-written written;
-      short = omega (
-        arith,
-        length-row (with_check set values) characters,
-        length-append values (check_value (start_value set) values ∷ []),
-        length-written written,
-        valid.few,
-      );
+      read = read_code128-characters (with_check set values) (AreCharacters-with_check bytes ascii) three
+          ∙ symbol_data-with_check set values ∙ read_values-written written;
+      short = code128_is_short bytes valid;
     }
 
 pub data_values-below : (set : CodeSet) (bytes : List ℕ) → IsCode128Data bytes
@@ -119,7 +145,7 @@ all_ascii_from_None bytes h =
     grind (arith, nat_tests))
 
 -- full data is at most 80 ASCII bytes
-pub of_full_code128 : (bytes : List ℕ) (P : List ℕ → Type 0) → ((full : List ℕ) → IsCode128Data full → P full)
+pub of_full_code128 : (bytes : List ℕ) (P : List ℕ → Type 0) → (IsCode128Data bytes → P bytes)
     → IfOk (full_code128 bytes) P
 of_full_code128 bytes P each = by_tests (ltb 80 (length bytes)) refl (position (λ byte. leb 128 byte) bytes) refl where
   by_tests : (long : Bool) → ltb 80 (length bytes) ≡ long → (found : Option ℕ)
@@ -128,8 +154,8 @@ of_full_code128 bytes P each = by_tests (ltb 80 (length bytes)) refl (position (
   by_tests true t found e = tt
   by_tests false t (Some index) e = tt
   by_tests false t None e =
-      each bytes (record { few = grind (arith, nat_tests); ascii = all_ascii_from_None bytes e })
+      each (record { few = grind (arith, nat_tests); ascii = all_ascii_from_None bytes e })
 
-pub code128_read_back : (bytes : List ℕ)
+pub code128_read_back : (bytes : List ℕ) → bytes ≢ []
     → IfOk (full_code128 bytes) (λ full. read_code128 (code128_row full) ≡ Some full)
-code128_read_back bytes = of_full_code128 bytes _ (λ full valid. (code128_reads full valid).read)
+code128_read_back bytes some = of_full_code128 bytes _ (λ valid. (code128_reads bytes valid some).read)

@@ -2,7 +2,7 @@
 use Rattle.std.proofs.Common.{◌≡◌, ℕ, zero, suc, ◌+◌, ◌-◌, ◌*◌, ◌/◌, ◌<◌, ◌==◌, Bool, true, false, Option, Some, None}
 use Rattle.std.proofs.Common.{List, [], ◌∷◌, ◌++◌, length, map, take, drop, get_or, refl, sym, ap, subst, ◌∙◌, arith}
 use Rattle.std.proofs.Common.{eqb, append_assoc, eq-eqb, eqb-true, inl, inr, if◌then◌else◌, length-append, length-take}
-use Rattle.std.specs.Prelude.{◌&&◌, codes, flat_map, option_and_then, option_map, position, replicate, slice_index}
+use Rattle.std.specs.Prelude.{◌&&◌, codes, flat_map, nat_le, option_and_then, option_map, position, replicate, slice_index}
 use Rattle.std.specs.Bool.{then_some}
 use Rattle.std.specs.Char.{IsAsciiDigit}
 use Rattle.std.specs.Cmp.{booleans_Decides}
@@ -296,14 +296,14 @@ pub code128_drawn : (row : List Bool) (full : List ℕ) → read_code128 row ≡
 code128_drawn row full e =
     let count = (length row - 13) / 11 in
     let stop = same_modules (drop (11 * count) row) (character_modules 106) in
-    let whole = if_some (length row == 11 * count + 13 && stop) _ full e in
+    let whole = if_some ((nat_le 3 count && length row == 11 * count + 13) && stop) _ full e in
     option_and_then_some symbol_data (each_group group_value 11 count row) full whole.1 (λ values found meant.
     let are = groups_drawn group_value character_modules (λ value. value < 106) 11 character_drawn count row values
     found in
     record {
       values = values;
       row_is = are.row_is ∙ ap (λ l. flat_map character_modules values ++ l)
-          (same_modules-same _ (character_modules 106) (and_parts (length row == 11 * count + 13) stop whole.0).1);
+          (same_modules-same _ (character_modules 106) (and_parts (nat_le 3 count && length row == 11 * count + 13) stop whole.0).1);
       known = are.known;
       some = some_values values full meant;
     })

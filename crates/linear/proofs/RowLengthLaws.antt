@@ -4,7 +4,7 @@ use Rattle.std.specs.Prelude.{IfOk}
 use Rattle.linear.specs.Code128.{full_code128, code128_row}
 use Rattle.linear.specs.Digits.{full_digits}
 use Rattle.linear.specs.Ean.{ean8_row, ean13_row, upca_row}
-use Rattle.linear.proofs.Code128Laws.{of_full_code128, code128_reads}
+use Rattle.linear.proofs.Code128Laws.{of_full_code128, code128_is_short}
 use Rattle.linear.proofs.DigitLaws.{of_full_digits}
 use Rattle.linear.proofs.EanLaws.{ean8_reads, ean13_reads, upca_reads}
 
@@ -19,4 +19,4 @@ pub upca_short : (bytes : List ℕ) → IfOk (full_digits 11 bytes) (λ full. le
 upca_short bytes = of_full_digits 11 bytes _ (λ full f. (upca_reads full f).short)
 
 pub code128_short : (bytes : List ℕ) → IfOk (full_code128 bytes) (λ full. length (code128_row full) ≤ 1795)
-code128_short bytes = of_full_code128 bytes _ (λ full valid. (code128_reads full valid).short)
+code128_short bytes = of_full_code128 bytes _ (code128_is_short bytes)

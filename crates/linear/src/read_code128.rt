@@ -1,6 +1,6 @@
 //! Reading of Code 128 symbols (ISO/IEC 15417).
 ghost use Rattle.std.specs.Prelude.{◌≡◌, ℕ, List, ◌∷◌, ◌+◌, ◌*◌, ◌≤◌, ◌<◌, ◌&&◌, ◌==◌, IfSome, length, option_map};
-ghost use Rattle.std.specs.Prelude.{MatchOption, nat_eq, false, position, option_and_then, drop, if◌then◌else◌};
+ghost use Rattle.std.specs.Prelude.{MatchOption, nat_eq, nat_le, false, position, option_and_then, drop, if◌then◌else◌};
 ghost use Rattle.linear.specs.declared.switching.CodeSet.{CodeSet as Set};
 ghost use Rattle.linear.specs.CodeSets.{start_value};
 ghost use Rattle.linear.specs.declared.limits.TheConstants.{MAX_VALUES, MAX_FULL_DATA, MAX_MODULES};
@@ -18,6 +18,9 @@ use crate::row::FullData;
 use crate::switching::CodeSet;
 use crate::tables::{CHARACTERS, STOP};
 use arrayvec::ArrayVec;
+
+/// The fewest values of a symbol before the stop character.
+const MIN_SYMBOL_VALUES: usize = 3;
 
 /// The most values of a symbol before the stop character.
 const MAX_SYMBOL_VALUES: usize = MAX_VALUES + 2;
@@ -198,13 +201,14 @@ fn is_stop(modules: &[bool]) -> bool
     same_modules(modules, &STOP)
 }
 
-/// Returns whether a row has this many characters of eleven modules, and the stop character after them.
+/// Returns whether a row has this many characters of eleven modules, and the stop character after them. Three are the
+/// fewest: the start character, one or more for the data, and the check character.
 fn is_stopped(count: usize, row: &[bool]) -> bool
     requires { 11 * count ≤ length row.now }
-    ensures { result
-        ≡ (length row.now == 11 * count + 13 && same_modules (drop (11 * count) row.now) (character_modules 106)) }
+    ensures { result ≡ ((nat_le 3 count && length row.now == 11 * count + 13)
+        && same_modules (drop (11 * count) row.now) (character_modules 106)) }
 {
-    row.len() == 11 * count + 13 && is_stop(&row[11 * count..])
+    count >= MIN_SYMBOL_VALUES && row.len() == 11 * count + 13 && is_stop(&row[11 * count..])
 }
 
 /// Reads a row as a Code 128 symbol.

@@ -8,7 +8,7 @@ use Rattle.std.specs.Cmp.Lexicographic.{pointwise}
 use Rattle.std.proofs.lemmas.Bool.{and_from, false≢true}
 use Rattle.std.proofs.lemmas.Cmp.{lists_equiv}
 use Rattle.gf256.specs.BinaryPolynomial.{binary_remainder}
-use Rattle.qrmatrix.specs.Reading.{Reading, IsUnreadInMirrors, format_copy_1, format_copy_2, read_matrix}
+use Rattle.qrmatrix.specs.Reading.{Reading, format_copy_1, format_copy_2, read_matrix}
 use Rattle.qrmatrix.proofs.ComputedLaws.{pairs_pass}
 use Rattle.qrmatrix.proofs.FoundLaws.{IsReading-of, modules_at, word_bits}
 use Rattle.qrmatrix.proofs.WordDistanceLaws.{format_word}
@@ -63,9 +63,11 @@ six_same f g same =
     (λ i. same 0 (omega arith) i ∷ same 1 (omega arith) i ∷ same 2 (omega arith) i ∷ same 3 (omega arith) i
     ∷ same 4 (omega arith) i ∷ same 5 (omega arith) i ∷ [])
 
-pub IsUnreadInMirrors-read : (n : ℕ) (m : ℕ → ℕ → Bool) (r : Reading) → read_matrix n m ≡ Some r
-    → IsUnreadInMirrors n m
-IsUnreadInMirrors-read n m r read = (
+-- with columns for rows, left for right or upside down modules are no symbol
+pub unread_in_mirrors : (n : ℕ) (m : ℕ → ℕ → Bool) (r : Reading) → read_matrix n m ≡ Some r
+    → (read_matrix n (λ x y. m y x) ≡ None) × (read_matrix n (λ x y. m (n - 1 - x) y) ≡ None)
+    × (read_matrix n (λ x y. m x (n - 1 - y)) ≡ None)
+unread_in_mirrors n m r read = (
   not_both n m (λ x y. m y x) r read (λ large j k one two. (
     ap high (sym one.0) ∙ ap (take 6) two.0,
     ap high (sym two.0) ∙ ap (take 6) one.0,

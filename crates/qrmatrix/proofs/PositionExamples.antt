@@ -1,5 +1,5 @@
 -- Worked values: symbols in other positions than upright, in mirrors and turned.
-use Rattle.std.proofs.Common.{◌≡◌, ℕ, ◌-◌, refl, arith, Bool, List, [], ◌∷◌, map, None, Some, take, drop, replicate}
+use Rattle.std.proofs.Common.{◌≡◌, ℕ, ◌-◌, refl, Bool, List, [], ◌∷◌, map, None, Some, replicate}
 use Rattle.std.specs.Prelude.{option_map, slice_index}
 use Rattle.gf256.specs.BinaryPolynomial.{binary_remainder}
 use mathlib.Core.Bool.{xor}
@@ -11,8 +11,8 @@ use Rattle.qrmatrix.specs.Bits.{bit}
 use Rattle.qrmatrix.specs.Functions.{fixed_module, is_free, role}
 use Rattle.qrmatrix.specs.Information.{format_information, version_information}
 use Rattle.qrmatrix.specs.Masks.{is_flipped}
-use Rattle.qrmatrix.specs.Reading.{IsUnreadInMirrors, IsUnreadTurned, Reading, other_positions, read_bits, read_format}
-use Rattle.qrmatrix.specs.Reading.{read_matrix, shows_functions, shows_version, walk}
+use Rattle.qrmatrix.specs.Reading.{Reading, other_positions, read_bits, read_format, read_matrix, shows_functions}
+use Rattle.qrmatrix.specs.Reading.{shows_version, walk}
 
 -- a symbol of version 2-L under mask 3, as Zint draws it (`zint -b 58 --vers=2 --secure=1 --mask=3 --dump -d "HALF A
 -- TURN"`): bit x of a row is its module at column x
@@ -47,16 +47,6 @@ positions_read : map (read_matrix 25) positions ≡ replicate 7 None
 unfolding positions read_matrix read_format shows_version shows_functions number_of fixed_module role
     format_information version_information binary_remainder
 positions_read = refl
-
--- these are the positions in which a symbol is said not to be read
-in_mirrors : IsUnreadInMirrors 25 (modules_of rows)
-    → map (read_matrix 25) (take 3 positions) ≡ replicate 3 None
-unfolding positions
-in_mirrors h = λ i. h.0 i ∷ h.1 i ∷ h.2 i ∷ []
-
-in_turns : IsUnreadTurned 25 (modules_of rows) → map (read_matrix 25) (drop 3 positions) ≡ replicate 4 None
-unfolding positions
-in_turns h = let turns = h (omega arith) in λ i. turns.0 i ∷ turns.1 i ∷ turns.2 i ∷ turns.3 i ∷ []
 
 -- Version 1 has no alignment pattern, and there modules alone do not refuse a turned symbol. These squares have the
 -- function patterns and the format information of two symbols of version 1-M: one upright, and one turned by a half

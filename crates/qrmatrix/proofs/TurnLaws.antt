@@ -18,11 +18,11 @@ use Rattle.qrdata.specs.Versions.{side_of, total_codewords}
 use Rattle.qrdata.proofs.BeginningLaws.{no_mode, too_many, unread_beginning}
 use Rattle.qrmatrix.specs.Functions.{Role, Function, fixed_module, is_free, module_of_role, role}
 use Rattle.qrmatrix.specs.Masks.{is_flipped}
-use Rattle.qrmatrix.specs.Reading.{Reading, IsUnreadTurned, IsUpright, other_positions, read_bits, read_matrix}
+use Rattle.qrmatrix.specs.Reading.{Reading, IsUpright, other_positions, read_bits, read_matrix}
 use Rattle.qrmatrix.specs.Reading.{read_square, shows_functions, walk}
 use Rattle.qrmatrix.proofs.ComputedLaws.{passes, same_at}
 use Rattle.qrmatrix.proofs.FoundLaws.{IsReading, IsReading-of}
-use Rattle.qrmatrix.proofs.MirrorLaws.{IsUnreadInMirrors-read}
+use Rattle.qrmatrix.proofs.MirrorLaws.{unread_in_mirrors}
 
 -- a symbol that is read shows its function patterns
 shown : (n : ℕ) (m : ℕ → ℕ → Bool) (r : Reading) (is : IsReading n m r) (x y : ℕ) (dark : Bool) → x < n → y < n
@@ -83,8 +83,11 @@ module _ (n : ℕ) (m other : ℕ → ℕ → Bool) (r : Reading) (read : read_m
           (dark two.version (omega (arith, large, two.side)) two.most)) in
           absurd (false≢true (sym here ∙ sym same ∙ there))
 
-pub IsUnreadTurned-read : (n : ℕ) (m : ℕ → ℕ → Bool) (r : Reading) → read_matrix n m ≡ Some r → IsUnreadTurned n m
-IsUnreadTurned-read n m r read large = (
+-- from version 2 on turned modules are no symbol, nor are those in a mirror along the other diagonal
+unread_from_25 : (n : ℕ) (m : ℕ → ℕ → Bool) (r : Reading) → read_matrix n m ≡ Some r → 25 ≤ n
+    → (read_matrix n (λ x y. m (n - 1 - x) (n - 1 - y)) ≡ None) × (read_matrix n (λ x y. m y (n - 1 - x)) ≡ None)
+    × (read_matrix n (λ x y. m (n - 1 - y) x) ≡ None) × (read_matrix n (λ x y. m (n - 1 - y) (n - 1 - x)) ≡ None)
+unread_from_25 n m r read large = (
   unread n m (λ x y. m (n - 1 - x) (n - 1 - y)) r read large (λ n. (5, 6)) (λ v l h. at 1 (corner_roles v l h))
       (omega (arith, large)) (omega (arith, large)) (same (omega (arith, large)) (omega (arith, large))),
   unread n m (λ x y. m y (n - 1 - x)) r read large (λ n. (6, n - 6)) (λ v l h. at 2 (corner_roles v l h))
@@ -269,7 +272,7 @@ unread_turned n m r read =
           × (read_square n (λ x y. m (n - 1 - y) (n - 1 - x)) ≡ None)) (sym side)
           (unread_small m r (subst (λ n. read_matrix n m ≡ Some r) side read))
       | inr large ↦
-          let turned = IsUnreadTurned-read n m r read large in (
+          let turned = unread_from_25 n m r read large in (
             no_square n (λ x y. m (n - 1 - x) (n - 1 - y)) turned.0,
             no_square n (λ x y. m y (n - 1 - x)) turned.1,
             no_square n (λ x y. m (n - 1 - y) x) turned.2,
@@ -279,7 +282,7 @@ unread_turned n m r read =
 
 pub IsUpright-read : (n : ℕ) (m : ℕ → ℕ → Bool) (r : Reading) → read_matrix n m ≡ Some r → IsUpright n m
 IsUpright-read n m r read =
-    let mirrors = IsUnreadInMirrors-read n m r read in
+    let mirrors = unread_in_mirrors n m r read in
     let turned = unread_turned n m r read in
     All-from_recursion (λ other. read_square n other ≡ None) (other_positions n m) (
       no_square n (λ x y. m y x) mirrors.0,

@@ -140,19 +140,3 @@ abbrev pub IsGuarded : ℕ → (ℕ → ℕ → Bool) → Reading → Type 0
 IsGuarded n m reading =
     (turned : List (ℕ × ℕ)) (other : ℕ → ℕ → Bool) → length turned ≤ 13 → AgreeBut turned m other
     → IfSome (read_matrix n other) (IsLike (length turned) reading)
-
--- in a mirror, with columns for rows, left for right or upside down, a symbol is not read
-abbrev pub IsUnreadInMirrors : ℕ → (ℕ → ℕ → Bool) → Type 0
-IsUnreadInMirrors n m =
-    (read_matrix n (λ x y. m y x) ≡ None)
-    × (read_matrix n (λ x y. m (n - 1 - x) y) ≡ None)
-    × (read_matrix n (λ x y. m x (n - 1 - y)) ≡ None)
-
--- From version 2 on, of 25 modules a side, a symbol is not read turned by a quarter, a half or three quarters either,
--- nor in a mirror along its other diagonal.
-abbrev pub IsUnreadTurned : ℕ → (ℕ → ℕ → Bool) → Type 0
-IsUnreadTurned n m = 25 ≤ n
-    → (read_matrix n (λ x y. m (n - 1 - x) (n - 1 - y)) ≡ None)
-    × (read_matrix n (λ x y. m y (n - 1 - x)) ≡ None)
-    × (read_matrix n (λ x y. m (n - 1 - y) x) ≡ None)
-    × (read_matrix n (λ x y. m (n - 1 - y) (n - 1 - x)) ≡ None)

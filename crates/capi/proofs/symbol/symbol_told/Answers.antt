@@ -17,7 +17,7 @@ returns-clause-read c =
       version_low = range.version_low;
       version_high = range.version_high;
       mask_fits = range.mask_fits;
-    }) _ _ c.type_inv.bytes
+    }) _ _ c.requires c.type_inv.bytes
 
 pub returns-clause-told : goal.returns-clause-told
 returns-clause-told c =

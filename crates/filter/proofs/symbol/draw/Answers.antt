@@ -19,16 +19,16 @@ unfolding symbol_of
 returns-in-Code128-clause-drawn g c = rw c.in-Code128.is (c.draw_linear-in-Code128.ensures Code128 refl)
 
 pub returns-in-Ean13-clause-read : goal.returns-in-Ean13-clause-read
-returns-in-Ean13-clause-read g c = image_of_data_read (record { run = c.args.run.now; label = c.args.label.now }) c.prove_ranges.ensures _ _ c.type_inv.bytes
+returns-in-Ean13-clause-read g c = image_of_data_read (record { run = c.args.run.now; label = c.args.label.now }) c.prove_ranges.ensures _ _ c.requires c.type_inv.bytes
 
 pub returns-in-Ean8-clause-read : goal.returns-in-Ean8-clause-read
-returns-in-Ean8-clause-read g c = image_of_data_read (record { run = c.args.run.now; label = c.args.label.now }) c.prove_ranges.ensures _ _ c.type_inv.bytes
+returns-in-Ean8-clause-read g c = image_of_data_read (record { run = c.args.run.now; label = c.args.label.now }) c.prove_ranges.ensures _ _ c.requires c.type_inv.bytes
 
 pub returns-in-UpcA-clause-read : goal.returns-in-UpcA-clause-read
-returns-in-UpcA-clause-read g c = image_of_data_read (record { run = c.args.run.now; label = c.args.label.now }) c.prove_ranges.ensures _ _ c.type_inv.bytes
+returns-in-UpcA-clause-read g c = image_of_data_read (record { run = c.args.run.now; label = c.args.label.now }) c.prove_ranges.ensures _ _ c.requires c.type_inv.bytes
 
 pub returns-in-Code128-clause-read : goal.returns-in-Code128-clause-read
-returns-in-Code128-clause-read g c = image_of_data_read (record { run = c.args.run.now; label = c.args.label.now }) c.prove_ranges.ensures _ _ c.type_inv.bytes
+returns-in-Code128-clause-read g c = image_of_data_read (record { run = c.args.run.now; label = c.args.label.now }) c.prove_ranges.ensures _ _ c.requires c.type_inv.bytes
 
 pub returns-in-Qr-clause-read : goal.returns-in-Qr-clause-read
-returns-in-Qr-clause-read g c = image_of_data_read (record { run = c.args.run.now; label = c.args.label.now }) c.prove_ranges.ensures _ _ c.type_inv.bytes
+returns-in-Qr-clause-read g c = image_of_data_read (record { run = c.args.run.now; label = c.args.label.now }) c.prove_ranges.ensures _ _ c.requires c.type_inv.bytes

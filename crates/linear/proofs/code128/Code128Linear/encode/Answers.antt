@@ -11,4 +11,4 @@ pub returns-clause-drawn : goal.returns-clause-drawn
 returns-clause-drawn c =
     IsDrawn-from_Ok _ code128_row read_code128 1 code128_rows_far_apart code128_gap c.args.data.now
     c.in_ok-check_data.ensures.answer c.clear.ensures c.push_code128.ensures
-    (code128_reads c.args.data.now c.in_ok-check_data.ensures.valid) refl
+    (code128_reads c.args.data.now c.in_ok-check_data.ensures.valid c.requires) refl

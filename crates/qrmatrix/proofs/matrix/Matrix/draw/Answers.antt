@@ -6,8 +6,7 @@ use Rattle.qrmatrix.specs.Modules.{is_inside, module_at}
 use Rattle.qrmatrix.specs.Reading.{Reading, read_matrix}
 use Rattle.qrmatrix.specs.Square.{value_at}
 use Rattle.qrmatrix.proofs.DamageLaws.{IsGuarded-read}
-use Rattle.qrmatrix.proofs.MirrorLaws.{IsUnreadInMirrors-read}
-use Rattle.qrmatrix.proofs.TurnLaws.{IsUnreadTurned-read}
+use Rattle.qrmatrix.proofs.TurnLaws.{IsUpright-read}
 use Rattle.qrmatrix.proofs.ReadingLaws.{module_outside, reads_back}
 use Rattle.qrmatrix.proofs.matrix.Matrix.draw.Goals as goal
 use Rattle.qrmatrix.proofs.matrix.Matrix.draw.Goals.{in-Some, in-None}
@@ -60,8 +59,7 @@ returns c =
       modules = shown c;
       reads = reads;
       guarded = IsGuarded-read c.side.result dark symbol reads;
-      unmirrored = IsUnreadInMirrors-read c.side.result dark symbol reads;
-      unturned = IsUnreadTurned-read c.side.result dark symbol reads;
+      upright = IsUpright-read c.side.result dark symbol reads;
     }
 
 pub invariant_of-result : goal.invariant_of-result
