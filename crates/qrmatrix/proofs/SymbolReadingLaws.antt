@@ -162,6 +162,17 @@ module _ (n : ℕ) (m : ℕ → ℕ → Bool) where
   unfolding read_matrix
   unknown_side none = rw none refl
 
+  -- no version is wider than the tenth
+  pub wide_side : 57 < n → read_matrix n m ≡ None
+  wide_side wide = unknown_side (at (find (λ v. side_of v == n) (range_with_len 1 10)) refl)
+    where
+      at : (o : Option ℕ) → find (λ v. side_of v == n) (range_with_len 1 10) ≡ o
+          → find (λ v. side_of v == n) (range_with_len 1 10) ≡ None
+      at None e = e
+      at (Some v) e =
+          let range = find_in_range (λ v. side_of v == n) 1 10 v e in
+          absurd (omega (arith, wide, range.2, eqb-true (side_of v) n range.0))
+
   module _ (v : ℕ) (found : find (λ v. side_of v == n) (range_with_len 1 10) ≡ Some v) where
     pub is_side : n ≡ side_of v
     is_side = sym (eqb-true (side_of v) n (find_in_range (λ v. side_of v == n) 1 10 v found).0)
