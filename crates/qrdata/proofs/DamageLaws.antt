@@ -30,18 +30,18 @@ use Rattle.qrdata.proofs.VersionLaws.{IsSound-of}
 -- ---- blocks by their index
 
 module _ (lengths : List ℕ) (words : List ℕ) where
-  dealt : ℕ → List ℕ
+  pub dealt : ℕ → List ℕ
   dealt b = map (λ i. slice_index words (interleaving_place lengths b i)) (range_with_len 0 (slice_index lengths b))
 
-  length-deinterleaving : length (deinterleaving lengths words) ≡ length lengths
+  pub length-deinterleaving : length (deinterleaving lengths words) ≡ length lengths
   unfolding deinterleaving dealt
   length-deinterleaving = length-map-range_with_len dealt 0 (length lengths)
 
-  deinterleaving-at : (b : ℕ) → b < length lengths → get_or (deinterleaving lengths words) b [] ≡ dealt b
+  pub deinterleaving-at : (b : ℕ) → b < length lengths → get_or (deinterleaving lengths words) b [] ≡ dealt b
   unfolding deinterleaving dealt
   deinterleaving-at b h = get_or-map-range_with_len dealt 0 (length lengths) b b [] h (omega arith)
 
-  length-dealt : (b : ℕ) → length (dealt b) ≡ slice_index lengths b
+  pub length-dealt : (b : ℕ) → length (dealt b) ≡ slice_index lengths b
   unfolding dealt
   length-dealt b = length-map-range_with_len _ 0 (slice_index lengths b)
 
@@ -58,7 +58,7 @@ module _ (lengths : List ℕ) (words : List ℕ) where
 
 -- ---- the blocks of a symbol
 
-HasRoots-has_roots : (k : ℕ) (block ec_block : List ℕ) → has_roots k (block, ec_block) ≡ true
+pub HasRoots-has_roots : (k : ℕ) (block ec_block : List ℕ) → has_roots k (block, ec_block) ≡ true
     → HasRoots k (block ++ ec_block)
 HasRoots-has_roots k block ec_block all i h =
     let test = λ (i : ℕ). evaluate (block ++ ec_block) (field_power alpha i) == 0 in

@@ -38,7 +38,7 @@ pub record HasEcCodewords (k : ℕ) (block : List ℕ) : Type 0 where
   pub roots : has_roots k (block, ec_codewords_of k block) ≡ true
   pub bytes : AreBytes (ec_codewords_of k block)
 
-roots_pass : (p : List ℕ) (n low : ℕ) → ((i : ℕ) → i < low + n → evaluate p (field_power alpha i) ≡ 0)
+pub roots_pass : (p : List ℕ) (n low : ℕ) → ((i : ℕ) → i < low + n → evaluate p (field_power alpha i) ≡ 0)
     → list_all (λ i. evaluate p (field_power alpha i) == 0) (range_with_len low n) ≡ true
 roots_pass p zero low h = refl
 roots_pass p (suc n) low h =

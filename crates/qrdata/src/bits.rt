@@ -39,7 +39,7 @@ struct Rest {
 
 /// Returns 2^n.
 #[inline(always)]
-fn power_of_two(n: usize) -> u32
+pub(crate) fn power_of_two(n: usize) -> u32
     requires { n ≤ 23 }
     ensures { result ≡ 2 ^ n }
 {

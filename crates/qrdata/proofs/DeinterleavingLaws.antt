@@ -1,0 +1,161 @@
+-- Blocks are taken back out of interleaved codewords one after another, and each is tested by its remainder.
+use Rattle.std.proofs.Common.{◌≡◌, ℕ, zero, suc, ◌+◌, ◌-◌, ◌<◌, ◌≤◌, List, [], ◌∷◌, ◌++◌, map, take, drop, get_or, All}
+use Rattle.std.proofs.Common.{length, replicate, refl, sym, ap, ◌∙◌, length-append, arith, Bool, true, false, min, sum}
+use Rattle.std.proofs.Common.{cond, inl, inr}
+use Rattle.std.specs.Prelude.{bytes_eq, nat_lt, slice_index, ◌&&◌}
+use Rattle.std.specs.List.{concat, flat_map, list_all, range_with_len, sum_by, zip}
+use Rattle.std.proofs.lemmas.Bool.{cases_lt, le-ltb, lt-ltb}
+use Rattle.std.proofs.lemmas.Bool.Decides.{nat_tests}
+use Rattle.std.proofs.lemmas.List.{drop-drop, drop_more, ext_get_or, get_or-map, length-map}
+use Rattle.std.proofs.lemmas.List.Elements.{All-append}
+use Rattle.std.proofs.lemmas.List.Folds.{flat_map-map}
+use Rattle.std.proofs.lemmas.List.FromFn.{length-map-range_with_len}
+use Rattle.std.proofs.lemmas.List.Sums.{sum_by-cons}
+use Rattle.std.proofs.lemmas.Slice.Eq.{bytes_eq-Decides}
+use Rattle.gf256.specs.Field.{IsElement}
+use Rattle.gf256.specs.ErrorCorrection.{AreEcCodewords, wrong_codewords}
+use Rattle.gf256.proofs.DistanceLaws.{close_codewords}
+use Rattle.qrdata.specs.Codewords.{split_by}
+use Rattle.qrdata.specs.Private.Blocks.{block_at}
+use Rattle.qrdata.specs.Reading.{deinterleaving, has_roots, interleaving_place}
+use Rattle.qrdata.proofs.BitStringLaws.{drop_front, take_front}
+use Rattle.qrdata.proofs.DamageLaws.{HasRoots-has_roots, deinterleaving-at, length-dealt, length-deinterleaving}
+use Rattle.qrdata.proofs.DataReadingLaws.{roots_pass}
+use Rattle.qrdata.proofs.InterleavingLaws.{Blocks}
+
+-- ---- the place of a codeword
+
+min_below : (i : ℕ) (lengths : List ℕ) → sum_by (min i) lengths ≤ sum lengths
+min_below i [] = omega arith
+min_below i (n ∷ lengths) =
+    omega (arith, sum_by-cons (min i) n lengths, sum_by-cons (λ x. x) n lengths, min_below i lengths)
+
+pub place_below : (lengths : List ℕ) (b i : ℕ) → b < length lengths → i < get_or lengths b 0
+    → interleaving_place lengths b i < sum lengths
+place_below [] b i inside h = absurd (omega arith)
+place_below (n ∷ lengths) zero i inside h =
+    omega (arith, sum_by-cons (min i) n lengths, sum_by-cons (λ x. x) n lengths, min_below i lengths)
+place_below (n ∷ lengths) (suc b) i inside h =
+    let rest = place_below lengths b i (omega arith) h in
+    let one = sum_by-cons (λ n. cond (nat_lt i n) 1 0) n (take b lengths) in
+    let below = sum_by-cons (min i) n lengths in
+    let all = sum_by-cons (λ x. x) n lengths in
+    elim (cases_lt i n) [
+      | inl has ↦ omega (arith, rest, rw (lt-ltb i n has) at one, below, all)
+      | inr lacks ↦ omega (arith, rest, rw (le-ltb i n lacks) at one, below, all)
+    ]
+
+-- the places that are left are the next one and those after it
+pub place_next : {A : Type 0} (f : ℕ → A) (place n : ℕ) → place < n
+    → map f (range_with_len place (n - place)) ≡ f place ∷ map f (range_with_len (place + 1) (n - (place + 1)))
+place_next f place n h = let more : n - place ≡ suc (n - (place + 1)) = omega arith in rw more refl
+
+-- ---- the blocks, one after another
+
+pub blocks_joined : (lengths codewords : List ℕ)
+    → flat_map (block_at lengths codewords) (range_with_len 0 (length lengths)) ≡ concat (deinterleaving lengths codewords)
+unfolding deinterleaving
+blocks_joined lengths codewords =
+    sym (flat_map-map (λ (block : List ℕ). block) (block_at lengths codewords) (range_with_len 0 (length lengths)))
+
+split_concat : (blocks : Blocks) → split_by (map length blocks) (concat blocks) ≡ blocks
+unfolding split_by
+split_concat [] = refl
+split_concat (block ∷ blocks) = rw (
+  take_front (length block) block (concat blocks) refl,
+  drop_front (length block) block (concat blocks) refl,
+  split_concat blocks,
+) refl
+
+shapes : (lengths codewords : List ℕ) → map length (deinterleaving lengths codewords) ≡ lengths
+shapes lengths codewords =
+    let blocks = deinterleaving lengths codewords in
+    let count = length-map blocks length ∙ length-deinterleaving lengths codewords in
+    ext_get_or 0 (map length blocks) lengths count (λ b h.
+    let inside : b < length blocks = omega (arith, h, length-map blocks length) in
+    get_or-map length blocks b [] 0 inside
+    ∙ ap length (deinterleaving-at lengths codewords b (omega (arith, h, count)))
+    ∙ length-dealt lengths codewords b)
+
+-- the blocks are cut apart again
+pub split_by-deinterleaving : (lengths codewords : List ℕ)
+    → split_by lengths (concat (deinterleaving lengths codewords)) ≡ deinterleaving lengths codewords
+split_by-deinterleaving lengths codewords =
+    ap (λ ns. split_by ns (concat (deinterleaving lengths codewords))) (sym (shapes lengths codewords))
+    ∙ split_concat (deinterleaving lengths codewords)
+
+pub length-block_at : (lengths codewords : List ℕ) (b : ℕ) → length (block_at lengths codewords b) ≡ slice_index lengths b
+length-block_at lengths codewords b = length-map-range_with_len _ 0 (slice_index lengths b)
+
+-- ---- the test of a block
+
+wrong_codewords-front : (block p q : List ℕ) → wrong_codewords (block ++ p) (block ++ q) ≡ wrong_codewords p q
+unfolding wrong_codewords
+wrong_codewords-front [] p q = refl
+wrong_codewords-front (b ∷ block) p q =
+    grind (arith, nat_tests, wrong_codewords-front block p q)
+
+wrong_codewords-le : (p q : List ℕ) → wrong_codewords p q ≤ length p
+unfolding wrong_codewords
+wrong_codewords-le [] q = omega arith
+wrong_codewords-le (a ∷ p) [] = omega arith
+wrong_codewords-le (a ∷ p) (b ∷ q) = grind (arith, nat_tests, wrong_codewords-le p q)
+
+-- error correction codewords that make the block a multiple of the generator are its remainder
+remainder_of-roots : (k : ℕ) (block ec_codewords remainder : List ℕ) → AreEcCodewords k block remainder
+    → length ec_codewords ≡ k → length block + k ≤ 255 → All IsElement block → All IsElement ec_codewords
+    → has_roots k (block, ec_codewords) ≡ true → ec_codewords ≡ remainder
+remainder_of-roots k block ec_codewords remainder are long short elements ec_elements roots =
+    let count = are.remainder.ec_codewords_length in
+    let near : wrong_codewords (block ++ remainder) (block ++ ec_codewords) ≤ k = omega (
+      arith,
+      count,
+      wrong_codewords-front block remainder ec_codewords,
+      wrong_codewords-le remainder ec_codewords,
+    ) in
+    let same = close_codewords k (block ++ remainder) (block ++ ec_codewords)
+    (omega (arith, short, count, length-append block remainder))
+    (omega (arith, long, count, length-append block remainder, length-append block ec_codewords))
+    (All-append IsElement block remainder elements are.remainder.ec_codewords_elements)
+    (All-append IsElement block ec_codewords elements ec_elements) are.roots
+    (HasRoots-has_roots k block ec_codewords roots) near in
+    sym (drop_front (length block) block ec_codewords refl) ∙ ap (drop (length block)) (sym same)
+    ∙ drop_front (length block) block remainder refl
+
+-- the remainder does
+has_roots-remainder : (k : ℕ) (block remainder : List ℕ) → AreEcCodewords k block remainder
+    → has_roots k (block, remainder) ≡ true
+has_roots-remainder k block remainder are = roots_pass (block ++ remainder) k 0 (λ i h. are.roots i (omega (arith, h)))
+
+agree : (a b : Bool) → (a ≡ true → b ≡ true) → (b ≡ true → a ≡ true) → a ≡ b
+agree true b f g = sym (f refl)
+agree false true f g = g refl
+agree false false f g = refl
+
+-- so that both tests are one
+pub remainder_tests : (k : ℕ) (block ec_codewords remainder : List ℕ) → AreEcCodewords k block remainder
+    → length ec_codewords ≡ k → length block + k ≤ 255 → All IsElement block → All IsElement ec_codewords
+    → bytes_eq ec_codewords remainder ≡ has_roots k (block, ec_codewords)
+remainder_tests k block ec_codewords remainder are long short elements ec_elements =
+    agree (bytes_eq ec_codewords remainder) (has_roots k (block, ec_codewords))
+    (λ same. rw ((bytes_eq-Decides ec_codewords remainder).0 same) (has_roots-remainder k block remainder are))
+    (λ roots. (bytes_eq-Decides ec_codewords remainder).1
+    (remainder_of-roots k block ec_codewords remainder are long short elements ec_elements roots))
+
+-- the blocks that are left are the next one and those after it
+pub multiple_next : (count : ℕ) (lengths codewords ec_codewords : List ℕ) (i start ec_start : ℕ) → i < length lengths
+    → list_all (has_roots count) (zip (split_by (drop i lengths) (drop start codewords))
+    (split_by (replicate (length lengths - i) count) (drop ec_start ec_codewords)))
+    ≡ (has_roots count (take (get_or lengths i 0) (drop start codewords), take count (drop ec_start ec_codewords))
+    && list_all (has_roots count)
+    (zip (split_by (drop (i + 1) lengths) (drop (start + get_or lengths i 0) codewords))
+    (split_by (replicate (length lengths - (i + 1)) count) (drop (ec_start + count) ec_codewords))))
+unfolding split_by
+multiple_next count lengths codewords ec_codewords i start ec_start h =
+    let more : length lengths - i ≡ suc (length lengths - (i + 1)) = omega arith in
+    rw (
+      drop_more lengths i 0 h,
+      more,
+      ← drop-drop (get_or lengths i 0) start codewords,
+      ← drop-drop count ec_start ec_codewords,
+    ) refl
