@@ -23,7 +23,7 @@ for file in "$shared" "$folder/liblabels.a" "$@"; do
 done
 [ "$(names -D --defined-only "$shared")" = "$wanted" ] || fail "$shared exports other names than exports.txt"
 [ "$(names -g --defined-only "$folder/liblabels.a")" = "$wanted" ] || fail "liblabels.a has other names than exports.txt"
-[ "$(names -D --undefined-only "$shared" | sed /^__stack_chk_fail$/d | xargs)" = 'memcpy memmove memset' ] ||
+[ "$(names -D --undefined-only "$shared" | sed "/^__stack_chk_/d" | xargs)" = 'memcpy memmove memset' ] ||
     fail "$shared needs other names than memcpy, memmove and memset"
 if readelf -d "$shared" | grep -q TEXTREL; then fail "$shared has a relocation in the code"; fi
 readelf -lW "$shared" | grep -q 'GNU_STACK.* RW ' || fail "$shared has a stack that can be executed"
