@@ -1,5 +1,6 @@
 # The one door: `make` lists what can be made. PREFIX and DESTDIR are as everywhere. LABELS and PROVED name a program
 # and a static library that are proved already; without them `rt` of the Rattle kit makes them, for every amd64 processor.
+# PROVED_ARM64 names such a library for arm64. The program is for amd64 alone: the kit links no other one.
 MAKEFLAGS += --no-builtin-rules
 PREFIX ?= /usr/local
 DATADIR = $(PREFIX)/share
@@ -11,6 +12,7 @@ CPU ?= x86-64
 $(foreach name,CURDIR PREFIX DESTDIR,$(if $(word 2,$($(name))),$(error make cannot handle the space in $(name): $($(name)))))
 LABELS ?= out/labels
 PROVED ?= out/liblabels_c.a
+PROVED_ARM64 ?= out/arm64/liblabels_c.a
 SOURCES := $(shell find crates -name out -prune -o -name '*.rt' -print -o -name '*.antt' -print)
 TOOLS := $(notdir $(wildcard tools/label-*))
 # The window has no completion: a link would take away that of file names.
@@ -29,7 +31,8 @@ help:
 	@echo 'make gate      all that a change has to pass'
 	@echo 'make gate-test the same in a fresh Debian, as root'
 	@echo 'make all       the proved program in out/, the C library in out/lib/'
-	@echo 'make deb       the Debian packages of what is committed, in out/deb/'
+	@echo 'make library   the C library alone, in out/lib/'
+	@echo 'make deb       the Debian packages of what is committed, for amd64 and arm64, in out/deb/'
 	@echo 'make deb-test  tries them in a fresh Debian, as root'
 	@echo 'make install | uninstall [PREFIX=$(PREFIX)] [DESTDIR=]'
 
@@ -40,7 +43,8 @@ check:
 gate:
 	.ci/run
 
-all: $(LABELS) $(PROVED)
+all: $(LABELS) library
+library: $(PROVED)
 	$(call library,all)
 
 # Stops where there is no compiler.
@@ -55,8 +59,14 @@ out/liblabels_c.a: $(SOURCES) | $(LABELS)
 	@$(needs_rt)
 	cd crates/labels_c && rt lib --cpu $(CPU)
 	install -D -m 644 crates/labels_c/out/liblabels_c.a $@
+# rt has one name for the libraries of both processors: that for amd64 is put back.
+out/arm64/liblabels_c.a: $(SOURCES)
+	@$(needs_rt)
+	set -e; cd crates/labels_c; kept=out/amd64.a; [ ! -e out/liblabels_c.a ] || mv out/liblabels_c.a $$kept; \
+	    trap '[ ! -e $$kept ] || mv $$kept out/liblabels_c.a' EXIT; rt lib --target aarch64-unknown-linux-gnu; \
+	    install -D -m 644 out/liblabels_c.a $(CURDIR)/$@
 
-install: all
+install: all install-library
 	install -D $(LABELS) $(DESTDIR)$(PREFIX)/bin/labels
 	set -e; for tool in $(TOOLS); do \
 	    install -D tools/$$tool $(DESTDIR)$(DATADIR)/label-tools/$$tool; \
@@ -80,6 +90,8 @@ install: all
 	set -e; for tool in $(COMPLETED); do \
 	    $(call link,labels,$(DATADIR)/bash-completion/completions/$$tool); \
 	    $(call link,labels.fish,$(DATADIR)/fish/vendor_completions.d/$$tool.fish); done
+
+install-library: library
 	$(call library,install DESTDIR=$(DESTDIR) PREFIX=$(PREFIX) LIBDIR=$(LIBDIR) PYTHONDIR=$(PYTHONDIR))
 
 # Removes what this version installs, and the folders that only it used.
@@ -93,12 +105,14 @@ uninstall: all
 debian/changelog:
 	debian/changelog.py > $@
 
-# What is committed, built in a copy. The packages are those of the commit, byte for byte.
-deb: $(LABELS) $(PROVED)
+# What is committed, built in a copy. The packages are those of the commit, byte for byte. What a build for arm64 needs
+# is that of amd64 and gcc-aarch64-linux-gnu: -d, since Debian would ask for compilers of other languages too.
+deb: $(LABELS) $(PROVED) $(PROVED_ARM64)
 	rm -rf out/deb && mkdir -p out/deb/source
 	git archive HEAD | tar -x -C out/deb/source
 	debian/changelog.py > out/deb/source/debian/changelog
 	cd out/deb/source && MAKEFLAGS= LABELS=$(abspath $(LABELS)) PROVED=$(abspath $(PROVED)) dpkg-buildpackage -b -us -uc
+	cd out/deb/source && MAKEFLAGS= PROVED=$(abspath $(PROVED_ARM64)) dpkg-buildpackage -B -aarm64 -d -us -uc
 	ls out/deb/*.deb
 
 # A fresh Debian in out/root; MIRROR names another mirror.
@@ -127,11 +141,11 @@ deb-test:
 	tar -C out/root -czf out/root.tgz .
 	cd out/deb && dpkg-scanpackages . > Packages
 	piuparts -b out/root.tgz -d bookworm --no-eatmydata --bindmount $(CURDIR)/out/deb \
-	    --extra-repo 'deb [trusted=yes] file:$(CURDIR)/out/deb ./' out/deb/*.changes
-	$(call mounted, autopkgtest $(filter-out %-dbgsym,$(wildcard out/deb/*.deb)) out/deb/source/ -- chroot \
+	    --extra-repo 'deb [trusted=yes] file:$(CURDIR)/out/deb ./' out/deb/*_amd64.changes
+	$(call mounted, autopkgtest $(wildcard out/deb/*_all.deb out/deb/*_amd64.deb) out/deb/source/ -- chroot \
 	    $(CURDIR)/out/root)
 
 clean:
 	rm -rf out
 
-.PHONY: help quick check gate all install uninstall debian/changelog deb deb-test gate-test clean
+.PHONY: help quick check gate all library install install-library uninstall debian/changelog deb deb-test gate-test clean

@@ -1,7 +1,8 @@
 #!/bin/sh
 # What must hold of liblabels in the folder DIR: it exports the names of exports.txt alone; nothing is undefined but
 # three calls of the C library, and the guard of the stack where the flags ask for it; no relocation is in the code; no
-# stack can be executed. It and each PROGRAM are for plain amd64: the instructions below came with x86-64-v2 and -v3.
+# stack can be executed. On amd64 it and each PROGRAM are for every processor: the instructions below came with
+# x86-64-v2 and -v3.
 # usage: lib/check.sh DIR [PROGRAM..]
 set -eu
 export LC_ALL=C
@@ -22,10 +23,11 @@ for file in "$shared" "$folder/liblabels.a" "$@"; do
 done
 [ "$(names -D --defined-only "$shared")" = "$wanted" ] || fail "$shared exports other names than exports.txt"
 [ "$(names -g --defined-only "$folder/liblabels.a")" = "$wanted" ] || fail "liblabels.a has other names than exports.txt"
-[ "$(names -D --undefined-only "$shared" | sed /^__stack_chk_fail$/d | xargs)" = 'memcpy memmove memset' ] ||
+[ "$(names -D --undefined-only "$shared" | sed "/^__stack_chk_/d" | xargs)" = 'memcpy memmove memset' ] ||
     fail "$shared needs other names than memcpy, memmove and memset"
 if readelf -d "$shared" | grep -q TEXTREL; then fail "$shared has a relocation in the code"; fi
 readelf -lW "$shared" | grep -q 'GNU_STACK.* RW ' || fail "$shared has a stack that can be executed"
+readelf -h "$shared" | grep -q X86-64 || exit 0
 newer='pshufb|popcnt|pinsr[bdq]|pextr[bdq]|ptest|pmulld|palignr|pcmpeqq|pmov[zs]x..|pblend..|bzhi|sh[lr]x|vp?mov[a-z]*'
 found=$(objdump -d --no-show-raw-insn "$shared" "$@" | grep -wE -m 1 "$newer" || :)
 [ -z "$found" ] || fail "an instruction that is not of every amd64 processor: $found"

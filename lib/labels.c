@@ -1,5 +1,5 @@
-/* Between callers in C and the proved calls of crates/labels_c: NULL, modules that are 0 or 1, and the end of a
- * message. Nothing here is proved. */
+/* Between callers in C and the proved calls of crates/labels_c: NULL, data that overlaps its room, modules that are 0 or
+ * 1, and the end of a message. Nothing here is proved. */
 #include "proved.h"
 #include <string.h>
 
@@ -26,7 +26,7 @@ static const char *const texts[] = {
     "bad escape",
     "an empty line or a comment",
     "the line has a line feed",
-    "a pointer is NULL or a size is too large",
+    "a pointer is NULL, a size is too large, or the room overlaps the data",
 };
 
 const char *labels_version(void) { return LABELS_VERSION; }
@@ -43,6 +43,16 @@ void labels_defaults(labels_options *options) {
 static const labels_options *or_defaults(const labels_options *options) { return options ? options : &defaults; }
 
 static int is_bad(const void *bytes, size_t size) { return (!bytes && size) || size > PTRDIFF_MAX; }
+
+/* Whether data and the room that is written share a byte. */
+static int do_overlap(const void *data, size_t size, const void *to, size_t room) {
+    uintptr_t read = (uintptr_t)data, written = (uintptr_t)to;
+    return size > 0 && room > 0 && (read < written ? written - read < size : read - written < room);
+}
+
+static int are_bad(const void *data, size_t size, const void *to, size_t room) {
+    return is_bad(data, size) || is_bad(to, room) || do_overlap(data, size, to, room);
+}
 
 static const void *read_from(const void *bytes) { return bytes ? bytes : &nothing; }
 
@@ -91,7 +101,7 @@ int labels_draw(const labels_options *options, int symbology, const void *data, 
                 labels_answer *answer) {
     labels_answer own;
     answer = answer ? answer : &own;
-    if (is_bad(data, size) || is_bad(out, room))
+    if (are_bad(data, size, out, room))
         return refuse(answer);
     labels_proved_draw(or_defaults(options), (uint32_t)symbology, read_from(data), size, write_to(out), room,
                        answer->message, MESSAGE_ROOM, answer);
@@ -102,7 +112,7 @@ int labels_draw_line(const labels_options *options, const void *text, size_t siz
                      labels_answer *answer) {
     labels_answer own;
     answer = answer ? answer : &own;
-    if (is_bad(text, size) || is_bad(out, room))
+    if (are_bad(text, size, out, room))
         return refuse(answer);
     labels_proved_draw_line(or_defaults(options), read_from(text), size, write_to(out), room, answer->message,
                             MESSAGE_ROOM, answer);
@@ -115,7 +125,7 @@ int labels_symbol(const labels_options *options, int symbology, const void *data
     labels_symbol_info own_info;
     answer = answer ? answer : &own;
     info = info ? info : &own_info;
-    if (is_bad(data, size) || is_bad(modules, room))
+    if (are_bad(data, size, modules, room))
         return refuse_symbol(answer, info);
     modules = write_to(modules);
     room = cleared(modules, room, symbology == LABELS_QR ? LABELS_MAX_MODULES : LABELS_MAX_BARS);
@@ -130,7 +140,7 @@ int labels_line(const labels_options *options, const void *text, size_t size, un
     labels_symbol_info own_info;
     answer = answer ? answer : &own;
     info = info ? info : &own_info;
-    if (is_bad(text, size) || is_bad(modules, room))
+    if (are_bad(text, size, modules, room))
         return refuse_symbol(answer, info);
     modules = write_to(modules);
     room = cleared(modules, room, LABELS_MAX_MODULES);
@@ -146,7 +156,7 @@ int labels_bitmap(const labels_options *options, int symbology, const void *data
     answer = answer ? answer : &own;
     dots = dots ? dots : &own_dots;
     *dots = (labels_dots){0};
-    if (is_bad(data, size) || is_bad(bits, room))
+    if (are_bad(data, size, bits, room))
         return refuse(answer);
     labels_proved_bitmap(or_defaults(options), (uint32_t)symbology, read_from(data), size, write_to(bits), room, stride,
                          answer->message, MESSAGE_ROOM, &dots->width, &dots->height, answer);
@@ -160,7 +170,7 @@ int labels_bitmap_line(const labels_options *options, const void *text, size_t s
     answer = answer ? answer : &own;
     dots = dots ? dots : &own_dots;
     *dots = (labels_dots){0};
-    if (is_bad(text, size) || is_bad(bits, room))
+    if (are_bad(text, size, bits, room))
         return refuse(answer);
     labels_proved_bitmap_line(or_defaults(options), read_from(text), size, write_to(bits), room, stride, answer->message,
                               MESSAGE_ROOM, &dots->width, &dots->height, answer);

@@ -6,8 +6,12 @@
  * No call takes memory from the heap, keeps state, prints or aborts. All are reentrant: any number of threads may call
  * at once. A call uses at most 40 KB of stack.
  *
- * A pointer may be NULL only where a call says so. It has to point to as many bytes as the size or room after it says.
- * Memory that a call writes must not overlap anything else that the call is given.
+ * errno and the floating-point environment are left alone, and no locale matters. A call is safe in a signal handler,
+ * and after fork() in a process with threads.
+ *
+ * A pointer may be NULL only where a call says so. It has to point to as many bytes as the size or room after it says;
+ * one to a struct is aligned as the struct is. Memory that a call writes must not overlap anything else that the call
+ * is given: where the room overlaps the data the code is LABELS_BAD_ARGUMENT, other overlaps are not looked for.
  *
  * The structs keep their size for as long as the library is liblabels.so.1. Their `reserved` words are for later
  * versions: in options they must be 0, as LABELS_DEFAULTS and labels_defaults() set them; in answers they are 0. A later
@@ -61,7 +65,8 @@ enum labels_code {
     LABELS_BAD_ESCAPE,             /* line: an escape is bad */
     LABELS_SKIPPED,                /* line: it is empty or a comment, and has no symbol */
     LABELS_NOT_ONE_LINE,           /* line: it has a line feed */
-    LABELS_BAD_ARGUMENT            /* a pointer is NULL where it must not be, or a size is above PTRDIFF_MAX */
+    LABELS_BAD_ARGUMENT            /* a pointer is NULL where it must not be, a size is above PTRDIFF_MAX, or the room
+                                      overlaps the data */
 };
 
 /* How labels are drawn. A call tests all of them, also those that it does not use. */

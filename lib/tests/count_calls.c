@@ -49,6 +49,20 @@ static int by_draw(const struct label *label) {
     return labels_draw(NULL, label->symbology->labels, label->data, strlen(label->data), room, ROOM, &answer);
 }
 
+/* The same picture as text and as bits, three pixels a module. */
+static const labels_options of_scale_3 = {LABELS_PBM, 3, 50, LABELS_LEVEL_M, 1, LABELS_MASK_AUTO, 0, {0}};
+
+static int by_draw_3(const struct label *label) {
+    return labels_draw(&of_scale_3, label->symbology->labels, label->data, strlen(label->data), room, ROOM, &answer);
+}
+
+static int by_bitmap_3(const struct label *label) {
+    enum { STRIDE = 128 };
+    labels_dots dots;
+    return labels_bitmap(&of_scale_3, label->symbology->labels, label->data, strlen(label->data), (unsigned char *)room,
+                         STRIDE, ROOM, &dots, &answer);
+}
+
 static int by_line(const struct label *label) {
     return labels_line(NULL, label->line, strlen(label->line), (unsigned char *)room, ROOM, &info, &answer);
 }
@@ -145,6 +159,8 @@ static const struct {
 } calls[] = {
     {"labels_symbol", by_symbol, 0},
     {"labels_draw", by_draw, 0},
+    {"labels_draw, scale 3", by_draw_3, 0},
+    {"labels_bitmap, scale 3", by_bitmap_3, 0},
     {"labels_line", by_line, 0},
     {"libzint", by_zint, 0},
     {"libzint, no picture", by_zint_again, 0},

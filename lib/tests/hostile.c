@@ -1,9 +1,10 @@
 /* Calls with random and edge numbers, spare words that are not 0, NULL and rooms from 0 bytes on: hostile ROUNDS.
- * Each room ends where its memory ends, so that a sanitizer sees a byte too many, and what a call must not write has to
- * be as it was. Status 1 where it is not, or where a code is none. The last line counts the codes. */
+ * What a call is given ends, or begins, at a page that cannot be touched, so that a byte too many, read or written by
+ * proved code too, ends the program by a signal. What a call must not write has to be as it was. Status 1 where it is
+ * not, or where a code is none. The last line counts the codes. */
+#include "guard.h"
 #include "labels_of_test.h"
 #include <stdio.h>
-#include <stdlib.h>
 
 enum { MARK = 0x5a, CODES = LABELS_BAD_ARGUMENT + 1 };
 
@@ -33,12 +34,13 @@ static labels_options some_options(void) {
     return options;
 }
 
-/* Memory of just so many bytes. */
-static void *memory(size_t size, int value) {
-    void *bytes = malloc(size ? size : 1);
-    if (!bytes)
-        abort();
-    return memset(bytes, value, size);
+/* What a call is given, each in memory of its own. */
+enum given { OPTIONS, DATA, LINE, OUT, MODULES, ANSWER, INFO, DOTS, GIVEN };
+
+static void *memory(enum given what, size_t size, int value) {
+    static char *first[GIVEN];
+    first[what] = first[what] ? first[what] : guarded();
+    return guard_at(first[what], size, !one_in(4), value);
 }
 
 static void stop(const char *call, const char *what) {
@@ -121,63 +123,102 @@ static void see_bits(const char *call, int code, const char *bits, size_t stride
         stop(call, "a dot behind the row");
 }
 
-static void one_round(void) {
-    labels_options options = some_options();
-    const labels_options *wanted = one_in(10) ? NULL : &options;
+/* What the calls of a round are given: options, data with its symbology, and a line. */
+static struct {
+    const labels_options *options;
+    int symbology;
+    const char *data, *line;
+    size_t size, length;
+} given;
+
+static void give(void) {
+    static char text[1300];
+    labels_options *options = memory(OPTIONS, sizeof *options, 0);
     size_t size = one_in(20) ? 0 : next() % (one_in(20) ? 1200 : 40);
-    size_t room = one_in(4) ? 0 : next() % 4000;
-    char *data = memory(size, 0);
-    char *out = memory(room, MARK);
-    unsigned char *modules = memory(room, MARK);
-    labels_answer *answer = memory(sizeof *answer, MARK);
-    labels_symbol_info *info = memory(sizeof *info, MARK);
+    char *data = memory(DATA, size, 0);
+    *options = some_options();
     for (size_t i = 0; i < size; i++)
         data[i] = (char)(one_in(3) ? next() : '0' + next() % 10);
-    char *line = memory(size + 20, 0);
-    int length = snprintf(line, size + 20, "%s%s%.*s", symbologies[next() % SYMBOLOGIES],
+    int length = snprintf(text, sizeof text, "%s%s%.*s", symbologies[next() % SYMBOLOGIES],
                           one_in(9) ? ",height=7 " : " ", (int)size, data);
     if (one_in(10))
-        line[next() % (unsigned)length] = (char)next();
-    const void *from = one_in(50) ? NULL : data;
-    char *to = one_in(50) ? NULL : out;
-    unsigned char *modules_to = one_in(50) ? NULL : modules;
-    labels_answer *answered = one_in(40) ? NULL : answer;
-    labels_symbol_info *told = one_in(20) ? NULL : info;
-    int symbology = (int)(number() - (uint32_t)one_in(9));
+        text[next() % (unsigned)length] = (char)next();
+    given.options = one_in(10) ? NULL : options;
+    given.symbology = (int)(number() - (uint32_t)one_in(9));
+    given.size = size;
+    given.data = one_in(50) ? NULL : data;
+    given.length = (size_t)length;
+    given.line = memcpy(memory(LINE, given.length, 0), text, given.length);
+}
 
-    int code = labels_draw(wanted, symbology, from, size, to, room, answered);
-    see_picture("labels_draw", code, out, room, answered);
-    memset(out, MARK, room);
-    code = labels_draw_line(wanted, one_in(50) ? NULL : line, (size_t)length, to, room, answered);
-    see_picture("labels_draw_line", code, out, room, answered);
-    code = labels_symbol(wanted, symbology, from, size, modules_to, room, told, answered);
-    see_modules("labels_symbol", code, modules, room, answered);
-    see_info("labels_symbol", code, told);
-    memset(info, MARK, sizeof *info);
-    code = labels_line(wanted, line, (size_t)length, modules_to, room, told, answered);
-    see_modules("labels_line", code, modules, room, answered);
-    see_info("labels_line", code, told);
+/* A room that is just enough for so many bytes, one byte more or less, or any. */
+static size_t some_room(size_t length) {
+    if (one_in(6))
+        return 0;
+    return one_in(2) || length == 0 || length > GUARD_MOST / 2 ? next() % 4000 : length - 1 + next() % 3;
+}
 
-    labels_dots dots, *sized = one_in(20) ? NULL : &dots;
+static labels_answer *some_answer(void) {
+    labels_answer *answer = memory(ANSWER, sizeof *answer, MARK);
+    return one_in(40) ? NULL : answer;
+}
+
+static void draw(int is_line) {
+    labels_answer asked, *answer = some_answer();
+    if (is_line)
+        labels_draw_line(given.options, given.line, given.length, NULL, 0, &asked);
+    else
+        labels_draw(given.options, given.symbology, given.data, given.size, NULL, 0, &asked);
+    size_t room = some_room(asked.length);
+    char *out = memory(OUT, room, MARK), *to = one_in(50) ? NULL : out;
+    int code = is_line ? labels_draw_line(given.options, given.line, given.length, to, room, answer)
+                       : labels_draw(given.options, given.symbology, given.data, given.size, to, room, answer);
+    see_picture(is_line ? "labels_draw_line" : "labels_draw", code, out, room, answer);
+}
+
+static void put_modules(int is_line) {
+    const char *call = is_line ? "labels_line" : "labels_symbol";
+    labels_answer asked, *answer = some_answer();
+    labels_symbol_info *info = memory(INFO, sizeof *info, MARK), *told = one_in(20) ? NULL : info;
+    if (is_line)
+        labels_line(given.options, given.line, given.length, NULL, 0, NULL, &asked);
+    else
+        labels_symbol(given.options, given.symbology, given.data, given.size, NULL, 0, NULL, &asked);
+    size_t room = some_room(asked.length);
+    unsigned char *modules = memory(MODULES, room, MARK), *to = one_in(50) ? NULL : modules;
+    int code = is_line
+                   ? labels_line(given.options, given.line, given.length, to, room, told, answer)
+                   : labels_symbol(given.options, given.symbology, given.data, given.size, to, room, told, answer);
+    see_modules(call, code, modules, room, answer);
+    see_info(call, code, told);
+}
+
+static void put_bits(int is_line) {
+    labels_answer asked, *answer = some_answer();
+    labels_dots *dots = memory(DOTS, sizeof *dots, MARK), *sized = one_in(20) ? NULL : dots;
     size_t stride = one_in(30) ? (size_t)-1 >> next() % 64 : next() % 200;
-    memset(out, MARK, room);
-    code = labels_bitmap(wanted, symbology, from, size, (unsigned char *)to, stride, room, sized, answered);
-    see_bits("labels_bitmap", code, out, stride, room, sized, answered);
-    memset(out, MARK, room);
-    code = labels_bitmap_line(wanted, line, (size_t)length, (unsigned char *)to, stride, room, sized, answered);
-    see_bits("labels_bitmap_line", code, out, stride, room, sized, answered);
-    free(info);
-    free(answer);
-    free(modules);
-    free(out);
-    free(line);
-    free(data);
+    if (is_line)
+        labels_bitmap_line(given.options, given.line, given.length, NULL, stride, 0, NULL, &asked);
+    else
+        labels_bitmap(given.options, given.symbology, given.data, given.size, NULL, stride, 0, NULL, &asked);
+    size_t room = some_room(asked.length);
+    unsigned char *bits = memory(OUT, room, MARK), *to = one_in(50) ? NULL : bits;
+    int code = is_line ? labels_bitmap_line(given.options, given.line, given.length, to, stride, room, sized, answer)
+                       : labels_bitmap(given.options, given.symbology, given.data, given.size, to, stride, room, sized,
+                                       answer);
+    see_bits(is_line ? "labels_bitmap_line" : "labels_bitmap", code, (char *)bits, stride, room, sized, answer);
 }
 
 int main(int count, char **words) {
     long rounds = count > 1 ? atol(words[1]) : 1000;
-    for (long i = 0; i < rounds; i++)
-        one_round();
+    for (long i = 0; i < rounds; i++) {
+        give();
+        for (int is_line = 0; is_line < 2; is_line++) {
+            draw(is_line);
+            put_modules(is_line);
+            put_bits(is_line);
+        }
+    }
     for (int code = 0; code < CODES; code++)
         printf("%ld of %d%s", codes[code], code, code + 1 < CODES ? ", " : "\n");
     return 0;

@@ -14,9 +14,12 @@ TOP = LIB.parent
 # What `rt run --cpu x86-64` and `rt lib --cpu x86-64` leave, or other files of these environment variables.
 PROGRAM = Path(os.environ.get("LABELS") or TOP / "crates/labels/out/labels").resolve()
 PROVED = Path(os.environ.get("PROVED") or TOP / "crates/labels_c/out/liblabels_c.a").resolve()
+# What `rt lib --target aarch64-unknown-linux-gnu` leaves; scripts/plain_builds.py puts it there.
+PROVED_ARM64 = Path(os.environ.get("PROVED_ARM64") or TOP / "crates/labels_c/out/arm64/liblabels_c.a").resolve()
 # Where Debian has the files.
 LIBDIR = "usr/lib/x86_64-linux-gnu"
 PYTHONDIR = "usr/lib/python3/dist-packages"
+PYTHON = "/usr/bin/python3"
 
 
 def run(
@@ -104,6 +107,14 @@ class WithLibrary(unittest.TestCase):
         done = run(*command, given=given, environment=self.library.environment)
         self.assertEqual(done.returncode, 0, f"{command}: {text_of(done)}")
         return done.stdout
+
+    def wrong_module(self, old: str, new: str) -> Path:
+        """A folder with a module in which a text has another in its place."""
+        return self.library.changed(("python/liblabels/__init__.py", old, new)) / "python"
+
+    def with_module(self, folder: Path) -> "tuple[str, ...]":
+        """The words that run Python with the module in a folder."""
+        return ("env", f"PYTHONPATH={folder}", PYTHON)
 
     def assert_fails(self, *command: str | Path) -> None:
         done = run(*command, environment=self.library.environment)

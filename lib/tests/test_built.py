@@ -5,16 +5,21 @@ import tempfile
 import unittest
 from pathlib import Path
 
-from support import LIB, LIBDIR, PROGRAM, PYTHONDIR, WithLibrary, run, text_of
+from support import LIB, LIBDIR, PROGRAM, PYTHON, PYTHONDIR, WithLibrary, run, text_of
 
 FILES = {
+    "usr/include/labels.ffi.h",
     "usr/include/labels.h",
     f"{LIBDIR}/liblabels.a",
     f"{LIBDIR}/liblabels.so",
     f"{LIBDIR}/liblabels.so.1",
     f"{LIBDIR}/liblabels.so.1.1.0",
     f"{LIBDIR}/pkgconfig/labels.pc",
-    f"{PYTHONDIR}/liblabels.py",
+    f"{PYTHONDIR}/liblabels/__init__.py",
+    f"{PYTHONDIR}/liblabels/_binding.py",
+    f"{PYTHONDIR}/liblabels/_pictures.py",
+    f"{PYTHONDIR}/liblabels/py.typed",
+    f"{PYTHONDIR}/liblabels-1.1.0.dist-info/METADATA",
     "usr/share/man/man3/labels.3",
 }
 LAST = "const char *labels_version(void) { return LABELS_VERSION; }"
@@ -51,8 +56,10 @@ class Built(WithLibrary):
         self.assertEqual((root / LIBDIR / "liblabels.so").resolve(), (root / LIBDIR / "liblabels.so.1.1.0").resolve())
 
     def test_one_version(self) -> None:
-        code = "import liblabels; print(liblabels.version())"
-        version = self.run_ok("/usr/bin/python3", "-c", code).decode().strip()
+        code = "import liblabels as it; print(it.version(), it.__version__, version('liblabels'))"
+        code = f"from importlib.metadata import version; {code}"
+        version, *others = self.run_ok(PYTHON, "-c", code).decode().split()
+        self.assertEqual(others, [version, version])
         header = (LIB / "labels.h").read_text(encoding="utf-8")
         self.assertIn(f'#define LABELS_VERSION "{version}"', header)
         self.assertEqual(self.run_ok("pkg-config", "--modversion", "labels").decode().strip(), version)

@@ -11,14 +11,39 @@ ADDRESS = ("-O1", "-g", "-fsanitize=address,undefined", "-fno-sanitize-recover=a
 THREAD = ("-O1", "-g", "-fsanitize=thread")
 ROUNDS = "100000"
 MOST_STACK = 40_000  # what labels.h says
-TAKE_ROOM = "(uint32_t)symbology, read_from(data), size, write_to(out), room,"
+# Wrong texts of labels.c, each of which hands one byte too many to the proved code: a place, and what takes its place.
+ONE_MORE = "size + (size > 0)"
+MUTANTS = {
+    "data of labels_draw": ("(uint32_t)symbology, read_from(data), size, write_to(out)", "size", ONE_MORE),
+    "data of labels_symbol": ("read_from(data), size, modules, room,", "size", ONE_MORE),
+    "line of labels_draw_line": ("read_from(text), size, write_to(out), room, answer->message,", "size", ONE_MORE),
+    "line of labels_line": ("read_from(text), size, modules, room, answer->message,", "size", ONE_MORE),
+    "room of the modules": ("    return used;", "used", "used + (room > 0)"),
+    "room of the bits": ("size, write_to(bits), room, stride,", "room", "room + (room > 0)"),
+    "room of the message": ("MESSAGE_ROOM = sizeof(((labels_answer *)0)->message) - 1", "- 1", "+ 1"),
+}
+# Other wrong texts, and what takes their place.
+WRONG = (
+    ("    memset(modules, 0, used);\n", "    memset(modules, 0, most);\n"),
+    ("    memset(modules, 0, used);\n", "    (void)modules;\n"),
+    ("write_to(out), room, answer->message,", "write_to(out), room + (room > 0), answer->message,"),
+    ("    *dots = (labels_dots){0};\n", ""),
+    ("    answer->message[end] = 0;\n", ""),
+    ("DATA_ROOM = sizeof(((labels_symbol_info *)0)->data) - 1", "DATA_ROOM = sizeof(((labels_symbol_info *)0)->data)"),
+    ("    info->data[info->data_length < DATA_ROOM ? info->data_length : DATA_ROOM] = 0;\n", "    (void)info;\n"),
+    ("    *info = (labels_symbol_info){0};\n", "    (void)info;\n"),
+    ("written - read < size", "written - read <= size"),
+    ("read - written < room", "read - written < size / 2"),
+    ("    answer->at = 0;\n", ""),
+    ("symbology == LABELS_QR ? LABELS_MAX_MODULES", "symbology == LABELS_EAN8 ? LABELS_MAX_MODULES"),
+)
 
 
 class Calls(WithLibrary):
-    def program(self, name: str, *flags: str, source: Path = LIB) -> Path:
-        """A test program with labels.c of a folder, built with these flags."""
+    def program(self, name: str, *flags: str, source: Path = LIB, proved: "tuple[Path, ...]" = (PROVED,)) -> Path:
+        """A test program with labels.c of a folder and the proved library, built with these flags."""
         out = Path(tempfile.mkdtemp(dir=self.library.folder)) / name
-        files = (LIB / f"tests/{name}.c", source / "labels.c", PROVED)
+        files = (LIB / f"tests/{name}.c", source / "labels.c", *proved)
         done = run("gcc", *FLAGS, *flags, f"-I{LIB}", f"-I{LIB}/tests", *files, "-o", out)
         self.assertEqual(done.returncode, 0, text_of(done))
         return out
@@ -27,27 +52,33 @@ class Calls(WithLibrary):
         return self.program(name, *flags, source=self.library.changed(("labels.c", old, new)))
 
     def test_hostile_arguments(self) -> None:
-        """No byte too many is read or written, and every code of the calls comes up."""
+        """No byte too many is read or written, by proved code too, and every code of the calls comes up."""
         said = self.run_ok(self.program("hostile", *ADDRESS), ROUNDS).decode()
         counts = [pair.partition(" of ") for pair in said.strip().split(", ")]
         never = {code for count, _, code in counts if count == "0"}
         self.assertLessEqual(never, {"14"}, said)  # a skipped line: compare_lines.py has it
 
-    def test_wrong_bytes_are_seen(self) -> None:
-        for old, new in (
-            (TAKE_ROOM, TAKE_ROOM.replace("room,", "room + 1,")),
-            ("    memset(modules, 0, used);\n", "    memset(modules, 0, most);\n"),
-            ("size, write_to(bits), room, stride,", "size, write_to(bits), room + 1, stride,"),
-            ("    *dots = (labels_dots){0};\n", ""),
-            ("    answer->message[end] = 0;\n", ""),
-            (
-                "    info->data[info->data_length < DATA_ROOM ? info->data_length : DATA_ROOM] = 0;\n",
-                "    (void)info;\n",
-            ),
-            ("    *info = (labels_symbol_info){0};\n", "    (void)info;\n"),
-        ):
+    def glue(self, source: Path = LIB) -> Path:
+        """The test of labels.c alone, over stand-ins of the proved calls."""
+        return self.program("glue", *ADDRESS, source=source, proved=())
+
+    def test_what_is_passed_on(self) -> None:
+        self.run_ok(self.glue())
+
+    def test_one_byte_too_many_is_seen(self) -> None:
+        """The test of labels.c sees each mutant; that with the proved code each but one: no message is as long."""
+        self.assertEqual(len(MUTANTS), 7)
+        for name, (place, old, new) in MUTANTS.items():
+            with self.subTest(name):
+                source = self.library.changed(("labels.c", place, place.replace(old, new)))
+                self.assert_fails(self.glue(source))
+                if name != "room of the message":
+                    self.assert_fails(self.program("hostile", *ADDRESS, source=source), ROUNDS)
+
+    def test_what_is_passed_on_wrongly_is_seen(self) -> None:
+        for old, new in WRONG:
             with self.subTest(new):
-                self.assert_fails(self.wrong("hostile", ADDRESS, old, new), ROUNDS)
+                self.assert_fails(self.glue(self.library.changed(("labels.c", old, new))))
 
     def test_threads(self) -> None:
         self.run_ok(self.program("threads", *THREAD))

@@ -1,4 +1,4 @@
-"""The examples of docs/LIBRARY.md: programs in C, C++, Rust and Python, and clients of the program over a pipe."""
+"""The examples of docs/LIBRARY.md: programs in six languages, whose pictures zbar reads, and clients over a pipe."""
 
 import os
 import select
@@ -7,12 +7,13 @@ import tempfile
 import unittest
 from pathlib import Path
 
-from support import LIB, PROGRAM, WithLibrary, run, text_of
+from support import LIB, PROGRAM, PYTHON, WithLibrary, run, text_of
 
 EXAMPLES = LIB / "examples"
-PYTHON = "/usr/bin/python3"
 STRICT = ("-O2", "-Wall", "-Wextra", "-pedantic", "-Werror")
 LABEL = b"ean13 4006381333931\n"
+URL = "https://debian.org"
+LINE_OF_URL = f"qr,level=Q {URL}"
 LINES = 10_000
 SECONDS = 300  # that an answer may take on a busy machine
 
@@ -26,10 +27,10 @@ class Examples(WithLibrary):
     def flags(self, *words: str) -> list[str]:
         return self.run_ok("pkg-config", "--cflags", "--libs", *words, "labels").decode().split()
 
-    def compiled(self, *command: str | Path) -> Path:
-        """The program that a compiler makes with these words."""
+    def compiled(self, *command: str | Path, source: "Path | None" = None) -> Path:
+        """The program that a compiler makes with these words, and of a source that has to come last."""
         program = Path(tempfile.mkdtemp(dir=self.library.folder)) / "program"
-        self.run_ok(*command, "-o", program)
+        self.run_ok(*command, "-o", program, *([source] if source else []))
         return program
 
     def test_c(self) -> None:
@@ -46,22 +47,62 @@ class Examples(WithLibrary):
         done = run("gcc", EXAMPLES / "draw.c", "-o", self.library.folder / "none")
         self.assertNotEqual(done.returncode, 0, text_of(done))
 
+    def read(self, picture: bytes) -> list[str]:
+        """What zbar reads of a PNG, or of an SVG as rsvg-convert draws it."""
+        if b"<svg" in picture:
+            picture = self.run_ok("rsvg-convert", given=picture)
+        return sorted(self.run_ok("zbarimg", "-q", "--raw", "-", given=picture).decode().splitlines())
+
+    def assert_reads(self, picture: bytes, *data: str) -> None:
+        self.assertEqual(self.read(picture), sorted(data))
+
+    def test_c_png(self) -> None:
+        program = self.compiled("gcc", "-std=c99", *STRICT, EXAMPLES / "png.c", *self.flags("libpng"))
+        picture = self.run_ok(program)
+        self.assertEqual(picture[:8], b"\x89PNG\r\n\x1a\n")
+        self.assert_reads(picture, URL)
+        done = run("sh", "-c", f"{program} > /dev/full", environment=self.library.environment)
+        self.assertEqual(done.returncode, 1, text_of(done))
+
     def test_python(self) -> None:
-        self.assertEqual(self.run_ok(PYTHON, EXAMPLES / "draw.py"), drawn(LABEL))
+        self.assert_reads(self.run_ok(PYTHON, EXAMPLES / "draw.py"), "4006381333931")
 
     def test_cpp(self) -> None:
-        program = self.compiled("g++", "-std=c++17", *STRICT, EXAMPLES / "modules.cpp", *self.flags())
-        rows = drawn(b"qr https://debian.org\n", "--format", "ascii").split(b"\n")
-        inner = [row[8:-8] for row in rows if b"#" in row]
-        self.assertEqual(self.run_ok(program).splitlines(), inner)
+        program = self.compiled("g++", "-std=c++17", *STRICT, EXAMPLES / "svg.cpp", *self.flags())
+        self.assert_reads(self.run_ok(program), URL)
 
     def test_rust(self) -> None:
         flags = ("--edition", "2021", "-D", "warnings", "-L", self.library.libdir, "-l", "labels")
-        program = self.compiled("rustc", *flags, EXAMPLES / "lines.rs")
-        text = b"ean8 7351353\n# a remark\nqr,level=H HELLO\npdf x\nean13,height=300 4006381333931\n"
-        words = text.decode().splitlines()
+        program = self.compiled("rustc", *flags, EXAMPLES / "svg.rs")
+        words = ("ean8 7351353", "# a remark", "qr,level=H HELLO", "pdf x", "ean13,height=80 4006381333931")
         done = run(program, *words, environment=self.library.environment)
-        self.assertEqual((done.stdout, done.stderr), (drawn(text), b"unknown symbology\n"))
+        self.assertEqual(done.stderr, b"unknown symbology\n")
+        self.assert_reads(done.stdout, "73513537", "HELLO", "4006381333931")
+
+    def test_go(self) -> None:
+        kept = ("env", f"GOCACHE={self.library.folder / 'go'}", "GOFLAGS=-mod=mod", "GO111MODULE=off")
+        program = self.compiled(*kept, "go", "build", source=EXAMPLES / "png.go")
+        self.assert_reads(self.run_ok(program, LINE_OF_URL), URL)
+        done = run(program, "ean8 73513530", environment=self.library.environment)
+        self.assertEqual((done.returncode, done.stdout), (1, b""))
+        self.assertIn(b"check digit is 0, should be 7", done.stderr)
+
+    def test_luajit(self) -> None:
+        """LuaJIT reads labels.ffi.h as it is installed."""
+        script = (EXAMPLES / "svg.lua", self.library.root / "usr/include/labels.ffi.h")
+        self.assert_reads(self.run_ok("luajit", *script, LINE_OF_URL), URL)
+        done = run("luajit", *script, "qr", environment=self.library.environment)
+        self.assertEqual((done.returncode, done.stdout, done.stderr), (1, b"", b"no data\n"))
+        self.assert_fails("luajit", EXAMPLES / "svg.lua", LIB / "labels.h", LINE_OF_URL)
+
+    def test_another_picture_is_seen(self) -> None:
+        """zbar reads nothing of a picture whose rows are shifted, and other data of another one."""
+        picture = self.run_ok(
+            "luajit", EXAMPLES / "svg.lua", self.library.root / "usr/include/labels.ffi.h", "qr other"
+        )
+        self.assertEqual(self.read(picture), ["other"])
+        wrong = picture.replace(b"h1v", b"h2v").replace(b"h-1z", b"h-2z")
+        self.assertNotEqual(run("zbarimg", "-q", "-", given=self.run_ok("rsvg-convert", given=wrong)).returncode, 0)
 
 
 class Clients(WithLibrary):

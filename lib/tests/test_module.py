@@ -7,18 +7,24 @@ import tempfile
 import unittest
 from pathlib import Path
 
-from support import LIB, PROGRAM, PYTHONDIR, WithLibrary
+from support import LIB, PROGRAM, PYTHON, PYTHONDIR, WithLibrary, run
 
-PYTHON = "/usr/bin/python3"
 LINES = "1000"
 TESTS = LIB / "tests"
+DOCSTRINGS = """
+import doctest, liblabels, sys
+failed, tried = doctest.testmod(liblabels)
+sys.exit(failed or not tried)
+"""
 WITH_LIBRARIES = """
 import liblabels, numpy
 from PIL import Image
 symbol = liblabels.line("qr,level=Q https://example.com/article/000123")
 array = numpy.frombuffer(symbol.modules, bool).reshape(symbol.rows, symbol.width)
 image = Image.frombytes("1", (symbol.width, symbol.rows), symbol.packed(), "raw", "1;I")
-framed = Image.frombytes("1", (symbol.width + 8, symbol.rows + 8), symbol.packed(quiet_zones=True), "raw", "1;I")
+bitmap = liblabels.bitmap_line("qr,level=Q https://example.com/article/000123")
+framed = Image.frombytes("1", (bitmap.width, bitmap.height), bitmap.bits, "raw", "1;I")
+assert symbol.packed(quiet_zones=True) == bitmap.bits
 light = numpy.array(framed)
 assert (numpy.array(image) == ~array).all() and (light[4:-4, 4:-4] == ~array).all()
 assert light[:4].all() and light[-4:].all() and light[:, :4].all() and light[:, -4:].all()
@@ -86,8 +92,7 @@ TEXTS = {
     "LABELS_BAD_ESCAPE": "bad escape",
     "LABELS_SKIPPED": "an empty line or a comment",
     "LABELS_NOT_ONE_LINE": "the line has a line feed",
-    "LABELS_NULL": "a pointer is NULL",
-    "LABELS_REFUSED": "a line is refused",
+    "LABELS_BAD_ARGUMENT": "a pointer is NULL, a size is too large, or the room overlaps the data",
 }
 CODE_TEXTS = """
 import ctypes, json, os, sys
@@ -105,23 +110,31 @@ def names_of_codes() -> list[str]:
 
 
 class Module(WithLibrary):
-    def wrong_module(self, old: str, new: str) -> Path:
-        """A folder with a module in which a text has another in its place."""
-        folder = Path(tempfile.mkdtemp(dir=self.library.folder))
-        text = (LIB / "python/liblabels.py").read_text(encoding="utf-8")
-        self.assertIn(old, text)
-        (folder / "liblabels.py").write_text(text.replace(old, new), encoding="utf-8")
-        return folder / "liblabels.py"
-
     def test_types(self) -> None:
         mypy = ("mypy", "--strict", "--no-error-summary", "--cache-dir", str(self.library.folder / "mypy"))
-        self.run_ok(*mypy, LIB / "python/liblabels.py")
-        self.assert_fails(*mypy, self.wrong_module("-> Symbol | None:", "-> Symbol:"))
+        self.run_ok(*mypy, LIB / "python/liblabels")
+        self.assert_fails(*mypy, self.wrong_module("-> Symbol | None:", "-> Symbol:") / "liblabels")
+
+    def test_types_of_a_user(self) -> None:
+        """A program that uses the installed package is checked with its types, which py.typed says."""
+        folder = Path(tempfile.mkdtemp(dir=self.library.folder))
+        self.run_ok(PYTHON, "-m", "venv", "--without-pip", folder / "venv")
+        [packages] = (folder / "venv/lib").glob("python*/site-packages")
+        shutil.copytree(self.library.root / PYTHONDIR, packages, dirs_exist_ok=True)
+        python = ("--python-executable", folder / "venv/bin/python", "--cache-dir", folder / "mypy")
+        for text, is_right in (
+            ("liblabels.draw('qr', 'x').hex()", True),
+            ("liblabels.draw('qr', 'x').encode()", False),
+        ):
+            (folder / "use.py").write_text(f"import liblabels\n{text}\n", encoding="utf-8")
+            self.assertEqual(run("mypy", "--strict", *python, folder / "use.py").returncode == 0, is_right)
+        (packages / "liblabels/py.typed").unlink()
+        (folder / "use.py").write_text("import liblabels\n", encoding="utf-8")
+        self.assertNotEqual(run("mypy", "--strict", *python, folder / "use.py").returncode, 0)
 
     def test_docstrings(self) -> None:
-        doctest = (PYTHON, "-m", "doctest")
-        self.run_ok(*doctest, self.library.root / PYTHONDIR / "liblabels.py")
-        self.assert_fails(*doctest, self.wrong_module("(21, 1, 'Q', 2)", "(21, 1, 'Q', 3)"))
+        self.run_ok(PYTHON, "-c", DOCSTRINGS)
+        self.assert_fails(*self.with_module(self.wrong_module("(21, 1, 'Q', 2,", "(21, 1, 'Q', 3,")), "-c", DOCSTRINGS)
 
     def test_with_numpy_and_pillow(self) -> None:
         self.run_ok(PYTHON, "-c", WITH_LIBRARIES)
@@ -150,9 +163,8 @@ class Module(WithLibrary):
             self.assert_fails(PYTHON, TESTS / "compare_lines.py", PROGRAM, "1", "200", *more)
 
     def test_no_library(self) -> None:
-        folder = Path(tempfile.mkdtemp(dir=self.library.folder))
-        shutil.copy(LIB / "python/liblabels.py", folder)
-        self.assert_fails("env", f"LABELS_LIBRARY={folder}/none.so", PYTHON, "-c", "import liblabels")
+        none = self.library.folder / "none.so"
+        self.assert_fails("env", f"LABELS_LIBRARY={none}", PYTHON, "-c", "import liblabels")
 
 
 if __name__ == "__main__":

@@ -14,7 +14,17 @@ import support
 
 TOOLS = sorted(path.name for path in support.TOOLS.glob("label-*"))
 PROVED = support.TOP / "crates/labels_c/out/liblabels_c.a"
-PACKAGES = {"labels", "label-tools", "liblabels1", "liblabels-dev", "python3-liblabels"}
+PROVED_ARM64 = support.TOP / "crates/labels_c/out/arm64/liblabels_c.a"
+# Each package, and the processors that it is for.
+PACKAGES = {
+    ("labels", "amd64"),
+    ("label-tools", "all"),
+    ("liblabels1", "amd64"),
+    ("liblabels1", "arm64"),
+    ("liblabels-dev", "amd64"),
+    ("liblabels-dev", "arm64"),
+    ("python3-liblabels", "all"),
+}
 
 
 def command_of(*words: str, cwd: Path = support.TOP) -> str:
@@ -29,7 +39,8 @@ def make(*words: str, top: Path = support.TOP) -> None:
     """Runs make over the proved program and library."""
     if not PROVED.exists():
         support.skip(f"{PROVED} is not built: run (cd crates/labels_c && rt lib --cpu x86-64)")
-    command_of("make", *words, f"LABELS={support.labels_program()}", f"PROVED={PROVED}", cwd=top)
+    proved = (f"PROVED={PROVED}", f"PROVED_ARM64={PROVED_ARM64}")
+    command_of("make", *words, f"LABELS={support.labels_program()}", *proved, cwd=top)
 
 
 def text(name: str) -> str:
@@ -158,14 +169,15 @@ class Packages(InFolder):
         return {path.name: hashlib.sha256(path.read_bytes()).hexdigest() for path in packages}
 
     def test_two_builds_are_equal_and_lintian_finds_nothing(self) -> None:
-        support.needs("dpkg-buildpackage", "dh", "lintian")
+        support.needs("dpkg-buildpackage", "dh", "lintian", "aarch64-linux-gnu-gcc")
+        if not PROVED_ARM64.exists():
+            support.skip(f"{PROVED_ARM64} is not built: run scripts/plain_builds.py")
         one = self.build("one")
         self.assertEqual(one, self.build("another"))
-        self.assertLessEqual(PACKAGES, {name.partition("_")[0] for name in one})
-        changes = next((self.folder / "one/out/deb").glob("*.changes"))
-        self.assertEqual(
-            command_of("lintian", "--allow-root", "-EIL", "+pedantic", str(changes)), ""
-        )
+        names = [name.removesuffix(".deb").split("_") for name in one]
+        self.assertLessEqual(PACKAGES, {(name, processor) for name, _, processor in names})
+        changes = map(str, (self.folder / "one/out/deb").glob("*.changes"))
+        self.assertEqual(command_of("lintian", "--allow-root", "-EIL", "+pedantic", *changes), "")
 
     def test_the_notices_are_those_of_the_kit(self) -> None:
         """Each crate of the kit in the program, and what it takes, is in debian/copyright."""

@@ -1,116 +1,49 @@
 """Bar codes and QR codes, drawn by the proved library liblabels.
 
->>> symbol = line("qr,level=Q HELLO")  # a line as of labels(1)
->>> symbol.width, symbol.version, symbol.level, symbol.mask
-(21, 1, 'Q', 2)
->>> draw("ean8", "7351353", format="ascii", height=1)[:20]  # a picture, as bytes
+>>> label = line("qr,level=Q HELLO")  # a line as of labels(1)
+>>> label.width, label.version, label.level, label.mask, label.data
+(21, 1, 'Q', 2, b'HELLO')
+>>> label.png(scale=4)[1:4], label.svg(0.5, "mm")[:60]
+(b'PNG', '<svg xmlns="http://www.w3.org/2000/svg" width="14.5mm" heigh')
+>>> draw("ean8", "7351353", format="ascii", height=1)[:20]  # a picture as labels(1) prints it
 b'              ##  ##'
 
-The modules as an array of numpy, and as an image of Pillow, both without quiet zones:
+The modules as an array of numpy, without quiet zones, and a picture as an image of Pillow:
 
     numpy.frombuffer(symbol.modules, bool).reshape(symbol.rows, symbol.width)
-    Image.frombytes("1", (symbol.width, symbol.rows), symbol.packed(), "raw", "1;I")
+    Image.frombytes("1", (bitmap.width, bitmap.height), bitmap.bits, "raw", "1;I")
 
-Data and lines are bytes, or str, which is encoded as UTF-8. What the library refuses raises `Refused`
-with the text of labels(1); a wrong option raises ValueError. The module keeps no state, and other
-threads run during a call.
+Data and lines are bytes, bytearray or memoryview, or str, which is encoded as UTF-8. What the library
+refuses raises `Refused` with the text of labels(1), which a pool of processes passes on; a wrong option raises
+ValueError. The module keeps no state, and other threads run during a call.
 
 The library is liblabels.so.1, or the file that the environment variable LABELS_LIBRARY names. Where
 it is not installed the import raises OSError.
 """
 
 import ctypes
-import os
-from collections.abc import Callable
-from dataclasses import dataclass
-from functools import lru_cache
+from collections.abc import Callable, Iterator
+from dataclasses import dataclass, field
 
-__all__ = ["Bitmap", "Refused", "Symbol", "bitmap", "bitmap_line", "draw", "draw_line", "line", "symbol", "version"]
+from . import _binding, _pictures
+from ._binding import FORMATS, LEVELS, LIBRARY, SYMBOLOGIES, Data
 
-SYMBOLOGIES = ("ean13", "ean8", "upca", "code128", "qr")
-FORMATS = ("pbm", "ascii")
-LEVELS = ("L", "M", "Q", "H")
-
-# The codes of labels.h that the module tells apart.
-_OK = 0
-_NO_ROOM = 1
-_SKIPPED = 14
-_MASK_AUTO = 8
-_MAX_MODULES = 3249
-# Bytes of most pictures at scale 1; a larger picture takes a second call.
-_ROOM = 16384
-
-
-class _Options(ctypes.Structure):
-    """labels_options: the seven options and five spare words."""
-
-    _fields_ = [("numbers", ctypes.c_uint32 * 7), ("reserved", ctypes.c_uint32 * 5)]
-
-
-class _Answer(ctypes.Structure):
-    """labels_answer."""
-
-    code: int
-    length: int
-    at: int
-    message: bytes
-
-    _fields_ = [
-        ("code", ctypes.c_uint32),
-        ("reserved", ctypes.c_uint32),
-        ("length", ctypes.c_size_t),
-        ("at", ctypes.c_size_t),
-        ("message_length", ctypes.c_size_t),
-        ("message", ctypes.c_char * 96),
-    ]
-
-
-class _Info(ctypes.Structure):
-    """labels_symbol_info."""
-
-    symbology: int
-    width: int
-    rows: int
-    height: int
-    left: int
-    right: int
-    top: int
-    bottom: int
-    version: int
-    level: int
-    mask: int
-    data_length: int
-    data: ctypes.Array[ctypes.c_ubyte]
-
-    _fields_ = [
-        ("symbology", ctypes.c_uint32),
-        ("width", ctypes.c_uint32),
-        ("rows", ctypes.c_uint32),
-        ("height", ctypes.c_uint32),
-        ("left", ctypes.c_uint32),
-        ("right", ctypes.c_uint32),
-        ("top", ctypes.c_uint32),
-        ("bottom", ctypes.c_uint32),
-        ("version", ctypes.c_uint32),
-        ("level", ctypes.c_uint32),
-        ("mask", ctypes.c_uint32),
-        ("reserved", ctypes.c_uint32 * 5),
-        ("data_length", ctypes.c_size_t),
-        ("data", ctypes.c_ubyte * 656),
-    ]
-
-
-class _Dots(ctypes.Structure):
-    """labels_dots."""
-
-    width: int
-    height: int
-
-    _fields_ = [
-        ("width", ctypes.c_uint32),
-        ("height", ctypes.c_uint32),
-        ("reserved", ctypes.c_uint32 * 2),
-    ]
+__all__ = [
+    "FORMATS",
+    "LEVELS",
+    "SYMBOLOGIES",
+    "Bitmap",
+    "Refused",
+    "Symbol",
+    "bitmap",
+    "bitmap_line",
+    "draw",
+    "draw_line",
+    "line",
+    "symbol",
+    "version",
+]
+__version__ = "1.1.0"
 
 
 class Refused(ValueError):
@@ -124,9 +57,12 @@ class Refused(ValueError):
     """
 
     def __init__(self, code: int, text: str, at: int = 0) -> None:
-        super().__init__(text)
+        super().__init__(code, text, at)  # what it is made of again in another process
         self.code = code
         self.at = at
+
+    def __str__(self) -> str:
+        return str(self.args[1])
 
 
 @dataclass(frozen=True)
@@ -154,7 +90,7 @@ class Symbol:
     version: int | None
     level: str | None
     mask: int | None
-    modules: bytes
+    modules: bytes = field(repr=False)
     data: bytes
 
     def packed(self, quiet_zones: bool = False) -> bytes:
@@ -175,6 +111,60 @@ class Symbol:
         bits = (number << (size * 8 - left - self.width)).to_bytes(size * self.rows, "big")
         return bytes(size * top) + bits + bytes(size * bottom)
 
+    def size(self, quiet_zones: bool = True) -> tuple[int, int]:
+        """Returns how wide and how high the symbol is drawn, in modules.
+
+        >>> symbol("ean13", "4006381333931", height=30).size(), symbol("qr", "HELLO").size(quiet_zones=False)
+        ((113, 30), (21, 21))
+        """
+        left, right, top, bottom = self.quiet_zones if quiet_zones else (0, 0, 0, 0)
+        return left + self.width + right, top + self.height + bottom
+
+    def bars(self) -> Iterator[tuple[int, int, int, int]]:
+        """Yields what is dark as rectangles: column, row, width and height, in modules, without quiet zones.
+
+        >>> list(symbol("ean8", "7351353", height=5).bars())[:2]
+        [(0, 0, 1, 5), (2, 0, 1, 5)]
+        """
+        high = self.height // self.rows
+        for row, first, end in _pictures.dark_runs(self.modules, self.width):
+            yield first, row * high, end - first, high
+
+    def svg(self, module: float = 1, unit: str = "", quiet_zones: bool = True, light: str | None = None) -> str:
+        """Returns the symbol as SVG, its modules `module` of a unit wide: "mm", "cm", "in", "pt", "px", or none.
+
+        `light` is the colour behind it, as "white"; without one what is behind it shows. Raises ValueError for another
+        unit, and for a module that is not above 0.
+
+        >>> symbol("ean8", "7351353", height=5).svg(0.33, "mm")[:83]
+        '<svg xmlns="http://www.w3.org/2000/svg" width="26.73mm" height="1.65mm" viewBox="0 '
+        """
+        left, _, top, _ = self.quiet_zones if quiet_zones else (0, 0, 0, 0)
+        return _pictures.svg_of(self.bars(), self.size(quiet_zones), (left, top), module, unit, light)
+
+    def png(self, scale: int = 1, dpi: float | None = None) -> bytes:
+        """Returns the symbol as PNG with its quiet zones, its modules `scale` dots wide: that of its `bitmap`.
+
+        Raises ValueError for a scale that is not 1 to 8, and what `Bitmap.png` raises.
+
+        >>> symbol("qr", "HELLO").png(scale=4)[:8]
+        b'\\x89PNG\\r\\n\\x1a\\n'
+        """
+        drawn = bitmap(
+            self.symbology,
+            self.data,
+            scale=scale,
+            height=self.height,
+            level=self.level or "M",
+            min_version=self.version or 1,
+            mask=self.mask,
+        )
+        return drawn.png(dpi)
+
+    def _repr_svg_(self) -> str:
+        """Returns what a notebook shows."""
+        return self.svg(4, light="white")
+
 
 @dataclass(frozen=True)
 class Bitmap:
@@ -188,93 +178,49 @@ class Bitmap:
 
     width: int
     height: int
-    bits: bytes
+    bits: bytes = field(repr=False)
+
+    def png(self, dpi: float | None = None) -> bytes:
+        """Returns the picture as PNG of one bit a dot; `dpi` says how many dots an inch has where it is printed.
+
+        Raises ValueError for a `dpi` that is not 1 to 100,000.
+
+        >>> bitmap("ean8", "7351353", scale=2).png(dpi=300)[1:4]
+        b'PNG'
+        """
+        return _pictures.png_of(self.width, self.height, self.bits, dpi)
 
 
-def _load() -> ctypes.CDLL:
-    library = ctypes.CDLL(os.environ.get("LABELS_LIBRARY", "liblabels.so.1"))
-    size = ctypes.c_size_t
-    data = [ctypes.c_char_p, size]
-    room = [ctypes.c_void_p, size]
-    answer = [ctypes.c_void_p]
-    options = [ctypes.POINTER(_Options)]
-    library.labels_draw.argtypes = [*options, ctypes.c_int, *data, *room, *answer]
-    library.labels_symbol.argtypes = [*options, ctypes.c_int, *data, *room, *answer, *answer]
-    library.labels_draw_line.argtypes = [*options, *data, *room, *answer]
-    bits = [ctypes.c_void_p, size, size]
-    library.labels_bitmap.argtypes = [*options, ctypes.c_int, *data, *bits, *answer, *answer]
-    library.labels_bitmap_line.argtypes = [*options, *data, *bits, *answer, *answer]
-    library.labels_line.argtypes = [*options, *data, *room, *answer, *answer]
-    library.labels_version.restype = ctypes.c_char_p
-    return library
+def _line_of(text: Data) -> bytes:
+    return _binding.encoded(text).removesuffix(b"\n")
 
 
-_LIBRARY = _load()
-
-
-def _index(names: tuple[str, ...], kind: str, name: str) -> int:
-    if name not in names:
-        raise ValueError(f"unknown {kind} {name!r}: one of {', '.join(names)}")
-    return names.index(name)
-
-
-def _within(name: str, number: int, lowest: int, highest: int) -> int:
-    if not lowest <= number <= highest:
-        raise ValueError(f"{name} is {number}, and has to be {lowest} to {highest}")
-    return number
-
-
-@lru_cache(maxsize=64, typed=True)
-def _options(
-    format: str, scale: int, height: int, level: str, min_version: int, mask: int | None, escapes: bool
-) -> _Options:
-    numbers = (
-        _index(FORMATS, "format", format),
-        _within("scale", scale, 1, 8),
-        _within("height", height, 1, 500),
-        _index(LEVELS, "level", level),
-        _within("min_version", min_version, 1, 10),
-        _MASK_AUTO if mask is None else _within("mask", mask, 0, 7),
-        int(escapes),
-    )
-    return _Options((ctypes.c_uint32 * 7)(*numbers))
-
-
-def _encoded(text: str | bytes) -> bytes:
-    return text.encode() if isinstance(text, str) else text
-
-
-def _line_of(text: str | bytes) -> bytes:
-    return _encoded(text).removesuffix(b"\n")
-
-
-def _expect_drawn(answer: _Answer) -> None:
-    if answer.code != _OK:
+def _expect_drawn(answer: _binding.Answer) -> None:
+    if answer.code != _binding.OK:
         raise Refused(answer.code, answer.message.decode("ascii"), answer.at)
 
 
-def _picture(call: Callable[..., int], *asked: object) -> bytes | None:
-    """The picture that a call draws, in a room that is large enough, or None for a line that is skipped."""
-    answer = _Answer()
-    room = _ROOM
+def _picture(call: Callable[..., int], room: int, *asked: object) -> bytes | None:
+    """The picture that a call draws, in a room of some bytes or a larger one, or None for a line that is skipped."""
+    answer = _binding.Answer()
     while True:
         out = ctypes.create_string_buffer(room)
         code = call(*asked, out, room, ctypes.byref(answer))
-        if code == _SKIPPED:
+        if code == _binding.SKIPPED:
             return None
-        if code != _NO_ROOM:
+        if code != _binding.NO_ROOM:
             _expect_drawn(answer)
-            return out.raw[: answer.length]
+            return ctypes.string_at(out, answer.length)
         room = answer.length
 
 
 def _symbol(call: Callable[..., int], *asked: object) -> Symbol | None:
     """The symbol that a call draws, or None for a line that is skipped."""
-    answer = _Answer()
-    info = _Info()
-    modules = ctypes.create_string_buffer(_MAX_MODULES)
-    code = call(*asked, modules, _MAX_MODULES, ctypes.byref(info), ctypes.byref(answer))
-    if code == _SKIPPED:
+    answer = _binding.Answer()
+    info = _binding.Info()
+    modules = ctypes.create_string_buffer(_binding.MAX_MODULES)
+    code = call(*asked, modules, _binding.MAX_MODULES, ctypes.byref(info), ctypes.byref(answer))
+    if code == _binding.SKIPPED:
         return None
     _expect_drawn(answer)
     is_qr = info.version > 0
@@ -294,12 +240,12 @@ def _symbol(call: Callable[..., int], *asked: object) -> Symbol | None:
 
 def _bitmap(call: Callable[..., int], *asked: object) -> Bitmap | None:
     """The bitmap that a call draws, or None for a line that is skipped."""
-    answer = _Answer()
-    dots = _Dots()
+    answer = _binding.Answer()
+    dots = _binding.Dots()
     code = call(*asked, None, 0, 0, ctypes.byref(dots), ctypes.byref(answer))
-    if code == _SKIPPED:
+    if code == _binding.SKIPPED:
         return None
-    if code != _NO_ROOM:
+    if code != _binding.NO_ROOM:
         _expect_drawn(answer)
     stride = (dots.width + 7) // 8
     room = stride * dots.height
@@ -310,7 +256,7 @@ def _bitmap(call: Callable[..., int], *asked: object) -> Bitmap | None:
 
 
 def line(
-    text: str | bytes,
+    text: Data,
     *,
     height: int = 50,
     level: str = "M",
@@ -334,14 +280,14 @@ def line(
     Traceback (most recent call last):
     liblabels.Refused: unknown setting 1
     """
-    options = _options("pbm", 1, height, level, min_version, mask, escapes)
+    options = _binding.options_of("pbm", 1, height, level, min_version, mask, escapes)
     raw = _line_of(text)
-    return _symbol(_LIBRARY.labels_line, options, raw, len(raw))
+    return _symbol(LIBRARY.labels_line, options, raw, len(raw))
 
 
 def symbol(
     symbology: str,
-    data: str | bytes,
+    data: Data,
     *,
     height: int = 50,
     level: str = "M",
@@ -355,17 +301,17 @@ def symbol(
     >>> symbol("ean13", "400638133393").data
     b'4006381333931'
     """
-    options = _options("pbm", 1, height, level, min_version, mask, False)
-    number = _index(SYMBOLOGIES, "symbology", symbology)
-    raw = _encoded(data)
-    drawn = _symbol(_LIBRARY.labels_symbol, options, number, raw, len(raw))
+    options = _binding.options_of("pbm", 1, height, level, min_version, mask, False)
+    number = _binding.index_of(SYMBOLOGIES, "symbology", symbology)
+    raw = _binding.encoded(data)
+    drawn = _symbol(LIBRARY.labels_symbol, options, number, raw, len(raw))
     assert drawn is not None  # no data is a line that is skipped
     return drawn
 
 
 def draw(
     symbology: str,
-    data: str | bytes,
+    data: Data,
     *,
     format: str = "pbm",
     scale: int = 1,
@@ -382,17 +328,17 @@ def draw(
     >>> draw("qr", "HELLO")[:9]
     b'P1\\n29 29\\n'
     """
-    options = _options(format, scale, height, level, min_version, mask, False)
-    number = _index(SYMBOLOGIES, "symbology", symbology)
-    raw = _encoded(data)
-    picture = _picture(_LIBRARY.labels_draw, options, number, raw, len(raw))
+    options = _binding.options_of(format, scale, height, level, min_version, mask, False)
+    number = _binding.index_of(SYMBOLOGIES, "symbology", symbology)
+    raw = _binding.encoded(data)
+    picture = _picture(LIBRARY.labels_draw, _binding.first_room(options), options, number, raw, len(raw))
     assert picture is not None  # no data is a line that is skipped
     return picture
 
 
 def bitmap(
     symbology: str,
-    data: str | bytes,
+    data: Data,
     *,
     scale: int = 1,
     height: int = 50,
@@ -407,16 +353,16 @@ def bitmap(
     >>> bitmap("ean8", "7351353", height=1).bits.hex()
     '015dbd626550a742894000'
     """
-    options = _options("pbm", scale, height, level, min_version, mask, False)
-    number = _index(SYMBOLOGIES, "symbology", symbology)
-    raw = _encoded(data)
-    picture = _bitmap(_LIBRARY.labels_bitmap, options, number, raw, len(raw))
+    options = _binding.options_of("pbm", scale, height, level, min_version, mask, False)
+    number = _binding.index_of(SYMBOLOGIES, "symbology", symbology)
+    raw = _binding.encoded(data)
+    picture = _bitmap(LIBRARY.labels_bitmap, options, number, raw, len(raw))
     assert picture is not None  # no data is a line that is skipped
     return picture
 
 
 def bitmap_line(
-    text: str | bytes,
+    text: Data,
     *,
     scale: int = 1,
     height: int = 50,
@@ -429,13 +375,13 @@ def bitmap_line(
 
     The options are those of `draw_line`. Raises what `line` raises.
     """
-    options = _options("pbm", scale, height, level, min_version, mask, escapes)
+    options = _binding.options_of("pbm", scale, height, level, min_version, mask, escapes)
     raw = _line_of(text)
-    return _bitmap(_LIBRARY.labels_bitmap_line, options, raw, len(raw))
+    return _bitmap(LIBRARY.labels_bitmap_line, options, raw, len(raw))
 
 
 def draw_line(
-    text: str | bytes,
+    text: Data,
     *,
     format: str = "pbm",
     scale: int = 1,
@@ -452,9 +398,9 @@ def draw_line(
     >>> draw_line("ean8,height=2 7351353\\n", scale=2)[:9]
     b'P1\\n162 4\\n'
     """
-    options = _options(format, scale, height, level, min_version, mask, escapes)
+    options = _binding.options_of(format, scale, height, level, min_version, mask, escapes)
     raw = _line_of(text)
-    return _picture(_LIBRARY.labels_draw_line, options, raw, len(raw))
+    return _picture(LIBRARY.labels_draw_line, _binding.first_room(options), options, raw, len(raw))
 
 
 def version() -> str:
@@ -463,5 +409,5 @@ def version() -> str:
     >>> version()
     '1.1.0'
     """
-    number: bytes = _LIBRARY.labels_version()
+    number: bytes = LIBRARY.labels_version()
     return number.decode("ascii")

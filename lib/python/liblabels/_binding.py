@@ -1,0 +1,161 @@
+"""The calls of liblabels by ctypes: its structs, its options, and the data that is handed to it."""
+
+import ctypes
+import operator
+import os
+from functools import lru_cache
+
+Data = str | bytes | bytearray | memoryview
+
+SYMBOLOGIES = ("ean13", "ean8", "upca", "code128", "qr")
+FORMATS = ("pbm", "ascii")
+LEVELS = ("L", "M", "Q", "H")
+
+# The codes of labels.h that are no refusal.
+OK = 0
+NO_ROOM = 1
+SKIPPED = 14
+MAX_MODULES = 3249
+_MASK_AUTO = 8
+
+
+class Options(ctypes.Structure):
+    """labels_options: the seven options and five spare words."""
+
+    numbers: ctypes.Array[ctypes.c_uint32]
+
+    _fields_ = [("numbers", ctypes.c_uint32 * 7), ("reserved", ctypes.c_uint32 * 5)]
+
+
+class Answer(ctypes.Structure):
+    """labels_answer."""
+
+    code: int
+    length: int
+    at: int
+    message: bytes
+
+    _fields_ = [
+        ("code", ctypes.c_uint32),
+        ("reserved", ctypes.c_uint32),
+        ("length", ctypes.c_size_t),
+        ("at", ctypes.c_size_t),
+        ("message_length", ctypes.c_size_t),
+        ("message", ctypes.c_char * 96),
+    ]
+
+
+class Info(ctypes.Structure):
+    """labels_symbol_info."""
+
+    symbology: int
+    width: int
+    rows: int
+    height: int
+    left: int
+    right: int
+    top: int
+    bottom: int
+    version: int
+    level: int
+    mask: int
+    data_length: int
+    data: ctypes.Array[ctypes.c_ubyte]
+
+    _fields_ = [
+        ("symbology", ctypes.c_uint32),
+        ("width", ctypes.c_uint32),
+        ("rows", ctypes.c_uint32),
+        ("height", ctypes.c_uint32),
+        ("left", ctypes.c_uint32),
+        ("right", ctypes.c_uint32),
+        ("top", ctypes.c_uint32),
+        ("bottom", ctypes.c_uint32),
+        ("version", ctypes.c_uint32),
+        ("level", ctypes.c_uint32),
+        ("mask", ctypes.c_uint32),
+        ("reserved", ctypes.c_uint32 * 5),
+        ("data_length", ctypes.c_size_t),
+        ("data", ctypes.c_ubyte * 656),
+    ]
+
+
+class Dots(ctypes.Structure):
+    """labels_dots."""
+
+    width: int
+    height: int
+
+    _fields_ = [
+        ("width", ctypes.c_uint32),
+        ("height", ctypes.c_uint32),
+        ("reserved", ctypes.c_uint32 * 2),
+    ]
+
+
+def _load() -> ctypes.CDLL:
+    library = ctypes.CDLL(os.environ.get("LABELS_LIBRARY", "liblabels.so.1"))
+    size = ctypes.c_size_t
+    data = [ctypes.c_char_p, size]
+    room = [ctypes.c_void_p, size]
+    bits = [ctypes.c_void_p, size, size]
+    answer = [ctypes.c_void_p]
+    options = [ctypes.POINTER(Options)]
+    library.labels_draw.argtypes = [*options, ctypes.c_int, *data, *room, *answer]
+    library.labels_draw_line.argtypes = [*options, *data, *room, *answer]
+    library.labels_symbol.argtypes = [*options, ctypes.c_int, *data, *room, *answer, *answer]
+    library.labels_line.argtypes = [*options, *data, *room, *answer, *answer]
+    library.labels_bitmap.argtypes = [*options, ctypes.c_int, *data, *bits, *answer, *answer]
+    library.labels_bitmap_line.argtypes = [*options, *data, *bits, *answer, *answer]
+    library.labels_version.restype = ctypes.c_char_p
+    return library
+
+
+LIBRARY = _load()
+
+
+def index_of(names: tuple[str, ...], kind: str, name: str) -> int:
+    """Returns the number that labels.h has for a name; raises ValueError for one that is not in `names`."""
+    if name not in names:
+        raise ValueError(f"unknown {kind} {name!r}: one of {', '.join(names)}")
+    return names.index(name)
+
+
+def _within(name: str, number: int, lowest: int, highest: int) -> int:
+    number = operator.index(number)
+    if not lowest <= number <= highest:
+        raise ValueError(f"{name} is {number}, and has to be {lowest} to {highest}")
+    return number
+
+
+@lru_cache(maxsize=64, typed=True)
+def options_of(
+    format: str, scale: int, height: int, level: str, min_version: int, mask: int | None, escapes: bool
+) -> Options:
+    """Returns options as the library takes them; raises ValueError for one that is out of its range."""
+    numbers = (
+        index_of(FORMATS, "format", format),
+        _within("scale", scale, 1, 8),
+        _within("height", height, 1, 500),
+        index_of(LEVELS, "level", level),
+        _within("min_version", min_version, 1, 10),
+        _MASK_AUTO if mask is None else _within("mask", mask, 0, 7),
+        bool(escapes),
+    )
+    return Options((ctypes.c_uint32 * 7)(*numbers))
+
+
+def encoded(data: Data) -> bytes:
+    """Returns the bytes of data, a str as UTF-8.
+
+    They are real bytes, since the library reads as many as their length says, and a subclass could say another one.
+    """
+    if isinstance(data, str):
+        return str.encode(data)
+    return data if type(data) is bytes else bytes(memoryview(data))
+
+
+def first_room(options: Options) -> int:
+    """Returns the bytes that are enough for most pictures of a scale; a larger picture takes a second call."""
+    scale = int(options.numbers[1])
+    return max(16384, 2048 * scale * scale)

@@ -1,0 +1,77 @@
+"""Pictures of a symbol in the formats of others: SVG and PNG."""
+
+import struct
+import zlib
+from collections.abc import Iterable
+from xml.sax.saxutils import quoteattr
+
+Rectangle = tuple[int, int, int, int]
+
+UNITS = ("", "px", "mm", "cm", "in", "pt")
+_DARK_IS_0 = bytes(255 - byte for byte in range(256))
+_METRES_OF_AN_INCH = 0.0254
+
+
+def dark_runs(modules: bytes, width: int) -> Iterable[tuple[int, int, int]]:
+    """Yields each run of dark modules in rows of `width`: its row, its first column, and the column after it."""
+    for row, start in enumerate(range(0, len(modules), width)):
+        of_row = modules[start : start + width] + b"\0"
+        first = of_row.find(1)
+        while first >= 0:
+            end = of_row.find(0, first)
+            yield row, first, end
+            first = of_row.find(1, end)
+
+
+def svg_of(
+    bars: Iterable[Rectangle],
+    size: tuple[int, int],
+    corner: tuple[int, int],
+    module: float,
+    unit: str,
+    light: str | None,
+) -> str:
+    """Returns dark rectangles as SVG.
+
+    `bars` are column, row, width and height of each, in modules from `corner` on; `size` is that of the whole picture
+    in modules. A module is `module` of `unit`, one of UNITS, wide. `light` is the colour behind them, None for none.
+
+    Raises ValueError for another unit, and for a module that is not above 0.
+    """
+    if unit not in UNITS:
+        raise ValueError(f"unknown unit {unit!r}: one of {', '.join(UNITS[1:])}, or none")
+    if not 0 < module < float("inf"):
+        raise ValueError(f"module is {module}, and has to be above 0")
+    left, top = corner
+    width, height = size
+    path = "".join(f"M{left + x} {top + y}h{w}v{h}h-{w}z" for x, y, w, h in bars)
+    behind = "" if light is None else f'<path fill={quoteattr(light)} d="M0 0h{width}v{height}h-{width}z"/>'
+    return (
+        f'<svg xmlns="http://www.w3.org/2000/svg" width="{width * module:g}{unit}" height="{height * module:g}{unit}"'
+        f' viewBox="0 0 {width} {height}" shape-rendering="crispEdges">{behind}<path d="{path}"/></svg>'
+    )
+
+
+def _chunk(kind: bytes, body: bytes) -> bytes:
+    """A chunk of PNG: its length, its kind, its bytes and their check."""
+    return struct.pack(">I", len(body)) + kind + body + struct.pack(">I", zlib.crc32(kind + body))
+
+
+def png_of(width: int, height: int, bits: bytes, dpi: float | None) -> bytes:
+    """Returns rows of bits, each of whole bytes and 1 where dark, as grey PNG of one bit a dot (ISO/IEC 15948).
+
+    `dpi` says how many dots an inch has where it is printed; None says nothing of it. Raises ValueError for one that
+    is not 1 to 100,000.
+    """
+    if dpi is not None and not 1 <= dpi <= 100_000:
+        raise ValueError(f"dpi is {dpi}, and has to be 1 to 100000")
+    size = (width + 7) // 8
+    light_is_1 = bits.translate(_DARK_IS_0)
+    no_filter = b"\0"
+    rows = b"".join(no_filter + light_is_1[start : start + size] for start in range(0, size * height, size))
+    chunks = [_chunk(b"IHDR", struct.pack(">2I5B", width, height, 1, 0, 0, 0, 0))]
+    if dpi is not None:
+        a_metre = round(dpi / _METRES_OF_AN_INCH)
+        chunks.append(_chunk(b"pHYs", struct.pack(">2IB", a_metre, a_metre, 1)))
+    chunks += [_chunk(b"IDAT", zlib.compress(rows, 9)), _chunk(b"IEND", b"")]
+    return b"\x89PNG\r\n\x1a\n" + b"".join(chunks)

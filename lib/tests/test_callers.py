@@ -1,0 +1,102 @@
+"""Odd callers in Python: data of any bytes-like type, subclasses that misstate, pools of processes, fork."""
+
+import unittest
+
+from support import PYTHON, WithLibrary
+
+BYTES = """
+import liblabels
+class Longer(bytes):
+    def __len__(self):
+        return 200
+class Other(str):
+    def encode(self):
+        return b"other"
+wanted = liblabels.symbol("qr", b"abc")
+for data in ("abc", bytearray(b"abc"), memoryview(b"abc"), memoryview(b"a-b-c")[::2], Longer(b"abc"), Other("abc")):
+    assert liblabels.symbol("qr", data) == wanted, data
+    assert liblabels.bitmap("qr", data).bits == wanted.packed(quiet_zones=True), data
+    assert liblabels.draw("qr", data) == liblabels.draw("qr", b"abc"), data
+assert liblabels.line(r"qr \\x41", escapes=2**32) == liblabels.symbol("qr", "A")
+for wrong in (None, 3, ["a"]):
+    try:
+        liblabels.symbol("qr", wrong)
+    except TypeError:
+        continue
+    raise AssertionError(wrong)
+"""
+PICKLED = """
+import liblabels, pickle
+try:
+    liblabels.draw("ean13", "40063813339x")
+except liblabels.Refused as refused:
+    again = pickle.loads(pickle.dumps(refused))
+    assert type(again) is liblabels.Refused
+    assert (again.code, again.at, str(again)) == (5, 12, "not a digit at byte 12"), again
+"""
+# A wrong line is each hundredth: its check digit is not that of the digits before it.
+POOL = """
+import liblabels, multiprocessing
+def digits(number):
+    return liblabels.symbol("ean13", "%012d" % number).data
+def line(number):
+    full = digits(number)
+    check = (full[12] - 48 + (number % 100 == 0)) % 10
+    return b"ean13 %s%d" % (full[:12], check)
+symbols, refusals = [], []
+with multiprocessing.Pool(4) as pool:
+    for asked in [pool.apply_async(liblabels.line, (line(number),)) for number in range(1000)]:
+        try:
+            symbols.append(asked.get(60))
+        except liblabels.Refused as refused:
+            refusals.append((refused.code, refused.at, str(refused)[:14]))
+assert (len(symbols), refusals) == (990, [(7, 0, "check digit is")] * 10), (len(symbols), refusals)
+assert [symbol.data for symbol in symbols] == [digits(number) for number in range(1000) if number % 100]
+"""
+FORKED = """
+import liblabels, os, threading
+wanted = liblabels.draw("qr", "fork", scale=8)
+stop = threading.Event()
+def draw():
+    while not stop.is_set():
+        assert liblabels.draw("qr", "fork", scale=8) == wanted
+threads = [threading.Thread(target=draw) for _ in range(2)]
+for thread in threads:
+    thread.start()
+statuses = []
+for _ in range(20):
+    child = os.fork()
+    if not child:
+        os._exit(0 if liblabels.draw("qr", "fork", scale=8) == wanted else 1)
+    statuses.append(os.waitstatus_to_exitcode(os.waitpid(child, 0)[1]))
+stop.set()
+for thread in threads:
+    thread.join()
+assert statuses == [0] * 20, statuses
+"""
+
+
+class Callers(WithLibrary):
+    def test_data(self) -> None:
+        """Data of any bytes-like type, and no subclass that says how long it is or what it is encoded as."""
+        self.run_ok(PYTHON, "-c", BYTES)
+        for right, wrong in (("bytes(memoryview(data))", "data"), ("str.encode(data)", "data.encode()")):
+            module = self.library.changed(("python/liblabels/_binding.py", right, wrong)) / "python"
+            self.assert_fails(*self.with_module(module), "-c", BYTES)
+
+    def test_a_refusal_is_pickled(self) -> None:
+        self.run_ok(PYTHON, "-c", PICKLED)
+        module = self.wrong_module("super().__init__(code, text, at)", "super().__init__(text)")
+        self.assert_fails(*self.with_module(module), "-c", PICKLED)
+
+    def test_pool(self) -> None:
+        """A pool of four processes gives each symbol, and a refusal for each wrong line."""
+        self.run_ok(PYTHON, "-c", POOL)
+
+    def test_fork(self) -> None:
+        """A process that is forked while other threads draw can draw."""
+        self.run_ok(PYTHON, "-c", FORKED)
+
+
+if __name__ == "__main__":
+    unittest.main()
