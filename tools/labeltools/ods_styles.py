@@ -1,5 +1,5 @@
-"""What the styles of an .ods (ISO/IEC 26300) do to letters that changes what these mean: a style may
-strike them through, raise or lower them, and has what it does not say from its parent.
+"""What the styles of an .ods (ISO/IEC 26300) do to letters that changes what these mean: a style
+may strike them through, raise or lower them, and has what it does not say from its parent.
 """
 
 import re
