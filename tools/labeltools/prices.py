@@ -205,7 +205,7 @@ class PricePattern:
         """
         found = PATTERN.fullmatch(text.translate(dict.fromkeys(map(ord, SPACES[:-1]), " ")))
         if not found or (found["group"] or found["hash"]) == found["point"] is not None:
-            raise ValueError(f"{text!r} is no pattern as '0,00 €'")
+            raise ValueError(Text("{!r} is no pattern as '0,00 €'", text))
         front = text[: len(found["front"])]
         end = text[len(text) - len(found["end"] or "") :]
         check_currencies(text, front, end)
@@ -329,9 +329,9 @@ def check_currencies(text: str, front: str, end: str) -> None:
     """Raises ValueError where a pattern has what is no currency, or two."""
     for one in (front.strip(), end.strip()):
         if one not in ("", "¤") and currency_of(plain(one)) is None:
-            raise ValueError(f"{one!r} in {text!r} is no currency")
+            raise ValueError(Text("{!r} in {!r} is no currency", one, text))
     if front.strip() and end.strip():
-        raise ValueError(f"{text!r} has two currencies")
+        raise ValueError(Text("{!r} has two currencies", text))
 
 
 def is_same(one: str, other: str) -> bool:
