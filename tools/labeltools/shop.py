@@ -7,7 +7,7 @@ import json
 import os
 import shlex
 import time
-from collections.abc import Mapping, Sequence
+from collections.abc import Mapping, Sequence, Set
 from contextlib import suppress
 from pathlib import Path
 from typing import Any
@@ -17,6 +17,7 @@ from labeltools.text import NOTHING, Text
 from labeltools.command_line import read_input, words_of
 from labeltools.engine import option_words
 from labeltools.guess import guess_of
+from labeltools.lines_file import LineRecord, first_remark, label_lines, last_remark, read_lines
 from labeltools.messages import Cancelled, Place, ToolError, quoted
 from labeltools.press import Press
 from labeltools.print_job import Prepared, faults, labels_of, planned
@@ -63,7 +64,7 @@ class Table:
 
     words: Sequence[str] = ()
     lines: Lines
-    all_lines: Lines  # those too that are as before
+    rows: Set[int]  # of the labels that can be printed
     said: Sequence[LeftOut]
     command: str
     notes: Sequence[LeftOut]
@@ -103,12 +104,10 @@ class Table:
         to_print = print_words(choices)
         options = print_command.options_of(print_command.command_line().parse_args(to_print))
         job = planned(options)
-        all_words = table_words(choices)
         since = {"new-since": str(self.printed) if choices["new-only"] else ""}
-        words = [*words_of(since), *all_words]
+        words = [*words_of(since), *table_words(choices)]
         if words != self.words:  # other paper needs no other lines
             self.lines = self.lines_by(words, talk)
-            self.all_lines = self.lines_by(all_words, Talk()) if since["new-since"] else self.lines
             self.said = tuple(talk.notes)
             self.words = words
         found = labels_of(options, job, self.path.name, self.lines.output, talk)
@@ -117,6 +116,7 @@ class Table:
         remarks = [LeftOut(remark.first, "", remark.text) for remark in found.remarks]
         self.notes = [*self.said, *more, *remarks]
         self.left_out = len(rows) + len(more)
+        self.rows = {item.label.record.label.row for item in found.labels}
         commands = ["label-table", *words, "--", str(self.path)], ["label-print", *to_print]
         self.command = " | ".join(map(shlex.join, commands)) + f" > labels.{job.form.name}"
         return found
@@ -138,19 +138,38 @@ class Table:
             return time.strftime("%x", time.localtime(self.printed.stat().st_mtime))
         return ""
 
-    def keep_printed(self, choices: Choices) -> None:
-        """Keeps the lines of labels that went out, with those that are as before, for the next
-        `--new-since`; not where a part of them was asked for.
+    def keep_printed(self) -> None:
+        """Keeps the lines of the labels that went out, for the next `--new-since`, and those that
+        went out before, but for the same codes.
         """
-        if self.key and "--only" not in choices["for-print"]:
-            with suppress(OSError):
-                self.printed.write_bytes(self.all_lines.output)
+        if not self.key:
+            return
+        new = read_lines(self.lines.output, self.path.name).records
+        new = tuple(record for record in new if record.label.row in self.rows)
+        codes = {(record.symbology, record.data) for record in new}
+        before = self.printed_records()
+        old = (record for record in before if (record.symbology, record.data) not in codes)
+        with suppress(OSError):
+            self.printed.parent.mkdir(parents=True, exist_ok=True)
+            self.printed.write_bytes(file_of([*old, *new]))
+
+    def printed_records(self) -> tuple[LineRecord, ...]:
+        """Returns the lines that went out before; none where they cannot be read."""
+        with suppress(OSError, ToolError):
+            return read_lines(self.printed.read_bytes(), self.printed.name).records
+        return ()
 
     def keep(self, choices: Choices) -> None:
         """Keeps choices by which labels went out; those of columns only where columns have names,
         since two tables without names have nothing in common.
         """
         remember(self.key, choices)
+
+
+def file_of(records: Sequence[LineRecord]) -> bytes:
+    """Returns a file of lines."""
+    lines = (label_lines(one.label, one.line.decode(), True) for one in records)
+    return "".join([first_remark(""), *lines, last_remark(len(records), ())]).encode()
 
 
 def table_words(choices: Choices) -> list[str]:

@@ -318,7 +318,7 @@ class Window:
     def keep_printed(self) -> None:
         """Keeps which labels went out."""
         if self.table is not None:
-            self.table.keep_printed(self.choices())
+            self.table.keep_printed()
 
     def keep(self) -> None:
         """Keeps what is chosen for the next table like this: labels go out by it."""

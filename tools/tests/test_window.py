@@ -461,6 +461,28 @@ class WindowTest(unittest.TestCase):
         self.change(new_only=True)
         self.assertIn("no label", self.problem())  # all went out
 
+    def test_only_labels_that_went_out_are_kept(self):
+        """On a roll of 30x20 an EAN-13 does not fit: next time it is new all the same. So is what
+        was not asked for.
+        """
+        self.open()
+        self.change(roll=True, to="zpl", dpi="203", width=30, height=20)
+        self.saved("small.zpl")
+        self.until(self.window.widget("done").get_visible)
+        self.assertEqual(self.printed(), [b"96385074"])
+        self.change(width=60, height=40, for_print="--only 3")
+        self.saved("one.zpl")
+        self.until(self.window.widget("done").get_visible)
+        self.assertEqual(self.printed(), [b"96385074", b"036000291452"])
+        self.open()
+        self.change(new_only=True)
+        self.assertEqual(self.window.table.lines.count, 1)
+        self.assertIn("0,80", self.window.table.lines.summary)
+
+    def printed(self):
+        """The codes that went out, as they are kept."""
+        return [record.data for record in self.window.table.printed_records()]
+
     def test_keys_open_save_and_print(self):
         group = window.Gtk.accel_groups_from_object(self.window.window)[0]
         control = window.Gdk.ModifierType.CONTROL_MASK
