@@ -12,7 +12,7 @@ from labeltools.area import LARGEST_MODULE, TINY, Area
 from labeltools.engine import Modules, run_labels
 from labeltools.frames import DIGITS_ROOM, HINTING, LEAST_TEXT, LINE, LOWEST, Box, Frame, share
 from labeltools.layout import ASKED, LaidOut, LaidOutFile, Layout, PrintLabel, short
-from labeltools.letters import BLANK, Fonts, Letters, Sign
+from labeltools.letters import BLANK, Fonts, Letters, Sign, font_for
 from labeltools.lines_file import symbology_and_data
 from labeltools.messages import Place as LinePlace
 from labeltools.messages import Talk, quoted
@@ -85,12 +85,13 @@ class OwnSymbol:
 
 @dataclass(frozen=True, slots=True)
 class OwnLayout(Layout):
-    """What is on a label beside the drawing; as a layout it is that of its finest symbol of QR, or
-    else of its finest one.
+    """What is on a label beside the drawing, and the parts that it has not, whose groups are not
+    drawn; as a layout it is that of its finest symbol of QR, or else of its finest one.
     """
 
     texts: tuple[OwnText, ...]
     symbols: tuple[OwnSymbol, ...]
+    absent: frozenset[str]
 
 
 # codes by their places and texts, or why they are refused
@@ -103,6 +104,13 @@ class NoRoom(Exception):
     def __init__(self, reason: Text) -> None:
         super().__init__(reason)
         self.reason = reason
+
+
+class Word(NamedTuple):
+    """The width of a part of a line that is not wrapped, and of the space before it."""
+
+    advance: float
+    space: float
 
 
 class Fit(NamedTuple):
@@ -166,7 +174,7 @@ class Room:
 
     def largest_fit(self, text: str) -> Fit:
         """Returns the largest letters in which a text is whole, or else the least ones."""
-        paragraphs = [self.widths(line) for line in text.split("\n")]
+        paragraphs = [self.words(line) for line in text.split("\n")]
         best = Fit(self.least, self.most_lines, True)
         sizes = sizes_between(self.least, self.largest(len(paragraphs)))
         first = 0
@@ -180,33 +188,29 @@ class Room:
                 first = middle + 1
         return best
 
-    def fit(self, paragraphs: Sequence[Sequence[float]], size: int) -> Optional[Fit]:
+    def fit(self, paragraphs: Sequence[Sequence[Word]], size: int) -> Optional[Fit]:
         """Returns how a text fits in letters of a size; None where it does not."""
         room = self.wide / size / HINTING
-        if len(paragraphs) == 1 and sum(paragraphs[0]) <= room:
+        if len(paragraphs) == 1 and lines_of(paragraphs[0], room) == 1:
             return Fit(size, 1)
         lines = 0
         for words in paragraphs:
-            found = lines_of(words, room - SIDE, self.space)
+            found = lines_of(words, room - SIDE)
             if not found:
                 return None
             lines += found
         is_fitting = lines <= self.most_lines and size <= self.largest(lines)
         return Fit(size, lines) if is_fitting else None
 
-    @property
-    def space(self) -> float:
-        """The width of a space."""
-        return self.letters.spaces[self.place.is_bold]
-
-    def widths(self, line: str) -> list[float]:
-        """Returns the widths of words, each but the first with the space before it; prices are
-        one word.
-        """
-        found: list[float] = []
-        for word in [line] if self.is_price else line.split(" "):
-            advance = sign_of(self.letters, word, self.place.is_bold).advance
-            found.append(advance + (self.space if found else 0.0))
+    def words(self, line: str) -> list[Word]:
+        """Returns the words of a line; a price is one word."""
+        is_bold = self.place.is_bold
+        found: list[Word] = []
+        space = 0.0
+        for part in [line] if self.is_price else self.letters.parts(line):
+            bare = part.rstrip(" ")
+            found.append(Word(sign_of(self.letters, bare, is_bold).advance, space))
+            space = self.letters.spaces[is_bold] * (len(part) - len(bare))
         return found
 
     @property
@@ -223,7 +227,7 @@ class Room:
         size = min(fit.size, self.common)
         lines = fit.lines
         if size < fit.size and lines > 1:
-            found = self.fit([self.widths(line) for line in text.split("\n")], size)
+            found = self.fit([self.words(line) for line in text.split("\n")], size)
             lines = found.lines if found else lines
         tall = ((lines - 1) * LINE + self.bottom - self.top) * size
         base = (self.high - tall) * self.place.down - self.top * size
@@ -244,19 +248,19 @@ def sizes_between(least: int, most: int) -> list[int]:
     return sorted(sizes, reverse=True)
 
 
-def lines_of(words: Sequence[float], room: float, space: float) -> int:
+def lines_of(words: Sequence[Word], room: float) -> int:
     """Returns how many lines words take; 0 where one is too wide."""
     lines = 1
     used = 0.0
-    for number, word in enumerate(words):
-        bare = word - (space if number else 0.0)
-        if bare > room:
+    for word in words:
+        if word.advance > room:
             return 0
-        if used and used + word > room:
+        wide = word.space + word.advance if used else word.advance
+        if used and used + wide > room:
             lines += 1
-            used = bare
+            used = word.advance
         else:
-            used += word if used else bare
+            used += wide
     return lines
 
 
@@ -414,7 +418,8 @@ class OwnLayouts:
                 texts.append(rooms[place].text(text))
         finest = min(symbols, key=lambda one: (one.symbology.nominal > 0, one.module))
         found = (finest.symbology, finest.module, finest.boxes, False)
-        return OwnLayout(NO_FRAME, *found, tuple(texts), tuple(symbols))
+        absent = frozenset(key for key in self.design.groups if not values.texts.get(key))
+        return OwnLayout(NO_FRAME, *found, tuple(texts), tuple(symbols), absent)
 
     def symbol(self, place: Place, symbology: Symbology, code: Code) -> OwnSymbol:
         """Returns a symbol in the middle of its place; raises `NoRoom`."""
@@ -482,6 +487,12 @@ class OwnLayouts:
             why = Text("an edge of the page takes no ink there (--edge)")
             named = ", ".join(self.design.smaller)
             yield first, Text("{}: smaller than drawn: {}: {}", file, named, why)
+        for family in self.design.fonts:
+            there = font_for(family)
+            if there.lower() != family.lower():
+                yield first, Text(
+                    "{}: there is no font {}: its words are in {}", file, family, there
+                )
         names: dict[str, str] = {}
         for value in values:
             for key in value.texts:
