@@ -482,8 +482,8 @@ def sides_of(handle: Any, name: str, area: Any) -> Any:
 
 
 def colour_of(handle: Any, name: str, area: Any, whole: Any) -> Optional[Colour]:
-    """Returns the colour in the middle of a place, which is at `whole`; None where it is not filled,
-    or more than half transparent.
+    """Returns the colour in the middle of a place, which is at `whole`; None where it is not
+    filled, or more than half transparent.
     """
     surface = cairo.ImageSurface(cairo.FORMAT_ARGB32, 1, 1)
     canvas = cairo.Context(surface)

@@ -46,7 +46,7 @@ class OwnText:
 
 
 class Code(NamedTuple):
-    """A code: its modules and data, and the line and the options of labels(1) that it is made by."""
+    """A code: its modules, its data, and the line and options of labels(1) that it is made by."""
 
     modules: Modules
     data: bytes

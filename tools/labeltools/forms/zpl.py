@@ -19,7 +19,7 @@ MOST_COUNT = 400
 TWENTY = 20
 BEFORE_ONE = ord("F")
 BEFORE_TWENTY = ord("f")
-OFTEN = re.compile(r"(.)\1{2,}")
+OFTEN = re.compile("0000*|FFFF*")  # other digits hardly come often, and this is quick
 RESTS = {"0": ",", "F": "!"}  # the rest of a row is light or dark
 
 
@@ -100,8 +100,8 @@ def z64(rows: Sequence[bytes]) -> bytes:
 
 
 def run_lengths(rows: Sequence[bytes]) -> bytes:
-    """Returns rows in hexadecimal: a count before a digit that comes often, `,` and `!` for a rest
-    of 0 and F, `:` for the row above once more.
+    """Returns rows in hexadecimal: a count before 0 and F that come often, `,` and `!` for a rest
+    of them, `:` for the row above once more.
 
     >>> run_lengths((bytes.fromhex("FF00AB"), bytes.fromhex("FF00AB"), bytes(3)))
     b'FF00AB:,'
