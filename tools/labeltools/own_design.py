@@ -44,6 +44,7 @@ PX = 25.4 / DPI  # millimetres
 UNITS = {"px": 1.0, "mm": 1 / PX, "cm": 10 / PX, "in": DPI, "pt": DPI / 72, "pc": DPI / 6}
 MOST_BYTES = 8_000_000
 MOST_DEPTH = 200  # of elements in one another
+PICTURES = ("png", "jpeg")
 MOST_PIXELS = 50_000_000  # of a picture
 PICTURE_HEAD = 65_536  # letters of base 64 in which its size is
 NEAR = 1.0  # millimetres by which a page may differ from a label
@@ -61,8 +62,8 @@ FAMILY = re.compile(r"(?<![\w-])font-family\s*:\s*([^;}]+)")
 GENERAL = ("serif", "sans-serif", "sans", "monospace", "cursive", "fantasy", "system-ui", "inherit")
 ACROSS = {"left": -1, "middle": 0, "right": 1}
 DOWN = {"top": 0.0, "centre": 0.5, "bottom": 1.0}
-NUMBERS = ("module", "size", "lines")
-NUMBER = re.compile(r"\d{1,3}(?:\.\d{1,3})?", re.ASCII)
+LENGTH = re.compile(r"\d{1,3}(?:\.\d{1,3})?", re.ASCII)
+NUMBERS = {"module": LENGTH, "size": LENGTH, "lines": re.compile("[0-9]{1,2}")}
 
 
 Colour = tuple[float, float, float]  # red, green, blue: 0 to 1
@@ -214,6 +215,9 @@ def root_of(name: str) -> Element:
     if b"\0" in data or b"<!ENTITY" in data:
         what = Text("{} has entities, or is not in UTF-8", name)
         raise ToolError(what, Text("save it as plain SVG"))
+    if b"<?xml-stylesheet" in data:
+        what = Text("{}: its style sheet is another file, which is not read", name)
+        raise ToolError(what, Text("save it as plain SVG"))
     try:
         root = ElementTree.fromstring(data)
     except (ElementTree.ParseError, LookupError, ValueError) as error:
@@ -294,16 +298,17 @@ def check_elements(name: str, root: Element) -> None:
 
 
 def check_picture(name: str, link: str) -> None:
-    """Raises `ToolError` for a picture that would take too much memory: a small file may have very
-    many pixels.
+    """Raises `ToolError` for a picture that would not be drawn, or would take too much memory: a
+    small file may have very many pixels. Its head says how many.
     """
-    kind, _, data = link.partition(";base64,")
-    if not kind.startswith("data:image/") or "svg" in kind:
+    before, _, data = link.partition(";base64,")
+    if not before.startswith("data:"):
         return
-    found: list[Size] = []
+    pixels = 0
 
     def take(loader: Any, width: int, height: int) -> None:
-        found.append((width, height))
+        nonlocal pixels
+        pixels = width * height
         loader.set_size(0, 0)  # none of it is drawn
 
     loader = library("GdkPixbuf", "2.0").PixbufLoader()
@@ -312,7 +317,8 @@ def check_picture(name: str, link: str) -> None:
         loader.write(b64decode("".join(data.split())[:PICTURE_HEAD]))
     with suppress(library("GLib", "2.0").Error):
         loader.close()  # what is not whole
-    if not found or found[0][0] * found[0][1] > MOST_PIXELS:
+    kind = loader.get_format()
+    if not kind or kind.get_name() not in PICTURES or not 0 < pixels <= MOST_PIXELS:
         what = Text(
             "{}: a picture is not PNG or JPEG, or has more than {:,} pixels", name, MOST_PIXELS
         )
@@ -393,9 +399,9 @@ def taken_places(name: str, root: Element) -> list[Taken]:
 
 def place_of(name: str, written: str) -> Place:
     """Returns the place of a name, without its sides; raises `ToolError`."""
-    title, *words = (word.strip() for word in written.split(","))
+    title, *words = (" ".join(word.split()) for word in written.split(","))
     place = Place(title, title)
-    for word in words:
+    for word in filter(None, words):
         key, _, value = word.partition("=")
         if word in ACROSS:
             place = replace(place, across=ACROSS[word])
@@ -405,7 +411,7 @@ def place_of(name: str, written: str) -> Place:
             place = replace(place, is_bold=True)
         elif word in SYMBOLOGIES:
             place = replace(place, symbology=word)
-        elif key in NUMBERS and NUMBER.fullmatch(value):
+        elif key in NUMBERS and NUMBERS[key].fullmatch(value) and float(value) > 0:
             place = replace(place, **{key: float(value)})
         elif key == "font" and value:
             place = replace(place, font=value)
