@@ -113,6 +113,13 @@ class Word(NamedTuple):
     space: float
 
 
+class Measured(NamedTuple):
+    """The words of each line of a text, and the width of its ink where it is one line, else 0."""
+
+    paragraphs: Sequence[Sequence[Word]]
+    ink: float
+
+
 class Fit(NamedTuple):
     """The largest letters of a text in a place, how many lines it has then, whether it is cut."""
 
@@ -174,33 +181,39 @@ class Room:
 
     def largest_fit(self, text: str) -> Fit:
         """Returns the largest letters in which a text is whole, or else the least ones."""
-        paragraphs = [self.words(line) for line in text.split("\n")]
+        measured = self.measured(text)
         best = Fit(self.least, self.most_lines, True)
-        sizes = sizes_between(self.least, self.largest(len(paragraphs)))
+        sizes = sizes_between(self.least, self.largest(len(measured.paragraphs)))
         first = 0
         last = len(sizes)
         while first < last:  # the sizes fall: the first one in which it is whole
             middle = (first + last) // 2
-            if fit := self.fit(paragraphs, sizes[middle]):
+            if fit := self.fit(measured, sizes[middle]):
                 best = fit
                 last = middle
             else:
                 first = middle + 1
         return best
 
-    def fit(self, paragraphs: Sequence[Sequence[Word]], size: int) -> Optional[Fit]:
+    def fit(self, text: Measured, size: int) -> Optional[Fit]:
         """Returns how a text fits in letters of a size; None where it does not."""
         room = self.wide / size / HINTING
-        if len(paragraphs) == 1 and lines_of(paragraphs[0], room) == 1:
+        if 0 < text.ink <= room:
             return Fit(size, 1)
         lines = 0
-        for words in paragraphs:
+        for words in text.paragraphs:
             found = lines_of(words, room - SIDE)
             if not found:
                 return None
             lines += found
         is_fitting = lines <= self.most_lines and size <= self.largest(lines)
         return Fit(size, lines) if is_fitting else None
+
+    def measured(self, text: str) -> Measured:
+        """Returns the widths of a text; those of a price are of one word."""
+        lines = text.split("\n")
+        ink = self.letters.extent(text, self.place.is_bold).width if len(lines) == 1 else 0.0
+        return Measured([self.words(line) for line in lines], ink)
 
     def words(self, line: str) -> list[Word]:
         """Returns the words of a line; a price is one word."""
@@ -227,7 +240,7 @@ class Room:
         size = min(fit.size, self.common)
         lines = fit.lines
         if size < fit.size and lines > 1:
-            found = self.fit([self.words(line) for line in text.split("\n")], size)
+            found = self.fit(self.measured(text), size)
             lines = found.lines if found else lines
         tall = ((lines - 1) * LINE + self.bottom - self.top) * size
         base = (self.high - tall) * self.place.down - self.top * size
