@@ -345,7 +345,7 @@ def page_of(name: str, root: Element) -> Page:
     for key in ("width", "height"):
         root.attrib.pop(key, None)
     scale = PX if is_real else 1.0
-    return Page((width * scale, height * scale), is_real)
+    return Page((round(width * scale, 3), round(height * scale, 3)), is_real)
 
 
 def fitting_turn(name: str, page: Page, cell: Size, turn: Optional[bool]) -> bool:
