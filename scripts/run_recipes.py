@@ -39,7 +39,7 @@ PICTURES = TOP / "docs/pictures"
 # A picture of the window: themes and fonts of a desktop make it another one, so it is drawn by hand.
 OF_A_SCREEN = "window.png"
 PROGRAM = "crates/labels/out/labels"
-FOLDERS = ("man", "completions", "tools", "docs", "scripts")
+FOLDERS = ("man", "completions", "tools", "docs", "scripts", "designs")
 SECONDS = 3600
 PROMPT, CONTINUED = "$ ", "> "
 EXAMPLE = re.compile(r"(?:^ {14}.*\n)+", re.MULTILINE)

@@ -7,13 +7,15 @@ import re
 import struct
 import zlib
 from dataclasses import dataclass
-from functools import cache
-from typing import Iterator
+from functools import cache, reduce
+from itertools import repeat
+from operator import or_
+from typing import Iterator, Optional, Sequence
 
 from labeltools.text import Text
 
 ZPL_HEAD = re.compile(rb"\^XA\^PON\^LH0,0\^LS0\^PW([0-9]+)\^LL([0-9]+)\n")
-ZPL_FIELD = re.compile(rb"\^FO0,([0-9]+)\^GFA,([0-9]+),([0-9]+),([0-9]+),([^^]*)\^FS\n")
+ZPL_FIELD = re.compile(rb"\^FO([0-9]+),([0-9]+)\^GFA,([0-9]+),([0-9]+),([0-9]+),([^^]*)\^FS\n")
 ZPL_END = re.compile(rb"(?:\^PQ([0-9]+)\n)?\^XZ\n")
 COUNTED = re.compile(r"([G-Yg-z]+[0-9A-F])")
 ROWS = re.compile(r"[0-9A-Zg-z]+[,!]?|[,!:]")
@@ -52,14 +54,22 @@ class Dots:
 
 
 class Field:
-    """The rows of a graphic field of ZPL in run lengths. They are counted, and those that are asked
-    for are read, since that takes longer than all else.
+    """The rows of a graphic field of ZPL: the byte and the row where it begins, its bytes a row.
+    Rows in run lengths are counted, and those that are asked for are read, since that takes longer
+    than all else.
     """
 
-    def __init__(self, data: bytes, size: int, count: int) -> None:
-        self.width = 2 * size
+    def __init__(self, left: int, top: int, size: int, count: int, data: bytes) -> None:
+        self.left = left
+        self.top = top
+        self.size = size
         self.rows: list[str] = []
         self.known: dict[str, bytes] = {}
+        if data.startswith(b":Z64:"):
+            coded, _, _ = data[5:].partition(b":")
+            dots = whole(zlib.decompress(base64.b64decode(coded)), size * count)
+            self.rows = [dots[at : at + size].hex().upper() for at in range(0, len(dots), size)]
+            return
         found: list[str] = ROWS.findall(data.decode("ascii"))
         if len(found) != count:  # rows that are whole without a sign for their rest
             found = [part for row in found for part in self.parts(row)]
@@ -68,12 +78,14 @@ class Field:
             if row != ":":
                 above = row
             self.rows.append(above)
+        if len(self.rows) != count:
+            raise NotDecoded(Text("zpl with {} rows, which has {}", len(self.rows), count))
 
     def parts(self, text: str) -> Iterator[str]:
         """Yields the rows of a text of digits, the last of which may have a sign for its rest."""
         digits = expanded(text)
-        for start in range(0, len(digits), self.width):
-            yield digits[start : start + self.width]
+        for start in range(0, len(digits), 2 * self.size):
+            yield digits[start : start + 2 * self.size]
 
     def row(self, text: str) -> bytes:
         """Returns a row; raises `NotDecoded` where it is too long or too short."""
@@ -82,30 +94,57 @@ class Field:
             digits = expanded(text)
             rest = RESTS.get(digits[-1:])
             if rest:
-                digits = digits[:-1].ljust(self.width, rest)
-            if len(digits) != self.width:
+                digits = digits[:-1].ljust(2 * self.size, rest)
+            if len(digits) != 2 * self.size:
                 raise NotDecoded(Text("a row of the zpl has not its length"))
             known = self.known[text] = bytes.fromhex(digits)
         return known
 
+    def pieces(self, top: int, high: int, first: int, last: int) -> Iterator[bytes]:
+        """Yields the bytes of rows of the label from one byte on to another."""
+        blank = bytes(last - first)
+        start = first - self.left
+        before = bytes(max(0, -start))
+        above: Optional[str] = None
+        piece = blank
+        for number in range(top - self.top, top - self.top + high):
+            if not 0 <= number < len(self.rows):
+                above = None
+                piece = blank
+            elif self.rows[number] is not above:
+                above = self.rows[number]
+                row = before + self.row(above)[max(0, start) : max(0, last - self.left)]
+                piece = row.ljust(len(blank), b"\0")
+            yield piece
+
 
 @dataclass(frozen=True)
 class FieldDots(Dots):
-    """Dots that graphic fields in run lengths are."""
+    """Dots that graphic fields are, which are light where no field is."""
 
     fields: tuple[Field, ...] = ()
 
     def pieces(self, top: int, high: int, first: int, last: int) -> Iterator[bytes]:
         """Yields the bytes of rows from one byte on to another."""
-        for field in self.fields:
-            above = ""
-            piece = b""
-            for text in field.rows[max(0, top) : max(0, top + high)]:
-                if text is not above:
-                    above = text
-                    piece = field.row(text)[first:last]
-                yield piece
-            top -= len(field.rows)
+        there = [
+            field.pieces(top, high, first, last)
+            for field in self.fields
+            if field.left < last
+            and first < field.left + field.size
+            and field.top < top + high
+            and top < field.top + len(field.rows)
+        ]
+        if len(there) == 1:
+            return there[0]
+        if not there:
+            return repeat(bytes(last - first), high)
+        return (merged(pieces) for pieces in zip(*there))
+
+
+def merged(pieces: Sequence[bytes]) -> bytes:
+    """Returns the dots that are in any of some pieces."""
+    dots = reduce(or_, (int.from_bytes(piece, "big") for piece in pieces))
+    return dots.to_bytes(len(pieces[0]), "big")
 
 
 def dots_of(form: str, data: bytes) -> Dots:
@@ -184,29 +223,19 @@ def dots_of_zpl(data: bytes) -> Dots:
     width = int(head[1])
     height = int(head[2])
     stride = (width + 7) // 8
-    packed = b""
     fields: list[Field] = []
-    rows = 0
     at = head.end()
     while found := ZPL_FIELD.match(data, at):
-        top, length, again, size = (int(found[number]) for number in range(1, 5))
-        if top != rows or length != again or size != stride or length % size:
-            raise NotDecoded(Text("zpl with a gap between graphic fields"))
-        rows += length // size
-        if found[5].startswith(b":Z64:"):
-            coded, _, _ = found[5][5:].partition(b":")
-            packed += whole(zlib.decompress(base64.b64decode(coded)), length)
-        else:
-            fields.append(Field(found[5], size, length // size))
+        left, top, length, again, size = (int(found[number]) for number in range(1, 6))
+        is_inside = not left % 8 and left // 8 + size <= stride and top + length // size <= height
+        if length != again or length % size or not is_inside:
+            raise NotDecoded(Text("zpl with a graphic field that leaves the label"))
+        fields.append(Field(left // 8, top, size, length // size, found[6]))
         at = found.end()
     end = ZPL_END.fullmatch(data, at)
-    counted = sum(len(field.rows) for field in fields) + len(packed) // stride
-    if not end or rows != height or counted != height:
-        raise NotDecoded(Text("zpl with {} rows, which has {}", counted, height))
-    copies = int(end[1] or 1)
-    if fields:
-        return FieldDots(width, height, stride, b"", copies, tuple(fields))
-    return Dots(width, height, stride, packed, copies)
+    if not end:
+        raise NotDecoded(Text("zpl without an end"))
+    return FieldDots(width, height, stride, b"", int(end[1] or 1), tuple(fields))
 
 
 def expanded(text: str) -> str:

@@ -12,7 +12,7 @@ from labeltools.area import LARGEST_MODULE, TINY, Area
 from labeltools.engine import Modules, run_labels
 from labeltools.frames import DIGITS_ROOM, HINTING, LEAST_TEXT, LINE, LOWEST, Box, Frame, share
 from labeltools.layout import ASKED, LaidOut, LaidOutFile, Layout, PrintLabel, short
-from labeltools.letters import BLANK, Fonts, Letters, Sign
+from labeltools.letters import BLANK, Fonts, Letters, Sign, font_for
 from labeltools.lines_file import symbology_and_data
 from labeltools.messages import Place as LinePlace
 from labeltools.messages import Talk, quoted
@@ -45,33 +45,57 @@ class OwnText:
     is_cut: bool
 
 
+class Code(NamedTuple):
+    """A code: its modules, its data, and the line and options of labels(1) that it is made by."""
+
+    modules: Modules
+    data: bytes
+    line: bytes
+    words: tuple[str, ...]
+
+
 @dataclass(frozen=True, slots=True)
 class OwnSymbol:
-    """A symbol in a place: its box, its data and modules, and where its bars and digits are in
-    that.
+    """A symbol in a place: its box, its code, its module, and where its bars and digits are in the
+    box as it is read.
     """
 
     place: Place
     box: Box
-    data: bytes
-    modules: Modules
+    code: Code
     symbology: Symbology
     module: int
     boxes: Mapping[str, Box]
 
+    @property
+    def bars(self) -> Box:
+        """Where its bars, or its rows of QR, are on the label, with their quiet zones. They are
+        turned to the right by the quarters of the place.
+        """
+        box = self.box
+        bars = self.boxes["bars"]
+        left, top = bars.left, bars.top
+        for _ in range(self.place.quarters):
+            left, top = -top - bars.height, left
+            bars = Box(left, top, bars.height, bars.width)
+        corners = ((0, 0), (box.width, 0), (box.width, box.height), (0, box.height))
+        across, down = corners[self.place.quarters]
+        return Box(box.left + across + left, box.top + down + top, bars.width, bars.height)
+
 
 @dataclass(frozen=True, slots=True)
 class OwnLayout(Layout):
-    """What is on a label beside the drawing; as a layout it is that of its finest symbol of QR, or
-    else of its finest one.
+    """What is on a label beside the drawing, and the parts that it has not, whose groups are not
+    drawn; as a layout it is that of its finest symbol of QR, or else of its finest one.
     """
 
     texts: tuple[OwnText, ...]
     symbols: tuple[OwnSymbol, ...]
+    absent: frozenset[str]
 
 
-# symbols by their places and texts: their modules and data, or why they are refused
-Made = dict[tuple[Place, str], tuple[Modules, bytes] | Text]
+# codes by their places and texts, or why they are refused
+Made = dict[tuple[Place, str], Code | Text]
 
 
 class NoRoom(Exception):
@@ -80,6 +104,20 @@ class NoRoom(Exception):
     def __init__(self, reason: Text) -> None:
         super().__init__(reason)
         self.reason = reason
+
+
+class Word(NamedTuple):
+    """The width of a part of a line that is not wrapped, and of the space before it."""
+
+    advance: float
+    space: float
+
+
+class Measured(NamedTuple):
+    """The words of each line of a text, and the width of its ink where it is one line, else 0."""
+
+    paragraphs: Sequence[Sequence[Word]]
+    ink: float
 
 
 class Fit(NamedTuple):
@@ -143,47 +181,49 @@ class Room:
 
     def largest_fit(self, text: str) -> Fit:
         """Returns the largest letters in which a text is whole, or else the least ones."""
-        paragraphs = [self.widths(line) for line in text.split("\n")]
+        measured = self.measured(text)
         best = Fit(self.least, self.most_lines, True)
-        sizes = sizes_between(self.least, self.largest(len(paragraphs)))
+        sizes = sizes_between(self.least, self.largest(len(measured.paragraphs)))
         first = 0
         last = len(sizes)
         while first < last:  # the sizes fall: the first one in which it is whole
             middle = (first + last) // 2
-            if fit := self.fit(paragraphs, sizes[middle]):
+            if fit := self.fit(measured, sizes[middle]):
                 best = fit
                 last = middle
             else:
                 first = middle + 1
         return best
 
-    def fit(self, paragraphs: Sequence[Sequence[float]], size: int) -> Optional[Fit]:
+    def fit(self, text: Measured, size: int) -> Optional[Fit]:
         """Returns how a text fits in letters of a size; None where it does not."""
         room = self.wide / size / HINTING
-        if len(paragraphs) == 1 and sum(paragraphs[0]) <= room:
+        if 0 < text.ink <= room:
             return Fit(size, 1)
         lines = 0
-        for words in paragraphs:
-            found = lines_of(words, room - SIDE, self.space)
+        for words in text.paragraphs:
+            found = lines_of(words, room - SIDE)
             if not found:
                 return None
             lines += found
         is_fitting = lines <= self.most_lines and size <= self.largest(lines)
         return Fit(size, lines) if is_fitting else None
 
-    @property
-    def space(self) -> float:
-        """The width of a space."""
-        return self.letters.spaces[self.place.is_bold]
+    def measured(self, text: str) -> Measured:
+        """Returns the widths of a text; those of a price are of one word."""
+        lines = text.split("\n")
+        ink = self.letters.extent(text, self.place.is_bold).width if len(lines) == 1 else 0.0
+        return Measured([self.words(line) for line in lines], ink)
 
-    def widths(self, line: str) -> list[float]:
-        """Returns the widths of words, each but the first with the space before it; prices are
-        one word.
-        """
-        found: list[float] = []
-        for word in [line] if self.is_price else line.split(" "):
-            advance = sign_of(self.letters, word, self.place.is_bold).advance
-            found.append(advance + (self.space if found else 0.0))
+    def words(self, line: str) -> list[Word]:
+        """Returns the words of a line; a price is one word."""
+        is_bold = self.place.is_bold
+        found: list[Word] = []
+        space = 0.0
+        for part in [line] if self.is_price else self.letters.parts(line):
+            bare = part.rstrip(" ")
+            found.append(Word(sign_of(self.letters, bare, is_bold).advance, space))
+            space = self.letters.spaces[is_bold] * (len(part) - len(bare))
         return found
 
     @property
@@ -200,7 +240,7 @@ class Room:
         size = min(fit.size, self.common)
         lines = fit.lines
         if size < fit.size and lines > 1:
-            found = self.fit([self.widths(line) for line in text.split("\n")], size)
+            found = self.fit(self.measured(text), size)
             lines = found.lines if found else lines
         tall = ((lines - 1) * LINE + self.bottom - self.top) * size
         base = (self.high - tall) * self.place.down - self.top * size
@@ -221,19 +261,19 @@ def sizes_between(least: int, most: int) -> list[int]:
     return sorted(sizes, reverse=True)
 
 
-def lines_of(words: Sequence[float], room: float, space: float) -> int:
+def lines_of(words: Sequence[Word], room: float) -> int:
     """Returns how many lines words take; 0 where one is too wide."""
     lines = 1
     used = 0.0
-    for number, word in enumerate(words):
-        bare = word - (space if number else 0.0)
-        if bare > room:
+    for word in words:
+        if word.advance > room:
             return 0
-        if used and used + word > room:
+        wide = word.space + word.advance if used else word.advance
+        if used and used + wide > room:
             lines += 1
-            used = bare
+            used = word.advance
         else:
-            used += word if used else bare
+            used += wide
     return lines
 
 
@@ -359,8 +399,9 @@ class OwnLayouts:
         found: Made = {}
         for key, number in wanted.items():
             modules = drawn.pictures.get(number)
-            _, data = symbology_and_data(lines[number - 1], True)
-            found[key] = (modules, data) if modules else drawn.refused[number]
+            line = lines[number - 1]
+            _, data = symbology_and_data(line, True)
+            found[key] = Code(modules, data, line, words) if modules else drawn.refused[number]
         return found
 
     def layout(
@@ -381,21 +422,22 @@ class OwnLayouts:
                 second = made[place, text]
                 if isinstance(second, Text):
                     raise NoRoom(Text("place {}: {}", place.title, second))
-                symbols.append(self.symbol(place, SYMBOLOGIES[place.symbology], *second))
+                symbols.append(self.symbol(place, SYMBOLOGIES[place.symbology], second))
             elif place.is_symbol:
-                data = label.record.data
-                symbols.append(self.symbol(place, label.symbology, label.modules, data))
+                record = label.record
+                code = Code(label.modules, record.data, record.line, self.words)
+                symbols.append(self.symbol(place, label.symbology, code))
             else:
                 texts.append(rooms[place].text(text))
         finest = min(symbols, key=lambda one: (one.symbology.nominal > 0, one.module))
         found = (finest.symbology, finest.module, finest.boxes, False)
-        return OwnLayout(NO_FRAME, *found, tuple(texts), tuple(symbols))
+        absent = frozenset(key for key in self.design.groups if not values.texts.get(key))
+        return OwnLayout(NO_FRAME, *found, tuple(texts), tuple(symbols), absent)
 
-    def symbol(
-        self, place: Place, symbology: Symbology, modules: Modules, data: bytes
-    ) -> OwnSymbol:
+    def symbol(self, place: Place, symbology: Symbology, code: Code) -> OwnSymbol:
         """Returns a symbol in the middle of its place; raises `NoRoom`."""
         box = self.boxes[place]
+        modules = code.modules
         room = Box(0, 0, box.height, box.width) if place.quarters % 2 else box
         least, most = self.allowed(place, symbology)
         rows = modules.height if modules.height > 1 else 0  # else bars are as high as there is room
@@ -415,7 +457,7 @@ class OwnLayouts:
         boxes = {"bars": bars}
         if below:
             boxes["digits"] = bars._replace(top=bars.bottom, height=below * module)
-        return OwnSymbol(place, box, data, modules, symbology, module, boxes)
+        return OwnSymbol(place, box, code, symbology, module, boxes)
 
     def allowed(self, place: Place, symbology: Symbology) -> tuple[int, int]:
         """Returns the least and the most dots of a module. EAN and UPC have a largest one."""
@@ -458,6 +500,12 @@ class OwnLayouts:
             why = Text("an edge of the page takes no ink there (--edge)")
             named = ", ".join(self.design.smaller)
             yield first, Text("{}: smaller than drawn: {}: {}", file, named, why)
+        for family in self.design.fonts:
+            there = font_for(family)
+            if there.lower() != family.lower():
+                yield first, Text(
+                    "{}: there is no font {}: its words are in {}", file, family, there
+                )
         names: dict[str, str] = {}
         for value in values:
             for key in value.texts:

@@ -370,7 +370,7 @@ class Pen:
         """Draws the modules of a label, and the longer guards of bars."""
         box = layout.boxes["bars"]
         module = layout.module
-        if self.medium.is_smooth:
+        if self.medium.is_smooth or self.medium.is_dots:  # in dots that is quicker, too
             draw_rectangles(canvas, modules, box, module, layout.symbology.guards)
             return
         # in whole modules: one row that is stretched far is off by a dot in Cairo's fixed numbers
@@ -379,7 +379,7 @@ class Pen:
         if len(modules.packed) == modules.row_size and layout.symbology.guards:
             high += GUARD
         place = box._replace(height=high * module)
-        mask.set_matrix(scaled(place, modules.width, high, 0.0 if self.medium.is_dots else INSET))
+        mask.set_matrix(scaled(place, modules.width, high))
         canvas.mask(mask)
 
     def draw_data(self, canvas: Any, whole: bytes, layout: Symbol) -> None:
@@ -520,13 +520,13 @@ def bars_mask(modules: Modules, symbology: Symbology, high: int) -> Any:
     return mask
 
 
-def scaled(box: Box, width: int, height: int, inset: float) -> cairo.Matrix:
+def scaled(box: Box, width: int, height: int) -> cairo.Matrix:
     """Returns from where in a picture the dots of a box are, which it fills but for an inset: a
     program that draws a PDF takes each dot that the picture touches.
     """
-    across = width / (box.width - 2 * inset)
-    down = height / (box.height - 2 * inset)
-    return cairo.Matrix(across, 0, 0, down, -(box.left + inset) * across, -(box.top + inset) * down)
+    across = width / (box.width - 2 * INSET)
+    down = height / (box.height - 2 * INSET)
+    return cairo.Matrix(across, 0, 0, down, -(box.left + INSET) * across, -(box.top + INSET) * down)
 
 
 def padded(row: bytes, stride: int) -> bytes:

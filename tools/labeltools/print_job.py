@@ -21,7 +21,7 @@ from labeltools.lines_file import UNPRINTABLE, LineRecord, LinesFile, read_lines
 from labeltools.messages import BAD_ARGUMENTS, Place, Talk, ToolError, quoted
 from labeltools.own_design import is_file, read_design, size_of_page
 from labeltools.own_layout import OwnLayouts
-from labeltools.own_pen import check_drawing
+from labeltools.own_pen import with_colours
 from labeltools.pen import Medium, Pen
 from labeltools.names import listed
 from labeltools.press import Press, PrintJob, Prints, pen_of, pens_of, with_copies
@@ -145,8 +145,8 @@ def planned(options: PrintOptions) -> PrintJob:
             what = Text("--height is not for a design of one's own")
             hint = Text("the places of a design say how high bars are")
             raise ToolError(what, hint, BAD_ARGUMENTS)
-        own = read_design(options.design, sheet.cell, white_of(sheet, edges), options.turn)
-        check_drawing(own)
+        white = white_of(sheet, edges)
+        own = with_colours(read_design(options.design, sheet.cell, white, options.turn))
     wishes = Wishes(
         OWN if own else DESIGNS[options.design],
         options.module,

@@ -39,9 +39,14 @@ class Compared(unittest.TestCase):
         def moved(box: pen.Box, *others: object) -> object:
             return scaled(box._replace(left=box.left + 1), *others)
 
+        def drawn(canvas: object, modules: object, box: pen.Box, *others: object) -> object:
+            return rectangles(canvas, modules, box._replace(left=box.left + 1), *others)
+
         scaled = pen.scaled
+        rectangles = pen.draw_rectangles
         for form in ("zpl", "escpos", "pbm", "pdf"):
-            said = self.fault("labeltools.pen.scaled", moved, to=form)
+            name, wrong = ("scaled", moved) if form == "pdf" else ("draw_rectangles", drawn)
+            said = self.fault(f"labeltools.pen.{name}", wrong, to=form)
             self.assertRegex(said, r"^line 1: its code is wrong .* mm from the left, .* mm down$")
 
     def test_the_picture_of_another_label(self) -> None:

@@ -3,28 +3,44 @@
 import binascii
 import re
 import zlib
-from functools import cache
+from functools import cache, reduce
 from itertools import chain
+from operator import or_
+from typing import Iterator, NamedTuple, Sequence
 
-from labeltools.engine import bytes_a_row
 from labeltools.forms.dots import Picture
 
 MOST_BYTES = 99_999  # of a graphic field
+# white that parts two fields: fewer rows or bytes of it take less than the head of a field
+WHITE_ROWS = 8
+INKED = re.compile(rb"[^\0]+(?:\0{1,2}[^\0]+)*")
 # run lengths: counts of one are a letter from G on, counts of twenty a letter from g on
 MOST_COUNT = 400
 TWENTY = 20
 BEFORE_ONE = ord("F")
 BEFORE_TWENTY = ord("f")
-OFTEN = re.compile(r"(.)\1{2,}")
+OFTEN = re.compile("0000*|FFFF*")  # other digits hardly come often, and this is quick
 RESTS = {"0": ",", "F": "!"}  # the rest of a row is light or dark
+
+
+class Block(NamedTuple):
+    """A part of a label with white around it: the byte and the row where it begins, and its rows
+    of whole bytes.
+    """
+
+    left: int
+    top: int
+    rows: Sequence[bytes]
 
 
 def zpl(picture: Picture, copies: int, is_compressed: bool) -> bytes:
     """Returns a label, which is printed `copies` times.
 
     It is not turned (^PON), and begins at the left upper corner (^LH, ^LS), whatever the job before
-    has set. Its dots are graphic fields one below the other: run lengths, which each printer and
-    clone reads, or where `is_compressed` zlib in base 64 (:Z64:), which is a third of that.
+    has set. Its dots are a graphic field for each block between white rows and columns, so that a
+    row of bars is that above it once more, whatever is beside them: run lengths, which each
+    printer and clone reads, or where `is_compressed` zlib in base 64 (:Z64:), which is a third of
+    that.
     """
     head = b"^XA^PON^LH0,0^LS0^PW%d^LL%d\n" % (picture.width, picture.height)
     fields = b"".join(graphic_fields(picture, is_compressed))
@@ -34,26 +50,58 @@ def zpl(picture: Picture, copies: int, is_compressed: bool) -> bytes:
 
 def graphic_fields(picture: Picture, is_compressed: bool) -> list[bytes]:
     """Returns the graphic fields of a label."""
-    size = bytes_a_row(picture.width)
-    rows_a_field = MOST_BYTES // size
     fields = []
-    for top in range(0, picture.height, rows_a_field):
-        rows = picture.rows[top : top + rows_a_field]
-        data = z64(rows) if is_compressed else run_lengths(rows)
-        length = len(rows) * size
-        fields.append(b"^FO0,%d^GFA,%d,%d,%d,%b^FS\n" % (top, length, length, size, data))
+    for block in blocks(Block(0, 0, picture.rows)):
+        size = len(block.rows[0])
+        rows_a_field = MOST_BYTES // size
+        for start in range(0, len(block.rows), rows_a_field):
+            rows = block.rows[start : start + rows_a_field]
+            data = z64(rows) if is_compressed else run_lengths(rows)
+            place = (8 * block.left, block.top + start)
+            length = len(rows) * size
+            fields.append(b"^FO%d,%d^GFA,%d,%d,%d,%b^FS\n" % (*place, length, length, size, data))
     return fields
 
 
-def z64(rows: tuple[bytes, ...]) -> bytes:
+def blocks(whole: Block) -> Iterator[Block]:
+    """Yields the blocks of a label from top to bottom, and from left to right."""
+    for band in bands(whole):
+        mask = reduce(or_, (int.from_bytes(row, "big") for row in set(band.rows)))
+        parts = list(INKED.finditer(mask.to_bytes(len(band.rows[0]), "big")))
+        for part in parts:
+            rows = [row[part.start() : part.end()] for row in band.rows]
+            block = Block(band.left + part.start(), band.top, rows)
+            if len(parts) > 1:
+                yield from blocks(block)
+            else:
+                yield block
+
+
+def bands(block: Block) -> Iterator[Block]:
+    """Yields parts of a block with white rows between them, and none at their ends."""
+    blank = bytes(len(block.rows[0])) if block.rows else b""
+    start = last = -1
+    for number, row in enumerate(block.rows):
+        if row == blank:
+            continue
+        if number - last > WHITE_ROWS and start >= 0:
+            yield Block(block.left, block.top + start, block.rows[start : last + 1])
+            start = -1
+        last = number
+        start = number if start < 0 else start
+    if start >= 0:
+        yield Block(block.left, block.top + start, block.rows[start : last + 1])
+
+
+def z64(rows: Sequence[bytes]) -> bytes:
     """Returns rows compressed by zlib, in base 64, with their check sum."""
     packed = binascii.b2a_base64(zlib.compress(b"".join(rows), 9), newline=False)
     return b":Z64:%b:%04X" % (packed, binascii.crc_hqx(packed, 0))
 
 
-def run_lengths(rows: tuple[bytes, ...]) -> bytes:
-    """Returns rows in hexadecimal: a count before a digit that comes often, `,` and `!` for a rest
-    of 0 and F, `:` for the row above once more.
+def run_lengths(rows: Sequence[bytes]) -> bytes:
+    """Returns rows in hexadecimal: a count before 0 and F that come often, `,` and `!` for a rest
+    of them, `:` for the row above once more.
 
     >>> run_lengths((bytes.fromhex("FF00AB"), bytes.fromhex("FF00AB"), bytes(3)))
     b'FF00AB:,'
