@@ -16,6 +16,7 @@ pub mod PayloadLaws
 pub mod DataReadingLaws
 pub mod DamageLaws
 pub mod CodewordByteLaws
+pub mod ReadFitLaws
 pub mod SameWidthLaws
 pub mod SegmentReadingLaws
 pub mod SmallChoiceLaws
