@@ -1,8 +1,8 @@
 -- Data that the codewords of a symbol are read as fits the symbol in some segments (ISO/IEC 18004, 12).
 use Rattle.std.proofs.Common.{◌≡◌, ℕ, zero, suc, ◌+◌, ◌*◌, ◌/◌, ◌%◌, ◌^◌, ◌<◌, ◌≤◌, List, [], ◌∷◌, ◌++◌, length, take}
-use Rattle.std.proofs.Common.{drop, refl, sym, ap, ◌∙◌, subst, arith, Bool, true, false, Option, Some, None, get_or, map}
+use Rattle.std.proofs.Common.{drop, refl, sym, ap, ◌∙◌, subst, arith, Bool, true, false, Some, None, get_or, map}
 use Rattle.std.proofs.Common.{leb-false, ltb-false, length-append, if◌then◌else◌}
-use Rattle.std.specs.Prelude.{◌==◌, ◌&&◌, ◌||◌, nat_le, nat_lt, IsTrue, option_and_then, slice_index, sum}
+use Rattle.std.specs.Prelude.{◌==◌, ◌||◌, nat_le, nat_lt, IsTrue, option_and_then, slice_index, sum}
 use Rattle.std.specs.Char.{is_ascii_digit}
 use Rattle.std.specs.List.{concat, find, list_all, range_with_len}
 use Rattle.std.proofs.lemmas.Bool.{agree_below, agree_below_at, le-leb}
@@ -21,7 +21,7 @@ use Rattle.qrdata.specs.Reading.{interleaving_place}
 use Rattle.qrdata.specs.Reading.{is_end, number_at, payload_at, segment_at, segments_at}
 use Rattle.qrdata.specs.Segments.{IsSegmentation, alphanumeric_characters, alphanumeric_value, byte_bits, cost, count_width}
 use Rattle.qrdata.specs.Segments.{has_character, mode_indicator, modes, payload_length, segment_length, segment_of}
-use Rattle.qrdata.specs.Versions.{block_lengths, capacity, data_codewords, ec_codewords_per_block, total_codewords}
+use Rattle.qrdata.specs.Versions.{block_lengths, data_codewords}
 use Rattle.qrdata.proofs.BitStringLaws.{drop_front, take_front}
 use Rattle.qrdata.proofs.DataReadingLaws.{lengths_hold}
 use Rattle.qrdata.proofs.PaddingLaws.{length-byte_bits}
