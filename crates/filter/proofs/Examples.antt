@@ -33,7 +33,7 @@ use Rattle.labelcore.specs.LineItem.{Request, drawn, head_read, refused, request
 use Rattle.labelcore.specs.declared.fault.Fault.{Fault}
 use Rattle.labelcore.specs.HeldLine.{line_limit}
 use Rattle.linear.specs.Tables.{number_set_a}
-use Rattle.labelcore.specs.declared.fault.Fault.TheVariants.{NoData, UnknownSymbology, WrongNumberOfDigits}
+use Rattle.labelcore.specs.declared.fault.Fault.TheVariants.{DoesNotFit, NoData, UnknownSymbology, WrongNumberOfDigits}
 use Rattle.labelcore.specs.declared.symbology.Symbology.TheVariants.{Ean13, Ean8, UpcA, Code128, Qr}
 use Rattle.picture.specs.declared.quiet_zone.QuietZone.{QuietZone}
 use Rattle.filter.specs.declared.status.Status.TheVariants.{Clean, Refused}
@@ -201,6 +201,21 @@ unfolding shown qr_rows read_matrix xor total_codewords read_format shows_versio
     bits_of byte_bits ec_codewords_per_block data_codewords block_lengths groups_of block_table evaluate field_power
     field_product binary_product number_at digits_at segment_at segments_at deinterleaving data_in
 qr_read = (refl, refl)
+
+-- its codewords are read, so 01234567 is no data of which it is told that it fits in no version
+codewords_read : data_in 1 M (0x10 ∷ 0x20 ∷ 0x0C ∷ 0x56 ∷ 0x61 ∷ 0x80 ∷ 0xEC ∷ 0x11 ∷ 0xEC ∷ 0x11 ∷ 0xEC ∷ 0x11 ∷ 0xEC ∷ 0x11
+    ∷ 0xEC ∷ 0x11 ∷ 0xA5 ∷ 0x24 ∷ 0xD4 ∷ 0xC1 ∷ 0xED ∷ 0x36 ∷ 0xC7 ∷ 0x87 ∷ 0x2C ∷ 0x55 ∷ []) ≡ Some (codes "01234567")
+unfolding total_codewords number_of bits_of byte_bits ec_codewords_per_block data_codewords block_lengths groups_of
+    block_table evaluate field_power field_product binary_product binary_remainder number_at digits_at segment_at
+    segments_at deinterleaving data_in
+codewords_read = refl
+
+it_fits : IsShown settings.run (drawn (asked Qr (codes "01234567"))) (told (DoesNotFit M)) → ⊥
+unfolding asked
+it_fits shown = elim shown [
+  | inl wrong ↦ no_fault (codes "01234567") (DoesNotFit M) wrong
+  | inr full ↦ full.2 1 _ (omega arith) (omega arith) codewords_read
+]
 
 -- in its seven other positions it is not read, and where it lies turned by a half it is not upright
 qr_upright : map (read_square 21) (other_positions 21 (value_at (shown qr_rows))) ≡ replicate 7 None

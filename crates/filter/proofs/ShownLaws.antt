@@ -18,6 +18,7 @@ use Rattle.linear.specs.Code128.{code128_row, full_code128}
 use Rattle.linear.specs.Digits.{full_digits}
 use Rattle.linear.specs.Ean.{ean13_row, ean8_row, upca_row}
 use Rattle.qrdata.specs.Fewest.{chosen_version}
+use Rattle.qrdata.proofs.ReadFitLaws.{unread-none_fits}
 use Rattle.qrdata.proofs.VersionSearchLaws.{NoneFits-chosen_none}
 use Rattle.filter.specs.Output.{line_number, message_of}
 use Rattle.labelcore.specs.declared.options.Format.{Format}
@@ -56,7 +57,13 @@ symbol_is label Qr bytes = at (chosen_version label.min_version label.level byte
           full = bytes;
           modules = qr_modules label bytes version;
         })))
-    at None e = inr (refl, refl, NoneFits-chosen_none label.min_version label.level bytes e)
+    at None e = inr (
+      refl,
+      refl,
+      λ version codewords from to.
+          unread-none_fits version label.level bytes
+          (NoneFits-chosen_none label.min_version label.level bytes e version from to) codewords,
+    )
     at (Some version) e = (refl, refl)
 
 module _ (run : RunValues) where

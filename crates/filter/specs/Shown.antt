@@ -1,6 +1,6 @@
 -- What a run sends of a text, by what its images are read as, without a word on how they are drawn.
 -- Why: `Shows`: "each image gives exactly its line's full data"; it follows from `Produces`.
-use Rattle.std.specs.Prelude.{◌≡◌, ◌≤◌, ◌⊎◌, ℕ, ◌+◌, Bool, true, false, if◌then◌else◌, List, [], ◌∷◌, ◌++◌, Result, Ok, Err}
+use Rattle.std.specs.Prelude.{◌≡◌, ◌≢◌, ◌≤◌, ◌⊎◌, ℕ, ◌+◌, Bool, true, false, if◌then◌else◌, List, [], ◌∷◌, ◌++◌, Result, Ok, Err}
 use Rattle.std.specs.Prelude.{Option, Some, None, ⊤}
 use Rattle.std.specs.List.{AllZip, filter_map, list_any}
 use Rattle.std.specs.Result.{result_map_both}
@@ -16,7 +16,7 @@ use Rattle.labelcore.specs.declared.symbology.Symbology.{Symbology}
 use Rattle.labelcore.specs.declared.symbology.Symbology.TheVariants.{Ean13, Ean8, UpcA, Code128, Qr}
 use Rattle.linear.specs.Code128.{full_code128}
 use Rattle.linear.specs.Digits.{full_digits}
-use Rattle.qrdata.specs.Fewest.{NoneFits}
+use Rattle.qrdata.specs.Reading.{data_in}
 use Rattle.filter.specs.Output.{Channel, Images, Messages, line_number}
 use Rattle.filter.specs.Readback.{IsRead}
 use Rattle.filter.specs.Reading.{cut}
@@ -38,12 +38,13 @@ full_data UpcA bytes = result_map_both (λ full. full) fault_of (full_digits 11 
 full_data Code128 bytes = result_map_both (λ full. full) fault_of (full_code128 bytes)
 full_data Qr bytes = Ok bytes
 
--- the data has no full data, or is for a QR symbol and fits no version
+-- the data has no full data, or is for a QR symbol, and no symbol from the least version to version 10 is read as it
 abbrev pub HasFault : Request → Fault → Type 0
 HasFault asked fault =
     (full_data asked.symbology asked.bytes ≡ Err fault)
     ⊎ ((asked.symbology ≡ Qr) × (fault ≡ DoesNotFit asked.options.level)
-    × ((v : ℕ) → asked.options.min_version ≤ v → v ≤ 10 → NoneFits v asked.options.level asked.bytes))
+    × ((version : ℕ) (codewords : List ℕ) → asked.options.min_version ≤ version → version ≤ 10
+    → data_in version asked.options.level codewords ≢ Some asked.bytes))
 
 -- what is sent of what a line asks for: nothing of an empty line or a comment, the message of its fault, or an image
 -- that is read as its full data

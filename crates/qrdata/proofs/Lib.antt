@@ -20,6 +20,7 @@ pub mod DataReadingLaws
 pub mod DamageLaws
 pub mod DeinterleavingLaws
 pub mod CodewordByteLaws
+pub mod ReadFitLaws
 pub mod SameWidthLaws
 pub mod SegmentReadingLaws
 pub mod SegmentStepLaws
