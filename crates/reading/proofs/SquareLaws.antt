@@ -1,8 +1,9 @@
 -- Modules that are a square, and what they are read as.
 use mathlib.Core.Path.{fun_ext}
 use Rattle.std.proofs.Common.{◌≡◌, ◌≢◌, ℕ, zero, suc, ◌+◌, ◌<◌, ◌≤◌, refl, sym, ap, ◌∙◌, arith, Bool, true, false, inl, inr}
-use Rattle.std.proofs.Common.{List, [], None, length, map, take, get_or, ◌&&◌, ◌||◌, ◌==◌, ◌*◌, ◌^◌, ◌%◌}
+use Rattle.std.proofs.Common.{List, Option, [], None, length, map, take, get_or, ◌&&◌, ◌||◌, ◌==◌, ◌*◌, ◌^◌, ◌%◌}
 use Rattle.std.specs.Prelude.{bit_or, nat_lt, option_and_then, slice_index}
+use Rattle.std.specs.Bool.{then_some}
 use Rattle.std.specs.List.{list_all, range_with_len}
 use Rattle.std.proofs.lemmas.Bool.{cases_eq, cases_lt, eq-eqb, ne_eqb}
 use Rattle.std.proofs.lemmas.Bool.Decides.{nat_tests}
@@ -10,7 +11,7 @@ use Rattle.std.proofs.lemmas.List.{get_or-take, get_or_past, length-take-le}
 use Rattle.std.proofs.lemmas.List.FromFn.{get_or-map-range_with_len, length-map-range_with_len}
 use Rattle.qrdata.specs.Reading.{data_in}
 use Rattle.qrmatrix.specs.Bits.{bit}
-use Rattle.qrmatrix.specs.Reading.{read_matrix, read_rows, read_square}
+use Rattle.qrmatrix.specs.Reading.{Reading, read_matrix, read_rows, read_square}
 use Rattle.qrmatrix.specs.Symbol.{is_dark}
 use Rattle.qrmatrix.proofs.ReadingLaws.{module_outside}
 use Rattle.qrmatrix.proofs.RowBitsLaws.{above_bit, or_bit, two_bits}
@@ -77,6 +78,21 @@ module _ (p : Picture) where
     | inl e ↦ square_read e ∙ wide_side p.width (value_at (raster p).rows) wide
     | inr ne ↦ not_square ne
   ]
+
+-- ---- data
+
+-- the data of what modules were read as
+abbrev pub symbol_data : Option Reading → Option (List ℕ)
+symbol_data symbol = option_and_then (λ symbol. data_in symbol.version symbol.level symbol.codewords) symbol
+
+pub data_of_symbol : (rows : List (List Bool)) → read_rows rows ≡ symbol_data (symbol_in rows)
+unfolding symbol_in
+data_of_symbol rows = at (list_all (λ row. length row == length rows) rows)
+  where
+    at : (b : Bool) → option_and_then (λ n. read_square n (value_at rows)) (then_some b (length rows))
+        ≡ symbol_data (option_and_then (λ n. read_matrix n (value_at rows)) (then_some b (length rows)))
+    at true = refl
+    at false = refl
 
 -- ---- words
 

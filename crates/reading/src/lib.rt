@@ -8,4 +8,4 @@ mod bars;
 mod squares;
 
 pub use bars::{bars_are_read, read_bars};
-pub use squares::symbols_are_read;
+pub use squares::{read_qr, symbols_are_read};

@@ -1,15 +1,14 @@
 //! QR symbols read from dots.
-ghost use Rattle.std.specs.Prelude.{◌≡◌, ◌<◌, ◌≤◌, ◌&&◌, ◌==◌, ℕ, length, nat_lt, option_and_then};
-ghost use Rattle.std.specs.Bool.{then_some};
-ghost use Rattle.std.specs.List.{list_all};
+ghost use Rattle.std.specs.Prelude.{◌≡◌, ◌<◌, ◌≤◌, ◌&&◌, ℕ, nat_lt, option_map};
 ghost use Rattle.qrmatrix.specs.Bits.{bit};
-ghost use Rattle.qrmatrix.specs.Reading.{read_matrix};
-ghost use Rattle.qrmatrix.specs.Square.{value_at};
+ghost use Rattle.qrmatrix.specs.Reading.{read_rows};
+ghost use Rattle.picture.specs.Dots.{raster_in};
 ghost use Rattle.picture.specs.Reading.{raster};
-ghost use Rattle.reading.specs.Squares.{SymbolsAreRead};
+ghost use Rattle.reading.specs.Squares.{SymbolsAreRead, read_qr};
 ghost use Rattle.reading.specs.Private.{symbol_in};
 
 use picture::{Dots, Grid, QuietZone, Sampled};
+use qrdata::{SymbolData, read_data};
 use qrmatrix::{QUIET_ZONE, ReadSymbol, SIDE, read};
 
 /// Returns the modules of a row as the bits of a number, column 0 the lowest.
@@ -41,6 +40,30 @@ fn read_square<G: Grid>(modules: &G) -> Option<ReadSymbol>
         rows[y] = row_word(modules, y);
     }
     read(&rows[..side])
+}
+
+/// Reads modules as a QR symbol: its data.
+fn read_modules<G: Grid>(modules: &G) -> Option<SymbolData>
+    ensures { option_map (λ bytes. bytes.items) result ≡ read_rows (raster (G.picture modules.now)).rows }
+{
+    let symbol = read_square(modules)?;
+    read_data(symbol.version(), symbol.level(), symbol.codewords())
+}
+
+/// Reads dots as a QR symbol in its quiet zone, each module `scale` dots wide: its full data.
+pub fn read_qr(dots: Dots, scale: usize) -> Option<SymbolData>
+    requires { 0 < scale }
+    ensures { option_map (λ bytes. bytes.items) result
+        ≡ read_qr scale (raster_in dots.entry.width dots.entry.height dots.entry.digits.now) }
+{
+    let zone = QuietZone {
+        left: QUIET_ZONE,
+        right: QUIET_ZONE,
+        top: QUIET_ZONE,
+        bottom: QUIET_ZONE,
+    };
+    let modules = Sampled::new(dots, scale, zone)?;
+    read_modules(&modules)
 }
 
 /// What is drawn is read: a symbol in its quiet zone, at any scale, is read as the data of its codewords.
