@@ -89,6 +89,21 @@ static int refuse_symbol(labels_answer *answer, labels_symbol_info *info) {
     return refuse(answer);
 }
 
+/* The most modules that a symbol of so many bytes has. In Code 128 a byte takes two characters of 11 modules at most,
+ * beside the start and check characters and the stop character of 13. */
+static size_t most_modules(int symbology, size_t size) {
+    switch (symbology) {
+    case LABELS_EAN13:
+    case LABELS_EAN8:
+    case LABELS_UPCA:
+        return 95;
+    case LABELS_CODE128:
+        return size < 80 ? 22 * size + 35 : LABELS_MAX_BARS;
+    default:
+        return LABELS_MAX_MODULES;
+    }
+}
+
 /* The proved code takes modules as truth values, so each byte that it may write has to be 0 or 1. Clears as many as a
  * symbol may have, at most. Returns how many there is room for. */
 static size_t cleared(unsigned char *modules, size_t room, size_t most) {
@@ -128,7 +143,7 @@ int labels_symbol(const labels_options *options, int symbology, const void *data
     if (are_bad(data, size, modules, room))
         return refuse_symbol(answer, info);
     modules = write_to(modules);
-    room = cleared(modules, room, symbology == LABELS_QR ? LABELS_MAX_MODULES : LABELS_MAX_BARS);
+    room = cleared(modules, room, most_modules(symbology, size));
     labels_proved_symbol(or_defaults(options), (uint32_t)symbology, read_from(data), size, modules, room,
                          answer->message, MESSAGE_ROOM, info->data, DATA_ROOM, info, answer);
     return finish_symbol(answer, info);

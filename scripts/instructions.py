@@ -5,8 +5,9 @@ It prints the tables of that page, for which zint, GNU barcode and qrencode have
 counts, the same on a busy machine as on an idle one. What one label more costs: from a run over COUNT more labels one
 over none is subtracted, for zint and GNU barcode one over a single label, and for qrencode, which draws one label a
 run, one that prints its version. A call of a library is a tenth of ten calls, after one that is not counted
-(lib/tests/count_calls.c). A whole run has an empty environment, since the loader reads it. System calls are those of a
-run without those of a run over no line. Every program writes to /dev/null.
+(lib/tests/count_calls.c); memory is cleared there by a loop, since valgrind counts each byte of `rep stosb` as an
+instruction. Its time is the lowest of three, on this machine. A whole run has an empty environment, since the loader
+reads it. System calls are those of a run without those of a run over no line. Every program writes to /dev/null.
 
 --check counts the program and the static library alone, and compares each row with the page. The status is 1 where a
 row takes more than 5 % more or less than the page says, or where the page lacks a row, has one that is no number, or
@@ -29,6 +30,8 @@ import sources
 COUNT = 20
 # The calls of a library that lib/tests/count_calls.c counts together.
 CALLS = 10
+# glibc clears memory by `rep stosb` from this many bytes on.
+NO_STOSB = {"GLIBC_TUNABLES": "glibc.cpu.x86_rep_stosb_threshold=100000000"}
 # By how much in a hundred a count may be above or below that of the page.
 ROOM = 5
 TOP = Path(sources.TOP)
@@ -88,7 +91,14 @@ OF_LIBRARY = {
     "QR, 34 bytes": QR,
     "QR, 200 bytes": Label("qr", front(200, "https://example.com/Lot 7b?article=000123&x=")),
 }
-LIBRARY_CALLS = {"labels_symbol": OF_LIBRARY, "labels_draw": OF_LIBRARY, "labels_line": ("EAN-13", "QR, 34 bytes")}
+SOME = ("EAN-13", "QR, 34 bytes")
+LIBRARY_CALLS = {
+    "labels_symbol": OF_LIBRARY,
+    "labels_draw": OF_LIBRARY,
+    "labels_line": SOME,
+    "labels_draw, scale 3": SOME,
+    "labels_bitmap, scale 3": SOME,
+}
 # What is counted with us: programs, libraries in a loop, and calls of libraries.
 PROGRAMS = (PROGRAM, "zint", "barcode", "qrencode")
 SHOWN = ("zint (`--dump`)", "GNU barcode (PostScript)", "qrencode (text)")
@@ -97,7 +107,7 @@ LOOPS = {
     "libzint, no picture": "libzint, no picture",
     "libqrencode, picture": "libqrencode",
 }
-LIBRARIES = ("libqrencode", "libzint", "qrcodegen")
+LIBRARIES = {"libqrencode": "libqrencode", "libzint": "libzint, no picture", "qrcodegen": "qrcodegen"}
 QR_ALONE = ("libqrencode", "qrcodegen")
 
 
@@ -186,18 +196,41 @@ def system_calls(call):
     return counts[1] - counts[0]
 
 
-def of_call(call, label):
-    """What a call of a library takes, or nothing where it does not draw the label: some draw QR alone."""
-    if label.symbology != "qr" and call.startswith(QR_ALONE):
-        return None
-    words = ("./count_calls", call, label.symbology, label.level, label.data)
-    if not os.path.exists(words[0]):
+def draws(call, label):
+    """Whether a call of a library draws a label: some draw QR alone."""
+    return label.symbology == "qr" or not call.startswith(QR_ALONE)
+
+
+def words_of_call(call, label):
+    """The words by which the test program makes a call; it is built where it is not there."""
+    if not os.path.exists("count_calls"):
         output_of(*BUILD)
+    return call, label.symbology, label.level, label.data
+
+
+def of_call(call, label):
+    """What a call of a library takes, or nothing where it does not draw the label."""
+    if not draws(call, label):
+        return None
+    words = ("./count_calls", *words_of_call(call, label))
     theirs = output_of(*words)
-    said_by_valgrind("--tool=callgrind", "--callgrind-out-file=counts", *words)
+    command = ("--tool=callgrind", "--callgrind-out-file=counts", *words)
+    said_by_valgrind(*command, environment={**os.environ, **NO_STOSB})
     if theirs:
         see_picture(label, theirs)
     return int(re.search(r"^summary: (\d+)", sources.read("counts.1"), re.M)[1]) / CALLS
+
+
+def time_of_call(call, label):
+    """The microseconds of a call of a library, as text, or nothing where it does not draw the label."""
+    if not draws(call, label):
+        return None
+    nanoseconds = float(output_of("./count_calls", "--time", *words_of_call(call, label)))
+    return f"{nanoseconds / 1000:.3g}"
+
+
+def nothing_drawn():
+    """A cell of what is not counted."""
 
 
 def see_picture(label, theirs):
@@ -226,15 +259,19 @@ def tables():
     rows = {}
     for call, names in LIBRARY_CALLS.items():
         for name in names:
-            libraries = LIBRARIES if call == "labels_symbol" else ()
-            rows[f"`{call}`, {name}"] = [partial(of_call, one, OF_LIBRARY[name]) for one in (call, *libraries)]
-    yield ["Call", "liblabels", *LIBRARIES], rows
+            calls = [call, *(LIBRARIES.values() if call == "labels_symbol" else ())]
+            counts = [partial(of_call, one, OF_LIBRARY[name]) for one in calls]
+            none = [nothing_drawn] * (len(LIBRARIES) + 1 - len(calls))
+            times = [partial(time_of_call, one, OF_LIBRARY[name]) for one in calls]
+            function, *scale = call.split(", ")
+            rows[", ".join([f"`{function}`", name, *scale])] = [*counts, *none, *times]
+    yield ["Call", "liblabels", *LIBRARIES, "microseconds", *LIBRARIES], rows
 
 
 def shown(count):
-    """A cell: a count in hundreds, a small one as it is, or none."""
-    if count is None:
-        return "-"
+    """A cell: a count in hundreds, a small one and a text as they are, or none."""
+    if count is None or isinstance(count, str):
+        return count or "-"
     return f"{100 * round(count / 100):,}" if count >= 1000 else f"{count:.0f}"
 
 

@@ -1,21 +1,23 @@
 /* Makes calls that draw a label, of liblabels and of other libraries, for callgrind to count.
  *
- * usage: count_calls [CALL SYMBOLOGY LEVEL DATA] ..
+ * usage: count_calls [--time] [CALL SYMBOLOGY LEVEL DATA] ..
  *
  * Each call is made once, and then CALLS_COUNTED times, for which callgrind writes a file. Those with a picture write it to
  * standard output as `labels` does by default: plain PBM, one pixel a module, the quiet zone of the standard, bars 50
- * modules high. The libraries may choose other versions, segments and masks. The status is 1 where a call fails.
+ * modules high. The libraries may choose other versions, segments and masks. With --time it prints the nanoseconds of a
+ * call instead, the lowest of three times of at least TIMED nanoseconds. The status is 1 where a call fails.
  */
 #include "labels.h"
 #include <qrcodegen/qrcodegen.h>
 #include <qrencode.h>
 #include <stdio.h>
 #include <string.h>
+#include <time.h>
 #include <unistd.h>
 #include <valgrind/callgrind.h>
 #include <zint.h>
 
-enum { CALLS_COUNTED = 10, BAR_HEIGHT = 50, LINE_PIXELS = 70, ROOM = 1 << 20 };
+enum { CALLS_COUNTED = 10, BAR_HEIGHT = 50, LINE_PIXELS = 70, ROOM = 1 << 20, TIMED = 50000000, TIMES = 3 };
 
 /* A symbology: its number in labels.h and in zint.h, and the light modules that it has at its left, its right and above. */
 struct symbology {
@@ -120,13 +122,6 @@ static int encode(struct zint_symbol *symbol, const struct label *label) {
     return ZBarcode_Encode(symbol, (const unsigned char *)label->data, 0) >= ZINT_ERROR;
 }
 
-static int by_zint(const struct label *label) {
-    struct zint_symbol *symbol = ZBarcode_Create();
-    int status = encode(symbol, label);
-    ZBarcode_Delete(symbol);
-    return status;
-}
-
 /* One symbol serves all labels, as libzint's manual advises. */
 static int by_zint_again(const struct label *label) {
     static struct zint_symbol *symbol;
@@ -162,7 +157,6 @@ static const struct {
     {"labels_draw, scale 3", by_draw_3, 0},
     {"labels_bitmap, scale 3", by_bitmap_3, 0},
     {"labels_line", by_line, 0},
-    {"libzint", by_zint, 0},
     {"libzint, no picture", by_zint_again, 0},
     {"libzint, picture", by_zint_again, 1},
     {"libqrencode", by_qrencode, 0},
@@ -170,9 +164,33 @@ static const struct {
     {"qrcodegen", by_qrcodegen, 0},
 };
 
+static double now(void) {
+    struct timespec time;
+    clock_gettime(CLOCK_PROCESS_CPUTIME_ID, &time);
+    return time.tv_sec * 1e9 + time.tv_nsec;
+}
+
+/* Returns the nanoseconds of a call. */
+static double time_of(size_t call, const struct label *label) {
+    double lowest = 1e18;
+    for (int i = 0; i < TIMES; i++) {
+        long made = 0;
+        double start = now(), taken = 0;
+        for (long more = 1; taken < TIMED; more *= 2) {
+            for (long left = more; left > 0; left--)
+                calls[call].make(label);
+            made += more;
+            taken = now() - start;
+        }
+        lowest = taken / made < lowest ? taken / made : lowest;
+    }
+    return lowest;
+}
+
 int main(int count, char **words) {
     static const char levels[] = "LMQH";
-    for (char **word = words + 1; word + 3 < words + count; word += 4) {
+    int is_timed = count > 1 && strcmp(words[1], "--time") == 0;
+    for (char **word = words + 1 + is_timed; word + 3 < words + count; word += 4) {
         size_t call = 0, kind = 0;
         while (strcmp(calls[call].name, word[0]) != 0)
             call++;
@@ -183,6 +201,10 @@ int main(int count, char **words) {
         snprintf(label.line, sizeof label.line, "%s %s", word[1], word[3]);
         if (calls[call].make(&label) != 0)
             return 1;
+        if (is_timed) {
+            printf("%.1f\n", time_of(call, &label));
+            continue;
+        }
         CALLGRIND_ZERO_STATS;
         for (int left = CALLS_COUNTED; left > 0; left--)
             calls[call].make(&label);

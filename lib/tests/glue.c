@@ -6,7 +6,7 @@
 #include <stdio.h>
 
 enum { MESSAGE = LABELS_MESSAGE_ROOM - 1, FULL = sizeof(((labels_symbol_info *)0)->data) - 1, FEW = 37, MARK = 0x5a };
-enum { CALLS = 6, MANY = 5000 };
+enum { CALLS = 6, SYMBOLOGIES = LABELS_QR + 1, MANY = 5000 };
 
 #define SEE(fact) see(fact, #fact, __LINE__)
 
@@ -112,13 +112,20 @@ void labels_proved_bitmap_line(const labels_options *options, const void *text, 
     *height = 8;
 }
 
+/* The modules that a symbol of so many bytes can have: EAN and UPC at most 95, Code 128 two characters a byte. */
+static size_t most_of(int symbology, size_t size) {
+    static const size_t fixed[] = {95, 95, 95, LABELS_MAX_BARS, LABELS_MAX_MODULES};
+    size_t most = fixed[symbology];
+    size_t of_bytes = (2 * size + 2) * 11 + 13;
+    return symbology == LABELS_CODE128 && of_bytes < most ? of_bytes : most;
+}
+
 /* The call of a number, as the caller makes it. */
 static int made(int call, const labels_options *options, labels_symbol_info *info, labels_dots *dots,
                 labels_answer *answer) {
     const char *data = given.data;
     size_t size = given.size, room = given.room;
-    int is_qr = given.symbology == LABELS_QR;
-    given.most = call == 0 && !is_qr ? (size_t)LABELS_MAX_BARS : (size_t)LABELS_MAX_MODULES;
+    given.most = call == 0 ? most_of(given.symbology, size) : LABELS_MAX_MODULES;
     switch (call) {
     case 0:
         return labels_symbol(options, given.symbology, data, size, given.to, room, info, answer);
@@ -218,13 +225,13 @@ static void see_bad(int call) {
 }
 
 int main(void) {
-    static const size_t sizes[] = {0, 1, FEW}, rooms[] = {0, 1, FEW, LABELS_MAX_BARS, LABELS_MAX_MODULES, MANY};
+    static const size_t sizes[] = {0, 1, FEW, 79, 80, 81}, rooms[] = {0, 1, FEW, LABELS_MAX_BARS, LABELS_MAX_MODULES, MANY};
     int done = 0;
     for (int call = 0; call < CALLS; call++) {
         for (size_t s = 0; s < sizeof sizes / sizeof *sizes; s++)
             for (size_t r = 0; r < sizeof rooms / sizeof *rooms; r++)
-                for (int way = 0; way < 8; way++, done++)
-                    one_call(call, way & 4 ? LABELS_QR : LABELS_EAN8, sizes[s], rooms[r], way & 1, way & 2);
+                for (int way = 0; way < 4 * SYMBOLOGIES; way++, done++)
+                    one_call(call, way / 4, sizes[s], rooms[r], way & 1, way & 2);
         see_overlap(call);
         see_bad(call);
     }

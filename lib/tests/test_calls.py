@@ -35,7 +35,8 @@ WRONG = (
     ("written - read < size", "written - read <= size"),
     ("read - written < room", "read - written < size / 2"),
     ("    answer->at = 0;\n", ""),
-    ("symbology == LABELS_QR ? LABELS_MAX_MODULES", "symbology == LABELS_EAN8 ? LABELS_MAX_MODULES"),
+    ("22 * size + 35", "22 * size + 34"),
+    ("        return 95;\n", "        return 94;\n"),
 )
 
 

@@ -2,3 +2,5 @@ pub mod BitLaws
 pub mod FullLaws
 pub mod SliceLaws
 pub mod LineLaws
+pub mod Gather
+pub mod RowLaws

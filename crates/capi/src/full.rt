@@ -23,11 +23,14 @@ pub fn put_full(symbology: Symbology, bytes: &[u8], room: &mut [u8]) -> usize
     }
 }
 
-/// Puts digits with their check digit, which is appended or already there.
+/// Puts digits with their check digit, which is appended or already there: then it is not computed again.
 fn put_digits(count: usize, bytes: &[u8], room: &mut [u8]) -> usize
     requires { count ≤ 12 }
     ensures { IfOk (full_digits count bytes.now) (λ full. IsFullPut full room.old room.new result) }
 {
+    if bytes.len() == count + 1 {
+        return put_whole(bytes, room);
+    }
     match full_digits(count, bytes) {
         Ok(full) => put_whole(&full, room),
         Err(_) => 0,

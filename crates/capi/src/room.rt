@@ -13,6 +13,14 @@ pub fn put(room: &mut [u8], at: usize, bytes: &[u8])
     }
 }
 
+/// Puts bytes into a room from the index `at` on, all of them.
+pub fn put_all(room: &mut [u8], at: usize, bytes: &[u8])
+    requires { at + length bytes.now ≤ length room.old }
+    ensures { room.new ≡ put_text room.old at bytes.now }
+{
+    room[at..at + bytes.len()].copy_from_slice(bytes);
+}
+
 /// Copies the `count` bytes before the index `at` to that index.
 pub fn put_again(room: &mut [u8], at: usize, count: usize)
     requires { (count ≤ at) × (at + count ≤ length room.old) }

@@ -1,14 +1,16 @@
-use Rattle.std.proofs.Common.{◌≡◌, ◌-◌, ◌≤◌, length}
+use Rattle.std.proofs.Common.{◌≡◌, ◌-◌, ◌≤◌, ℕ, length}
+use Rattle.std.specs.Prelude.{false, slice_index_or}
 use Rattle.capi.specs.Bits.{put_bit_rows}
 use Rattle.capi.proofs.dots.put_rows.Given as goal
 
--- the rows so far were put
+-- the rows so far were put, and behind a row the dots are light
 abbrev pub invariant-loop-y : goal.invariant-loop-y
 invariant-loop-y g l =
     let p = g.G.Grid.picture l.picture in
     record {
       inside : l.y ≤ p.height;
       dots : length l.dots ≡ length l.initial.dots;
+      light : (x : ℕ) → p.width ≤ x → slice_index_or l.dots x false ≡ false;
       row : length l.row ≡ length l.initial.row;
       rows : l.bits ≡ put_bit_rows p l.stride l.initial.bits l.y;
     }
