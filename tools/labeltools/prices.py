@@ -11,6 +11,11 @@ from labeltools.money import LOOKS, PER_UNIT, SPACES, WITH_THREE_DECIMALS, Money
 from labeltools.money import currency_of, is_pair, plain
 from labeltools.summary import rows_text
 
+OF_CENTS = re.compile(
+    r"\b(?:cents?|ct|cts|pence|centimes?|centimos?|céntimos?|centavos?|centesimi|grosze|öre|øre"
+    r"|haléřů?|minor)\b",
+    re.IGNORECASE,
+)
 ARITHMETIC = Decimal("1e-9")  # what a program's arithmetic may leave
 MOST_LOST = Decimal("0.01")  # of a price that is rounded
 THOUSANDS_OR_DECIMALS = Text("may have thousands or decimals")
@@ -58,6 +63,7 @@ class PriceColumn:
     lengths: Counter[int] = field(default_factory=Counter)
     currencies: set[str] = field(default_factory=set)
     has_thousands: bool = False
+    has_cents: bool = False
 
     def add(self, row: int, price: Money) -> None:
         """Takes the price of a row."""
@@ -75,6 +81,7 @@ class PriceColumn:
             see(self.kinds, "zero", row, price.text)
         if price.currency not in ("", "cent"):
             self.currencies.add(ONE_SIGN.get(price.currency, price.currency))
+        self.has_cents = self.has_cents or price.currency == "cent"
         self.has_thousands = self.has_thousands or price.value >= 1000 and not price.group
 
     @property
@@ -90,6 +97,11 @@ class PriceColumn:
     def decimals(self) -> int:
         """How many decimals most cells have."""
         return self.lengths.most_common(1)[0][0] if self.lengths else 0
+
+    @property
+    def are_bare(self) -> bool:
+        """Whether its cells have whole numbers alone, without a currency or a sign of cents."""
+        return set(self.lengths) == {0} and not self.currencies and not self.has_cents
 
     def says(self) -> Iterator[Said]:
         """Yields what is said once of prices that are printed as they are."""
@@ -125,6 +137,16 @@ class PriceColumn:
         if len(self.currencies) > 1:
             listed = ", ".join(sorted(self.currencies))
             yield Said(Text("the prices have several currencies: {}", listed))
+
+
+def is_of_cents(name: str) -> bool:
+    """Returns whether the name of a column says that its numbers are hundredths.
+
+    >>> [is_of_cents(name) for name in ("price_cents", "PriceCents", "Preis (ct)", "Center", "CT1")]
+    [True, True, True, False, False]
+    """
+    words = re.sub(r"(?<=[a-z])(?=[A-Z])|_", " ", name)
+    return OF_CENTS.search(words) is not None
 
 
 def see(found: dict[str, Seen], kind: str, row: int, text: str) -> None:
@@ -182,6 +204,19 @@ def settled(price: Money, column: PriceColumn, pattern: "PricePattern | None" = 
             Text("has three digits behind {}, which is the decimal sign of its column", price.group)
         )
     return with_three_decimals(price)
+
+
+def nearest(price: Money, number: Decimal) -> Money:
+    """Returns an open price as it is read that is nearest to the number of its cell.
+
+    >>> from labeltools.money import parse
+    >>> [str(nearest(parse("1.234"), Decimal(one)).value) for one in ("1234", "1.2341")]
+    ['1234', '1.234']
+    """
+    if not price.is_open:
+        return price
+    readings = replace(price, is_open=False), with_three_decimals(price)
+    return min(readings, key=lambda one: abs(one.value - number))
 
 
 def with_three_decimals(price: Money) -> Money:

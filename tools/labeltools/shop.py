@@ -19,15 +19,17 @@ from labeltools.engine import option_words
 from labeltools.guess import guess_of
 from labeltools.lines_file import LineRecord, first_remark, label_lines, last_remark, read_lines
 from labeltools.messages import Cancelled, Place, ToolError, quoted
-from labeltools.press import Press
-from labeltools.print_job import Prepared, faults, labels_of, planned
+from labeltools.press import once
+from labeltools.print_job import Prepared, labels_of, planned
 from labeltools.report import LeftOut
 from labeltools.table import Lines, lines_of_table
 
 CONFIG = os.environ.get("XDG_CONFIG_HOME") or Path.home() / ".config"
 MEMORY = Path(CONFIG, "labels", "window.json")
-COLUMNS = ("code", "title", "text", "price", "unit-price", "old-price", "copies")
+COLUMNS = ("code", "title", "text", "text-2", "price", "unit-price", "old-price", "copies")
 PAPER = ("sheet", "roll", "stock", "width", "height", "design", "to", "dpi")
+FILES = "files.json"  # the words by which files were read
+MOST_FILES = 200
 Choices = Mapping[str, Any]  # by the names of the options
 
 
@@ -38,7 +40,8 @@ class Talk:
 
     def __init__(self) -> None:
         self.notes: list[LeftOut] = []
-        self.progress = 0.0  # the part that is done, where that is known
+        self.done = 0  # of the work
+        self.total = 0  # of it, where that is known
         self.is_stopped = False
         self.looks = 0  # that were taken at the work
 
@@ -54,7 +57,8 @@ class Talk:
         """Keeps how far the work is; raises `Cancelled` where it is stopped."""
         if self.is_stopped:
             raise Cancelled(Text("stopped"))
-        self.progress = done / total if total else 0.0
+        self.done = done
+        self.total = total
 
 
 class Table:
@@ -76,10 +80,17 @@ class Table:
         """
         _, self.data = read_input(str(path))
         self.path = path
-        self.read(text or "", header, talk)
+        before = words_of_files().get(path.name, "") if text is None else ""
+        try:
+            self.read(before or text or "", header, talk)
+        except ToolError:
+            if not before:
+                raise
+            self.read("", header, talk)  # it has another encoding now, or other sheets
         kept = self.kept.get("for-table", "")
-        if text is None and kept and isinstance(kept, str):
-            self.read(kept, header, talk)
+        if text is None and kept and kept != self.text and isinstance(kept, str):
+            with suppress(ToolError):
+                self.read(kept, header, talk)
         self.paper = {name: value for name, value in last().items() if name in PAPER}
 
     def read(self, text: str, header: int | None, talk: Talk) -> None:
@@ -87,8 +98,8 @@ class Table:
         head = words_of({"header-row": header, "no-header": header == 0})
         arguments = table_command.understood(["--code", "1", *head, *option_words(text)])
         options = table_command.options_of(arguments)
-        self.text = text
         self.guess = guess_of(self.data, self.path.name, options, talk)
+        self.text = text
         self.key = "\n".join(self.guess.names) if any(self.guess.names) else ""
         self.kept = remembered().get(self.key, {}) if self.key else {}
 
@@ -161,9 +172,13 @@ class Table:
 
     def keep(self, choices: Choices) -> None:
         """Keeps choices by which labels went out; those of columns only where columns have names,
-        since two tables without names have nothing in common.
+        since two tables without names have nothing in common. The words by which the file was read
+        are kept for its name, too: without its sheet or encoding it would not open.
         """
         remember(self.key, choices)
+        others = {name: words for name, words in words_of_files().items() if name != self.path.name}
+        kept = {**others, self.path.name: choices["for-table"]} if choices["for-table"] else others
+        write(MEMORY.with_name(FILES), dict(list(kept.items())[-MOST_FILES:]))
 
 
 def file_of(records: Sequence[LineRecord]) -> bytes:
@@ -176,7 +191,8 @@ def table_words(choices: Choices) -> list[str]:
     """Returns the words of label-table, but for the file; raises `ToolError`."""
     options = {name: choices[name] for name in (*COLUMNS, "symbology", "header-row")}
     options["no-header"] = not choices["header-row"]
-    return [*words_of(options), *option_words(choices["for-table"])]
+    second = words_of({"text": options.pop("text-2")})
+    return [*words_of(options), *second, *option_words(choices["for-table"])]
 
 
 def print_words(choices: Choices) -> list[str]:
@@ -188,13 +204,20 @@ def print_words(choices: Choices) -> list[str]:
     return [*words_of(options), *option_words(choices["for-print"])]
 
 
-def read_back(labels: Prepared, talk: Talk) -> Press:
-    """Reads each label as it is drawn, and returns what writes them; raises `ToolError` where one
-    is not what it has to be.
+def compare(labels: Prepared, talk: Talk) -> None:
+    """Draws each label once as it is printed, and compares it with its line; raises `ToolError`
+    where it is another one.
     """
-    for record, fault in faults(labels.labels, labels.laid_out, labels.job, labels.letters, talk):
-        raise ToolError(Text("nothing is printed: {}: {}", record.place.text, fault))
-    return labels.press(talk)
+    for drawn in labels.press(talk).documents(once(labels.labels)):
+        drawn.close()
+
+
+def words_of_files() -> dict[str, str]:
+    """Returns the words by which tables were read, by the names of their files."""
+    with suppress(OSError, ValueError, AttributeError):
+        found = json.loads(MEMORY.with_name(FILES).read_text(encoding="utf-8")).items()
+        return {name: words for name, words in found if isinstance(words, str)}
+    return {}
 
 
 def remembered() -> dict[str, Choices]:
@@ -211,9 +234,14 @@ def last() -> Choices:
 
 
 def remember(names: str, choices: Choices) -> None:
-    """Keeps what was chosen; a folder that takes no file is no reason to stop."""
+    """Keeps what was chosen."""
     others = {other: kept for other, kept in remembered().items() if other != names}
     kept = {**others, names: choices}  # the last one at the end
+    write(MEMORY, kept)
+
+
+def write(path: Path, kept: Mapping[str, Any]) -> None:
+    """Writes what is kept; a folder that takes no file is no reason to stop."""
     with suppress(OSError):
-        MEMORY.parent.mkdir(parents=True, exist_ok=True)
-        MEMORY.write_text(json.dumps(kept, indent=1), encoding="utf-8")
+        path.parent.mkdir(parents=True, exist_ok=True)
+        path.write_text(json.dumps(kept, indent=1), encoding="utf-8")

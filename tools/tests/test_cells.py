@@ -210,6 +210,46 @@ class Kinds(CellTest):
             data = ods(table(HEAD, [PENCIL, "Tea", ods_cell(text, kind, more)]))
             self.check_price(data, None, date)
 
+    def test_a_price_is_not_shown_as_another_one(self) -> None:
+        """A number format that hides decimals makes another price of a number."""
+        more = "give it a number format of two decimals"
+        for form, value, price, said in (
+            ("0", 12.49, None, f'is shown as "12", and its value is 12.49: {more}'),
+            ("0", 2.99, "3", "row 2 shows the price 3, and its value is 2.99 (1 price)"),
+            ("0.0", 2.99, "3.0", "row 2 shows the price 3.0, and its value is 2.99 (1 price)"),
+            ("#,##0", 1249, "1,249", ""),
+            ("0.00", 2.6775, "2.68", ""),
+            ("0.000", 1.8594, "1.859", ""),
+            ("0", 3, "3", ""),
+        ):
+            data = xlsx(rows(HEAD, [PENCIL, "Tea", cell(value, style=1)]), formats=[form])
+            prices, messages = self.ran(data, *PRICED)
+            self.assertEqual(prices, [price] if price else [], form)
+            self.assertEqual(bool(said), any(said in one for one in messages if said), messages)
+        thousands = ods_cell("1.30", "float", 'office:value="1299"')
+        data = ods(table(HEAD, [PENCIL, "Tea", thousands]))
+        self.check_price(data, None, f'is shown as "1.30", and its value is 1299: {more}')
+
+    def test_the_value_says_what_a_sign_before_three_digits_is(self) -> None:
+        for value, said in (("1200.5", True), ("1201", False), ("1.201", False)):
+            shown = ods_cell("1,201 €", "float", f'office:value="{value}"')
+            _, messages = self.ran(ods(table(HEAD, [PENCIL, "Tea", shown])), *PRICED)
+            rounded = ["row 2 shows the price 1,201 €, and its value is 1200.5 (1 price)"]
+            self.assertEqual(messages, rounded if said else [])
+
+    def test_a_column_of_cents_is_said(self) -> None:
+        for name, price, is_said in (
+            ("price_cents", "199", True),
+            ("Preis (ct)", "199", True),
+            ("Preis (ct)", "199 ct", False),
+            ("Price", "199", False),
+            ("Center", "199", False),
+        ):
+            data = f"EAN;{name}\n{PENCIL};{price}\n".encode()
+            _, messages = self.ran(data, "--code", "EAN", "--price", name)
+            said = "has cents by its name, and is printed as it is"
+            self.assertEqual([said in one for one in messages], [True] * is_said, name)
+
     def test_a_date_is_no_number_of_copies(self) -> None:
         data = xlsx(rows(["EAN", "N"], [PENCIL, cell(3, style=1)]), formats=["d.m.yy"])
         problem = 'row 2: column 2 ("N") is a date or a time, which is no number of copies: '
