@@ -15,7 +15,7 @@ from labeltools.lines_file import lines_of
 from labeltools.messages import BAD_ARGUMENTS, Talk, ToolError
 
 LABELS_FAILED = 3  # the status of a tool that is not in order
-VERSION = "1.0.0"  # of the library that these tools belong to
+VERSION = "1.1.0"  # of the library that these tools belong to
 ASKED = 256  # lines between two calls of `go_on`
 BAD_WORDS = Text("labels ended with status 2: labels: bad words")
 NUMBER = re.compile(r"\+?[0-9]+", re.ASCII)
