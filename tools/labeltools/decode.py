@@ -2,13 +2,13 @@
 manuals. It shares nothing with what writes them.
 """
 
-import base64
 import re
 import struct
 import zlib
 from dataclasses import dataclass
-from functools import cache
-from typing import Iterator
+from functools import cache, lru_cache
+from itertools import chain
+from typing import Iterator, Sequence
 
 from labeltools.text import Text
 
@@ -18,6 +18,7 @@ ZPL_END = re.compile(rb"(?:\^PQ([0-9]+)\n)?\^XZ\n")
 COUNTED = re.compile(r"([G-Yg-z]+[0-9A-F])")
 ROWS = re.compile(r"[0-9A-Zg-z]+[,!]?|[,!:]")
 RESTS = {",": "0", "!": "F"}
+KNOWN_ROWS = 4096  # rows of ZPL that are kept as they were read: most labels share some
 RASTER = b"\x1dv0\0"
 LINES_AND_CUT = b"\x1bd\x03\x1dV\x42\x00"
 RESET = b"\x1b@"
@@ -35,77 +36,14 @@ class NotDecoded(Exception):
 
 @dataclass(frozen=True)
 class Dots:
-    """A page in dots, of which 1 is dark: rows of `stride` whole bytes from the left, and how often
-    it is printed. ESC/POS does not say its width.
+    """A page in dots, of which 1 is dark: rows of whole bytes from the left, and how often it is
+    printed. Where a form does not send what is white at the right, as ESC/POS, the width is 0 and
+    rows may be shorter than the page.
     """
 
     width: int
-    height: int
-    stride: int
-    data: bytes
+    rows: Sequence[bytes]
     copies: int = 1
-
-    def pieces(self, top: int, high: int, first: int, last: int) -> Iterator[bytes]:
-        """Yields the bytes of rows from one byte on to another."""
-        starts = range(top * self.stride + first, (top + high) * self.stride, self.stride)
-        return (self.data[start : start + last - first] for start in starts)
-
-
-class Field:
-    """The rows of a graphic field of ZPL in run lengths. They are counted, and those that are asked
-    for are read, since that takes longer than all else.
-    """
-
-    def __init__(self, data: bytes, size: int, count: int) -> None:
-        self.width = 2 * size
-        self.rows: list[str] = []
-        self.known: dict[str, bytes] = {}
-        found: list[str] = ROWS.findall(data.decode("ascii"))
-        if len(found) != count:  # rows that are whole without a sign for their rest
-            found = [part for row in found for part in self.parts(row)]
-        above = ""
-        for row in found:
-            if row != ":":
-                above = row
-            self.rows.append(above)
-
-    def parts(self, text: str) -> Iterator[str]:
-        """Yields the rows of a text of digits, the last of which may have a sign for its rest."""
-        digits = expanded(text)
-        for start in range(0, len(digits), self.width):
-            yield digits[start : start + self.width]
-
-    def row(self, text: str) -> bytes:
-        """Returns a row; raises `NotDecoded` where it is too long or too short."""
-        known = self.known.get(text)
-        if known is None:
-            digits = expanded(text)
-            rest = RESTS.get(digits[-1:])
-            if rest:
-                digits = digits[:-1].ljust(self.width, rest)
-            if len(digits) != self.width:
-                raise NotDecoded(Text("a row of the zpl has not its length"))
-            known = self.known[text] = bytes.fromhex(digits)
-        return known
-
-
-@dataclass(frozen=True)
-class FieldDots(Dots):
-    """Dots that graphic fields in run lengths are."""
-
-    fields: tuple[Field, ...] = ()
-
-    def pieces(self, top: int, high: int, first: int, last: int) -> Iterator[bytes]:
-        """Yields the bytes of rows from one byte on to another."""
-        for field in self.fields:
-            above = ""
-            piece = b""
-            for text in field.rows[max(0, top) : max(0, top + high)]:
-                if text is not above:
-                    above = text
-                    piece = field.row(text)[first:last]
-                yield piece
-            top -= len(field.rows)
 
 
 def dots_of(form: str, data: bytes) -> Dots:
@@ -121,7 +59,8 @@ def dots_of_pbm(data: bytes) -> Dots:
     kind, size, rest = data.split(b"\n", 2)
     width, height = map(int, size.split())
     stride = (width + 7) // 8
-    return Dots(width, height, stride, whole(rest, stride * height if kind == b"P4" else -1))
+    rest = whole(rest, stride * height if kind == b"P4" else -1)
+    return Dots(width, rows_in(rest, stride))
 
 
 def dots_of_png(data: bytes) -> Dots:
@@ -145,75 +84,82 @@ def dots_of_png(data: bytes) -> Dots:
     rows = whole(zlib.decompress(packed), (1 + stride) * height)
     if any(rows[:: 1 + stride]):
         raise NotDecoded(Text("png with filters"))
-    starts = range(1, len(rows), 1 + stride)
-    light = b"".join([rows[start : start + stride] for start in starts])
-    return Dots(width, height, stride, light.translate(INVERTED))
+    light = rows.translate(INVERTED)
+    starts = range(1, len(light), 1 + stride)
+    return Dots(width, [light[start : start + stride] for start in starts])
 
 
 def dots_of_escpos(data: bytes) -> Dots:
-    """Reads raster images."""
-    bands: list[tuple[bytes, int]] = []
+    """Reads raster images, one below the other."""
+    rows: list[bytes] = []
     at = len(RESET) if data.startswith(RESET) else 0
     end = len(data) - len(LINES_AND_CUT) if data.endswith(LINES_AND_CUT) else len(data)
     while at < end:
-        if data.startswith(RASTER, at):
-            size, count = struct.unpack_from("<HH", data, at + 4)
-            at += 8
-            bands.append((whole(data[at : at + size * count], size * count), size))
-            at += size * count
-        else:
+        if not data.startswith(RASTER, at):
             raise NotDecoded(Text("no escpos of label-print"))
-    stride = max([size for _, size in bands], default=1)
-    rows = b"".join([widened(band, size, stride) for band, size in bands])
-    return Dots(stride * 8, len(rows) // stride, stride, rows)
-
-
-def widened(data: bytes, size: int, stride: int) -> bytes:
-    """Returns rows of a size as rows of a larger one."""
-    if size == stride:
-        return data
-    starts = range(0, len(data), size)
-    return b"".join([data[start : start + size].ljust(stride, b"\0") for start in starts])
+        size, count = struct.unpack_from("<HH", data, at + 4)
+        at += 8
+        rows += rows_in(whole(data[at : at + size * count], size * count), size)
+        at += size * count
+    return Dots(0, rows)
 
 
 def dots_of_zpl(data: bytes) -> Dots:
-    """Reads the graphic fields of a label."""
+    """Reads the graphic fields of a label, one below the other."""
     head = ZPL_HEAD.match(data)
     if not head:
         raise NotDecoded(Text("no zpl of label-print"))
     width = int(head[1])
     height = int(head[2])
-    stride = (width + 7) // 8
-    packed = b""
-    fields: list[Field] = []
-    rows = 0
+    rows: list[bytes] = []
     at = head.end()
     while found := ZPL_FIELD.match(data, at):
         top, length, again, size = (int(found[number]) for number in range(1, 5))
-        if top != rows or length != again or size != stride or length % size:
+        if top != len(rows) or length != again or size != (width + 7) // 8 or length % size:
             raise NotDecoded(Text("zpl with a gap between graphic fields"))
-        rows += length // size
-        if found[5].startswith(b":Z64:"):
-            coded, _, _ = found[5][5:].partition(b":")
-            packed += whole(zlib.decompress(base64.b64decode(coded)), length)
-        else:
-            fields.append(Field(found[5], size, length // size))
+        rows += rows_of_field(found[5].decode("ascii"), size, length // size)
         at = found.end()
     end = ZPL_END.fullmatch(data, at)
-    counted = sum(len(field.rows) for field in fields) + len(packed) // stride
-    if not end or rows != height or counted != height:
-        raise NotDecoded(Text("zpl with {} rows, which has {}", counted, height))
-    copies = int(end[1] or 1)
-    if fields:
-        return FieldDots(width, height, stride, b"", copies, tuple(fields))
-    return Dots(width, height, stride, packed, copies)
+    if not end or len(rows) != height:
+        raise NotDecoded(Text("zpl with {} rows, which has {}", height, len(rows)))
+    return Dots(width, rows, int(end[1] or 1))
+
+
+def rows_of_field(text: str, size: int, count: int) -> Iterator[bytes]:
+    """Yields the rows of a graphic field in run lengths."""
+    found: list[str] = ROWS.findall(text)
+    if len(found) != count:  # some rows are whole without a sign for their rest
+        found = list(chain.from_iterable(parts(row, 2 * size) for row in found))
+    row = b""
+    for one in found:
+        if one != ":":
+            row = row_of(one, 2 * size)
+        yield row
+
+
+def parts(text: str, digits: int) -> Iterator[str]:
+    """Yields the rows of a text of digits, the last of which may have a sign for its rest."""
+    plain = expanded(text)
+    return (plain[start : start + digits] for start in range(0, len(plain), digits))
+
+
+@lru_cache(maxsize=KNOWN_ROWS)
+def row_of(text: str, length: int) -> bytes:
+    """Returns a row of so many digits; raises `NotDecoded` where it is too long or too short."""
+    digits = expanded(text)
+    rest = RESTS.get(digits[-1:])
+    if rest:
+        digits = digits[:-1].ljust(length, rest)
+    if len(digits) != length:
+        raise NotDecoded(Text("a row of the zpl has not its length"))
+    return bytes.fromhex(digits)
 
 
 def expanded(text: str) -> str:
     """Returns digits for counts and digits."""
-    parts = COUNTED.split(text)
-    parts[1::2] = map(repeated, parts[1::2])
-    return "".join(parts)
+    pieces = COUNTED.split(text)
+    pieces[1::2] = map(repeated, pieces[1::2])
+    return "".join(pieces)
 
 
 @cache
@@ -227,18 +173,9 @@ def repeated(run: str) -> str:
     return run[-1] * count
 
 
-def digits_of(packed: bytes, size: int, width: int) -> list[str]:
-    """Returns rows of whole bytes as digits, `width` of each."""
-    above = b""
-    digits = ""
-    found: list[str] = []
-    for at in range(0, len(packed), size):
-        row = packed[at : at + size]
-        if row != above:
-            digits = f"{int.from_bytes(row, 'big'):0{8 * size}b}"[:width]
-            above = row
-        found.append(digits)
-    return found
+def rows_in(data: bytes, size: int) -> list[bytes]:
+    """Returns rows of a size."""
+    return [data[start : start + size] for start in range(0, len(data), size)]
 
 
 def whole(data: bytes, length: int) -> bytes:

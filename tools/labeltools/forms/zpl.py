@@ -1,8 +1,6 @@
 """ZPL II of label printers."""
 
-import binascii
 import re
-import zlib
 from functools import cache
 from itertools import chain
 
@@ -19,36 +17,30 @@ OFTEN = re.compile(r"(.)\1{2,}")
 RESTS = {"0": ",", "F": "!"}  # the rest of a row is light or dark
 
 
-def zpl(picture: Picture, copies: int, is_compressed: bool) -> bytes:
+def zpl(picture: Picture, copies: int) -> bytes:
     """Returns a label, which is printed `copies` times.
 
     It is not turned (^PON), and begins at the left upper corner (^LH, ^LS), whatever the job before
-    has set. Its dots are graphic fields one below the other: run lengths, which each printer and
-    clone reads, or where `is_compressed` zlib in base 64 (:Z64:), which is a third of that.
+    has set. Its dots are graphic fields one below the other, in run lengths, which each printer and
+    clone reads.
     """
     head = b"^XA^PON^LH0,0^LS0^PW%d^LL%d\n" % (picture.width, picture.height)
-    fields = b"".join(graphic_fields(picture, is_compressed))
+    fields = b"".join(graphic_fields(picture))
     count = b"^PQ%d\n" % copies if copies > 1 else b""
     return head + fields + count + b"^XZ\n"
 
 
-def graphic_fields(picture: Picture, is_compressed: bool) -> list[bytes]:
+def graphic_fields(picture: Picture) -> list[bytes]:
     """Returns the graphic fields of a label."""
     size = bytes_a_row(picture.width)
     rows_a_field = MOST_BYTES // size
     fields = []
     for top in range(0, picture.height, rows_a_field):
         rows = picture.rows[top : top + rows_a_field]
-        data = z64(rows) if is_compressed else run_lengths(rows)
+        data = run_lengths(rows)
         length = len(rows) * size
         fields.append(b"^FO0,%d^GFA,%d,%d,%d,%b^FS\n" % (top, length, length, size, data))
     return fields
-
-
-def z64(rows: tuple[bytes, ...]) -> bytes:
-    """Returns rows compressed by zlib, in base 64, with their check sum."""
-    packed = binascii.b2a_base64(zlib.compress(b"".join(rows), 9), newline=False)
-    return b":Z64:%b:%04X" % (packed, binascii.crc_hqx(packed, 0))
 
 
 def run_lengths(rows: tuple[bytes, ...]) -> bytes:
