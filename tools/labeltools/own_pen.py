@@ -68,9 +68,9 @@ class OwnPen(Pen):
         for symbol in layout.symbols:
             canvas.save()
             turned(canvas, symbol.box, symbol.place.quarters)
-            self.draw_modules(canvas, symbol.code.modules, symbol)
+            self.draw_modules(canvas, symbol.modules, symbol)
             if "digits" in symbol.boxes:
-                self.draw_data(canvas, symbol.code.data, symbol)
+                self.draw_data(canvas, symbol.data, symbol)
             canvas.restore()
         for text in layout.texts:
             canvas.save()

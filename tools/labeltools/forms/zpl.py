@@ -1,8 +1,6 @@
 """ZPL II of label printers."""
 
-import binascii
 import re
-import zlib
 from functools import cache, reduce
 from itertools import chain
 from operator import or_
@@ -33,22 +31,21 @@ class Block(NamedTuple):
     rows: Sequence[bytes]
 
 
-def zpl(picture: Picture, copies: int, is_compressed: bool) -> bytes:
+def zpl(picture: Picture, copies: int) -> bytes:
     """Returns a label, which is printed `copies` times.
 
     It is not turned (^PON), and begins at the left upper corner (^LH, ^LS), whatever the job before
     has set. Its dots are a graphic field for each block between white rows and columns, so that a
-    row of bars is that above it once more, whatever is beside them: run lengths, which each
-    printer and clone reads, or where `is_compressed` zlib in base 64 (:Z64:), which is a third of
-    that.
+    row of bars is that above it once more, whatever is beside them. They are in run lengths, which
+    each printer and clone reads.
     """
     head = b"^XA^PON^LH0,0^LS0^PW%d^LL%d\n" % (picture.width, picture.height)
-    fields = b"".join(graphic_fields(picture, is_compressed))
+    fields = b"".join(graphic_fields(picture))
     count = b"^PQ%d\n" % copies if copies > 1 else b""
     return head + fields + count + b"^XZ\n"
 
 
-def graphic_fields(picture: Picture, is_compressed: bool) -> list[bytes]:
+def graphic_fields(picture: Picture) -> list[bytes]:
     """Returns the graphic fields of a label."""
     fields = []
     for block in blocks(Block(0, 0, picture.rows)):
@@ -56,7 +53,7 @@ def graphic_fields(picture: Picture, is_compressed: bool) -> list[bytes]:
         rows_a_field = MOST_BYTES // size
         for start in range(0, len(block.rows), rows_a_field):
             rows = block.rows[start : start + rows_a_field]
-            data = z64(rows) if is_compressed else run_lengths(rows)
+            data = run_lengths(rows)
             place = (8 * block.left, block.top + start)
             length = len(rows) * size
             fields.append(b"^FO%d,%d^GFA,%d,%d,%d,%b^FS\n" % (*place, length, length, size, data))
@@ -91,12 +88,6 @@ def bands(block: Block) -> Iterator[Block]:
         start = number if start < 0 else start
     if start >= 0:
         yield Block(block.left, block.top + start, block.rows[start : last + 1])
-
-
-def z64(rows: Sequence[bytes]) -> bytes:
-    """Returns rows compressed by zlib, in base 64, with their check sum."""
-    packed = binascii.b2a_base64(zlib.compress(b"".join(rows), 9), newline=False)
-    return b":Z64:%b:%04X" % (packed, binascii.crc_hqx(packed, 0))
 
 
 def run_lengths(rows: Sequence[bytes]) -> bytes:
