@@ -16,7 +16,7 @@ ZPL_HEAD = re.compile(rb"\^XA\^PON\^LH0,0\^LS0\^PW([0-9]+)\^LL([0-9]+)\n")
 ZPL_FIELD = re.compile(rb"\^FO([0-9]+),([0-9]+)\^GFA,([0-9]+),([0-9]+),([0-9]+),([^^]*)\^FS\n")
 ZPL_END = re.compile(rb"(?:\^PQ([0-9]+)\n)?\^XZ\n")
 COUNTED = re.compile(r"([G-Yg-z]+[0-9A-F])")
-ROWS = re.compile(r"[0-9A-Zg-z]+[,!]?|[,!:]")
+ROWS = re.compile(r"([0-9A-Zg-z]+[,!]?|[,!])(:*)")  # with how often the last row comes again
 RESTS = {",": "0", "!": "F"}
 KNOWN_ROWS = 4096  # rows of ZPL that are kept as they were read: most labels share some
 RASTER = b"\x1dv0\0"
@@ -24,6 +24,9 @@ LINES_AND_CUT = b"\x1bd\x03\x1dV\x42\x00"
 RESET = b"\x1b@"
 PNG_HEAD = b"\x89PNG\r\n\x1a\n"
 INVERTED = bytes(range(255, -1, -1))
+
+
+Run = tuple[bytes, int]  # a row, and how often it comes
 
 
 class NotDecoded(Exception):
@@ -120,10 +123,7 @@ def dots_of_zpl(data: bytes) -> Dots:
         is_inside = not left % 8 and left // 8 + size <= stride and top + count <= height
         if length != again or length % size or not is_inside:
             raise NotDecoded(Text("zpl with a graphic field that leaves the label"))
-        field = list(rows_of_field(found[6].decode("ascii"), size, count))
-        if len(field) != count:
-            raise NotDecoded(Text("zpl with {} rows, which has {}", count, len(field)))
-        rows[top : top + count] = pasted(rows[top : top + count], field, left // 8)
+        paste(rows, top, left // 8, list(runs_of_field(found[6].decode("ascii"), size)), count)
         at = found.end()
     end = ZPL_END.fullmatch(data, at)
     if not end:
@@ -131,47 +131,52 @@ def dots_of_zpl(data: bytes) -> Dots:
     return Dots(width, rows, int(end[1] or 1))
 
 
-def pasted(rows: Sequence[bytes], field: Sequence[bytes], left: int) -> Iterator[bytes]:
-    """Yields rows with those of a field from a byte on; dark dots of both are dark."""
-    under = over = made = b""
-    for row, piece in zip(rows, field):
-        if row is not under or piece is not over:
-            end = left + len(piece)
-            there = int.from_bytes(row[left:end], "big") | int.from_bytes(piece, "big")
-            made = row[:left] + there.to_bytes(len(piece), "big") + row[end:]
-            under = row
-            over = piece
-        yield made
+def paste(rows: list[bytes], top: int, left: int, runs: Sequence[Run], count: int) -> None:
+    """Puts the rows of a field into those of a label, from a row and a byte on; dark dots of both
+    are dark. Raises `NotDecoded` where they are not as many as they have to be.
+    """
+    high = sum(times for _, times in runs)
+    if high != count:
+        raise NotDecoded(Text("zpl with {} rows, which has {}", count, high))
+    for piece, times in runs:
+        under = rows[top]
+        end = left + len(piece)
+        if rows[top : top + times].count(under) == times:
+            rows[top : top + times] = [merged(under, piece, left, end)] * times
+        else:
+            for number in range(top, top + times):
+                rows[number] = merged(rows[number], piece, left, end)
+        top += times
 
 
-def rows_of_field(text: str, size: int, count: int) -> Iterator[bytes]:
-    """Yields the rows of a graphic field in run lengths."""
-    found: list[str] = ROWS.findall(text)
-    if len(found) != count:  # some rows are whole without a sign for their rest
-        found = list(chain.from_iterable(parts(row, 2 * size) for row in found))
-    row = b""
-    for one in found:
-        if one != ":":
-            row = row_of(one, 2 * size)
-        yield row
+def merged(row: bytes, piece: bytes, left: int, end: int) -> bytes:
+    """Returns a row with a piece in some of its bytes."""
+    there = int.from_bytes(row[left:end], "big") | int.from_bytes(piece, "big")
+    return row[:left] + there.to_bytes(len(piece), "big") + row[end:]
 
 
-def parts(text: str, digits: int) -> Iterator[str]:
-    """Yields the rows of a text of digits, the last of which may have a sign for its rest."""
-    plain = expanded(text)
-    return (plain[start : start + digits] for start in range(0, len(plain), digits))
+def runs_of_field(text: str, size: int) -> Iterator[Run]:
+    """Yields the rows of a graphic field in run lengths, with how often each comes."""
+    for digits, again in ROWS.findall(text):
+        *before, last = rows_of(digits, 2 * size)
+        for row in before:
+            yield row, 1
+        yield last, 1 + len(again)
 
 
 @lru_cache(maxsize=KNOWN_ROWS)
-def row_of(text: str, length: int) -> bytes:
-    """Returns a row of so many digits; raises `NotDecoded` where it is too long or too short."""
+def rows_of(text: str, length: int) -> tuple[bytes, ...]:
+    """Returns the rows, each of so many digits, that a text is, the last of which may have a sign
+    for its rest; raises `NotDecoded` where they are not whole.
+    """
     digits = expanded(text)
     rest = RESTS.get(digits[-1:])
     if rest:
-        digits = digits[:-1].ljust(length, rest)
-    if len(digits) != length:
+        digits = digits[:-1] + rest * (length - (len(digits) - 1) % length)
+    if len(digits) % length:
         raise NotDecoded(Text("a row of the zpl has not its length"))
-    return bytes.fromhex(digits)
+    starts = range(0, len(digits), length)
+    return tuple(bytes.fromhex(digits[start : start + length]) for start in starts)
 
 
 def expanded(text: str) -> str:
