@@ -6,8 +6,7 @@ import re
 import struct
 import zlib
 from dataclasses import dataclass
-from functools import cache, lru_cache
-from itertools import chain
+from functools import cache
 from typing import Iterator, Sequence
 
 from labeltools.text import Text
@@ -16,9 +15,8 @@ ZPL_HEAD = re.compile(rb"\^XA\^PON\^LH0,0\^LS0\^PW([0-9]+)\^LL([0-9]+)\n")
 ZPL_FIELD = re.compile(rb"\^FO0,([0-9]+)\^GFA,([0-9]+),([0-9]+),([0-9]+),([^^]*)\^FS\n")
 ZPL_END = re.compile(rb"(?:\^PQ([0-9]+)\n)?\^XZ\n")
 COUNTED = re.compile(r"([G-Yg-z]+[0-9A-F])")
-ROWS = re.compile(r"[0-9A-Zg-z]+[,!]?|[,!:]")
+ROWS = re.compile(r"[^,!:]+[,!]?|[,!:]")  # some of them together where none has a sign
 RESTS = {",": "0", "!": "F"}
-KNOWN_ROWS = 4096  # rows of ZPL that are kept as they were read: most labels share some
 RASTER = b"\x1dv0\0"
 LINES_AND_CUT = b"\x1bd\x03\x1dV\x42\x00"
 RESET = b"\x1b@"
@@ -117,7 +115,7 @@ def dots_of_zpl(data: bytes) -> Dots:
         top, length, again, size = (int(found[number]) for number in range(1, 5))
         if top != len(rows) or length != again or size != (width + 7) // 8 or length % size:
             raise NotDecoded(Text("zpl with a gap between graphic fields"))
-        rows += rows_of_field(found[5].decode("ascii"), size, length // size)
+        rows += rows_of_field(found[5].decode("ascii"), size)
         at = found.end()
     end = ZPL_END.fullmatch(data, at)
     if not end or len(rows) != height:
@@ -125,34 +123,22 @@ def dots_of_zpl(data: bytes) -> Dots:
     return Dots(width, rows, int(end[1] or 1))
 
 
-def rows_of_field(text: str, size: int, count: int) -> Iterator[bytes]:
-    """Yields the rows of a graphic field in run lengths."""
-    found: list[str] = ROWS.findall(text)
-    if len(found) != count:  # some rows are whole without a sign for their rest
-        found = list(chain.from_iterable(parts(row, 2 * size) for row in found))
+def rows_of_field(text: str, size: int) -> Iterator[bytes]:
+    """Yields the rows of a graphic field in run lengths; raises `NotDecoded`."""
+    digits = 2 * size
     row = b""
-    for one in found:
-        if one != ":":
-            row = row_of(one, 2 * size)
-        yield row
-
-
-def parts(text: str, digits: int) -> Iterator[str]:
-    """Yields the rows of a text of digits, the last of which may have a sign for its rest."""
-    plain = expanded(text)
-    return (plain[start : start + digits] for start in range(0, len(plain), digits))
-
-
-@lru_cache(maxsize=KNOWN_ROWS)
-def row_of(text: str, length: int) -> bytes:
-    """Returns a row of so many digits; raises `NotDecoded` where it is too long or too short."""
-    digits = expanded(text)
-    rest = RESTS.get(digits[-1:])
-    if rest:
-        digits = digits[:-1].ljust(length, rest)
-    if len(digits) != length:
-        raise NotDecoded(Text("a row of the zpl has not its length"))
-    return bytes.fromhex(digits)
+    for one in ROWS.findall(expanded(text)):
+        if one == ":":
+            yield row
+            continue
+        rest = RESTS.get(one[-1])
+        if rest:  # it fills the row, or a whole one where a row has just ended
+            one = one[:-1].ljust((len(one) + digits - 1) // digits * digits, rest)
+        if len(one) % digits:
+            raise NotDecoded(Text("a row of the zpl has not its length"))
+        for start in range(0, len(one), digits):
+            row = bytes.fromhex(one[start : start + digits])
+            yield row
 
 
 def expanded(text: str) -> str:

@@ -13,7 +13,7 @@ MOST_COUNT = 400
 TWENTY = 20
 BEFORE_ONE = ord("F")
 BEFORE_TWENTY = ord("f")
-OFTEN = re.compile(r"(.)\1{2,}")
+OFTEN = re.compile(r"((.)\2{2,})")
 RESTS = {"0": ",", "F": "!"}  # the rest of a row is light or dark
 
 
@@ -62,7 +62,10 @@ def run_lengths_of(row: bytes) -> str:
     rest = RESTS.get(text[-1:], "")
     if rest:
         text = text.rstrip(text[-1])
-    return OFTEN.sub(lambda run: run_length_of(run[0]), text) + rest
+    pieces = OFTEN.split(text)  # what is between runs, a run, its digit, ..
+    pieces[1::3] = map(run_length_of, pieces[1::3])
+    del pieces[2::3]
+    return "".join(pieces) + rest
 
 
 @cache
