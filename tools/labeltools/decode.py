@@ -7,7 +7,7 @@ import struct
 import zlib
 from dataclasses import dataclass
 from functools import cache
-from typing import Iterator, Sequence
+from typing import Sequence
 
 from labeltools.text import Text
 
@@ -123,22 +123,22 @@ def dots_of_zpl(data: bytes) -> Dots:
     return Dots(width, rows, int(end[1] or 1))
 
 
-def rows_of_field(text: str, size: int) -> Iterator[bytes]:
-    """Yields the rows of a graphic field in run lengths; raises `NotDecoded`."""
+def rows_of_field(text: str, size: int) -> list[bytes]:
+    """Returns the rows of a graphic field in run lengths; raises `NotDecoded`."""
     digits = 2 * size
-    row = b""
+    row = ""
+    rows: list[str] = []
     for one in ROWS.findall(expanded(text)):
-        if one == ":":
-            yield row
-            continue
-        rest = RESTS.get(one[-1])
-        if rest:  # it fills the row, or a whole one where a row has just ended
-            one = one[:-1].ljust((len(one) + digits - 1) // digits * digits, rest)
-        if len(one) % digits:
-            raise NotDecoded(Text("a row of the zpl has not its length"))
-        for start in range(0, len(one), digits):
-            row = bytes.fromhex(one[start : start + digits])
-            yield row
+        if one != ":":
+            rest = RESTS.get(one[-1])
+            if rest:  # it fills the row, or a whole one where a row has just ended
+                one = one[:-1].ljust((len(one) + digits - 1) // digits * digits, rest)
+            if len(one) % digits:
+                raise NotDecoded(Text("a row of the zpl has not its length"))
+            row = one[-digits:]
+            rows.append(one[:-digits])
+        rows.append(row)
+    return rows_in(bytes.fromhex("".join(rows)), size)
 
 
 def expanded(text: str) -> str:

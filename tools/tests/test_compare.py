@@ -200,7 +200,7 @@ def first_letters(whole: list[str]) -> int:
 def wrong_count(whole: list[str]) -> None:
     """Makes a count of a row above all codes one more; the row keeps its length."""
     number = first_letters(whole)
-    row = next(decode.rows_of_field(whole[number], BYTES)).hex().upper()
+    row = decode.rows_of_field(whole[number], BYTES)[0].hex().upper()
     whole[number] = "0" + row[:-1]
 
 
@@ -393,12 +393,12 @@ class Read(unittest.TestCase):
     def test_rows_by_the_manual(self) -> None:
         """The examples of the ZPL II manual for counts: M6 is seven of 6, hB forty of B."""
         self.assertEqual(decode.expanded("M6hBgMF"), "6666666" + "B" * 40 + "F" * 27)
-        rows = list(decode.rows_of_field("F0!J5,:,12345678,M9!", 4))
+        rows = decode.rows_of_field("F0!J5,:,12345678,M9!", 4)
         wanted = ("F0FFFFFF", "55550000", "55550000", "00000000", "12345678", "00000000")
         self.assertEqual([row.hex().upper() for row in rows], [*wanted, "9999999F"])
         for text in ("F0F", "12345678F", "GZ"):
             with self.assertRaises(decode.NotDecoded):
-                list(decode.rows_of_field(text, 4))
+                decode.rows_of_field(text, 4)
 
     def test_where_letters_are(self) -> None:
         """A letter of an em, with its ink from 0.1 to 0.8; one apart from the others."""
