@@ -10,7 +10,7 @@ Where the library reads symbols, what it reads of these dots is to be the data o
 belongs into `Comparison.code`, beside what the library says that it drew.
 """
 
-from dataclasses import dataclass
+from functools import cache
 from itertools import groupby
 from typing import Any, Iterable, Iterator, NamedTuple, Optional, Sequence
 
@@ -46,6 +46,7 @@ ZONES = {
     "code128": (10, 10, 0),
     "qr": (4, 4, 4),
 }
+FEW = 2  # symbols of a page that are looked at one by one
 DIGITS = bytes.maketrans(b"\0\1", b"01")
 FAULT = Text("this is a fault of label-print: nothing of it has gone out; report it")
 
@@ -84,31 +85,40 @@ class Part(NamedTuple):
     dots: int
 
 
-@dataclass(frozen=True)
-class Wanted:
-    """What has to be on a page for a symbol: the symbol, drawn anew; its bars and each of its
-    longer guards as boxes of the page, with the modules of these; the quarters by which it is
-    turned; the dots of a module.
+class Geometry(NamedTuple):
+    """Where a symbol has to be on a page: its bars, its longer guards with their first and last
+    modules, and the picture of both; the quarters by which it is turned; the dots of a module, and
+    those of its bars from top to bottom as they are read.
     """
 
-    symbol: Any
     bars: Box
-    guards: Sequence[tuple[Box, str]]
+    guards: Sequence[tuple[Box, tuple[int, int]]]
+    picture: Box
     quarters: int
     scale: int
+    high: int
 
-    @property
-    def boxes(self) -> Iterator[Box]:
-        """All that it fills."""
-        yield self.bars
-        for box, _ in self.guards:
-            yield box
+
+class Wanted(NamedTuple):
+    """What has to be on a page for a symbol: the symbol, drawn anew, and where."""
+
+    symbol: Any
+    place: Geometry
 
     def parts(self) -> Iterator[Part]:
         """Yields the parts of a page that have to be so."""
-        yield from parts_of(rows_of(self.symbol), self.bars, self.quarters)
-        for box, modules in self.guards:
-            yield from parts_of([modules], box, self.quarters)
+        symbol, place = self
+        yield from parts_of(rows_of(symbol), place.bars, place.quarters)
+        for box, (first, last) in place.guards:
+            modules = symbol.modules[first:last].translate(DIGITS).decode("ascii")
+            yield from parts_of([modules], box, place.quarters)
+
+    def is_met_by(self, ink: Ink) -> bool:
+        """Returns whether ink meets it."""
+        place = self.place
+        if not ink.meets(place.picture):
+            return False
+        return ink.meets(place.bars) or any(ink.meets(box) for box, _ in place.guards)
 
 
 class Comparison:
@@ -124,6 +134,7 @@ class Comparison:
         area = plan.area.turned() if is_turned else plan.area
         self.area = Box(0, 0, area.width, area.height)
         self.cells = dict(zip(plan.places, plan.sheet.places))
+        self.known: dict[tuple[object, ...], Geometry] = {}
 
     def check(
         self, data: bytes, pages: Sequence[Labels], copies: int = 1, rows: Optional[Rows] = None
@@ -180,6 +191,8 @@ class Comparison:
 
     def check_rows(self, dots: Dots, rows: Rows, labels: Labels) -> None:
         """Raises `Different` where dots are not those of the rows of a page that was drawn."""
+        if dots.rows == list(rows):
+            return
         for number, (found, row) in enumerate(zip(dots.rows, rows)):
             if found == row or not dots.width and found.ljust(len(row), b"\0") == row:
                 continue
@@ -206,6 +219,14 @@ class Comparison:
     def wanted(self, spot: Spot, at: tuple[int, int]) -> Wanted:
         """Returns what has to be on a page for a symbol of a label whose area is at a place."""
         symbol = self.code(spot)
+        key = (*spot[3:], at, symbol.symbology, symbol.width, symbol.rows)
+        place = self.known.get(key)
+        if place is None:
+            place = self.known[key] = self.geometry(spot, at, symbol)
+        return Wanted(symbol, place)
+
+    def geometry(self, spot: Spot, at: tuple[int, int], symbol: Any) -> Geometry:
+        """Returns where a symbol has to be on a page; raises `Different` where it cannot be."""
         left, right, above = ZONES[symbol.symbology]
         bars = spot.bars
         scale, rest = divmod(bars.width, left + symbol.width + right)
@@ -213,17 +234,16 @@ class Comparison:
         high = bars.height if is_linear else scale * (symbol.rows + 2 * above)
         if rest or not scale or high != bars.height or scale != spot.module:
             raise Different(Text("its modules are no whole dots"))
+        longer = LONGER * scale
         guards = []
         for first, last in GUARDS.get(symbol.symbology, ()) if is_linear else ():
             start = bars.left + (left + first) * scale
-            box = Box(start, bars.bottom, (last - first) * scale, LONGER * scale)
-            modules = symbol.modules[first:last].translate(DIGITS).decode("ascii")
-            guards.append((self.on_page(spot, box, at), modules))
-        quarters = (spot.quarters + self.is_turned) % 4
-        found = Wanted(symbol, self.on_page(spot, bars, at), guards, quarters, scale)
-        for box in found.boxes:
-            self.check_cell(at, box)
-        return found
+            box = Box(start, bars.bottom, (last - first) * scale, longer)
+            guards.append((self.on_page(spot, box, at), (first, last)))
+        picture = bars._replace(height=bars.height + longer * bool(guards))
+        boxes = self.on_page(spot, bars, at), guards, self.on_page(spot, picture, at)
+        self.check_cell(at, boxes[2])
+        return Geometry(*boxes, (spot.quarters + self.is_turned) % 4, scale, high)
 
     def on_page(self, spot: Spot, box: Box, at: tuple[int, int]) -> Box:
         """Returns where a box in the room of a spot is on the page."""
@@ -297,15 +317,12 @@ class CodesOfPage:
 
     def check(self, wanted: Wanted) -> None:
         """Takes the picture of a symbol; raises `Different` where none is its own."""
-        box = picture_box(wanted)
-        code = self.taken(box, wanted.quarters)
-        place = said(box.left * self.dot, box.top * self.dot)
-        if code is None:
-            raise Different(place)
+        box = wanted.place.picture
+        code = self.taken(box, wanted.place.quarters)
         modules = modules_of(wanted)
-        size = (code.height, bytes_a_row(code.width))
-        if code.modules != modules or size[0] * size[1] != len(modules):
-            raise Different(place)
+        size = code.height * bytes_a_row(code.width) if code else 0
+        if code is None or code.modules != modules or size != len(modules):
+            raise Different(said(box.left * self.dot, box.top * self.dot))
 
     def taken(self, box: Box, quarters: int) -> Optional[DrawnCode]:
         """Returns the picture that fills a box, and takes it away."""
@@ -328,23 +345,23 @@ def fault(what: Text, place: Text) -> ToolError:
 
 def check_inks(inks: Iterable[Ink], regions: Sequence[tuple[Wanted, Text]], dot: float) -> None:
     """Raises `Different` where ink of letters, lines or pictures meets a symbol."""
-    around = Regions(regions)
+    near = Regions(regions).near if len(regions) > FEW else lambda _: regions
     for ink in inks:
-        place = around.met_by(ink)
-        if place is not None:
-            raise Different(said(ink.left * dot, ink.top * dot), place)
+        for wanted, place in near(ink):
+            if wanted.is_met_by(ink):
+                raise Different(said(ink.left * dot, ink.top * dot), place)
 
 
 class Regions:
     """The symbols of a page by where they are, so that few are looked at for some ink."""
 
     def __init__(self, regions: Sequence[tuple[Wanted, Text]]) -> None:
-        boxes = [(box, place) for wanted, place in regions for box in wanted.boxes]
-        self.size = max([max(box.width, box.height) for box, _ in boxes], default=1)
-        self.found: dict[tuple[int, int], list[tuple[Box, Text]]] = {}
-        for box, place in boxes:
+        pictures = [wanted.place.picture for wanted, _ in regions]
+        self.size = max(max(box.width, box.height) for box in pictures)
+        self.found: dict[tuple[int, int], list[tuple[Wanted, Text]]] = {}
+        for box, region in zip(pictures, regions):
             for key in self.keys(Ink(box.left, box.top, box.right, box.bottom)):
-                self.found.setdefault(key, []).append((box, place))
+                self.found.setdefault(key, []).append(region)
 
     def keys(self, ink: Ink) -> Iterator[tuple[int, int]]:
         """Yields the squares of a page that ink is in."""
@@ -353,13 +370,10 @@ class Regions:
             for row in range(int(ink.top // size), int(ink.bottom // size) + 1):
                 yield column, row
 
-    def met_by(self, ink: Ink) -> Optional[Text]:
-        """Returns the place of a label whose symbol some ink meets."""
+    def near(self, ink: Ink) -> Iterator[tuple[Wanted, Text]]:
+        """Yields symbols that ink may meet."""
         for key in self.keys(ink):
-            for box, place in self.found.get(key, ()):
-                if ink.meets(box):
-                    return place
-        return None
+            yield from self.found.get(key, ())
 
 
 def spots_of(item: LaidOut, area: Box) -> Iterator[Spot]:
@@ -454,32 +468,23 @@ def wide(row: str, scale: int) -> int:
     return int(row, 2)
 
 
-def picture_box(wanted: Wanted) -> Box:
-    """Returns the box of a page that the picture of a symbol fills, longer guards included."""
-    bars = wanted.bars
-    if not wanted.guards:
-        return bars
-    longer = LONGER * wanted.scale
-    across, down = ((0, 1), (-1, 0), (0, -1), (1, 0))[wanted.quarters]
-    left = bars.left - longer * (across < 0)
-    top = bars.top - longer * (down < 0)
-    return Box(left, top, bars.width + longer * abs(across), bars.height + longer * abs(down))
-
-
 def modules_of(wanted: Wanted) -> bytes:
     """Returns the modules of the picture of a symbol in rows of whole bytes, as it is read."""
     symbol = wanted.symbol
     packed: bytes = symbol.packed(quiet_zones=True)
     if symbol.rows > 1:
         return packed
-    high = wanted.bars.width if wanted.quarters % 2 else wanted.bars.height
-    rows = packed * (high // wanted.scale)
-    if not wanted.guards:
+    rows = packed * (wanted.place.high // wanted.place.scale)
+    if not wanted.place.guards:
         return rows
-    first = ZONES[symbol.symbology][0]
-    behind = 8 * len(packed) - first
-    mask = sum(
-        (1 << (behind - start)) - (1 << (behind - end)) for start, end in GUARDS[symbol.symbology]
-    )
+    mask = guard_mask(symbol.symbology, 8 * len(packed))
     guard = (int.from_bytes(packed, "big") & mask).to_bytes(len(packed), "big")
     return rows + guard * LONGER
+
+
+@cache
+def guard_mask(symbology: str, bits: int) -> int:
+    """Returns the modules of longer guards in a row of so many bits, as a number."""
+    behind = bits - ZONES[symbology][0]
+    spans = GUARDS[symbology]
+    return sum((1 << (behind - first)) - (1 << (behind - last)) for first, last in spans)

@@ -6,9 +6,8 @@ import re
 import struct
 import zlib
 from dataclasses import dataclass
-from functools import cache, lru_cache
-from itertools import chain
-from typing import Iterator, Sequence
+from functools import cache
+from typing import Sequence
 
 from labeltools.text import Text
 
@@ -16,17 +15,13 @@ ZPL_HEAD = re.compile(rb"\^XA\^PON\^LH0,0\^LS0\^PW([0-9]+)\^LL([0-9]+)\n")
 ZPL_FIELD = re.compile(rb"\^FO([0-9]+),([0-9]+)\^GFA,([0-9]+),([0-9]+),([0-9]+),([^^]*)\^FS\n")
 ZPL_END = re.compile(rb"(?:\^PQ([0-9]+)\n)?\^XZ\n")
 COUNTED = re.compile(r"([G-Yg-z]+[0-9A-F])")
-ROWS = re.compile(r"([0-9A-Zg-z]+[,!]?|[,!])(:*)")  # with how often the last row comes again
+ROWS = re.compile(r"[^,!:]+[,!]?|[,!:]")  # some of them together where none has a sign
 RESTS = {",": "0", "!": "F"}
-KNOWN_ROWS = 4096  # rows of ZPL that are kept as they were read: most labels share some
 RASTER = b"\x1dv0\0"
 LINES_AND_CUT = b"\x1bd\x03\x1dV\x42\x00"
 RESET = b"\x1b@"
 PNG_HEAD = b"\x89PNG\r\n\x1a\n"
 INVERTED = bytes(range(255, -1, -1))
-
-
-Run = tuple[bytes, int]  # a row, and how often it comes
 
 
 class NotDecoded(Exception):
@@ -114,69 +109,56 @@ def dots_of_zpl(data: bytes) -> Dots:
         raise NotDecoded(Text("no zpl of label-print"))
     width = int(head[1])
     height = int(head[2])
-    stride = (width + 7) // 8
-    rows = [bytes(stride)] * height
+    blank = bytes((width + 7) // 8)
+    rows = [blank] * height
     at = head.end()
     while found := ZPL_FIELD.match(data, at):
         left, top, length, again, size = (int(found[number]) for number in range(1, 6))
-        count = length // size
-        is_inside = not left % 8 and left // 8 + size <= stride and top + count <= height
-        if length != again or length % size or not is_inside:
-            raise NotDecoded(Text("zpl with a graphic field that leaves the label"))
-        paste(rows, top, left // 8, list(runs_of_field(found[6].decode("ascii"), size)), count)
+        end = top + length // size
+        if length != again or length % size or left % 8:
+            raise NotDecoded(Text("zpl with a field that is no whole bytes"))
+        if end > height or left // 8 + size > len(blank):
+            raise NotDecoded(Text("zpl with a field that leaves the label"))
+        field = rows_of_field(found[6].decode("ascii"), size)
+        if len(field) != end - top:
+            raise NotDecoded(Text("zpl with {} rows, which has {}", end - top, len(field)))
+        rows[top:end] = together(rows[top:end], field, left // 8, blank)
         at = found.end()
-    end = ZPL_END.fullmatch(data, at)
-    if not end:
+    end_of_label = ZPL_END.fullmatch(data, at)
+    if not end_of_label:
         raise NotDecoded(Text("zpl without an end"))
-    return Dots(width, rows, int(end[1] or 1))
+    return Dots(width, rows, int(end_of_label[1] or 1))
 
 
-def paste(rows: list[bytes], top: int, left: int, runs: Sequence[Run], count: int) -> None:
-    """Puts the rows of a field into those of a label, from a row and a byte on; dark dots of both
-    are dark. Raises `NotDecoded` where they are not as many as they have to be.
-    """
-    high = sum(times for _, times in runs)
-    if high != count:
-        raise NotDecoded(Text("zpl with {} rows, which has {}", count, high))
-    for piece, times in runs:
-        under = rows[top]
-        end = left + len(piece)
-        if rows[top : top + times].count(under) == times:
-            rows[top : top + times] = [merged(under, piece, left, end)] * times
-        else:
-            for number in range(top, top + times):
-                rows[number] = merged(rows[number], piece, left, end)
-        top += times
+def together(rows: list[bytes], field: list[bytes], left: int, blank: bytes) -> list[bytes]:
+    """Returns rows with those of a field from a byte on; dark dots of both are dark."""
+    before = blank[:left]
+    behind = blank[left + len(field[0]) :]
+    wide = [before + row + behind for row in field]
+    if rows.count(blank) == len(rows):
+        return wide
+    both = (
+        int.from_bytes(one, "big") | int.from_bytes(other, "big") for one, other in zip(rows, wide)
+    )
+    return [row.to_bytes(len(blank), "big") for row in both]
 
 
-def merged(row: bytes, piece: bytes, left: int, end: int) -> bytes:
-    """Returns a row with a piece in some of its bytes."""
-    there = int.from_bytes(row[left:end], "big") | int.from_bytes(piece, "big")
-    return row[:left] + there.to_bytes(len(piece), "big") + row[end:]
-
-
-def runs_of_field(text: str, size: int) -> Iterator[Run]:
-    """Yields the rows of a graphic field in run lengths, with how often each comes."""
-    for digits, again in ROWS.findall(text):
-        *before, last = rows_of(digits, 2 * size)
-        for row in before:
-            yield row, 1
-        yield last, 1 + len(again)
-
-
-@lru_cache(maxsize=KNOWN_ROWS)
-def rows_of(text: str, length: int) -> tuple[bytes, ...]:
-    """Returns the rows, each of so many digits, that a text is, the last of which may have a sign
-    for its rest; raises `NotDecoded` where they are not whole.
-    """
-    digits = expanded(text)
-    rest = RESTS.get(digits[-1:])
-    if rest:
-        digits = digits[:-1] + rest * (length - (len(digits) - 1) % length)
-    if len(digits) % length:
-        raise NotDecoded(Text("a row of the zpl has not its length"))
-    starts = range(0, len(digits), length)
-    return tuple(bytes.fromhex(digits[start : start + length]) for start in starts)
+def rows_of_field(text: str, size: int) -> list[bytes]:
+    """Returns the rows of a graphic field in run lengths; raises `NotDecoded`."""
+    digits = 2 * size
+    row = ""
+    rows: list[str] = []
+    for one in ROWS.findall(expanded(text)):
+        if one != ":":
+            rest = RESTS.get(one[-1])
+            if rest:  # it fills the row, or a whole one where a row has just ended
+                one = one[:-1].ljust((len(one) + digits - 1) // digits * digits, rest)
+            if len(one) % digits:
+                raise NotDecoded(Text("a row of the zpl has not its length"))
+            row = one[-digits:]
+            rows.append(one[:-digits])
+        rows.append(row)
+    return rows_in(bytes.fromhex("".join(rows)), size)
 
 
 def expanded(text: str) -> str:

@@ -55,6 +55,8 @@ class Matrix(NamedTuple):
 
     def ink(self, left: float, top: float, right: float, bottom: float) -> Ink:
         """Returns the rectangle in which another one is when it was moved."""
+        if not (self.b or self.c) or not (self.a or self.d):  # it has its corners still
+            return ink_of((self.of(left, top), self.of(right, bottom)))
         points = (self.of(left, top), self.of(right, top), self.of(left, bottom))
         corners = (*points, self.of(right, bottom))
         return ink_of(corners)
@@ -99,6 +101,5 @@ class DrawnPage:
 
 def ink_of(points: Sequence[tuple[float, float]]) -> Ink:
     """Returns the rectangle in which some points are."""
-    across = [x for x, _ in points]
-    down = [y for _, y in points]
+    across, down = zip(*points)
     return Ink(min(across), min(down), max(across), max(down))

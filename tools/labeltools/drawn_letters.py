@@ -4,10 +4,10 @@ Where a font is TrueType, the shapes say where its letters have ink. Of other fo
 letter is taken that nearly all letters fill, so that letters are never found where none are.
 """
 
+import math
 import re
 import struct
 from array import array
-from dataclasses import dataclass
 from typing import Callable, Mapping, NamedTuple, Sequence
 
 STRING = re.compile(rb"\(((?:[^\\()]|\\.)*)\)|<([0-9A-Fa-f]*)>|(-?[0-9.]+)", re.DOTALL)
@@ -49,15 +49,21 @@ class Extent(NamedTuple):
         return Extent(*least, max(self.right, other.right), max(self.top, other.top))
 
 
-NO_LETTER = Reach(0.0, 0.0, 0.0, 0.0, 0.0)
+NO_INK = (0.0, 0.0, math.inf, -math.inf)
+NO_LETTER = Reach(0.0, *NO_INK)
 
 
-@dataclass(frozen=True)
 class Font:
     """The letters of a font by their codes, which have so many bytes."""
 
-    letters: Mapping[int, Reach]
-    size: int
+    def __init__(self, letters: Mapping[int, Reach], size: int) -> None:
+        self.size = size
+        count = 256 if size == 1 else max(letters, default=0) + 1
+        self.letters = [letters.get(code, NO_LETTER) for code in range(count)]
+        # by columns, which is quick to ask for many letters
+        self.advances = [letter.advance for letter in self.letters]
+        self.bottoms = [letter.bottom for letter in self.letters]
+        self.tops = [letter.top for letter in self.letters]
 
     def codes(self, text: bytes) -> Sequence[int]:
         """Returns the codes of a text."""
@@ -78,19 +84,15 @@ class Font:
                 at -= by
                 is_apart = is_apart or abs(by) > APART
                 continue
-            text = bytes.fromhex(coded.decode()) if coded else unescaped(plain)
-            letters = [self.letters.get(code, NO_LETTER) for code in self.codes(text)]
+            codes = self.codes(bytes.fromhex(coded.decode()) if coded else unescaped(plain))
             start = at
-            at += sum([one.advance for one in letters])
-            inked = [one for one in letters if one.top > one.bottom]
-            if not inked:
+            at += sum(map(self.advances.__getitem__, codes))
+            top = max(map(self.tops.__getitem__, codes), default=-math.inf)
+            if top == -math.inf:
                 continue
-            ink = Extent(
-                start + letters[0].left,
-                min([one.bottom for one in inked]),
-                at - letters[-1].right,
-                max([one.top for one in inked]),
-            )
+            bottom = min(map(self.bottoms.__getitem__, codes))
+            left = start + self.letters[codes[0]].left
+            ink = Extent(left, bottom, at - self.letters[codes[-1]].right, top)
             if is_apart:
                 found.append(ink)
             else:
@@ -167,7 +169,7 @@ class TrueType:
     def reach(self, glyph: int, width: float) -> Reach:
         """Returns how far a glyph goes."""
         if glyph + 1 >= len(self.places) or self.places[glyph] == self.places[glyph + 1]:
-            return Reach(width, 0.0, 0.0, 0.0, 0.0)
+            return Reach(width, *NO_INK)
         sides = struct.unpack_from(">4h", self.shapes, self.places[glyph] + 2)
         left, bottom, right, top = (side / self.em for side in sides)
         return Reach(width, left, width - right, bottom, top)

@@ -182,7 +182,7 @@ def in_rows(change: Callable[[list[str], int], object]) -> Callable[..., bytes]:
 
     def call(rows: Any) -> bytes:
         size = 2 * len(rows[0])
-        texts = [zpl.run_lengths_of(row) for row in rows]
+        texts = [RUN_LENGTHS([row]).decode() for row in rows]
         whole = [
             ":" if n and rows[n - 1] == row else text
             for n, (text, row) in enumerate(zip(texts, rows))
@@ -201,7 +201,7 @@ def first_letters(whole: list[str]) -> int:
 def wrong_count(whole: list[str], size: int) -> None:
     """Makes a count of a row above all codes one more; the row keeps its length."""
     number = first_letters(whole)
-    row = decode.row_of(whole[number], size).hex().upper()
+    row = decode.rows_of_field(whole[number], size // 2)[0].hex().upper()
     whole[number] = "0" + row[:-1]
 
 
@@ -223,6 +223,7 @@ def without_row(picture: Picture) -> Picture:
     return replace(picture, rows=tuple(rows))
 
 
+RUN_LENGTHS = zpl.run_lengths
 DRAW_MODULES = pen.Pen.draw_modules
 RUN_LABELS = engine.run_labels
 ENGINE_DRAW = engine.Engine.draw
@@ -408,10 +409,12 @@ class Read(unittest.TestCase):
     def test_rows_by_the_manual(self) -> None:
         """The examples of the ZPL II manual for counts: M6 is seven of 6, hB forty of B."""
         self.assertEqual(decode.expanded("M6hBgMF"), "6666666" + "B" * 40 + "F" * 27)
-        self.assertEqual(decode.row_of("F0!", 8), bytes.fromhex("F0FFFFFF"))
-        for text in ("F0F", "F0F0F0F0F,", "zF"):
+        rows = decode.rows_of_field("F0!J5,:,12345678,M9!", 4)
+        wanted = ("F0FFFFFF", "55550000", "55550000", "00000000", "12345678", "00000000")
+        self.assertEqual([row.hex().upper() for row in rows], [*wanted, "9999999F"])
+        for text in ("F0F", "12345678F", "GZ"):
             with self.assertRaises(decode.NotDecoded):
-                decode.row_of(text, 8)
+                decode.rows_of_field(text, 4)
 
     def test_where_letters_are(self) -> None:
         """A letter of an em, with its ink from 0.1 to 0.8; one apart from the others."""

@@ -17,7 +17,7 @@ MOST_COUNT = 400
 TWENTY = 20
 BEFORE_ONE = ord("F")
 BEFORE_TWENTY = ord("f")
-OFTEN = re.compile("0000*|FFFF*")  # other digits hardly come often, and this is quick
+OFTEN = re.compile("(0000*|FFFF*)")  # other digits hardly come often, and this is quick
 RESTS = {"0": ",", "F": "!"}  # the rest of a row is light or dark
 
 
@@ -97,19 +97,19 @@ def run_lengths(rows: Sequence[bytes]) -> bytes:
     >>> run_lengths((bytes.fromhex("FF00AB"), bytes.fromhex("FF00AB"), bytes(3)))
     b'FF00AB:,'
     """
-    texts = []
-    for above, row in zip(chain([b""], rows), rows):
-        texts.append(":" if row == above else run_lengths_of(row))
-    return "".join(texts).encode()
+    texts = [
+        ":" if row == above else without_rest(row.hex().upper())
+        for above, row in zip(chain([b""], rows), rows)
+    ]
+    pieces = OFTEN.split("".join(texts))  # no run goes on from a row to the next
+    pieces[1::2] = map(run_length_of, pieces[1::2])
+    return "".join(pieces).encode()
 
 
-def run_lengths_of(row: bytes) -> str:
-    """Returns one row in hexadecimal with run lengths."""
-    text = row.hex().upper()
-    rest = RESTS.get(text[-1:], "")
-    if rest:
-        text = text.rstrip(text[-1])
-    return OFTEN.sub(lambda run: run_length_of(run[0]), text) + rest
+def without_rest(row: str) -> str:
+    """Returns a row with a sign for its rest, where that is 0 or F."""
+    rest = RESTS.get(row[-1])
+    return row.rstrip(row[-1]) + rest if rest else row
 
 
 @cache
