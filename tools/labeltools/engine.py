@@ -16,7 +16,7 @@ from labeltools.reasons import reason_of
 from labeltools.messages import BAD_ARGUMENTS, Talk, ToolError
 
 LABELS_FAILED = 3  # the status of a tool that is not in order
-VERSION = "1.1.0"  # of the library that these tools belong to
+MAJOR = "1"  # the version of the library that these tools know: later ones of it can do no less
 ASKED = 256  # lines between two calls of `go_on`
 BAD_WORDS = Text("labels ended with status 2: labels: bad words")
 NUMBER = re.compile(r"\+?[0-9]+", re.ASCII)
@@ -88,29 +88,29 @@ def library() -> Any:
     package = Path(__file__).resolve().parent
     sources = package.parents[1]
     prefix = package.parents[2]  # PREFIX/share/label-tools/labeltools
-    module = first_of(
-        sources / "lib/python/liblabels",
-        prefix / "lib/python3/dist-packages/liblabels",
-    )
+    module = first_of(sources / "lib/python", "liblabels*")
+    module = module or first_of(prefix / "lib/python3/dist-packages", "liblabels*")
     if module is not None and str(module.parent) not in sys.path:
         sys.path.append(str(module.parent))
-    file = first_of(sources / f"out/lib/liblabels.so.{VERSION}", prefix / "lib/liblabels.so.1")
+    name = f"liblabels.so.{MAJOR}*"
+    file = first_of(sources / "out/lib", name) or first_of(prefix / "lib", name)
     if file is not None:
         os.environ.setdefault(LIBRARY, str(file))
     try:
         import liblabels
     except (ImportError, OSError) as error:
         raise ToolError(Text("the library liblabels is not there: {}", error), INSTALL) from error
-    if liblabels.version() != VERSION:
-        what = Text("liblabels {} is another than that of these tools", liblabels.version())
-        hint = Text("install the tools and python3-liblabels of one version, {}", VERSION)
+    found: str = liblabels.version()
+    if found.partition(".")[0] != MAJOR:
+        what = Text("liblabels {} is another than that of these tools", found)
+        hint = Text("install the tools and python3-liblabels of one version, {}", MAJOR)
         raise ToolError(what, hint)
     return liblabels
 
 
-def first_of(*paths: Path) -> Optional[Path]:
-    """Returns the first of some files that is there."""
-    return next((path for path in paths if path.exists()), None)
+def first_of(folder: Path, pattern: str) -> Optional[Path]:
+    """Returns the first file of a folder that has a name as in a pattern."""
+    return min(folder.glob(pattern), default=None)
 
 
 class Engine:

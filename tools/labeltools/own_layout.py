@@ -45,42 +45,19 @@ class OwnText:
     is_cut: bool
 
 
-class Code(NamedTuple):
-    """A code: its modules, its data, and the line and options of labels(1) that it is made by."""
-
-    modules: Modules
-    data: bytes
-    line: bytes
-    words: tuple[str, ...]
-
-
 @dataclass(frozen=True, slots=True)
 class OwnSymbol:
-    """A symbol in a place: its box, its code, its module, and where its bars and digits are in the
-    box as it is read.
+    """A symbol in a place: its box, its data and modules, and where its bars and digits are in that
+    as it is read.
     """
 
     place: Place
     box: Box
-    code: Code
+    data: bytes
+    modules: Modules
     symbology: Symbology
     module: int
     boxes: Mapping[str, Box]
-
-    @property
-    def bars(self) -> Box:
-        """Where its bars, or its rows of QR, are on the label, with their quiet zones. They are
-        turned to the right by the quarters of the place.
-        """
-        box = self.box
-        bars = self.boxes["bars"]
-        left, top = bars.left, bars.top
-        for _ in range(self.place.quarters):
-            left, top = -top - bars.height, left
-            bars = Box(left, top, bars.height, bars.width)
-        corners = ((0, 0), (box.width, 0), (box.width, box.height), (0, box.height))
-        across, down = corners[self.place.quarters]
-        return Box(box.left + across + left, box.top + down + top, bars.width, bars.height)
 
 
 @dataclass(frozen=True, slots=True)
@@ -94,8 +71,8 @@ class OwnLayout(Layout):
     absent: frozenset[str]
 
 
-# codes by their places and texts, or why they are refused
-Made = dict[tuple[Place, str], Code | Text]
+# symbols by their places and texts: their modules and data, or why they are refused
+Made = dict[tuple[Place, str], tuple[Modules, bytes] | Text]
 
 
 class NoRoom(Exception):
@@ -399,9 +376,8 @@ class OwnLayouts:
         found: Made = {}
         for key, number in wanted.items():
             modules = drawn.pictures.get(number)
-            line = lines[number - 1]
-            _, data = symbology_and_data(line, True)
-            found[key] = Code(modules, data, line, words) if modules else drawn.refused[number]
+            _, data = symbology_and_data(lines[number - 1], True)
+            found[key] = (modules, data) if modules else drawn.refused[number]
         return found
 
     def layout(
@@ -422,11 +398,10 @@ class OwnLayouts:
                 second = made[place, text]
                 if isinstance(second, Text):
                     raise NoRoom(Text("place {}: {}", place.title, second))
-                symbols.append(self.symbol(place, SYMBOLOGIES[place.symbology], second))
+                symbols.append(self.symbol(place, SYMBOLOGIES[place.symbology], *second))
             elif place.is_symbol:
-                record = label.record
-                code = Code(label.modules, record.data, record.line, self.words)
-                symbols.append(self.symbol(place, label.symbology, code))
+                data = label.record.data
+                symbols.append(self.symbol(place, label.symbology, label.modules, data))
             else:
                 texts.append(rooms[place].text(text))
         finest = min(symbols, key=lambda one: (one.symbology.nominal > 0, one.module))
@@ -434,10 +409,11 @@ class OwnLayouts:
         absent = frozenset(key for key in self.design.groups if not values.texts.get(key))
         return OwnLayout(NO_FRAME, *found, tuple(texts), tuple(symbols), absent)
 
-    def symbol(self, place: Place, symbology: Symbology, code: Code) -> OwnSymbol:
+    def symbol(
+        self, place: Place, symbology: Symbology, modules: Modules, data: bytes
+    ) -> OwnSymbol:
         """Returns a symbol in the middle of its place; raises `NoRoom`."""
         box = self.boxes[place]
-        modules = code.modules
         room = Box(0, 0, box.height, box.width) if place.quarters % 2 else box
         least, most = self.allowed(place, symbology)
         rows = modules.height if modules.height > 1 else 0  # else bars are as high as there is room
@@ -457,7 +433,7 @@ class OwnLayouts:
         boxes = {"bars": bars}
         if below:
             boxes["digits"] = bars._replace(top=bars.bottom, height=below * module)
-        return OwnSymbol(place, box, code, symbology, module, boxes)
+        return OwnSymbol(place, box, data, modules, symbology, module, boxes)
 
     def allowed(self, place: Place, symbology: Symbology) -> tuple[int, int]:
         """Returns the least and the most dots of a module. EAN and UPC have a largest one."""

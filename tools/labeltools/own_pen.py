@@ -68,9 +68,9 @@ class OwnPen(Pen):
         for symbol in layout.symbols:
             canvas.save()
             turned(canvas, symbol.box, symbol.place.quarters)
-            self.draw_modules(canvas, symbol.code.modules, symbol)
+            self.draw_modules(canvas, symbol.modules, symbol)
             if "digits" in symbol.boxes:
-                self.draw_data(canvas, symbol.code.data, symbol)
+                self.draw_data(canvas, symbol.data, symbol)
             canvas.restore()
         for text in layout.texts:
             canvas.save()
@@ -96,6 +96,9 @@ class OwnPen(Pen):
         wide, high = text.box.width, text.box.height
         if text.place.quarters % 2:
             wide, high = high, wide
+        quick = self.quick_text(text, wide)
+        if quick is not None:
+            return quick
         size = text.size
         while True:
             is_lines = text.lines > 1 or text.is_cut or "\n" in text.text
@@ -109,6 +112,21 @@ class OwnPen(Pen):
         y = text.base - layout.get_baseline() // Pango.SCALE
         x = max(-ink.left, min(x, wide - ink.width - ink.left))
         return Fitted(layout, x, max(-ink.top, min(y, high - ink.height - ink.top)))
+
+    def quick_text(self, text: OwnText, wide: int) -> Optional[Fitted]:
+        """Returns a line of text as it fits its box by the widths of its letters, which Pango takes
+        long to say; None in dots, where their shapes are others.
+        """
+        if self.medium.is_dots or text.lines > 1 or text.is_cut or text.place.font:
+            return None
+        sign = self.letters.line(text.text, text.place.is_bold) if "\n" not in text.text else None
+        if sign is None:
+            return None
+        size = text.size
+        layout = self.laid_out(text.text, self.style_of(text, size, 0), wide, size)
+        ink = (sign.advance - sign.left - sign.right) * size
+        x = (wide - ink) * (text.place.across + 1) / 2 - sign.left * size
+        return Fitted(layout, round(x), text.base - layout.get_baseline() // Pango.SCALE)
 
     def style_of(self, text: OwnText, size: int, lines: int) -> Style:
         """Returns how a text is written."""

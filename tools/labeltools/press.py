@@ -30,8 +30,7 @@ from labeltools.pen import Medium, Page, Pen
 @dataclass(frozen=True)
 class PrintJob:
     """How labels go out: on which sheet, in which form and fonts, from which cell of the first page
-    on; whether ESC/POS cuts after each label, and whether ZPL is compressed; options of labels(1);
-    a design of the user's own.
+    on; whether ESC/POS cuts after each label; options of labels(1); a design of the user's own.
     """
 
     plan: Plan
@@ -39,7 +38,6 @@ class PrintJob:
     fonts: Fonts = Fonts()
     first: int = 1
     is_cut: bool = True
-    is_compressed: bool = False
     words: tuple[str, ...] = ()
     design: Optional[OwnDesign] = None
 
@@ -167,34 +165,35 @@ class Press:
         """Returns a file of one page; `is_first` is whether it begins a job. Raises `ToolError`
         where it has not the codes of its labels.
         """
-        return self.compared(self.written(page, is_first), page, 1)
-
-    def label(self, item: LaidOut, copies: int) -> IO[bytes]:
-        """Returns a file of one label of ZPL; raises as `document`."""
-        page = [(item, self.job.plan.places[0])]
-        data = zpl(self.picture(page), copies, self.job.is_compressed)
-        return self.compared(BytesIO(data), page, copies)
-
-    def compared(self, file: IO[bytes], page: Page, copies: int) -> IO[bytes]:
-        """Returns a file of one page that has the codes of its labels; raises `ToolError`."""
-        self.comparison.check(file.read(), [page], copies)
+        if not self.job.form.is_drawn:
+            return self.in_dots(page, is_first)
+        file = self.drawing([page], None)
+        self.comparison.check(file.read(), [page])
         file.seek(0)
         return file
 
-    def written(self, page: Page, is_first: bool) -> IO[bytes]:
-        """Returns a file of one page."""
+    def label(self, item: LaidOut, copies: int) -> IO[bytes]:
+        """Returns a file of one label of ZPL; raises as `document`."""
+        return self.in_dots([(item, self.job.plan.places[0])], True, copies)
+
+    def in_dots(self, page: Page, is_first: bool, copies: int = 1) -> IO[bytes]:
+        """Returns a file of one page in dots; raises as `document`."""
+        picture = drawn_page(self.job.plan.page, self.pen, page, self.turn)
+        data = self.written(picture, is_first, copies)
+        self.comparison.check(data, [page], copies, picture.rows)
+        return BytesIO(data)
+
+    def written(self, picture: Picture, is_first: bool, copies: int) -> bytes:
+        """Returns a page of dots in the form of the job."""
         form = self.job.form
-        if form in (PDF, SVG):
-            return self.drawing([page], None)
-        picture = self.picture(page)
         if form == ZPL:
-            return BytesIO(zpl(picture, 1, self.job.is_compressed))
+            return zpl(picture, copies)
         if form == ESCPOS:
-            return BytesIO(escpos(picture, is_first, self.job.is_cut))
+            return escpos(picture, is_first, self.job.is_cut)
         if form == PNG:
-            return BytesIO(png(picture, self.job.plan.dot))
+            return png(picture, self.job.plan.dot)
         assert form == PBM
-        return BytesIO(pbm(picture))
+        return pbm(picture)
 
     def drawing(self, pages: Sequence[Page], prints: "Prints | None") -> IO[bytes]:
         """Returns a drawing of some pages, or of all of them."""
@@ -206,10 +205,6 @@ class Press:
                 lambda: self.pages(prints) if prints is not None else pages,
                 self.job.form == SVG,
             )
-
-    def picture(self, page: Page) -> Picture:
-        """Returns a page in dots."""
-        return drawn_page(self.job.plan.page, self.pen, page, self.turn)
 
     @contextmanager
     def spooled(self, prints: Prints) -> Iterator[IO[bytes]]:

@@ -217,8 +217,6 @@ def add_output_options(parser: argparse.ArgumentParser) -> None:
     add("--dots", metavar="N", type=count, default=PrintOptions.dots, help=dots)
     cut = "escpos: do not cut after each label"
     add("--no-cut", action="store_false", dest="is_cut", help=cut)
-    packed = "zpl: a third of the bytes, for printers that know :Z64:"
-    add("--compress", action="store_true", dest="is_compressed", help=packed)
     summary = "say what was written and how it is printed (on a terminal always)"
     add("--summary", action="store_true", help=summary)
 

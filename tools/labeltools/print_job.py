@@ -77,7 +77,6 @@ class PrintOptions:
     note: str = ""
     dots: int = 576
     is_cut: bool = True
-    is_compressed: bool = False
     read_back: bool = False
     is_unique: bool = False
 
@@ -161,7 +160,7 @@ def planned(options: PrintOptions) -> PrintJob:
         )
         raise ToolError(what, status=BAD_ARGUMENTS)
     fonts = Fonts(options.font, options.digits)
-    how = (options.first, options.is_cut, options.is_compressed, options.words, own)
+    how = (options.first, options.is_cut, options.words, own)
     return PrintJob(plan, form, fonts, *how)
 
 

@@ -47,9 +47,9 @@ def fault_of_symbol(rows: list[str], symbol: OwnSymbol) -> Optional[Text]:
     found = code_in(rows, re.sub("[- ]", "", symbol.symbology.title))
     if found is None:
         return NOT_READ
-    if found != symbol.code.data:
+    if found != symbol.data:
         return Text("as drawn it is read as {}", repr(found))
-    return None if is_drawn(rows, symbol.code.modules, symbol.boxes["bars"]) else NOT_DRAWN
+    return None if is_drawn(rows, symbol.modules, symbol.boxes["bars"]) else NOT_DRAWN
 
 
 def fault_in(picture: Picture, item: LaidOut) -> Optional[Text]:

@@ -64,10 +64,10 @@ def prepared(design: Path, labels: Sequence[Label], **options: Any) -> Prepared:
 
 
 def dots_of(found: Prepared, number: int = 0) -> numpy.ndarray:
-    """The dots of a label on its page."""
+    """The dots of a label on its page, as they go out."""
     press = found.press(Silence())
-    picture = press.picture([(found.labels[number], found.job.plan.places[0])])
-    return jobs.bits_of(list(picture.rows), picture.width)
+    with press.document([(found.labels[number], found.job.plan.places[0])]) as file:
+        return jobs.pictures_of_pbm(file.read())[0]
 
 
 def texts_of(found: Prepared) -> list[OwnText]:

@@ -5,11 +5,8 @@ A job that announces more than it sends, or that holds any other byte, raises Jo
 rows of 0 and 1.
 """
 
-import base64
-import binascii
 import re
 import struct
-import zlib
 from io import BytesIO
 from typing import List, Tuple
 
@@ -19,7 +16,6 @@ ZPL_LABEL = re.compile(
     rb"\^XA\^PON\^LH0,0\^LS0\^PW([0-9]+)\^LL([0-9]+)\n(.*?)(?:\^PQ([0-9]+)\n)?\^XZ\n", re.DOTALL
 )
 ZPL_FIELD = re.compile(rb"\^FO([0-9]+),([0-9]+)\^GFA,([0-9]+),([0-9]+),([0-9]+),([^^]*)\^FS\n")
-Z64 = re.compile(rb":Z64:([0-9A-Za-z+/=]+):([0-9A-F]{4})")
 RESET, CUT = b"\x1b@", b"\x1bd\x03\x1dVB\x00"
 
 
@@ -52,11 +48,7 @@ def dots_of_fields(fields: bytes, width: int, height: int) -> numpy.ndarray:
         if not field:
             raise JobError(f"no field: {fields[place:place + 40]!r}")
         x, y, sent, total, size = (int(field[group]) for group in range(1, 6))
-        data = (
-            data_of_z64(field[6])
-            if field[6].startswith(b":Z64:")
-            else data_of_run_lengths(field[6], size)
-        )
+        data = data_of_run_lengths(field[6], size)
         if not sent == total == len(data) or not 1 <= total <= 99_999 or total % size:
             raise JobError(f"{sent} and {total} bytes are announced, and there are {len(data)}")
         bits = numpy.unpackbits(numpy.frombuffer(data, dtype=numpy.uint8).reshape(-1, size), axis=1)
@@ -65,14 +57,6 @@ def dots_of_fields(fields: bytes, width: int, height: int) -> numpy.ndarray:
         dots[y : y + bits.shape[0], x : x + bits.shape[1]] |= bits
         place = field.end()
     return dots[:, :width]
-
-
-def data_of_z64(text: bytes) -> bytes:
-    """The data of a graphic field that is compressed by zlib."""
-    field = Z64.fullmatch(text)
-    if not field or binascii.crc_hqx(field[1], 0) != int(field[2], 16):
-        raise JobError("the check sum of a field is wrong")
-    return zlib.decompress(base64.b64decode(field[1], validate=True))
 
 
 def data_of_run_lengths(text: bytes, size: int) -> bytes:

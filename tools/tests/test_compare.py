@@ -1,85 +1,431 @@
-"""What is compared before a label goes out."""
+"""What is compared before a label goes out: faults are planted, and each has to stop the job."""
 
+import math
+import tempfile
 import unittest
-from dataclasses import replace
+from contextlib import contextmanager
+from dataclasses import dataclass, replace
+from itertools import count, product
+from pathlib import Path
+from typing import Any, Callable, Iterator, Optional, Sequence
 from unittest import mock
 
 import support
-from labeltools import decode
+from labeltools import decode, engine, own_layout, pen, press
+from labeltools.drawn_letters import Font, Reach
+from labeltools.forms import dots, escpos, zpl
 from labeltools.forms.dots import Picture
-from labeltools.forms.escpos import escpos
-from labeltools.forms.zpl import zpl
 from labeltools.messages import Silence, ToolError
-from labeltools.print_job import PrintOptions, labels_of, planned
+from labeltools.print_job import Prepared, PrintOptions, labels_of, planned
+
+SHOP = [
+    ("ean13 4006381333931", {"title": "Bleistift, weich", "price": "0,80 €", "text": ["rot"]}),
+    ("ean8 73513537", {"title": "Kaugummi", "price": "0,30 €", "was": "0,40 €"}),
+    ("upca 036000291452", {"title": "Käse", "price": "12,95 €", "unit": "1 kg = 3,20 €"}),
+    ("code128 PALLET-47", {"title": "Palette قلم Карандаш", "text": ["zwei\nZeilen"]}),
+    ("qr,level=Q TICKET 1", {"title": "Reihe 7", "price": "9,00 €"}),
+]
+OWN = """<svg xmlns="http://www.w3.org/2000/svg" width="100mm" height="60mm" viewBox="0 0 100 60">
+  <rect width="100" height="60" fill="white"/>
+  <rect data-place="title, bold, middle" x="2" y="2" width="96" height="14"/>
+  <rect data-place="code" x="1" y="18" width="60" height="18"/>
+  <g transform="rotate(90 80 36)"><rect data-place="code-2" x="62" y="28" width="36" height="16"/></g>
+  <g transform="rotate(180 15 48)"><rect data-place="code-3, qr" x="5" y="38" width="20" height="20"/></g>
+  <g transform="rotate(270 40 48)"><rect data-place="title-2, qr, level=H" x="30" y="38" width="20" height="20"/></g>
+  <rect data-place="Check, bold" x="52" y="40" width="10" height="9"/>
+  <path d="M0 37 L70 37" stroke="black" stroke-width="0.3"/>
+</svg>
+"""
+FORMS = ("pdf", "svg", "png", "pbm", "zpl", "escpos")
+DOTS = FORMS[2:]
+ROLLS = FORMS[4:]
 
 
 def setUpModule() -> None:
     support.labels_program()
 
 
-class Compared(unittest.TestCase):
-    """The dots of each label, before they go out."""
+def options_of(form: str, **others: Any) -> PrintOptions:
+    """Options of a roll, or of a sheet for forms of pages."""
+    sheet: dict[str, Any] = {"paper": (62.0, 40.0)}
+    if form in ("svg", "png"):
+        sheet = {"cell": (62.0, 40.0), "columns": 2, "rows": 4}
+    chosen = {"dpi": 203, "to": form, "edge": (0.0, 0.0, 0.0, 0.0), "dots": 900, **sheet}
+    return PrintOptions(**{**chosen, **others})
 
-    LINES = b"ean13 400638133393\nqr,level=Q TICKET 1\ncode128 ABC-1\n"
 
-    def fault(self, target: str, wrong: object, **options: object) -> str:
-        """What is said where a function of the tools is another one."""
-        chosen = PrintOptions(**{"paper": (60.0, 40.0), "dpi": 203, "to": "zpl", **options})
-        job = planned(chosen)
-        found = labels_of(chosen, job, "lines", self.LINES, Silence())
-        with mock.patch(target, wrong), self.assertRaises(ToolError) as caught:
-            for document in found.press(Silence()).documents(found.prints):
-                document.close()
-        self.assertEqual(caught.exception.status, 3)
-        return caught.exception.what
+def found_of(options: PrintOptions, labels: Sequence[Any] = SHOP) -> Prepared:
+    """Labels that are laid out; none is left out."""
+    lines = support.file_of(labels)
+    found = labels_of(options, planned(options), "lines", lines, Silence())
+    if found.left_out:
+        raise AssertionError(str(found.left_out[0].reason))
+    return found
 
-    def test_dots_that_are_moved(self) -> None:
-        from labeltools import pen
 
-        def moved(box: pen.Box, *others: object) -> object:
-            return scaled(box._replace(left=box.left + 1), *others)
+def write(found: Prepared) -> list[bytes]:
+    """The documents of labels."""
+    documents = []
+    for document in found.press(Silence()).documents(found.prints):
+        with document as file:
+            documents.append(file.read())
+    return documents
 
-        def drawn(canvas: object, modules: object, box: pen.Box, *others: object) -> object:
-            return rectangles(canvas, modules, box._replace(left=box.left + 1), *others)
 
-        scaled = pen.scaled
-        rectangles = pen.draw_rectangles
-        for form in ("zpl", "escpos", "pbm", "pdf"):
-            name, wrong = ("scaled", moved) if form == "pdf" else ("draw_rectangles", drawn)
-            said = self.fault(f"labeltools.pen.{name}", wrong, to=form)
-            self.assertRegex(said, r"^line 1: its code is wrong .* mm from the left, .* mm down$")
+@contextmanager
+def own_design() -> Iterator[str]:
+    """The name of a design with symbols in each direction."""
+    with tempfile.TemporaryDirectory() as folder:
+        path = Path(folder) / "own.svg"
+        path.write_text(OWN, encoding="utf-8")
+        yield str(path)
 
-    def test_the_picture_of_another_label(self) -> None:
-        from labeltools import press
 
-        def exchanged(size: object, pen: object, page: list, turn: int) -> object:
-            other = page[0][0].label
-            (item, at) = page[0]
-            packed = bytes(len(other.modules.packed) - 1) + b"\x80"
-            modules = replace(other.modules, packed=packed)
-            label = replace(item.label, modules=modules)
-            return drawn(size, pen, [(replace(item, label=label), at)], turn)
+def changed(function: Callable[..., Any], **changes: Callable[[Any], Any]) -> Callable[..., Any]:
+    """A function some of whose arguments, by their names, are changed before it is called."""
+    names = function.__code__.co_varnames[: function.__code__.co_argcount]
 
-        drawn = press.drawn_page
-        self.assertIn("line 1: ", self.fault("labeltools.press.drawn_page", exchanged))
+    def call(*arguments: Any, **named: Any) -> Any:
+        given = {**dict(zip(names, arguments)), **named}
+        return function(**{n: changes[n](a) if n in changes else a for n, a in given.items()})
 
-    def test_copies(self) -> None:
-        def once(picture: Picture, _: int, is_compressed: bool) -> bytes:
-            return zpl(picture, 7, is_compressed)
+    return call
 
-        said = self.fault("labeltools.press.zpl", once)
-        self.assertEqual(said, "7 copies go out, and 1 are asked for")
+
+def moved_part(kind: str, across: int, down: int) -> Callable[..., Any]:
+    """`Pen.draw_part` that draws one kind of part elsewhere."""
+    draw = pen.Pen.draw_part
+
+    def call(self: Any, canvas: Any, part: str, label: Any, layout: Any) -> None:
+        is_moved = part == kind
+        canvas.translate(across * is_moved, down * is_moved)
+        draw(self, canvas, part, label, layout)
+
+    return call
+
+
+def drawn_with(change: Callable[[Any], None]) -> Callable[..., Any]:
+    """`Pen.draw` on a canvas that is changed first."""
+    draw = pen.Pen.draw
+
+    def call(self: Any, canvas: Any, page: Any, turn: int = 0) -> None:
+        canvas.save()
+        change(canvas)
+        draw(self, canvas, page, turn)
+        canvas.restore()
+
+    return call
+
+
+def of_modules(change: Callable[[bytes], bytes]) -> Callable[..., Any]:
+    """`Pen.draw_modules` with other modules."""
+    return changed(
+        pen.Pen.draw_modules,
+        modules=lambda modules: replace(modules, packed=change(modules.packed)),
+    )
+
+
+def twice(self: Any, canvas: Any, modules: Any, layout: Any) -> None:
+    """`Pen.draw_modules`, twice in the same place."""
+    DRAW_MODULES(self, canvas, modules, layout)
+    DRAW_MODULES(self, canvas, modules, layout)
+
+
+def drawn_wrong(number: int) -> Callable[..., Any]:
+    """`Pen.draw_modules` that draws one of the symbols of the first label with a module less."""
+    seen = count()
+
+    def call(self: Any, canvas: Any, modules: Any, layout: Any) -> None:
+        if next(seen) == number:
+            modules = replace(modules, packed=without_a_module(modules.packed))
+        DRAW_MODULES(self, canvas, modules, layout)
+
+    return call
+
+
+def mixed(data: bytes, words: Any, talk: Any) -> Any:
+    """`run_labels` that exchanges two pictures."""
+    drawn = RUN_LABELS(data, words, talk)
+    first, last = min(drawn.pictures), max(drawn.pictures)
+    pictures = drawn.pictures
+    pictures[first], pictures[last] = pictures[last], pictures[first]
+    return drawn
+
+
+def without_zone(self: Any, line: bytes) -> Any:
+    """`Engine.draw` whose code begins a module too early in its quiet zone."""
+    modules = ENGINE_DRAW(self, line)
+    number = int.from_bytes(modules.packed, "big") << 1
+    packed = (number & (1 << 8 * len(modules.packed)) - 1).to_bytes(len(modules.packed), "big")
+    return replace(modules, packed=packed)
+
+
+def without_a_module(packed: bytes) -> bytes:
+    """Modules of which the last dark one is light."""
+    number = int.from_bytes(packed, "big")
+    return (number & (number - 1)).to_bytes(len(packed), "big")
+
+
+def placed(across: int) -> Callable[..., Any]:
+    """`Press.page` that moves labels to the right, or puts all in the same place."""
+
+    def page(self: Any, number: int, prints: Any) -> Any:
+        found = PAGE(self, number, prints)
+        first = self.job.plan.places[0]
+        return [(item, (x + across, y) if across else first) for item, (x, y) in found]
+
+    return page
+
+
+def in_rows(change: Callable[[list[str], int], object]) -> Callable[..., bytes]:
+    """`run_lengths` whose texts of rows, each of some digits, are changed."""
+
+    def call(rows: Any) -> bytes:
+        size = 2 * len(rows[0])
+        texts = [RUN_LENGTHS([row]).decode() for row in rows]
+        whole = [
+            ":" if n and rows[n - 1] == row else text
+            for n, (text, row) in enumerate(zip(texts, rows))
+        ]
+        change(whole, size)
+        return "".join(whole).encode()
+
+    return call
+
+
+def first_letters(whole: list[str]) -> int:
+    """The number of the first row with dots: that of a title."""
+    return next(number for number, text in enumerate(whole) if text not in (",", ":"))
+
+
+def wrong_count(whole: list[str], size: int) -> None:
+    """Makes a count of a row above all codes one more; the row keeps its length."""
+    number = first_letters(whole)
+    row = decode.rows_of_field(whole[number], size // 2)[0].hex().upper()
+    whole[number] = "0" + row[:-1]
+
+
+def wrong_repeat(whole: list[str], _: int) -> None:
+    """Repeats the row above in the middle of letters."""
+    whole[first_letters(whole) + len(whole) // 2] = ":"
+
+
+def row_lost(whole: list[str], _: int) -> None:
+    """Takes the last row away."""
+    whole.pop()
+
+
+def without_row(picture: Picture) -> Picture:
+    """A picture whose first row with dots is blank."""
+    rows = list(picture.rows)
+    number = next(number for number, row in enumerate(rows) if any(row))
+    rows[number] = bytes(len(rows[number]))
+    return replace(picture, rows=tuple(rows))
+
+
+RUN_LENGTHS = zpl.run_lengths
+DRAW_MODULES = pen.Pen.draw_modules
+RUN_LABELS = engine.run_labels
+ENGINE_DRAW = engine.Engine.draw
+PAGE = press.Press.page
+IMAGE = escpos.image
+PEN = "labeltools.pen."
+PAIR = [SHOP[0], ("ean13 5901234123457", SHOP[0][1])]
+COPIES = [(line, {**fields, "copies": 2}) for line, fields in SHOP]
+
+
+@dataclass(frozen=True)
+class Fault:
+    """A fault: what is another one then, in which forms that matters, for which labels."""
+
+    target: str
+    wrong: Any
+    forms: Sequence[str]
+    labels: Sequence[Any] = tuple(SHOP)
+
+
+FAULTS = {
+    "a page scaled": Fault(
+        PEN + "Pen.draw", drawn_with(lambda canvas: canvas.scale(1.01, 1.01)), FORMS
+    ),
+    "mirrored": Fault(
+        PEN + "Pen.draw",
+        drawn_with(lambda canvas: (canvas.translate(495, 0), canvas.scale(-1, 1))),
+        ROLLS,
+    ),
+    "turned the other way": Fault(
+        PEN + "Pen.draw",
+        drawn_with(lambda canvas: (canvas.translate(495, 320), canvas.rotate(math.pi))),
+        ROLLS,
+    ),
+    "a module lost": Fault(PEN + "Pen.draw_modules", of_modules(without_a_module), FORMS),
+    "light and dark exchanged": Fault(
+        PEN + "Pen.draw_modules",
+        of_modules(lambda packed: bytes(255 - byte for byte in packed)),
+        FORMS,
+    ),
+    "bits of bytes exchanged": Fault(
+        PEN + "padded", lambda row, stride: row.ljust(stride, b"\0"), ("pdf",)
+    ),
+    "guards too short": Fault(PEN + "GUARD", 4, FORMS, PAIR),
+    "a dot to the right": Fault(
+        PEN + "scaled",
+        changed(pen.scaled, box=lambda box: box._replace(left=box.left + 1)),
+        ("pdf",),
+    ),
+    "a dot to the right in dots": Fault(
+        PEN + "draw_rectangles",
+        changed(pen.draw_rectangles, box=lambda box: box._replace(left=box.left + 1)),
+        ("svg", *DOTS),
+    ),
+    "a row of bars short": Fault(
+        PEN + "scaled",
+        changed(pen.scaled, box=lambda box: box._replace(height=box.height - 1)),
+        ("pdf",),
+    ),
+    "a row of bars short in dots": Fault(
+        PEN + "draw_rectangles",
+        changed(pen.draw_rectangles, box=lambda box: box._replace(height=box.height - 1)),
+        ("svg", *DOTS),
+    ),
+    "half a dot too wide": Fault(PEN + "INSET", -0.5, ("svg",)),
+    "a code twice in its place": Fault(PEN + "Pen.draw_modules", twice, ("pdf", "svg")),
+    "lines mixed up": Fault("labeltools.print_job.run_labels", mixed, FORMS, PAIR),
+    "a quiet zone a module short": Fault("labeltools.engine.Engine.draw", without_zone, FORMS),
+    "a title over the code": Fault(PEN + "Pen.draw_part", moved_part("title", 0, 110), FORMS),
+    "a price over the code": Fault(PEN + "Pen.draw_part", moved_part("price", -150, 40), FORMS),
+    "digits over the code": Fault(PEN + "Pen.draw_part", moved_part("digits", 0, -30), FORMS, PAIR),
+    "a cell off the sheet": Fault("labeltools.press.Press.page", placed(900), ("pdf", "pbm")),
+    "labels overlapping": Fault("labeltools.press.Press.page", placed(0), ("svg", "png")),
+    "copies lost": Fault(
+        "labeltools.press.zpl", changed(zpl.zpl, copies=lambda copies: 1), ("zpl",), COPIES
+    ),
+    "a wrong count in a row without a code": Fault(
+        "labeltools.forms.zpl.run_lengths", in_rows(wrong_count), ("zpl",)
+    ),
+    "a row repeated where letters begin": Fault(
+        "labeltools.forms.zpl.run_lengths", in_rows(wrong_repeat), ("zpl",)
+    ),
+    "a row lost": Fault("labeltools.forms.zpl.run_lengths", in_rows(row_lost), ("zpl",)),
+    "a wrong byte in an image": Fault(
+        "labeltools.forms.escpos.image", lambda rows: IMAGE(rows)[:-1] + b"\x01", ("escpos",)
+    ),
+    "a row of a png blank": Fault(
+        "labeltools.press.png",
+        lambda picture, dot: dots.png(without_row(picture), dot),
+        ("png",),
+    ),
+}
+
+
+class Planted(unittest.TestCase):
+    """Each fault stops the job, with status 3 and the row, in each form that it reaches."""
+
+    def test_each_fault_in_each_form(self) -> None:
+        for name, fault in FAULTS.items():
+            for form in fault.forms:
+                with self.subTest(name=name, form=form), mock.patch(fault.target, fault.wrong):
+                    found = found_of(options_of(form), fault.labels)
+                    with self.assertRaises(ToolError) as caught:
+                        write(found)
+                    self.assertEqual(caught.exception.status, 3)
+                    self.assertRegex(str(caught.exception.what), r"^row \d+: ")
+
+    def test_nothing_is_stopped_without_a_fault(self) -> None:
+        for form in FORMS:
+            with self.subTest(form=form):
+                self.assertTrue(write(found_of(options_of(form), COPIES)))
+
+
+class OwnDesigns(unittest.TestCase):
+    """Designs of the user's own: each symbol, turned or not, is compared in each form."""
+
+    LABELS = [
+        ("code128 A-12-03", {"title": "A-12-03", "text": {"Check": "K"}}),
+        ("ean8 73513537", {"title": "Kaugummi", "text": {"Check": "7"}}),
+    ]
+
+    def found(self, form: str, turn: Optional[bool], is_sheet: bool) -> Prepared:
+        size = (60.0, 100.0) if turn else (100.0, 60.0)
+        sheet = {"cell": size, "columns": 1, "rows": 2, "paper": None}
+        chosen = sheet if is_sheet else {"paper": size, "cell": None}
+        with own_design() as design:
+            return found_of(options_of(form, design=design, turn=turn, **chosen), self.LABELS)
+
+    def test_each_symbol_in_each_form(self) -> None:
+        for form in FORMS:
+            sheets = (True,) if form in ("svg", "png") else (False, form in ("pdf", "pbm"))
+            for turn, is_sheet in product((None, True), sheets):
+                with self.subTest(form=form, turn=turn, is_sheet=is_sheet):
+                    self.assertTrue(write(self.found(form, turn, is_sheet)))
+
+    def test_a_fault_in_any_symbol_is_seen(self) -> None:
+        """The symbols of a label in their order: the code, and three others."""
+        for form, number in product(FORMS, range(4)):
+            with self.subTest(form=form, number=number):
+                found = self.found(form, None, form in ("svg", "png"))
+                wrong = drawn_wrong(number)
+                with mock.patch(PEN + "Pen.draw_modules", wrong):
+                    with self.assertRaisesRegex(ToolError, "^row 2: its code is wrong"):
+                        write(found)
+
+    def test_texts_of_another_row(self) -> None:
+        """A second symbol that says another row's text."""
+
+        def texts(label: Any, note: str, own: Any) -> Any:
+            return values(label if note else first, note, own)
+
+        values = own_layout.values_of
+        with own_design() as design:
+            options = options_of("zpl", design=design, paper=(100.0, 60.0))
+            job = planned(options)
+            lines = support.file_of(self.LABELS)
+            first = labels_of(options, job, "lines", lines, Silence()).labels[0].label
+            with mock.patch("labeltools.own_layout.values_of", texts):
+                found = labels_of(options, job, "lines", lines, Silence())
+        with self.assertRaisesRegex(ToolError, "^row 3: its code says other data than its line"):
+            write(found)
+
+    def test_a_title_over_a_symbol(self) -> None:
+        for form in FORMS:
+            found = self.found(form, None, form in ("svg", "png"))
+            shown = changed(pen.Pen.show, top=lambda top: top + 150)
+            with self.subTest(form=form), mock.patch(PEN + "Pen.show", shown):
+                with self.assertRaisesRegex(ToolError, "^row 2: its code is wrong"):
+                    write(found)
+
+
+class Read(unittest.TestCase):
+    """What is read back is what was written."""
 
     def test_dots_are_read_as_they_were(self) -> None:
         rows = tuple(bytes([row % 7 * 36, 255 * (row % 3 == 0), 0]) for row in range(40))
         picture = Picture(24, 80, rows + tuple(bytes(3) for _ in range(40)))
-        for is_compressed in (False, True):
-            dots = decode.dots_of("zpl", zpl(picture, 2, is_compressed))
-            self.assertEqual((dots.width, dots.height, dots.copies), (24, 80, 2))
-            self.assertEqual(tuple(dots.pieces(0, 80, 0, 3)), picture.rows)
-        dots = decode.dots_of("escpos", escpos(picture, True, True))
-        found = tuple(row.ljust(3, b"\0") for row in dots.pieces(0, 80, 0, dots.stride))
-        self.assertEqual(found, picture.rows)
+        read = decode.dots_of("zpl", zpl.zpl(picture, 2))
+        self.assertEqual((read.width, tuple(read.rows), read.copies), (24, picture.rows, 2))
+        read = decode.dots_of("escpos", escpos.escpos(picture, True, True))
+        self.assertEqual(tuple(row.ljust(3, b"\0") for row in read.rows), picture.rows)
+
+    def test_rows_by_the_manual(self) -> None:
+        """The examples of the ZPL II manual for counts: M6 is seven of 6, hB forty of B."""
+        self.assertEqual(decode.expanded("M6hBgMF"), "6666666" + "B" * 40 + "F" * 27)
+        rows = decode.rows_of_field("F0!J5,:,12345678,M9!", 4)
+        wanted = ("F0FFFFFF", "55550000", "55550000", "00000000", "12345678", "00000000")
+        self.assertEqual([row.hex().upper() for row in rows], [*wanted, "9999999F"])
+        for text in ("F0F", "12345678F", "GZ"):
+            with self.assertRaises(decode.NotDecoded):
+                decode.rows_of_field(text, 4)
+
+    def test_where_letters_are(self) -> None:
+        """A letter of an em, with its ink from 0.1 to 0.8; one apart from the others."""
+        font = Font({65: Reach(1.0, 0.1, 0.2, 0.0, 0.7), 103: Reach(0.5, 0.0, 0.0, -0.2, 0.5)}, 1)
+        extents, advance = font.extents(b"[(A)20(g)-700(A)]TJ")
+        self.assertAlmostEqual(advance, 3.18)
+        self.assertEqual(len(extents), 2)
+        for found, wanted in zip(extents, [(0.1, -0.2, 1.48, 0.7), (2.28, 0.0, 2.98, 0.7)]):
+            for one, other in zip(found, wanted):
+                self.assertAlmostEqual(one, other)
+        self.assertEqual(font.extents(b"(\\101\\\n)Tj"), font.extents(b"<41>Tj"))
 
 
 if __name__ == "__main__":

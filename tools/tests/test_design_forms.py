@@ -87,7 +87,7 @@ class Shipped(unittest.TestCase):
 
     def codes(self, layout: OwnLayout) -> list[str]:
         """The data of the symbols of a label, in their order."""
-        return sorted(symbol.code.data.decode() for symbol in layout.symbols)
+        return sorted(symbol.data.decode() for symbol in layout.symbols)
 
     def by_zbar(self, dots: numpy.ndarray) -> list[str]:
         """What zbar reads on a label, with white around it."""

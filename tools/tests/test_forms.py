@@ -81,8 +81,6 @@ def forms_of(data: bytes, dpi: int, *arguments: str) -> Iterator[tuple[str, nump
     yield "png", rendered(["pngtopnm", "FILE"], printed(data, "png", dpi, *arguments))
     yield "pbm", jobs.pictures_of_pbm(printed(data, "pbm", dpi, *arguments))[0]
     yield "zpl", jobs.dots_of_zpl(printed(data, "zpl", dpi, *arguments))[0]
-    compressed = printed(data, "zpl", dpi, "--compress", *arguments)
-    yield "zpl of :Z64:", jobs.dots_of_zpl(compressed)[0]
     yield "escpos", jobs.dots_of_escpos(printed(data, "escpos", dpi, *arguments))[0]
 
 

@@ -388,17 +388,16 @@ class Forms(unittest.TestCase):
                 self.check([(line, fields)])
 
     def test_zpl_has_the_dots_of_pbm(self) -> None:
-        """In run lengths, as drivers of Linux send them, and compressed; upright at the corner,
-        whatever the job before has set.
+        """In run lengths, as drivers of Linux send them; upright at the corner, whatever the job
+        before has set.
         """
         labels: list[Label] = [(line, PRICED) for line in (*LINES, QR)]
         arguments = roll((80.0, 40.0), 203)
         wanted = pictures(labels, *arguments)
-        for form in (["--to", "zpl"], ["--to", "zpl", "--compress"]):
-            found = jobs.dots_of_zpl(printed(labels, *arguments, *form))
-            self.assertEqual(len(found), len(wanted))
-            for one, other in zip(found, wanted):
-                self.assertTrue(numpy.array_equal(one, other))
+        found = jobs.dots_of_zpl(printed(labels, *arguments, "--to", "zpl"))
+        self.assertEqual(len(found), len(wanted))
+        for one, other in zip(found, wanted):
+            self.assertTrue(numpy.array_equal(one, other))
 
     def test_copies_are_counted_by_the_printer(self) -> None:
         job = printed(

@@ -1,8 +1,6 @@
 """ZPL II of label printers."""
 
-import binascii
 import re
-import zlib
 from functools import cache, reduce
 from itertools import chain
 from operator import or_
@@ -19,7 +17,7 @@ MOST_COUNT = 400
 TWENTY = 20
 BEFORE_ONE = ord("F")
 BEFORE_TWENTY = ord("f")
-OFTEN = re.compile("0000*|FFFF*")  # other digits hardly come often, and this is quick
+OFTEN = re.compile("(0000*|FFFF*)")  # other digits hardly come often, and this is quick
 RESTS = {"0": ",", "F": "!"}  # the rest of a row is light or dark
 
 
@@ -33,22 +31,21 @@ class Block(NamedTuple):
     rows: Sequence[bytes]
 
 
-def zpl(picture: Picture, copies: int, is_compressed: bool) -> bytes:
+def zpl(picture: Picture, copies: int) -> bytes:
     """Returns a label, which is printed `copies` times.
 
     It is not turned (^PON), and begins at the left upper corner (^LH, ^LS), whatever the job before
     has set. Its dots are a graphic field for each block between white rows and columns, so that a
-    row of bars is that above it once more, whatever is beside them: run lengths, which each
-    printer and clone reads, or where `is_compressed` zlib in base 64 (:Z64:), which is a third of
-    that.
+    row of bars is that above it once more, whatever is beside them. They are in run lengths, which
+    each printer and clone reads.
     """
     head = b"^XA^PON^LH0,0^LS0^PW%d^LL%d\n" % (picture.width, picture.height)
-    fields = b"".join(graphic_fields(picture, is_compressed))
+    fields = b"".join(graphic_fields(picture))
     count = b"^PQ%d\n" % copies if copies > 1 else b""
     return head + fields + count + b"^XZ\n"
 
 
-def graphic_fields(picture: Picture, is_compressed: bool) -> list[bytes]:
+def graphic_fields(picture: Picture) -> list[bytes]:
     """Returns the graphic fields of a label."""
     fields = []
     for block in blocks(Block(0, 0, picture.rows)):
@@ -56,7 +53,7 @@ def graphic_fields(picture: Picture, is_compressed: bool) -> list[bytes]:
         rows_a_field = MOST_BYTES // size
         for start in range(0, len(block.rows), rows_a_field):
             rows = block.rows[start : start + rows_a_field]
-            data = z64(rows) if is_compressed else run_lengths(rows)
+            data = run_lengths(rows)
             place = (8 * block.left, block.top + start)
             length = len(rows) * size
             fields.append(b"^FO%d,%d^GFA,%d,%d,%d,%b^FS\n" % (*place, length, length, size, data))
@@ -93,12 +90,6 @@ def bands(block: Block) -> Iterator[Block]:
         yield Block(block.left, block.top + start, block.rows[start : last + 1])
 
 
-def z64(rows: Sequence[bytes]) -> bytes:
-    """Returns rows compressed by zlib, in base 64, with their check sum."""
-    packed = binascii.b2a_base64(zlib.compress(b"".join(rows), 9), newline=False)
-    return b":Z64:%b:%04X" % (packed, binascii.crc_hqx(packed, 0))
-
-
 def run_lengths(rows: Sequence[bytes]) -> bytes:
     """Returns rows in hexadecimal: a count before 0 and F that come often, `,` and `!` for a rest
     of them, `:` for the row above once more.
@@ -106,19 +97,19 @@ def run_lengths(rows: Sequence[bytes]) -> bytes:
     >>> run_lengths((bytes.fromhex("FF00AB"), bytes.fromhex("FF00AB"), bytes(3)))
     b'FF00AB:,'
     """
-    texts = []
-    for above, row in zip(chain([b""], rows), rows):
-        texts.append(":" if row == above else run_lengths_of(row))
-    return "".join(texts).encode()
+    texts = [
+        ":" if row == above else without_rest(row.hex().upper())
+        for above, row in zip(chain([b""], rows), rows)
+    ]
+    pieces = OFTEN.split("".join(texts))  # no run goes on from a row to the next
+    pieces[1::2] = map(run_length_of, pieces[1::2])
+    return "".join(pieces).encode()
 
 
-def run_lengths_of(row: bytes) -> str:
-    """Returns one row in hexadecimal with run lengths."""
-    text = row.hex().upper()
-    rest = RESTS.get(text[-1:], "")
-    if rest:
-        text = text.rstrip(text[-1])
-    return OFTEN.sub(lambda run: run_length_of(run[0]), text) + rest
+def without_rest(row: str) -> str:
+    """Returns a row with a sign for its rest, where that is 0 or F."""
+    rest = RESTS.get(row[-1])
+    return row.rstrip(row[-1]) + rest if rest else row
 
 
 @cache

@@ -1,0 +1,200 @@
+"""How large letters of a PDF are: the widths that it has for them, and the shapes of its fonts.
+
+Where a font is TrueType, the shapes say where its letters have ink. Of other fonts a part of each
+letter is taken that nearly all letters fill, so that letters are never found where none are.
+"""
+
+import math
+import re
+import struct
+from array import array
+from typing import Callable, Mapping, NamedTuple, Sequence
+
+STRING = re.compile(rb"\(((?:[^\\()]|\\.)*)\)|<([0-9A-Fa-f]*)>|(-?[0-9.]+)", re.DOTALL)
+ESCAPE = re.compile(rb"\\(?:([0-7]{1,3})|(\n)|(.))", re.DOTALL)
+FIRST = re.compile(rb"/FirstChar ([0-9]+)")
+WIDTHS = re.compile(rb"/Widths \[([^\]]*)\]")
+W_ARRAY = re.compile(rb"/W \[([0-9]+) \[([^\]]*)\]")
+DESCRIPTOR = re.compile(rb"/FontDescriptor ([0-9]+) 0 R")
+DESCENDANT = re.compile(rb"/DescendantFonts \[ ?([0-9]+) 0 R")
+TRUETYPE = re.compile(rb"/FontFile2 ([0-9]+) 0 R")
+EM = 1000.0  # in which widths are
+APART = 0.2  # of the size of letters: more than kerning, as between the digits of an EAN
+FILLED = (0.0, 0.45)  # the part of any letter above its base line that is taken for its ink
+
+
+class Reach(NamedTuple):
+    """How far a letter goes, in sizes of its letters: to the next one; the white before its ink and
+    behind it; where its ink begins and ends above the base line.
+    """
+
+    advance: float
+    left: float
+    right: float
+    bottom: float
+    top: float
+
+
+class Extent(NamedTuple):
+    """Where letters have ink, in sizes of them, from where they begin on their base line."""
+
+    left: float
+    bottom: float
+    right: float
+    top: float
+
+    def joined(self, other: "Extent") -> "Extent":
+        """Returns where these letters and others have ink."""
+        least = min(self.left, other.left), min(self.bottom, other.bottom)
+        return Extent(*least, max(self.right, other.right), max(self.top, other.top))
+
+
+NO_INK = (0.0, 0.0, math.inf, -math.inf)
+NO_LETTER = Reach(0.0, *NO_INK)
+
+
+class Font:
+    """The letters of a font by their codes, which have so many bytes."""
+
+    def __init__(self, letters: Mapping[int, Reach], size: int) -> None:
+        self.size = size
+        count = 256 if size == 1 else max(letters, default=0) + 1
+        self.letters = [letters.get(code, NO_LETTER) for code in range(count)]
+        # by columns, which is quick to ask for many letters
+        self.advances = [letter.advance for letter in self.letters]
+        self.bottoms = [letter.bottom for letter in self.letters]
+        self.tops = [letter.top for letter in self.letters]
+
+    def codes(self, text: bytes) -> Sequence[int]:
+        """Returns the codes of a text."""
+        if self.size == 1:
+            return text
+        return [code for (code,) in struct.iter_unpack(">H", text)]
+
+    def extents(self, shown: bytes) -> tuple[list[Extent], float]:
+        """Returns where the letters of `Tj` or `TJ` have ink, words that are far from one another
+        by themselves, and how far all of them go.
+        """
+        found: list[Extent] = []
+        at = 0.0
+        is_apart = True
+        for plain, coded, moved in STRING.findall(shown):
+            if moved:
+                by = float(moved) / EM
+                at -= by
+                is_apart = is_apart or abs(by) > APART
+                continue
+            codes = self.codes(bytes.fromhex(coded.decode()) if coded else unescaped(plain))
+            start = at
+            at += sum(map(self.advances.__getitem__, codes))
+            top = max(map(self.tops.__getitem__, codes), default=-math.inf)
+            if top == -math.inf:
+                continue
+            bottom = min(map(self.bottoms.__getitem__, codes))
+            left = start + self.letters[codes[0]].left
+            ink = Extent(left, bottom, at - self.letters[codes[-1]].right, top)
+            if is_apart:
+                found.append(ink)
+            else:
+                found[-1] = found[-1].joined(ink)
+            is_apart = False
+        return found, at
+
+
+def unescaped(text: bytes) -> bytes:
+    """Returns the bytes of a string of PDF."""
+    if b"\\" not in text:
+        return text
+
+    def byte(match: re.Match[bytes]) -> bytes:
+        if match[1]:
+            return bytes([int(match[1], 8)])
+        return b"" if match[2] else match[3]
+
+    return ESCAPE.sub(byte, text)
+
+
+def font_of(
+    dictionary: Callable[[int], bytes], stream: Callable[[int], bytes], number: int
+) -> Font:
+    """Returns the font that an object is; raises `LookupError` and `ValueError`."""
+    head = dictionary(number)
+    below = DESCENDANT.search(head)
+    widths: dict[int, float] = {}
+    if below:
+        head = dictionary(int(below[1]))
+        found = W_ARRAY.search(head)
+    else:
+        found = WIDTHS.search(head)
+    if found:
+        first = int(found[1]) if below else int((FIRST.search(head) or [0, 0])[1])
+        listed = found[2] if below else found[1]
+        widths = {first + place: float(width) / EM for place, width in enumerate(listed.split())}
+    described = DESCRIPTOR.search(head)
+    file = TRUETYPE.search(dictionary(int(described[1]))) if described else None
+    shapes = TrueType(stream(int(file[1]))) if file else None
+    letters = {}
+    for code, width in widths.items():
+        if shapes is None:
+            letters[code] = Reach(width, 0.0, 0.0, *FILLED)
+        else:
+            glyph = code if below else shapes.glyph(bytes([code]).decode("cp1252", "replace"))
+            letters[code] = shapes.reach(glyph, width)
+    return Font(letters, 2 if below else 1)
+
+
+class TrueType:
+    """The tables of a TrueType font that say where glyphs have ink: ISO/IEC 14496-22."""
+
+    def __init__(self, data: bytes) -> None:
+        (count,) = struct.unpack_from(">H", data, 4)
+        tables = {}
+        for number in range(count):
+            name, _, start, length = struct.unpack_from(">4sIII", data, 12 + 16 * number)
+            tables[name] = data[start : start + length]
+        (self.em,) = struct.unpack_from(">H", tables[b"head"], 18)
+        (is_long,) = struct.unpack_from(">h", tables[b"head"], 50)
+        places = array("I" if is_long else "H")
+        raw = tables[b"loca"]
+        places.frombytes(raw[: len(raw) - len(raw) % places.itemsize])
+        places.byteswap()
+        self.places = [place * (1 if is_long else 2) for place in places]
+        self.shapes = tables[b"glyf"]
+        self.glyphs = glyphs_of(tables[b"cmap"]) if b"cmap" in tables else {}
+
+    def glyph(self, letter: str) -> int:
+        """Returns the glyph of a letter; 0 for the one of letters that are not there."""
+        return self.glyphs.get(ord(letter), 0)
+
+    def reach(self, glyph: int, width: float) -> Reach:
+        """Returns how far a glyph goes."""
+        if glyph + 1 >= len(self.places) or self.places[glyph] == self.places[glyph + 1]:
+            return Reach(width, *NO_INK)
+        sides = struct.unpack_from(">4h", self.shapes, self.places[glyph] + 2)
+        left, bottom, right, top = (side / self.em for side in sides)
+        return Reach(width, left, width - right, bottom, top)
+
+
+def glyphs_of(table: bytes) -> dict[int, int]:
+    """Returns the glyphs of letters by a table of format 4."""
+    (start,) = struct.unpack_from(">I", table, 8)
+    kind, _, _, double = struct.unpack_from(">HHHH", table, start)
+    if kind != 4:
+        return {}
+    count = double // 2
+    row = f">{count}H"
+    ends = struct.unpack_from(row, table, start + 14)
+    firsts = struct.unpack_from(row, table, start + 16 + double)
+    deltas = struct.unpack_from(row, table, start + 16 + 2 * double)
+    offsets_at = start + 16 + 3 * double
+    offsets = struct.unpack_from(row, table, offsets_at)
+    found = {}
+    for number in range(count):
+        for letter in range(firsts[number], min(ends[number], 0xFFFE) + 1):
+            glyph = letter
+            if offsets[number]:
+                at = offsets_at + 2 * number + offsets[number] + 2 * (letter - firsts[number])
+                (glyph,) = struct.unpack_from(">H", table, at)
+            if glyph:
+                found[letter] = (glyph + deltas[number]) & 0xFFFF
+    return found
