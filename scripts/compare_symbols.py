@@ -18,11 +18,12 @@ import dataclasses
 import random
 import subprocess
 import sys
+from typing import Iterator, Sequence
 
 from segno import consts
 
 import sources
-from pictures import DIGITS, Label, box_of, gray, pictures_of, with_check_digit
+from pictures import DIGITS, Label, Pixels, box_of, gray, pictures_of, with_check_digit
 
 # The reader that zbarimg has for each symbology. It reads UPC-A as the EAN-13 of the same bars.
 READERS = {"ean13": "ean13", "ean8": "ean8", "upca": "ean13", "code128": "code128", "qr": "qrcode"}
@@ -34,14 +35,14 @@ MODES = ((3, 10, 10, 12), (2, 11, 9, 11), (1, 8, 8, 16))
 MODE_BITS = 4
 
 
-def capacity(version, level, mode):
+def capacity(version: int, level: str, mode: int) -> int:
     """The most characters of one mode that a QR symbol holds."""
     characters, bits, *bits_of_count = MODES[mode]
     room = consts.SYMBOL_CAPACITY[version][consts.ERROR_MAPPING[level]] - MODE_BITS - bits_of_count[version == 10]
-    return room * characters // bits
+    return int(room * characters // bits)
 
 
-def ean_and_upc(draw):
+def ean_and_upc(draw: random.Random) -> Iterator[Label]:
     """EAN and UPC labels, each length in turn, with every first digit."""
     for name, length, count, kind in (("ean13", 12, 60, "EANX"), ("ean8", 7, 50, "EANX"), ("upca", 11, 50, "UPCA")):
         for number in range(count):
@@ -53,7 +54,7 @@ def ean_and_upc(draw):
             yield Label(head, data.encode(), read.encode(), 2 + number % 3, zint=("-b", kind, "-d", digits))
 
 
-def code128(draw):
+def code128(draw: random.Random) -> Iterator[Label]:
     """Code 128 labels: digits, printable text, control characters and mixtures of 1 to 80 bytes."""
     alphabets = (
         b"0123456789",
@@ -71,7 +72,7 @@ def code128(draw):
         yield Label("code128", data, data, 2 + number % 3, not is_plain)
 
 
-def code128_of_one_set(draw):
+def code128_of_one_set(draw: random.Random) -> Iterator[Label]:
     """Code 128 labels of one code set: B without and with lower case, and C."""
     for number in range(60):
         letters = LETTERS + " !#$%&()*+,-./:;<=>?@" + ("abcdefghijklmnopqrstuvwxyz{|}~`" if number % 3 == 1 else "")
@@ -81,7 +82,7 @@ def code128_of_one_set(draw):
         yield Label("code128", data.encode(), data.encode(), 2 + number % 3, zint=("-b", "CODE128", "-d", data))
 
 
-def qr_of_one_mode(draw):
+def qr_of_one_mode(draw: random.Random) -> Iterator[Label]:
     """QR labels of one mode: each version with each level and each mask."""
     alphabets = (DIGITS, f"{LETTERS} $%*+-./:", "abcdefghijklmnopqrstuvwxyz!#&()<=>?@[]_{|}~")
     for version in range(1, 11):
@@ -95,7 +96,7 @@ def qr_of_one_mode(draw):
                 yield Label(head, data.encode(), data.encode(), 2 + mask % 3, zint=(*zint, "-d", data))
 
 
-def qr_by_capacity(draw):
+def qr_by_capacity(draw: random.Random) -> Iterator[Label]:
     """QR labels that fill versions 1, 5 and 10 to the last character, one mode each."""
     for level in "LMQH":
         for number, version in enumerate((1, 5, 10)):
@@ -104,7 +105,7 @@ def qr_by_capacity(draw):
                 yield Label(f"qr,level={level}", data, data, 2 + number)
 
 
-def qr_of_bytes(draw):
+def qr_of_bytes(draw: random.Random) -> Iterator[Label]:
     """QR labels of any bytes: each of the 256, and mixtures with digits and letters."""
     for first in range(0, 256, 64):
         data = bytes(range(first, first + 64))
@@ -120,13 +121,13 @@ def qr_of_bytes(draw):
         yield Label(f"qr,level={'LMQH'[number % 4]}", data, data, 2 + number % 3, True)
 
 
-def all_labels():
+def all_labels() -> list[Label]:
     draw = random.Random(18004)
     parts = (ean_and_upc, code128, code128_of_one_set, qr_of_one_mode, qr_by_capacity, qr_of_bytes)
     return [label for part in parts for label in part(draw)]
 
 
-def reading_of(label, picture):
+def reading_of(label: Label, picture: Pixels) -> bytes:
     """The bytes that zbarimg reads in a picture by the reader of this symbology; none where it reads nothing."""
     rows = gray(picture, 10 * label.scale)
     reader = f"-S{READERS[label.head.split(',')[0]]}.enable"
@@ -138,7 +139,7 @@ def reading_of(label, picture):
     return ran.stdout
 
 
-def not_read_back(program, labels):
+def not_read_back(program: str, labels: Sequence[Label]) -> Iterator[str]:
     """The labels that are not read back, each with what is read."""
     for scale, escapes in sorted({(label.scale, label.escapes) for label in labels}):
         group = [label for label in labels if (label.scale, label.escapes) == (scale, escapes)]
@@ -149,7 +150,7 @@ def not_read_back(program, labels):
                 yield f"scale {scale}, {label.line()!r}: read as {reading!r}"
 
 
-def rows_of(pixels):
+def rows_of(pixels: Pixels) -> list[str]:
     """The rows of modules of a picture at one pixel a module, without its quiet zone, as texts of 0 and 1."""
     left, top, right, bottom = box_of(pixels)
     symbol = pixels[top:bottom, left:right]
@@ -157,7 +158,7 @@ def rows_of(pixels):
     return ["".join(map(str, row)) for row in (symbol[:1] if is_linear else symbol)]
 
 
-def is_as_zint(label, picture):
+def is_as_zint(label: Label, picture: Pixels) -> bool:
     """Whether each module of a picture is that of zint's symbol, whose rows zint prints in hexadecimal digits."""
     ours = rows_of(picture)
     ran = subprocess.run(["zint", "--dump", *label.zint], capture_output=True, text=True, check=True)
@@ -165,7 +166,7 @@ def is_as_zint(label, picture):
     return ours == [row[: len(ours[0])] for row in theirs]
 
 
-def with_turned_module(pixels, place):
+def with_turned_module(pixels: Pixels, place: str) -> Pixels:
     """A picture of a QR symbol with a module turned: the one in its middle, or in a corner of what is dark."""
     left, top, right, bottom = box_of(pixels)
     places = {"first": (top, left), "middle": ((top + bottom) // 2, (left + right) // 2), "last": (bottom - 1, left)}
@@ -174,7 +175,7 @@ def with_turned_module(pixels, place):
     return turned
 
 
-def not_seen(program):
+def not_seen(program: str) -> Iterator[str]:
     """The wrong cases that the comparisons do not report."""
     zint = ("-b", "QRCODE", "--secure=1", "--vers=1", "--mask=0", "-d", "WRONG")
     label = Label("qr,level=L,min-version=1,mask=0", b"WRONG", b"WRONG", 2, zint=zint)
@@ -187,7 +188,7 @@ def not_seen(program):
             yield f"a picture of WRONG passes as read back as {other.decode()}"
 
 
-def main():
+def main() -> int:
     program = sources.program_given(__doc__)
     labels = all_labels()
     with_zint = [label for label in labels if label.zint]

@@ -17,6 +17,7 @@ import os
 import re
 import sys
 from collections import Counter
+from typing import Iterable, Iterator, Mapping
 
 import compare_symbols
 import gate
@@ -38,7 +39,7 @@ IN_PAGES = (
 )
 
 
-def count_tests(folder):
+def count_tests(folder: str) -> int:
     """How many tests unittest finds below a folder."""
     status, said = sources.run([sources.PYTHON, "scripts/run_tests.py", "--count", folder])
     if status:
@@ -46,7 +47,7 @@ def count_tests(folder):
     return int(said.split()[-1])
 
 
-def counts_of_crate(crate, files):
+def counts_of_crate(crate: str, files: Iterable[reader.File]) -> Iterator[tuple[int, str]]:
     """The numbers of a crate: its tests, edits, worked values and stored run."""
     items = [one for file in files if (file.crate, file.part) == (crate, "src") for one in file.declarations]
     yield sum("#[test]" in "".join(it.text for it in one.attributes) for one in items), "tests"
@@ -61,7 +62,7 @@ def counts_of_crate(crate, files):
     yield len(glob.glob(f"crates/{crate}/stdout")), "stored runs"
 
 
-def sizes_of_tests():
+def sizes_of_tests() -> Iterator[str]:
     """The constants of tests that say how much is tried, each with its file."""
     for folder in gate.TESTS:
         for path in sources.files_below(folder, ".py"):
@@ -69,12 +70,12 @@ def sizes_of_tests():
                 yield f"{os.path.basename(path)} {name} {int(size)}"
 
 
-def joined(numbers):
+def joined(numbers: Iterable[tuple[int, str]]) -> str:
     """Numbers and what they count, as a text."""
     return ", ".join(f"{number} {what}" for number, what in numbers if number) or "nothing"
 
 
-def counts_of_text():
+def counts_of_text() -> Iterator[tuple[str, object]]:
     """The names and numbers that the text of the repository gives."""
     crates = sources.crates_of(sources.TOP)
     files = reader.files_of(sources.TOP, crates, "src", "proofs")
@@ -94,7 +95,7 @@ def counts_of_text():
     yield "what tests try", ", ".join(sizes_of_tests())
 
 
-def last_line_of(step):
+def last_line_of(step: str) -> str:
     """The last line of a step. Stops where it fails."""
     print(f"runs {step}", flush=True)
     status, said, last = gate.run(step)
@@ -103,7 +104,7 @@ def last_line_of(step):
     return last
 
 
-def faults_of_rules():
+def faults_of_rules() -> Iterator[str]:
     """What HANDLES and the root files of the crates have that they must not have."""
     if sources.read("HANDLES") != NO_HANDLES:
         yield f"HANDLES is not: {NO_HANDLES.rstrip()}"
@@ -113,7 +114,7 @@ def faults_of_rules():
             yield f"crates/{crate}: no line {AUTO} in its root file"
 
 
-def faults_of_pages(wanted):
+def faults_of_pages(wanted: Mapping[str, str]) -> Iterator[str]:
     """The numbers of pages that are not those of the file, or that a page lacks."""
     for page, sentence, step, place in IN_PAGES:
         right = re.search(place, wanted.get(step, ""))
@@ -122,7 +123,7 @@ def faults_of_pages(wanted):
             yield f"{page}: {said[0] if said else f'no {sentence}'}, and {gate.COUNTS} has {wanted.get(step)}"
 
 
-def main():
+def main() -> int:
     parser = sources.parser_of(__doc__, has_top=False)
     parser.add_argument("--write", action="store_true", help=f"make {gate.COUNTS} anew")
     parser.add_argument("--run", action="store_true", help="with --write: run the counted steps, and take their lines")

@@ -11,6 +11,9 @@ A trait, a view or members count where the crate's lib.rt names the trait and th
 """
 
 from dataclasses import dataclass
+from typing import Iterable, Iterator, Sequence
+
+from reader import Declaration, File, Key
 
 KINDS = ("contract", "trait", "type", "view", "members", "constant")
 OF_CODE = {"trait": "trait", "enum": "type", "struct": "type", "const": "constant"}
@@ -27,25 +30,25 @@ class CodeItem:
     file: str
     about: str
     lines: int
-    cites: tuple
-    words: frozenset
+    cites: tuple[Key, ...]
+    words: frozenset[str]
 
     @property
-    def key(self):
+    def key(self) -> tuple[str, str, str]:
         return self.crate, self.file, self.name
 
-    def is_of(self, named, words=None):
+    def is_of(self, named: set[tuple[str, str, str]], words: frozenset[str] | None = None) -> bool:
         """Whether it is one of these names, or what is named by words or by any: of members the trait and the type."""
         if self.kind in ("type", "constant") or self.key in named:
             return self.key in named
         return words is None or all(name in words for name in self.name.split(" for "))
 
 
-def words_of(declarations):
+def words_of(declarations: Iterable[Declaration]) -> frozenset[str]:
     return frozenset(word for one in declarations for token in one.stated for word in token.text.split("."))
 
 
-def item_of(kind, name, file, about, declarations):
+def item_of(kind: str, name: str, file: File, about: str, declarations: Sequence[Declaration]) -> CodeItem:
     """An item made of declarations of a file."""
     cites = dict.fromkeys(key for one in declarations for key in file.cites(one.stated))
     lines = sum(one.lines for one in declarations)
@@ -54,7 +57,7 @@ def item_of(kind, name, file, about, declarations):
     return CodeItem(kind, name, file.crate, file.module.replace(".", "/"), about, lines, tuple(cites), words)
 
 
-def of_impl(file, item, types, traits):
+def of_impl(file: File, item: Declaration, types: set[str], traits: set[str]) -> Iterator[CodeItem]:
     """What an `impl` adds: a view of a type, or the members of a trait for a type."""
     trait, _, name = item.name.partition(" for ")
     # A member that a private lemma proves is a law of the trait, and says nothing more.
@@ -70,10 +73,10 @@ def of_impl(file, item, types, traits):
         yield item_of("members", item.name, file, ", ".join(f"`{it.name}`" for it in members), members)
 
 
-def code_items(code):
+def code_items(code: Sequence[File]) -> Iterator[CodeItem]:
     """The traits, types, views, members and constants of files of code, in their order."""
     public = {file.crate: {one.name for one in file.passed_on} for file in code if file.module == "lib"}
-    all_public = set().union(*public.values())
+    all_public = {name for names in public.values() for name in names}
     for file in code:
         types = public[file.crate] | {one.name for one in file.imports} & all_public
         for item in file.declarations:
@@ -83,7 +86,7 @@ def code_items(code):
                 yield item_of(OF_CODE[item.kind], item.name, file, item.about, [item])
 
 
-def keys_of(cited):
+def keys_of(cited: Iterable[Key]) -> Iterator[tuple[str, str, str]]:
     """The types and constants of the code that cited names belong to, as (crate, file, name)."""
     for crate, _, module, name in cited:
         if module.startswith("declared"):
@@ -91,7 +94,7 @@ def keys_of(cited):
             yield crate, "/".join(parts), name if last == "TheConstants" else last
 
 
-def contract_of(code, crate, module, function):
+def contract_of(code: Sequence[File], crate: str, module: str, function: str) -> CodeItem | None:
     """The contract of a function, its head and its clauses, as an item. None where it is gone."""
     files = [file for file in code if (file.crate, file.module) == (crate, module)]
     found = (

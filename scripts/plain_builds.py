@@ -13,7 +13,7 @@ import sources
 FLAGS = ["--jobs", "1", "--cpu", "x86-64"]
 
 
-def main():
+def main() -> int:
     sources.parser_of(__doc__, has_top=False).parse_args()
     crates = {it.name: it for it in libraries.kit().crates_below(sources.TOP)}
     program, library = crates["labels"], crates["labels_c"]
@@ -22,7 +22,7 @@ def main():
         print(f"{not_proved} is not proved: run rt check in its folder")
         return 1
     program.held = []  # the locks that `rt run` lets go before the program runs
-    return program.run(FLAGS, []) or library.build_static(FLAGS)
+    return int(program.run(FLAGS, []) or library.build_static(FLAGS))
 
 
 if __name__ == "__main__":

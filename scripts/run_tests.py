@@ -17,7 +17,7 @@ import sources
 LEFT_OUT = ("is not built: run ", "takes seconds: ")
 
 
-def main():
+def main() -> int:
     parser = sources.parser_of(__doc__, has_top=False)
     parser.add_argument("folder", metavar="FOLDER", help="a folder of tests")
     parser.add_argument("--quick", action="store_true", help="leave out the tests that draw, or take seconds")

@@ -26,6 +26,7 @@ import functools
 import random
 import sys
 from collections import Counter
+from typing import Iterator
 
 import numpy
 import zbar
@@ -33,7 +34,7 @@ import zxingcpp
 from segno import consts, encoder
 
 import sources
-from pictures import DIGITS, Label, box_of, gray, pictures_of, with_check_digit
+from pictures import DIGITS, Label, Pixels, box_of, gray, pictures_of, with_check_digit
 
 SEED = 15417
 SCALE = 3
@@ -52,7 +53,7 @@ FREE, FIRST = 2, 3
 class Picture:
     """A label as drawn: its pixels, 1 where dark, where its symbol is in them, and of a QR symbol what segno says."""
 
-    def __init__(self, label, pixels):
+    def __init__(self, label: Label, pixels: Pixels) -> None:
         self.label = label
         self.pixels = pixels
         left, top, right, bottom = box_of(pixels)
@@ -69,18 +70,18 @@ class Picture:
         else:
             self.limit = TURNED_IN_A_ROW[symbology]
 
-    def no_modules(self):
+    def no_modules(self) -> Pixels:
         """The rows of modules, of which none is to be turned."""
         return numpy.zeros_like(self.pixels[self.symbol][::SCALE, ::SCALE])
 
-    def turned(self, modules):
+    def turned(self, modules: Pixels) -> Pixels:
         """The pixels with the modules turned that are 1 here."""
         pixels = self.pixels.copy()
         pixels[self.symbol] ^= modules.repeat(SCALE, 0).repeat(SCALE, 1)
         return pixels
 
 
-def bar_codes(draw, count):
+def bar_codes(draw: random.Random, count: int) -> Iterator[Label]:
     """Labels of the four linear symbologies, `count` of each."""
     for _ in range(count):
         for name, length in (("ean13", 12), ("ean8", 7), ("upca", 11)):
@@ -91,7 +92,7 @@ def bar_codes(draw, count):
         yield Label(f"code128,height={draw.randrange(12, 30)}", text, text, SCALE)
 
 
-def qr_symbols(draw, count):
+def qr_symbols(draw: random.Random, count: int) -> Iterator[Label]:
     """Labels of QR symbols, `count` of each version and level."""
     for _ in range(count):
         for version in range(1, 11):
@@ -100,14 +101,14 @@ def qr_symbols(draw, count):
                 yield Label(f"qr,level={level},min-version={version}", text, text, SCALE)
 
 
-def pictures(program, labels):
+def pictures(program: str, labels: list[Label]) -> Iterator[Picture]:
     """The labels as the program draws them."""
     for label, pixels in zip(labels, pictures_of(program, labels, "--scale", str(SCALE))):
         yield Picture(label, pixels)
 
 
 @functools.cache
-def codewords_of(version):
+def codewords_of(version: int) -> list[list[tuple[int, int]]]:
     """The places of the eight modules of each codeword, in the order in which codewords are placed (clause 7.7.3)."""
     matrix = encoder.make_matrix(version)
     encoder.add_finder_patterns(matrix, False)
@@ -119,10 +120,10 @@ def codewords_of(version):
     return [[places[bit] for bit in bits[start : start + 8]] for start in range(0, len(bits) - 7, 8)]
 
 
-def blocks_of(picture):
+def blocks_of(picture: Picture) -> list[list[list[tuple[int, int]]]]:
     """The codewords of each block, which are interleaved (clause 7.6)."""
     codewords = iter(codewords_of(picture.version))
-    blocks = [[] for _ in picture.blocks]
+    blocks: list[list[list[tuple[int, int]]]] = [[] for _ in picture.blocks]
     for turn in range(picture.blocks[-1].num_data):
         for block, sizes in zip(blocks, picture.blocks):
             if turn < sizes.num_data:
@@ -133,7 +134,7 @@ def blocks_of(picture):
     return blocks
 
 
-def turn_modules(picture, draw, count):
+def turn_modules(picture: Picture, draw: random.Random, count: int) -> Pixels:
     """Turns modules: of a bar code in all its rows, of a QR symbol anywhere."""
     modules = picture.no_modules()
     if picture.is_qr:
@@ -143,7 +144,7 @@ def turn_modules(picture, draw, count):
     return picture.turned(modules)
 
 
-def turn_in_each_row(picture, draw, count):
+def turn_in_each_row(picture: Picture, draw: random.Random, count: int) -> Pixels:
     """Turns modules of a bar code, other ones in each row of modules."""
     modules = picture.no_modules()
     for row in modules:
@@ -151,14 +152,14 @@ def turn_in_each_row(picture, draw, count):
     return picture.turned(modules)
 
 
-def turn_pixels(picture, draw, count):
+def turn_pixels(picture: Picture, draw: random.Random, count: int) -> Pixels:
     """Turns pixels anywhere in the picture."""
     pixels = picture.pixels.copy()
     pixels.flat[draw.sample(range(pixels.size), count)] ^= 1
     return pixels
 
 
-def spoil_codewords(picture, draw, count):
+def spoil_codewords(picture: Picture, draw: random.Random, count: int) -> Pixels:
     """Spoils this many codewords in each block of a QR symbol."""
     modules = picture.no_modules()
     for block in blocks_of(picture):
@@ -168,7 +169,7 @@ def spoil_codewords(picture, draw, count):
     return picture.turned(modules)
 
 
-def positions(pixels):
+def positions(pixels: Pixels) -> Iterator[Pixels]:
     """The picture turned by a quarter, a half and three quarters, and each of the four in a mirror."""
     for quarters in range(1, 5):
         turned = numpy.rot90(pixels, -quarters)
@@ -176,7 +177,7 @@ def positions(pixels):
         yield numpy.fliplr(turned)
 
 
-def within(picture, draw):
+def within(picture: Picture, draw: random.Random) -> Iterator[tuple[Pixels, bool]]:
     """What is damaged up to the limits, and whether the reading rules of the standard read nothing of it."""
     limit = picture.limit
     for count in sorted({1, (limit + 1) // 2, limit}):
@@ -190,7 +191,7 @@ def within(picture, draw):
         yield turn_in_each_row(picture, draw, limit), True
 
 
-def beyond(picture, draw):
+def beyond(picture: Picture, draw: random.Random) -> Iterator[Pixels]:
     """What is damaged above the limits, of which nothing is promised."""
     yield turn_modules(picture, draw, picture.limit + 1)
     yield turn_modules(picture, draw, 2 * picture.limit + 2)
@@ -201,7 +202,7 @@ def beyond(picture, draw):
 class Scanners:
     """zbar and zxing-cpp, each set to all five symbologies, and what they made of labels."""
 
-    def __init__(self):
+    def __init__(self) -> None:
         self.zbar = zbar.ImageScanner()
         self.zbar.parse_config("disable")
         for name in ("ean13", "ean8", "upca", "code128", "qrcode"):
@@ -209,7 +210,7 @@ class Scanners:
         kinds = zxingcpp.BarcodeFormat
         self.formats = kinds.EAN13 | kinds.EAN8 | kinds.UPCA | kinds.Code128 | kinds.QRCode
 
-    def read(self, pixels):
+    def read(self, pixels: Pixels) -> tuple[set[bytes], set[bytes]]:
         """What each scanner reads in a picture, with white around it."""
         grays = gray(pixels, MARGIN, MARGIN)
         image = zbar.Image(grays.shape[1], grays.shape[0], "Y800", grays.tobytes())
@@ -217,20 +218,20 @@ class Scanners:
         found = zxingcpp.read_barcode(grays, formats=self.formats)
         return {symbol.data.encode() for symbol in image}, {found.bytes} if found else set()
 
-    def scan(self, picture, pixels, wrong="misread", is_shown=True):
+    def scan(self, picture: Picture, pixels: Pixels, wrong: str = "misread", is_shown: bool = True) -> list[str]:
         """What each scanner made of a picture: `read`, `unread`, or for other data the word `wrong`, shown."""
         results = []
         for scanner, found in zip(SCANNERS, self.read(pixels)):
             is_right = {*map(plain, found)} == {plain(picture.label.full)}
             if found and not is_right and is_shown:
-                print(f"{picture.label.line()}: {scanner} {wrong} {sorted(found)!r}")
+                print(f"{picture.label.line()!r}: {scanner} {wrong} {sorted(found)!r}")
             if found:
                 results.append("read" if is_right else wrong)
             else:
                 results.append("unread")
         return results
 
-    def sees_other_labels(self, program):
+    def sees_other_labels(self, program: str) -> bool:
         """Whether both scanners are caught where two modules are turned that make a label another one."""
         numbers = [b"2431309135250", b"7452309135250"]
         one, other = pictures(program, [Label("ean13", number, number, SCALE) for number in numbers])
@@ -238,15 +239,17 @@ class Scanners:
         return found == ["misread"] * 4
 
 
-def plain(data):
+def plain(data: bytes) -> bytes:
     """Data in which the EAN-13 of a UPC-A symbol, which has the same bars, is the UPC-A."""
     return data[1:] if len(data) == 13 and data.isdigit() and data.startswith(b"0") else data
 
 
-def main():
+def main() -> int:
     program = sources.program_given(__doc__)
     draw, scanners = random.Random(SEED), Scanners()
-    unread, inside, outside = 0, Counter(), Counter()
+    unread = 0
+    inside: Counter[str] = Counter()
+    outside: Counter[str] = Counter()
     for picture in [*pictures(program, [*bar_codes(draw, 100), *qr_symbols(draw, 2)])]:
         unread += "read" not in scanners.scan(picture, picture.pixels)
         damaged = [(pixels, False) for pixels in positions(picture.pixels)] + [*within(picture, draw)]
