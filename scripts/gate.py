@@ -27,6 +27,7 @@ QUICK = (
     "unused.py",
     "pages.py",
     "lints.py",
+    "subjects.py",
     "run_tests.py scripts/tests",
     "run_tests.py tools/tests --quick",
 )

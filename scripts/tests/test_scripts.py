@@ -15,7 +15,7 @@ import unittest
 from typing import Any, Sequence
 from unittest import mock
 
-from support import SCRIPTS, TOP, InCopy, InFolder, in_copy, module, read, run, write
+from support import SCRIPTS, TOP, InCopy, InFolder, in_copy, module, read, run, run_command, write
 
 compare_symbols = module("compare_symbols")
 edits = module("edits")
@@ -296,6 +296,45 @@ class Outcomes(InFolder):
         ):
             with self.subTest(functions=functions, changes=changes):
                 self.assertIsNone(copy_of(functions, changes))
+
+
+class Subjects(InFolder):
+    """The subjects of a history: as it is, cut off, written anew, or not there."""
+
+    def git(self, *words: str) -> None:
+        identity = ["-c", "user.name=One", "-c", "user.email=one@labels.invalid"]
+        status, said = run_command(["git", "-C", self.path("one"), *identity, *words])
+        self.assertEqual(status, 0, said)
+
+    def judged(self, folder: str, since: str) -> tuple[int, str]:
+        with mock.patch.object(module("subjects"), "SINCE", since):
+            status, said = in_copy(folder, "subjects.py")
+        return status, said.rstrip("\n").split("\n")[-1]
+
+    def test_histories(self) -> None:
+        os.mkdir(self.path("one"))
+        self.assertEqual(self.judged(self.path("one"), "HEAD~1"), (0, "0 subjects, 0 faults, and there is no history"))
+        self.git("init", "--quiet")
+        for subject in ("Before", "S" * 73, "S" * 72, "Last"):
+            self.git("commit", "--quiet", "--allow-empty", "-m", subject)
+        for since, wanted in (
+            ("HEAD~2", (0, "2 subjects, 0 faults")),
+            ("HEAD~3", (1, "3 subjects, 1 faults")),
+            (
+                "0" * 40,
+                (1, f"the history of HEAD has no commit {'0' * 40}: scripts/subjects.py has to name another one"),
+            ),
+        ):
+            with self.subTest(since):
+                self.assertEqual(self.judged(self.path("one"), since), wanted)
+        shallow = self.path("shallow")
+        run_command(["git", "clone", "--quiet", "--depth=2", f"file://{self.path('one')}", shallow])
+        cut = f"2 subjects, 0 faults, of a clone that lacks {'0' * 40}"
+        self.assertEqual(self.judged(shallow, "0" * 40), (0, cut))
+
+    def test_one_that_reports_nothing(self) -> None:
+        with mock.patch.object(module("subjects"), "faults_of", return_value=[]):
+            self.assertEqual(in_copy(TOP, "subjects.py"), (1, "a subject of one letter too many is not reported\n"))
 
 
 class Judges(unittest.TestCase):
