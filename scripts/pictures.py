@@ -2,7 +2,9 @@
 
 import subprocess
 import sys
+from collections import Counter
 from dataclasses import dataclass
+from typing import Iterable
 
 import numpy
 from numpy.typing import NDArray
@@ -24,6 +26,16 @@ class Label:
 
     def line(self) -> bytes:
         return self.head.encode() + b" " + (escaped(self.data) if self.escapes else self.data) + b"\n"
+
+
+def kinds_of(labels: Iterable[Label]) -> str:
+    """How many labels there are of each symbology, level, version and mask, as their heads ask for them."""
+    found: Counter[str] = Counter()
+    for label in labels:
+        symbology, *settings = label.head.split(",")
+        kinds = [symbology, *(it for it in settings if not it.startswith("height="))]
+        found.update(it.replace("min-version=", "version ").replace("=", " ") for it in kinds)
+    return ", ".join(f"{found[kind]} {kind}" for kind in sorted(found))
 
 
 def escaped(data: bytes) -> bytes:

@@ -15,11 +15,12 @@ A scanner may read the full data or nothing. Other data is a misreading; each is
 There is one exception. Where whole modules of a bar code are turned, the reading rules of the standards read nothing,
 but these scanners guess: they take widths that no character has for the nearest one, and look for no quiet zone. Such
 guesses are printed and counted apart, and scripts/counts.txt has their number. Beyond the limits nothing is promised:
-what the scanners make of some labels there is counted too. In each run two labels are damaged so that they are another
-label, as the worked values say; the run fails unless both scanners read them as the other one and are caught.
+what the scanners make of some labels there is counted too. In each run labels of each symbology are shown in place of
+others that differ from them at one end, and an EAN-13 in place of one from which two modules tell it apart, as the
+worked values say; the run fails unless both scanners read them as the other one and are caught.
 
-The last line is `N damaged labels, read twice: F as drawn, U not, M misread, G guessed; beyond the limits: ..`. Status
-2: bad arguments, no such program.
+The last line is `N damaged labels, read twice: F as drawn, U not, M misread, G guessed; beyond the limits: ..; of K of
+each kind`: symbology, level and version. Status 2: bad arguments, no such program.
 """
 
 import functools
@@ -34,18 +35,26 @@ import zxingcpp
 from segno import consts, encoder
 
 import sources
-from pictures import DIGITS, Label, Pixels, box_of, gray, pictures_of, with_check_digit
+from pictures import DIGITS, Label, Pixels, box_of, gray, kinds_of, pictures_of, with_check_digit
 
 SEED = 15417
 SCALE = 3
 # White around a picture, in pixels.
 MARGIN = 10 * SCALE
-# A run damages at least so many labels.
-LEAST = 2000
+# How many labels there are of each linear symbology, and of QR of each version.
+OF_BARS, OF_VERSION = 10, 2
 # How many modules may be turned in each row of a bar code, and in a QR symbol.
 TURNED_IN_A_ROW = {"ean13": 1, "ean8": 3, "upca": 3, "code128": 1}
 MOST_TURNED_IN_QR = 13
 SCANNERS = ("zbar", "zxing-cpp")
+# Labels, and others that must not pass as them: their first or last characters differ.
+OTHERS = (
+    ("ean13", "243130913525", ("745230913525", "243130913526")),
+    ("ean8", "7351353", ("1351353", "7351354")),
+    ("upca", "03600029145", ("13600029145", "03600029146")),
+    ("code128", "LOT 7", ("ROT 7", "LOT 8")),
+    ("qr,level=L,min-version=1", "LOT 7", ("ROT 7", "LOT 8")),
+)
 # What segno writes where a codeword may be, and the number of the first bit that it is given.
 FREE, FIRST = 2, 3
 
@@ -81,24 +90,29 @@ class Picture:
         return pixels
 
 
+def label_of(head: str, text: str) -> Label:
+    """A label of a text, and for EAN and UPC of the digits with their check digit."""
+    full = with_check_digit(text) if text.isdigit() else text
+    return Label(head, text.encode(), full.encode(), SCALE)
+
+
 def bar_codes(draw: random.Random, count: int) -> Iterator[Label]:
     """Labels of the four linear symbologies, `count` of each."""
     for _ in range(count):
         for name, length in (("ean13", 12), ("ean8", 7), ("upca", 11)):
             digits = "".join(draw.choices(DIGITS, k=length))
-            full = with_check_digit(digits).encode()
-            yield Label(f"{name},height={draw.randrange(12, 30)}", digits.encode(), full, SCALE)
+            yield label_of(f"{name},height={draw.randrange(12, 30)}", digits)
         text = "".join(chr(draw.randrange(32, 127)) for _ in range(draw.randrange(1, 30))).encode()
         yield Label(f"code128,height={draw.randrange(12, 30)}", text, text, SCALE)
 
 
 def qr_symbols(draw: random.Random, count: int) -> Iterator[Label]:
-    """Labels of QR symbols, `count` of each version and level."""
-    for _ in range(count):
+    """Labels of QR symbols, `count` of each version, with each level in turn."""
+    for turn in range(count):
         for version in range(1, 11):
-            for level in "LMQH":
-                text = "".join(chr(draw.randrange(33, 127)) for _ in range(draw.randrange(1, 8))).encode()
-                yield Label(f"qr,level={level},min-version={version}", text, text, SCALE)
+            level = "LMQH"[(version + 2 * turn) % 4]
+            text = "".join(chr(draw.randrange(33, 127)) for _ in range(draw.randrange(1, 8))).encode()
+            yield Label(f"qr,level={level},min-version={version}", text, text, SCALE)
 
 
 def pictures(program: str, labels: list[Label]) -> Iterator[Picture]:
@@ -231,12 +245,14 @@ class Scanners:
                 results.append("unread")
         return results
 
-    def sees_other_labels(self, program: str) -> bool:
-        """Whether both scanners are caught where two modules are turned that make a label another one."""
-        numbers = [b"2431309135250", b"7452309135250"]
-        one, other = pictures(program, [Label("ean13", number, number, SCALE) for number in numbers])
-        found = self.scan(one, other.pixels, is_shown=False) + self.scan(other, one.pixels, is_shown=False)
-        return found == ["misread"] * 4
+    def passed_as_others(self, program: str) -> Iterator[str]:
+        """The labels whose pictures pass as those of another label, by one of the scanners."""
+        for head, data, others in OTHERS:
+            one, *rest = pictures(program, [label_of(head, text) for text in (data, *others)])
+            for other in rest:
+                for label, drawn in ((one, other), (other, one)):
+                    if self.scan(label, drawn.pixels, is_shown=False) != ["misread"] * len(SCANNERS):
+                        yield f"{drawn.label.line()!r} passes as {label.label.line()!r}"
 
 
 def plain(data: bytes) -> bytes:
@@ -247,28 +263,26 @@ def plain(data: bytes) -> bytes:
 def main() -> int:
     program = sources.program_given(__doc__)
     draw, scanners = random.Random(SEED), Scanners()
-    unread = 0
+    labels = [*bar_codes(draw, OF_BARS), *qr_symbols(draw, OF_VERSION)]
+    faults = [*scanners.passed_as_others(program)]
     inside: Counter[str] = Counter()
     outside: Counter[str] = Counter()
-    for picture in [*pictures(program, [*bar_codes(draw, 100), *qr_symbols(draw, 2)])]:
-        unread += "read" not in scanners.scan(picture, picture.pixels)
+    for picture in pictures(program, labels):
+        if "read" not in scanners.scan(picture, picture.pixels):
+            faults.append(f"{picture.label.line()!r} is read by no scanner as it is drawn")
         damaged = [(pixels, False) for pixels in positions(picture.pixels)] + [*within(picture, draw)]
         for pixels, is_guess in damaged:
             inside.update(scanners.scan(picture, pixels, "guessed" if is_guess else "misread"))
         for pixels in beyond(picture, draw):
             outside.update(scanners.scan(picture, pixels, is_shown=False))
-    total = inside.total() // len(SCANNERS)
-    is_caught = scanners.sees_other_labels(program)
-    if not is_caught:
-        print("a damaged label that is another label was not caught")
-    if unread:
-        print(f"{unread} labels are read by no scanner as they are drawn")
     print(
-        f"{total} damaged labels, read twice: {inside['read']} as drawn, {inside['unread']} not, "
-        f"{inside['misread']} misread, {inside['guessed']} guessed; beyond the limits: "
-        f"{outside['read']} as drawn, {outside['unread']} not, {outside['misread']} misread"
+        *faults,
+        f"{inside.total() // len(SCANNERS)} damaged labels, read twice: {inside['read']} as drawn, "
+        f"{inside['unread']} not, {inside['misread']} misread, {inside['guessed']} guessed; beyond the limits: "
+        f"{outside['read']} as drawn, {outside['unread']} not, {outside['misread']} misread; of {kinds_of(labels)}",
+        sep="\n",
     )
-    return 0 if is_caught and not unread and not inside["misread"] and total >= LEAST else 1
+    return 1 if faults or inside["misread"] or not inside["read"] else 0
 
 
 if __name__ == "__main__":

@@ -180,7 +180,7 @@ class TakenAway(InCopy):
         text = read(self.path("scripts/compare_symbols.py"))
         self.replace("scripts/compare_symbols.py", text.replace("return [label for", "return [] and [label for"))
         found = run_command([PYTHON, self.path("scripts/compare_symbols.py"), "/bin/true"])
-        self.assertEqual(found, (1, "0 labels: 0 read back, 0 of 0 as zint draws them\n"))
+        self.assertEqual(found, (1, "0 labels: 0 read back, 0 of 0 as zint draws them; of those read back none\n"))
 
     def test_step_that_looked_at_less(self) -> None:
         script = "scripts/refuse_each_growth.py"

@@ -340,19 +340,60 @@ class Subjects(InFolder):
 class Judges(unittest.TestCase):
     """A judge that passes everything is found by the wrong cases that it is shown in each run."""
 
-    def test_symbols(self) -> None:
+    def picture(self) -> Any:
         picture = pictures.pixels_of(b"9 9\n" + b"0" * 81 + b"\n").copy()
         picture[2:7, 1:8] = 1
-        for place, wanted in (("first", (2, 1)), ("middle", (4, 4)), ("last", (6, 1))):
+        return picture
+
+    def test_turned_modules(self) -> None:
+        """At both ends and in the middle: of a QR symbol one module, of a bar code one in all rows."""
+        bars, symbol = self.picture(), self.picture()
+        symbol[3, 3] = 0
+        for picture, place, wanted in (
+            (symbol, "first", [(2, 1)]),
+            (symbol, "middle", [(4, 4)]),
+            (symbol, "last", [(6, 1)]),
+            (bars, "first", [(row, 1) for row in range(2, 7)]),
+            (bars, "middle", [(row, 4) for row in range(2, 7)]),
+            (bars, "last", [(row, 7) for row in range(2, 7)]),
+        ):
             turned = compare_symbols.with_turned_module(picture, place)
-            self.assertEqual((turned != picture).nonzero(), wanted)
-        with mock.patch.object(compare_symbols, "pictures_of", return_value=[picture]):
-            for is_same, unread, count in ((True, [], 5), (False, [], 2), (True, ["it"], 3), (False, ["it"], 0)):
-                with (
-                    mock.patch.object(compare_symbols, "is_as_zint", return_value=is_same),
-                    mock.patch.object(compare_symbols, "not_read_back", return_value=unread),
-                ):
-                    self.assertEqual(len([*compare_symbols.not_seen(None)]), count)
+            self.assertEqual([*zip(*(turned != picture).nonzero())], wanted)
+
+    def test_symbols(self) -> None:
+        """A comparison that passes all, or nothing, is found with each symbology."""
+        count = len(compare_symbols.SHOWN)
+
+        def right(_program: str, labels: Sequence[Any]) -> list[tuple[Any, bytes]]:
+            return [(label, label.full) for label in labels]
+
+        for is_same, is_read, wanted in (
+            (True, True, 6 * count),
+            (False, True, 4 * count),
+            (True, False, 4 * count),
+            (False, False, 2 * count),
+        ):
+            with (
+                self.subTest(is_same=is_same, is_read=is_read),
+                mock.patch.object(compare_symbols, "pictures_of", return_value=[self.picture()]),
+                mock.patch.object(compare_symbols, "readings", right),
+                mock.patch.object(compare_symbols, "is_as_zint", return_value=is_same),
+                mock.patch.object(compare_symbols, "is_read_back", return_value=is_read),
+            ):
+                self.assertEqual(len([*compare_symbols.not_seen("")]), wanted)
+
+    def test_more_or_fewer_modules_than_zint(self) -> None:
+        """zint's last digit may have up to three bits more, which are none of the symbol."""
+        label = compare_symbols.SHOWN[0]
+        for dump, wanted in (("F8", False), ("FE", True), ("FC", False), ("FE 0", False), ("7F", False)):
+            ran = mock.Mock(stdout=f"{dump}\n")
+            with self.subTest(dump), mock.patch.object(compare_symbols.subprocess, "run", return_value=ran):
+                self.assertEqual(compare_symbols.is_as_zint(label, self.picture()), wanted)
+
+    def test_kinds(self) -> None:
+        heads = ("ean13,height=9", "qr,level=L,min-version=2,mask=3", "qr,level=L", "ean13")
+        labels = [pictures.Label(head, b"", b"", 1) for head in heads]
+        self.assertEqual(pictures.kinds_of(labels), "2 ean13, 2 level L, 1 mask 3, 2 qr, 1 version 2")
 
     def test_recipes(self) -> None:
         self.assertEqual([*run_recipes.unseen()], [])
