@@ -1,17 +1,19 @@
 #!/usr/bin/python3
 """Counts what the gate looks at, and compares it with scripts/counts.txt.
 
-A test, a wrong body or a list of labels that is gone makes nothing fail. So each number is in that file, and a change
-of it is a line of the diff. With no option it compares the numbers that the text of the repository gives, and those
-that README.md and PROOF.md have of it. How many tests there are gate.py compares, with those that ran, and `.ci/run`
-how many wrong bodies were refused. It also looks at HANDLES, which has to allow nothing, and at the root file of
-each crate, which has to ask for the tactic `auto`. The status is 1 where something differs, a line for each.
+A test, a wrong body, a package or a list of labels that is gone makes nothing fail, and no more does a limit that is
+wider. So each number is in that file, and a change of it is a line of the diff. With no option it compares the numbers
+that the text of the repository gives, and those that README.md and PROOF.md have of it. How many tests there are
+gate.py compares, with those that ran, and `.ci/run` which wrong bodies were refused. It also looks at HANDLES, which
+has to allow nothing, and at the root file of each crate, which has to ask for the tactic `auto`. The status is 1 where
+something differs, a line for each.
 
 --write makes the numbers of the text anew, in seconds, and keeps the last lines of the counted steps: where one is no
 longer right, the gate says so. With --run it runs these too, most of which need the proved program,
 crates/labels/out/labels.
 """
 
+import ast
 import glob
 import os
 import re
@@ -62,12 +64,36 @@ def counts_of_crate(crate: str, files: Iterable[reader.File]) -> Iterator[tuple[
     yield len(glob.glob(f"crates/{crate}/stdout")), "stored runs"
 
 
-def sizes_of_tests() -> Iterator[str]:
-    """The constants of tests that say how much is tried, each with its file."""
-    for folder in gate.TESTS:
-        for path in sources.files_below(folder, ".py"):
-            for name, size in re.findall(r'^(LINES|MUTANTS|ROUNDS) = "?([\d_]+)', sources.read(path), re.MULTILINE):
-                yield f"{os.path.basename(path)} {name} {int(size)}"
+def numbers_in(text: str) -> Iterator[str]:
+    """The constants of a file of Python that are computed of numbers: limits, sizes, seeds."""
+    for statement in ast.parse(text).body:
+        if isinstance(statement, ast.Assign):
+            parts = [node for node in ast.walk(statement.value) if isinstance(node, ast.expr)]
+            numbers = [it for it in parts if isinstance(it, ast.Constant) and isinstance(it.value, (int, float))]
+            if numbers and all(isinstance(it, (ast.BinOp, ast.Name)) for it in parts if it not in numbers):
+                yield ast.unparse(statement)
+
+
+def numbers_below(folder: str) -> Iterator[str]:
+    """The numbers of the scripts or the tests of a folder, each with its file."""
+    for path in sources.files_below(folder, ".py"):
+        if os.path.dirname(path) == folder:
+            yield from (f"{os.path.basename(path)[:-3]}.{it}" for it in numbers_in(sources.read(path)))
+
+
+def names_of_packages() -> list[str]:
+    """The packages that the gate needs, by the list of them."""
+    lines = sources.read("scripts/packages.txt").split("\n")
+    return [line.split()[0] for line in lines if line and not line.startswith("#")]
+
+
+def tests_of_packages() -> list[str]:
+    """The names of the tests of the packages. Stops where a file is none, or one of them is no file."""
+    names = re.findall(r"^Tests: (.*)", sources.read("debian/tests/control"), re.MULTILINE)
+    files = sorted({*os.listdir("debian/tests")} - {"control"})
+    if sorted(names) != files:
+        sys.exit(f"debian/tests has {', '.join(files)}, and its control {', '.join(names)}")
+    return files
 
 
 def joined(numbers: Iterable[tuple[int, str]]) -> str:
@@ -92,7 +118,10 @@ def counts_of_text() -> Iterator[tuple[str, object]]:
     labels = compare_symbols.all_labels()
     heads, with_zint = {label.head for label in labels}, [label for label in labels if label.zint]
     yield "labels to compare", f"{len(labels)} with {len(heads)} heads, {len(with_zint)} for zint"
-    yield "what tests try", ", ".join(sizes_of_tests())
+    yield "packages of the gate", len(names_of_packages())
+    yield "tests of the packages", ", ".join(tests_of_packages())
+    for folder in ("scripts", *gate.TESTS):
+        yield f"numbers of {folder}", ", ".join(numbers_below(folder)) or "none"
 
 
 def last_line_of(step: str) -> str:

@@ -42,7 +42,8 @@ SCALE = 3
 # White around a picture, in pixels.
 MARGIN = 10 * SCALE
 # How many labels there are of each linear symbology, and of QR of each version.
-OF_BARS, OF_VERSION = 10, 2
+OF_BARS = 10
+OF_VERSION = 2
 # How many modules may be turned in each row of a bar code, and in a QR symbol.
 TURNED_IN_A_ROW = {"ean13": 1, "ean8": 3, "upca": 3, "code128": 1}
 MOST_TURNED_IN_QR = 13
@@ -56,7 +57,8 @@ OTHERS = (
     ("qr,level=L,min-version=1", "LOT 7", ("ROT 7", "LOT 8")),
 )
 # What segno writes where a codeword may be, and the number of the first bit that it is given.
-FREE, FIRST = 2, 3
+FREE = 2
+FIRST = 3
 
 
 class Picture:

@@ -9,7 +9,7 @@ from support import LIB, PROVED, WithLibrary, run, text_of
 FLAGS = ("-std=c11", "-D_GNU_SOURCE", "-Wall", "-Wextra", "-Werror")
 ADDRESS = ("-O1", "-g", "-fsanitize=address,undefined", "-fno-sanitize-recover=all")
 THREAD = ("-O1", "-g", "-fsanitize=thread")
-ROUNDS = "100000"
+ROUNDS = 100_000
 MOST_STACK = 40_000  # what labels.h says
 TAKE_ROOM = "(uint32_t)symbology, read_from(data), size, write_to(out), room,"
 
@@ -28,7 +28,7 @@ class Calls(WithLibrary):
 
     def test_hostile_arguments(self) -> None:
         """No byte too many is read or written, and every code of the calls comes up."""
-        said = self.run_ok(self.program("hostile", *ADDRESS), ROUNDS).decode()
+        said = self.run_ok(self.program("hostile", *ADDRESS), str(ROUNDS)).decode()
         counts = [pair.partition(" of ") for pair in said.strip().split(", ")]
         never = {code for count, _, code in counts if count == "0"}
         self.assertLessEqual(never, {"14"}, said)  # a skipped line: compare_lines.py has it
@@ -47,7 +47,7 @@ class Calls(WithLibrary):
             ("    *info = (labels_symbol_info){0};\n", "    (void)info;\n"),
         ):
             with self.subTest(new):
-                self.assert_fails(self.wrong("hostile", ADDRESS, old, new), ROUNDS)
+                self.assert_fails(self.wrong("hostile", ADDRESS, old, new), str(ROUNDS))
 
     def test_threads(self) -> None:
         self.run_ok(self.program("threads", *THREAD))

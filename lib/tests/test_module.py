@@ -10,7 +10,7 @@ from pathlib import Path
 from support import LIB, PROGRAM, PYTHONDIR, WithLibrary
 
 PYTHON = "/usr/bin/python3"
-LINES = "1000"
+LINES = 1000
 TESTS = LIB / "tests"
 WITH_LIBRARIES = """
 import liblabels, numpy
@@ -143,7 +143,7 @@ class Module(WithLibrary):
         self.assertEqual((below, above), ("unknown code", "unknown code"))
 
     def test_lines_of_the_program(self) -> None:
-        self.run_ok(PYTHON, TESTS / "compare_lines.py", PROGRAM, "1", LINES)
+        self.run_ok(PYTHON, TESTS / "compare_lines.py", PROGRAM, "1", str(LINES))
 
     def test_other_pictures_and_messages_are_seen(self) -> None:
         for more in (["--mask", "0"], ["--escapes"]):

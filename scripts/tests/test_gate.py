@@ -13,6 +13,7 @@ import sys
 import tempfile
 import unittest
 from typing import Mapping
+from unittest import mock
 
 from support import PYTHON, SCRIPTS, TOP, InCopy, InFolder, in_copy, module, read, run_command, write
 
@@ -21,6 +22,32 @@ class One(unittest.TestCase):
     def test_one(self) -> None:
         raise unittest.SkipTest("{}")
     def test_two(self) -> None:
+        pass
+"""
+# Of these one passes, and with --quick two are left out.
+WAYS = """import unittest
+class One(unittest.TestCase):
+    def test_right(self):
+        pass
+    @unittest.expectedFailure
+    def test_unexpected(self):
+        pass
+    def test_part(self):
+        with self.subTest():
+            self.fail()
+class Two(unittest.TestCase):
+    @classmethod
+    def setUpClass(cls):
+        raise unittest.SkipTest("takes seconds: two")
+    def test_one(self):
+        pass
+    def test_two(self):
+        pass
+class Three(unittest.TestCase):
+    @classmethod
+    def setUpClass(cls):
+        raise ValueError
+    def test_three(self):
         pass
 """
 BODIES = "crates/device/wrong-bodies"
@@ -63,7 +90,7 @@ CHANGED_SCRIPTS = (
 # What is written in the place of a text, the first one in a file, for each step, and what that step says.
 CHANGED = {
     "counts.py": (
-        ("scripts/counts.txt", "lib/tests: ", "lib/test: ", "has no number of tests of lib/tests"),
+        ("scripts/counts.txt", "\nlib/tests: ", "\nlib/test: ", "has no number of tests of lib/tests"),
         ("crates.txt", "gf256:", "# gf256:", "differ in: gf256"),
         ("docs/RECIPES.md", "```sh\n", "```text\n", "blocks: "),
         ("HANDLES", HANDLES, "Handles allowed: Net.", f"HANDLES is not: {HANDLES}"),
@@ -77,7 +104,11 @@ CHANGED = {
         ("README.md", "drew the same 5", "drew the same 6", "README.md: drew the same 6"),
         ("docs/PROOF.md", "believed definitions", "definitions", "docs/PROOF.md: no operator of"),
         ("README.md", "read all ", "read many ", "README.md: no read all"),
-        ("tools/tests/test_table_mutants.py", "MUTANTS = 4000", "MUTANTS = 4", "MUTANTS 4, test_calls.py "),
+        ("tools/tests/test_table_mutants.py", "MUTANTS = 4000", "MUTANTS = 4", "mutants.MUTANTS = 4, "),
+        ("scripts/instructions.py", "ROOM = 5\n", "ROOM = 5.9\n", "instructions.ROOM = 5.9, "),
+        ("lib/tests/test_calls.py", "ROUNDS = 100_000", "ROUNDS = 100_00", "test_calls.ROUNDS = 10000, "),
+        ("scripts/packages.txt", "zint    ", "# zint  ", "packages of the gate: "),
+        ("debian/tests/control", "Tests: tools", "Tests: tool", "and its control "),
     ),
     "unused.py": (("crates.txt", "gf256:", "# gf256:", "differ in: gf256"),),
     "believed_rows.py": (("crates/labelcore/specs/HeldLine.antt", "1100", "1101", "labelcore/HeldLine"),),
@@ -176,6 +207,28 @@ class TakenAway(InCopy):
         write(self.path("lib/tests/test_one.py"), SKIPPED.replace('raise unittest.SkipTest("{}")', "pass"))
         self.assert_fails("run_tests.py lib/tests", "2 passed, 0 failed\n2 tests, and scripts/counts.txt has ")
 
+    def test_ways_in_which_tests_do_not_pass(self) -> None:
+        self.move("lib/tests", "lib/tests-away")
+        self.addCleanup(shutil.rmtree, self.path("lib/tests"))
+        write(self.path("lib/tests/test_one.py"), WAYS)
+        for words, last in (("", "1 passed, 5 failed"), ("--quick", "1 passed, 3 failed, 2 left out")):
+            found = self.judged("run_tests.py", "lib/tests", *words.split())
+            self.assertEqual((found[0], found[1].split("\n")[-2]), (1, last), found[1])
+
+    def test_runner_that_passes_all(self) -> None:
+        """One that takes another end for the right one finds that out by the tests that it is shown."""
+        run_tests = module("run_tests")
+        for name in ("addFailure", "addError", "addSkip", "addUnexpectedSuccess", "addExpectedFailure"):
+            with self.subTest(name), mock.patch.object(
+                run_tests.Result, name, lambda it, *given: it.addSuccess(given[0])
+            ):
+                self.assertFalse(run_tests.sees_wrong_tests())
+        self.assertTrue(run_tests.sees_wrong_tests())
+
+    def test_step_that_did_nothing(self) -> None:
+        self.replace("scripts/refuse_each_growth.py", "print('0 passed, 0 failed')\n")
+        self.assert_fails("refuse_each_growth.py", "status 0\nFAILED: ")
+
     def test_no_labels_to_compare(self) -> None:
         text = read(self.path("scripts/compare_symbols.py"))
         self.replace("scripts/compare_symbols.py", text.replace("return [label for", "return [] and [label for"))
@@ -244,11 +297,11 @@ PART = """import sys
 steps = dict(quick=["one"], built={built!r}).get(sys.argv[-1], [])
 print(*(f"ok: {{step}}, 1.5 s" for step in steps), sep="\\n")
 print("{name}", *sys.argv[1:], "ran")
-print({more!r})
+print({more!r}, end="")
 print({last!r})
 sys.exit({status})
 """
-REFUSED = "one: 2 refused, 1 accepted, in 1 checks"
+REFUSED = "one: 2 refused, 1 accepted, in 1 checks\nrefused in one: low high\n"
 RT = "[ $1 != version ] || {{ echo 'kit-1 logic {version}'; exit; }}; echo rt ci ran; {then}"
 
 
@@ -273,7 +326,10 @@ def kit(then: str = "echo '3 passed, 0 failed (30 minutes)'", version: int = 2) 
 PARTS = {
     ".ci/run": read(os.path.join(TOP, ".ci/run")),
     "scripts/packages.txt": read(os.path.join(TOP, "scripts/packages.txt")),
-    "scripts/counts.txt": "steps of quick: one\nsteps of built: two, tests of three\none: 2 wrong-bodies, 1 tests\n",
+    "scripts/counts.txt": "steps of quick: one\nsteps of built: two, tests of three\n",
+    "crates/one/wrong-bodies/low.edit": "",
+    "crates/one/wrong-bodies/high.edit": "",
+    "crates/one/right-bodies/low.edit": "",
     "docs/PROOF.md": "The kit: `kit-1 logic 2`.\n",
     **kit(),
     **part("gate", "5 passed, 0 failed"),
@@ -353,14 +409,6 @@ class Run(InFolder):
             ),
             (part("wrong_bodies", "1 passed, 1 failed", 1), {}, 1, parts, "1 passed, 1 failed", "14 passed, 1 failed"),
             (part("wrong_bodies", "Traceback", 1), {}, 1, parts, "Traceback", "13 passed, 1 failed"),
-            (
-                part("wrong_bodies", "1 passed, 0 failed", more="one: 1 refused, 0 accepted, in 1 checks"),
-                {},
-                1,
-                parts,
-                "1 wrong bodies were refused, and scripts/counts.txt has 2",
-                "14 passed, 1 failed",
-            ),
             # What needs the program does not run without it.
             (
                 part("plain_builds", "not proved", 1),
@@ -378,6 +426,20 @@ class Run(InFolder):
                 self.assertIn(said, found[2] + ["built"])
                 if len(ran) > 1:
                     self.assertRegex(found[2][-2], r"^\d+\.\d processor minutes$")
+
+    def test_bodies(self) -> None:
+        """Each wrong body that is there is refused once, and no other."""
+        for names, said, failed in (
+            ("low", "not refused: one/high", 1),
+            ("low low", "not refused: one/high", 2),
+            ("low low high", "refused twice, or no wrong body: one/low", 1),
+            ("low high wide", "refused twice, or no wrong body: one/wide", 1),
+        ):
+            with self.subTest(names):
+                bent = part("wrong_bodies", "2 passed, 0 failed", more=f"refused in one: {names}\n")
+                status, _, lines = self.run_gate(bent, {})
+                self.assertEqual((status, lines[-1]), (1, f"15 passed, {failed} failed"))
+                self.assertIn(said, lines)
 
 
 class Packages(unittest.TestCase):
