@@ -30,7 +30,8 @@ help:
 	@echo 'make gate-test the same in a fresh Debian, as root'
 	@echo 'make all       the proved program in out/, the C library in out/lib/'
 	@echo 'make deb       the Debian packages of what is committed, in out/deb/'
-	@echo 'make deb-test  tries them in a fresh Debian, as root'
+	@echo 'make release   the same with the source and checksums, as an apt repository, in out/release/'
+	@echo 'make deb-test  tries the packages in a fresh Debian, as root'
 	@echo 'make install | uninstall [PREFIX=$(PREFIX)] [DESTDIR=]'
 
 quick:
@@ -101,6 +102,16 @@ deb: $(LABELS) $(PROVED)
 	cd out/deb/source && MAKEFLAGS= LABELS=$(abspath $(LABELS)) PROVED=$(abspath $(PROVED)) dpkg-buildpackage -b -us -uc
 	ls out/deb/*.deb
 
+# What is given away, of what is committed: the packages, their source, an apt repository of both, the sums of all.
+release: deb
+	rm -rf out/release out/source
+	umask 022; set -e; mkdir -p out/release out/source/labels; cp out/deb/*.deb out/release; \
+	    git archive HEAD | tar -x --no-same-permissions -C out/source/labels; \
+	    debian/changelog.py > out/source/labels/debian/changelog; \
+	    (cd out/release && dpkg-source --build ../source/labels); \
+	    SOURCE_DATE_EPOCH=$$(git log -1 --format=%ct) debian/repository.sh out/release
+	ls out/release
+
 # A fresh Debian in out/root; MIRROR names another mirror.
 define fresh_root
 	rm -rf --one-file-system out/root && mkdir -p out && debootstrap --variant=minbase bookworm out/root $(MIRROR)
@@ -134,4 +145,4 @@ deb-test:
 clean:
 	rm -rf out
 
-.PHONY: help quick check gate all install uninstall debian/changelog deb deb-test gate-test clean
+.PHONY: help quick check gate all install uninstall debian/changelog deb deb-test gate-test release clean
