@@ -74,11 +74,12 @@ def numbers_in(text: str) -> Iterator[str]:
                 yield ast.unparse(statement)
 
 
-def numbers_below(folder: str) -> Iterator[str]:
-    """The numbers of the scripts or the tests of a folder, each with its file."""
+def numbers_below(folder: str) -> Iterator[tuple[str, str]]:
+    """The numbers of each script or test of a folder that has some, and its name."""
     for path in sources.files_below(folder, ".py"):
-        if os.path.dirname(path) == folder:
-            yield from (f"{os.path.basename(path)[:-3]}.{it}" for it in numbers_in(sources.read(path)))
+        found = ", ".join(numbers_in(sources.read(path)))
+        if found and os.path.dirname(path) == folder:
+            yield f"numbers of {path}", found
 
 
 def names_of_packages() -> list[str]:
@@ -121,7 +122,7 @@ def counts_of_text() -> Iterator[tuple[str, object]]:
     yield "packages of the gate", len(names_of_packages())
     yield "tests of the packages", ", ".join(tests_of_packages())
     for folder in ("scripts", *gate.TESTS):
-        yield f"numbers of {folder}", ", ".join(numbers_below(folder)) or "none"
+        yield from numbers_below(folder)
 
 
 def last_line_of(step: str) -> str:
