@@ -33,7 +33,8 @@ help:
 	@echo 'make all       the proved program in out/, the C library in out/lib/'
 	@echo 'make library   the C library alone, in out/lib/'
 	@echo 'make deb       the Debian packages of what is committed, for amd64 and arm64, in out/deb/'
-	@echo 'make deb-test  tries them in a fresh Debian, as root'
+	@echo 'make release   the same with the source and checksums, as an apt repository, in out/release/'
+	@echo 'make deb-test  tries the packages in a fresh Debian, as root'
 	@echo 'make install | uninstall [PREFIX=$(PREFIX)] [DESTDIR=]'
 
 quick:
@@ -115,6 +116,16 @@ deb: $(LABELS) $(PROVED) $(PROVED_ARM64)
 	cd out/deb/source && MAKEFLAGS= PROVED=$(abspath $(PROVED_ARM64)) dpkg-buildpackage -B -aarm64 -d -us -uc
 	ls out/deb/*.deb
 
+# What is given away, of what is committed: the packages, their source, an apt repository of both, the sums of all.
+release: deb
+	rm -rf out/release out/source
+	umask 022; set -e; mkdir -p out/release out/source/labels; cp out/deb/*.deb out/release; \
+	    git archive HEAD | tar -x --no-same-permissions -C out/source/labels; \
+	    debian/changelog.py > out/source/labels/debian/changelog; \
+	    (cd out/release && dpkg-source --build ../source/labels); \
+	    SOURCE_DATE_EPOCH=$$(git log -1 --format=%ct) debian/repository.sh out/release
+	ls out/release
+
 # A fresh Debian in out/root; MIRROR names another mirror.
 define fresh_root
 	rm -rf --one-file-system out/root && mkdir -p out && debootstrap --variant=minbase bookworm out/root $(MIRROR)
@@ -148,4 +159,5 @@ deb-test:
 clean:
 	rm -rf out
 
-.PHONY: help quick check gate all library install install-library uninstall debian/changelog deb deb-test gate-test clean
+.PHONY: help quick check gate all library install install-library uninstall debian/changelog deb deb-test gate-test \
+    release clean

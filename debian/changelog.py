@@ -15,6 +15,7 @@ import textwrap
 from datetime import datetime, timezone
 from email.utils import format_datetime
 from pathlib import Path
+from typing import Sequence
 
 TOP = Path(__file__).resolve().parent.parent
 MAINTAINER = f"{os.getenv('DEBFULLNAME', 'The labels project')} <{os.getenv('DEBEMAIL', 'labels@labels.invalid')}>"
@@ -22,20 +23,21 @@ SECTION = re.compile(r"^## (\S+)(?: \((.*)\))?\n((?:(?!## ).*\n?)*)", re.M)
 CHANGE = re.compile(r"^- (.*(?:\n  .*)*)", re.M)
 
 
-def git(*words):
+def git(*words: str) -> str:
     """What git says of the repository, in Coordinated Universal Time."""
-    how = {"env": {**os.environ, "TZ": "UTC"}, "stdout": subprocess.PIPE, "text": True, "check": True}
-    return subprocess.run(["git", "-C", TOP, *words], **how).stdout.strip()
+    environment = {**os.environ, "TZ": "UTC"}
+    command = ["git", "-C", str(TOP), *words]
+    return subprocess.run(command, env=environment, stdout=subprocess.PIPE, text=True, check=True).stdout.strip()
 
 
-def entry(version, date, changes):
+def entry(version: str, date: str, changes: Sequence[str]) -> str:
     """An entry of the changelog."""
-    how = {"width": 78, "initial_indent": "  * ", "subsequent_indent": "    ", "break_on_hyphens": False}
-    shown = "\n".join(textwrap.fill(" ".join(change.split()), **how) for change in changes)
+    wrapper = textwrap.TextWrapper(width=78, initial_indent="  * ", subsequent_indent="    ", break_on_hyphens=False)
+    shown = "\n".join(wrapper.fill(" ".join(change.split())) for change in changes)
     return f"labels ({version}) unstable; urgency=medium\n\n{shown}\n\n -- {MAINTAINER}  {date}\n"
 
 
-def main():
+def main() -> None:
     if git("rev-parse", "--is-shallow-repository") != "false":
         sys.exit("this clone lacks older commits, and the version counts them: run git fetch --unshallow")
     found = SECTION.findall((TOP / "CHANGELOG.md").read_text(encoding="utf-8"))
@@ -43,15 +45,16 @@ def main():
     if len(sections) < len(found):
         sys.exit("CHANGELOG.md has two sections of one heading")
     _, unreleased = sections.pop("Unreleased", ("", []))
-    newest, entries = next(iter(sections)), []
+    newest = next(iter(sections))
+    entries = []
     if f"v{newest}" not in git("tag", "--points-at", "HEAD").split():
         day, commit = git("log", "-1", "--date=format-local:%Y%m%d", "--abbrev=8", "--format=%cd %h").split()
         version = f"{newest}+git{day}.{git('rev-list', '--count', 'HEAD')}.{commit}"
         date, subject = git("log", "-1", "--date=rfc-local", "--format=%cd%n%s").split("\n")
         entries.append(entry(version, date, [f"Commit {commit}: {subject}", *unreleased]))
     for version, (day, changes) in sections.items():
-        date = datetime.fromisoformat(day).replace(tzinfo=timezone.utc)
-        entries.append(entry(version, format_datetime(date), changes))
+        midnight = datetime.fromisoformat(day).replace(tzinfo=timezone.utc)
+        entries.append(entry(version, format_datetime(midnight), changes))
     print("\n".join(entries), end="")
 
 

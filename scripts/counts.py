@@ -1,22 +1,25 @@
 #!/usr/bin/python3
 """Counts what the gate looks at, and compares it with scripts/counts.txt.
 
-A test, a wrong body or a list of labels that is gone makes nothing fail. So each number is in that file, and a change
-of it is a line of the diff. With no option it compares the numbers that the text of the repository gives, and those
-that README.md and PROOF.md have of it. How many tests there are gate.py compares, with those that ran, and `.ci/run`
-how many wrong bodies were refused. It also looks at HANDLES, which has to allow nothing, and at the root file of
-each crate, which has to ask for the tactic `auto`. The status is 1 where something differs, a line for each.
+A test, a wrong body, a package or a list of labels that is gone makes nothing fail, and no more does a limit that is
+wider. So each number is in that file, and a change of it is a line of the diff. With no option it compares the numbers
+that the text of the repository gives, and those that README.md and PROOF.md have of it. How many tests there are
+gate.py compares, with those that ran, and `.ci/run` which wrong bodies were refused. It also looks at HANDLES, which
+has to allow nothing, and at the root file of each crate, which has to ask for the tactic `auto`. The status is 1 where
+something differs, a line for each.
 
 --write makes the numbers of the text anew, in seconds, and keeps the last lines of the counted steps: where one is no
 longer right, the gate says so. With --run it runs these too, most of which need the proved program,
 crates/labels/out/labels.
 """
 
+import ast
 import glob
 import os
 import re
 import sys
 from collections import Counter
+from typing import Iterable, Iterator, Mapping
 
 import compare_symbols
 import gate
@@ -38,7 +41,7 @@ IN_PAGES = (
 )
 
 
-def count_tests(folder):
+def count_tests(folder: str) -> int:
     """How many tests unittest finds below a folder."""
     status, said = sources.run([sources.PYTHON, "scripts/run_tests.py", "--count", folder])
     if status:
@@ -46,7 +49,7 @@ def count_tests(folder):
     return int(said.split()[-1])
 
 
-def counts_of_crate(crate, files):
+def counts_of_crate(crate: str, files: Iterable[reader.File]) -> Iterator[tuple[int, str]]:
     """The numbers of a crate: its tests, edits, worked values and stored run."""
     items = [one for file in files if (file.crate, file.part) == (crate, "src") for one in file.declarations]
     yield sum("#[test]" in "".join(it.text for it in one.attributes) for one in items), "tests"
@@ -61,20 +64,45 @@ def counts_of_crate(crate, files):
     yield len(glob.glob(f"crates/{crate}/stdout")), "stored runs"
 
 
-def sizes_of_tests():
-    """The constants of tests that say how much is tried, each with its file."""
-    for folder in gate.TESTS:
-        for path in sources.files_below(folder, ".py"):
-            for name, size in re.findall(r'^(LINES|MUTANTS|ROUNDS) = "?([\d_]+)', sources.read(path), re.MULTILINE):
-                yield f"{os.path.basename(path)} {name} {int(size)}"
+def numbers_in(text: str) -> Iterator[str]:
+    """The constants of a file of Python that are computed of numbers: limits, sizes, seeds."""
+    for statement in ast.parse(text).body:
+        if isinstance(statement, ast.Assign):
+            parts = [node for node in ast.walk(statement.value) if isinstance(node, ast.expr)]
+            numbers = [it for it in parts if isinstance(it, ast.Constant) and isinstance(it.value, (int, float))]
+            if numbers and all(isinstance(it, (ast.BinOp, ast.Name)) for it in parts if it not in numbers):
+                yield ast.unparse(statement)
 
 
-def joined(numbers):
+def numbers_below(folder: str) -> Iterator[tuple[str, str]]:
+    """The numbers of each script or test of a folder that has some, and its name."""
+    for path in sources.files_below(folder, ".py"):
+        found = ", ".join(numbers_in(sources.read(path)))
+        if found and os.path.dirname(path) == folder:
+            yield f"numbers of {path}", found
+
+
+def names_of_packages() -> list[str]:
+    """The packages that the gate needs, by the list of them."""
+    lines = sources.read("scripts/packages.txt").split("\n")
+    return [line.split()[0] for line in lines if line and not line.startswith("#")]
+
+
+def tests_of_packages() -> list[str]:
+    """The names of the tests of the packages. Stops where a file is none, or one of them is no file."""
+    names = re.findall(r"^Tests: (.*)", sources.read("debian/tests/control"), re.MULTILINE)
+    files = sorted({*os.listdir("debian/tests")} - {"control"})
+    if sorted(names) != files:
+        sys.exit(f"debian/tests has {', '.join(files)}, and its control {', '.join(names)}")
+    return files
+
+
+def joined(numbers: Iterable[tuple[int, str]]) -> str:
     """Numbers and what they count, as a text."""
     return ", ".join(f"{number} {what}" for number, what in numbers if number) or "nothing"
 
 
-def counts_of_text():
+def counts_of_text() -> Iterator[tuple[str, object]]:
     """The names and numbers that the text of the repository gives."""
     crates = sources.crates_of(sources.TOP)
     files = reader.files_of(sources.TOP, crates, "src", "proofs")
@@ -91,10 +119,13 @@ def counts_of_text():
     labels = compare_symbols.all_labels()
     heads, with_zint = {label.head for label in labels}, [label for label in labels if label.zint]
     yield "labels to compare", f"{len(labels)} with {len(heads)} heads, {len(with_zint)} for zint"
-    yield "what tests try", ", ".join(sizes_of_tests())
+    yield "packages of the gate", len(names_of_packages())
+    yield "tests of the packages", ", ".join(tests_of_packages())
+    for folder in ("scripts", *gate.TESTS):
+        yield from numbers_below(folder)
 
 
-def last_line_of(step):
+def last_line_of(step: str) -> str:
     """The last line of a step. Stops where it fails."""
     print(f"runs {step}", flush=True)
     status, said, last = gate.run(step)
@@ -103,7 +134,7 @@ def last_line_of(step):
     return last
 
 
-def faults_of_rules():
+def faults_of_rules() -> Iterator[str]:
     """What HANDLES and the root files of the crates have that they must not have."""
     if sources.read("HANDLES") != NO_HANDLES:
         yield f"HANDLES is not: {NO_HANDLES.rstrip()}"
@@ -113,7 +144,7 @@ def faults_of_rules():
             yield f"crates/{crate}: no line {AUTO} in its root file"
 
 
-def faults_of_pages(wanted):
+def faults_of_pages(wanted: Mapping[str, str]) -> Iterator[str]:
     """The numbers of pages that are not those of the file, or that a page lacks."""
     for page, sentence, step, place in IN_PAGES:
         right = re.search(place, wanted.get(step, ""))
@@ -122,7 +153,7 @@ def faults_of_pages(wanted):
             yield f"{page}: {said[0] if said else f'no {sentence}'}, and {gate.COUNTS} has {wanted.get(step)}"
 
 
-def main():
+def main() -> int:
     parser = sources.parser_of(__doc__, has_top=False)
     parser.add_argument("--write", action="store_true", help=f"make {gate.COUNTS} anew")
     parser.add_argument("--run", action="store_true", help="with --write: run the counted steps, and take their lines")

@@ -27,6 +27,7 @@ QUICK = (
     "unused.py",
     "pages.py",
     "lints.py",
+    "subjects.py",
     "run_tests.py scripts/tests",
     "run_tests.py tools/tests --quick",
 )
@@ -48,10 +49,10 @@ TESTS = ("scripts/tests", "tools/tests", "lib/tests")
 PASSED = re.compile(r"(\d+) passed, (\d+) failed(?:, (\d+) left out)?")
 
 
-def counts_kept():
+def counts_kept() -> dict[str, str]:
     """The lines of the file of counts, by their names. Stops where two lines have one name."""
     lines = sources.read(f"{sources.TOP}/{COUNTS}").split("\n")
-    pairs = [line.split(": ", 1) for line in lines if ": " in line and not line.startswith("#")]
+    pairs = [line.partition(": ")[::2] for line in lines if ": " in line and not line.startswith("#")]
     names = [name for name, _ in pairs]
     twice = sorted({name for name in names if names.count(name) > 1})
     if twice:
@@ -59,13 +60,13 @@ def counts_kept():
     return dict(pairs)
 
 
-def run(step):
+def run(step: str) -> tuple[int, str, str]:
     """The status of a step, what it wrote, and the last line of that."""
     status, said = sources.run([sources.PYTHON, *f"scripts/{step}".split()])
     return status, said, said.rstrip("\n").split("\n")[-1]
 
 
-def fault_of_count(step, last, ran):
+def fault_of_count(step: str, last: str, ran: int) -> str:
     """What the file of counts has in place of a step's last line, or of the number of its tests; or nothing."""
     kept = counts_kept()
     if step in COUNTED and last != kept.get(step):
@@ -76,11 +77,11 @@ def fault_of_count(step, last, ran):
     return ""
 
 
-def passed_and_failed(step):
+def passed_and_failed(step: str) -> tuple[int, int, str]:
     """How many of a step passed and failed, and what is printed of it."""
     status, said, last = run(step)
     numbers = PASSED.fullmatch(last)
-    good, bad, left_out = map(int, numbers.groups("0") if numbers else (status == 0, status != 0, 0))
+    good, bad, left_out = map(int, numbers.groups("0")) if numbers else (int(status == 0), int(status != 0), 0)
     if left_out and "--quick" not in step:
         return 0, 1, f"{said}{left_out} tests were left out"
     if (status != 0) != (bad > 0) or not good + bad:
@@ -91,10 +92,12 @@ def passed_and_failed(step):
     return good, bad, f"{said}status {status}" if bad else last
 
 
-def main():
-    steps = {("quick",): QUICK, ("built",): BUILT}.get(tuple(sys.argv[1:]), sys.argv[1:])
+def main() -> int:
+    asked = tuple(sys.argv[1:])
+    parts: dict[tuple[str, ...], tuple[str, ...]] = {("quick",): QUICK, ("built",): BUILT}
+    steps = parts.get(asked, asked)
     if not steps or not {*steps} <= {*QUICK, *BUILT}:
-        is_asked = sys.argv[1:] in (["-h"], ["--help"])
+        is_asked = asked in (("-h",), ("--help",))
         print(__doc__, file=sys.stdout if is_asked else sys.stderr)
         return 0 if is_asked else 2
     passed = failed = 0

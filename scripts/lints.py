@@ -2,14 +2,18 @@
 """Runs the lints of the gate, each over a wrong text first, in which it has to find something.
 
 What a file is, its first line says, or its ending. A first line `#!` that is none of INTERPRETERS is a fault: such a
-file would be read by no lint. Settings beside the code are not read, but for scripts/mypy.ini. The last line is `N
-passed, M failed`.
+file would be read by no lint. Settings beside the code are not read, but for scripts/mypy.ini; remarks in the code
+that silence a lint are faults. The last line is `N passed, M failed`.
 """
 
+import ast
 import os
+import re
 import sys
 import tempfile
+import tokenize
 from dataclasses import dataclass
+from typing import Iterator, Mapping, Sequence
 
 import sources
 
@@ -23,20 +27,31 @@ INTERPRETERS = {
     "#!/usr/bin/make -f": "",
 }
 ENDINGS = {".py": "python", ".bash": "completion", ".1": "manual", ".3": "manual"}
-# What flake8 has to find in WRONG: an import and a variable that nothing uses, and a name that is not there.
-WRONG = "import os  # noqa\n\n\ndef one():\n    two = three\n"
-FINDS = ("F401", "F841", "F821")
-# The scripts that are laid out as the tools are, and others that are typed as they are.
+# The most that a function may have: ways through it, as McCabe counts them, and statements without its docstring.
+MOST_WAYS = 15
+MOST_STATEMENTS = 30
+# Where four functions have up to three more.
+WITH_MORE = "tools/"
+# What flake8 has to find in WRONG: an import and a variable that nothing uses, a name that is not there, and a
+# function with one way too many.
+BRANCHES = "    if two:\n        pass\n" * MOST_WAYS
+WRONG = f"import os  # noqa\n\n\ndef one():\n    two = three\n\n\ndef four(two):  # noqa\n{BRANCHES}"
+FINDS = ("F401", "F841", "F821", "C901")
+# The scripts that are laid out as the tools are, 100 columns wide.
 AS_TOOLS = tuple(
     f"scripts/{name}.py"
     for name in ("bases", "believed", "believed_rows", "changes", "declared", "edits", "judging", "wrong_bodies")
 )
-TYPED = ("scripts/libraries.py", "scripts/reader.py", "scripts/sources.py")
+# The folders whose Python is typed, those together that import one another: modules of others may have the same name.
+TYPED = (("scripts", "debian"), ("lib",), ("tools", "completions"))
+NOT_TYPED = ("tools/tests/", "scripts/instructions.py", "scripts/tests/test_believed.py")
 # black puts a space before the colon of a slice, which E203 is against.
-STYLE = "flake8 --isolated --disable-noqa --extend-ignore E203 --max-line-length"
+STYLE = f"flake8 --isolated --disable-noqa --extend-ignore E203 --max-complexity {MOST_WAYS} --max-line-length"
 LAYOUT = f"black --config {os.devnull} --quiet --check --line-length"
 # It keeps what it read of the typed files, in a folder that is not committed.
-TYPES = "mypy --no-error-summary --cache-dir out/mypy --config-file scripts/mypy.ini"
+TYPES = "mypy --no-error-summary --config-file scripts/mypy.ini --cache-dir out/mypy/"
+# What silences a lint where it is written.
+SILENCED = re.compile(r"#\s*(?:noqa|type:\s*ignore|fmt:\s*(?:off|skip)|pragma|mypy:|flake8:|shellcheck disable)", re.I)
 
 
 @dataclass(frozen=True)
@@ -44,12 +59,12 @@ class Lint:
     """A lint: its command, the files that it reads, and the name and text of a file that it has to refuse."""
 
     command: str
-    files: list
+    files: Sequence[str]
     wrong_name: str
     wrong: str
-    finds: tuple = ()  # what it has to say of that file, each
+    finds: tuple[str, ...] = ()  # what it has to say of that file, each
 
-    def fault(self):
+    def fault(self) -> str:
         """What it finds, or that it reads no file, or that it finds nothing in what is wrong."""
         if not self.files:
             return f"{self.command} reads no file"
@@ -63,13 +78,13 @@ class Lint:
                 return f"{self.command} finds nothing in: {', '.join(unseen) or self.wrong}"
         return self.findings(self.files)
 
-    def findings(self, files):
+    def findings(self, files: Sequence[str]) -> str:
         """What it finds, and its status; nothing where it finds nothing."""
         status, said = sources.run([*self.command.split(), *files])
         return f"{said}{self.command} found something, status {status}" if status or said else ""
 
 
-def kind_of(path):
+def kind_of(path: str) -> str:
     """What reads a file, or for a first line that is unknown that line; nothing where nothing does."""
     with open(path, "rb") as file:
         first = file.readline().rstrip().decode("utf-8", "replace")
@@ -78,9 +93,9 @@ def kind_of(path):
     return ENDINGS.get(os.path.splitext(path)[1], "")
 
 
-def files_by_kind():
+def files_by_kind() -> dict[str, list[str]]:
     """The files below the folders, by what reads them."""
-    found = {"python": [], "shell": [], "completion": [], "manual": []}
+    found: dict[str, list[str]] = {"python": [], "shell": [], "completion": [], "manual": []}
     for folder in FOLDERS:
         if not os.path.isdir(folder):
             sys.exit(f"there is no folder {folder}")
@@ -89,12 +104,68 @@ def files_by_kind():
     return found
 
 
-def all_lints(files):
+def comments_of(path: str) -> Iterator[tuple[int, str]]:
+    """The comments of a file of Python, or the lines of another one, each with its number."""
+    if kind_of(path) != "python":
+        yield from enumerate(sources.read(path).split("\n"), 1)
+        return
+    with open(path, "rb") as file:
+        for token in tokenize.tokenize(file.readline):
+            if token.type == tokenize.COMMENT:
+                yield token.start[0], token.string
+
+
+def silenced(path: str) -> Iterator[str]:
+    """What silences a lint in a file."""
+    for line, text in comments_of(path):
+        if SILENCED.search(text):
+            yield f"{path}:{line}: it silences a lint: {text.strip()}"
+
+
+def too_long(path: str) -> Iterator[str]:
+    """The functions of a file of Python that have too many statements; those of functions in them count too."""
+    for function in ast.walk(ast.parse(sources.read(path))):
+        if isinstance(function, (ast.FunctionDef, ast.AsyncFunctionDef)):
+            inside = [node for node in ast.walk(function) if isinstance(node, ast.stmt)]
+            count = len(inside) - 1 - (ast.get_docstring(function) is not None)
+            if count > MOST_STATEMENTS:
+                yield f"{path}:{function.lineno}: {function.name} has {count} statements, {MOST_STATEMENTS} at most"
+
+
+def faults_of_files(paths: Sequence[str]) -> list[str]:
+    """What a look into files finds, for which there is no lint."""
+    found = [fault for path in paths for fault in silenced(path)]
+    counted = [path for path in paths if kind_of(path) == "python" and not path.startswith(WITH_MORE)]
+    return found + [fault for path in counted for fault in too_long(path)]
+
+
+def unseen() -> Iterator[str]:
+    """The wrong files of which a look into them finds nothing."""
+    long = "".join(f"    one = {number}\n" for number in range(MOST_STATEMENTS + 1))
+    texts = {
+        "wrong.py": f"def one():\n{long}",
+        "noqa.py": "import os  # noqa\n",
+        "wrong.sh": "# shellcheck disable=all\n",
+    }
+    with tempfile.TemporaryDirectory(prefix="lints-") as folder:
+        for name, text in texts.items():
+            path = os.path.join(folder, name)
+            sources.write(path, text)
+            if len(faults_of_files([path])) != 1:
+                yield f"a look into files finds nothing in: {text}"
+
+
+def below(folders: Sequence[str], paths: Sequence[str]) -> list[str]:
+    """The paths that are below one of these folders."""
+    return [path for path in paths if path.split(os.sep)[0] in folders]
+
+
+def all_lints(files: Mapping[str, Sequence[str]]) -> tuple[Lint, ...]:
     """The lints over these files. Python is 100 columns wide where it is laid out as the tools are, else 119."""
     tools = [path for path in files["python"] if path.startswith("tools/") or path in AS_TOOLS]
     used = [path for path in tools if "/tests/" not in path]
     others = [path for path in files["python"] if path not in tools]
-    typed = [*used, *(path for path in others if path.startswith("lib/python/") or path in TYPED)]
+    typed = [path for path in files["python"] if not path.startswith(NOT_TYPED)]
     return (
         Lint("shellcheck --norc", files["shell"], "wrong.sh", "#!/bin/sh\nrm $1\n"),
         Lint("shellcheck --norc --shell=bash", files["completion"], "wrong.bash", "rm $1\n"),
@@ -102,17 +173,21 @@ def all_lints(files):
         Lint(f"{LAYOUT} 119", others, "wrong.py", "x = 'one'\n"),
         Lint(f"{STYLE} 100", used, "wrong.py", WRONG, FINDS),
         Lint(f"{STYLE} 119", [path for path in files["python"] if path not in used], "wrong.py", WRONG, FINDS),
-        Lint(TYPES, typed, "wrong.py", "number: int = 'one'\n"),
+        *(Lint(TYPES + names[0], below(names, typed), "wrong.py", "number: int = 'one'\n") for names in TYPED),
         Lint("mandoc -Tlint -W warning", files["manual"], "wrong.1", ".TH WRONG 1\n.SH NAME\n.XX\n"),
     )
 
 
-def main():
+def main() -> int:
     sources.parser_of(__doc__, has_top=False).parse_args()
     os.chdir(sources.TOP)
     files = files_by_kind()
     unknown = [kind for kind in files if kind.startswith("#!")]
     faults = [f"{path}: no lint knows {kind}" for kind in unknown for path in files[kind]]
+    faults += [
+        *unseen(),
+        *faults_of_files([path for kind in ("python", "shell", "completion") for path in files[kind]]),
+    ]
     lints = all_lints(files)
     found = [fault for lint in lints if (fault := lint.fault())]
     print(*faults, *found, f"{len(lints) - len(found)} passed, {len(found) + len(faults)} failed", sep="\n")

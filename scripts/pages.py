@@ -20,8 +20,10 @@ import os
 import re
 import sys
 from dataclasses import dataclass
+from typing import Iterable, Iterator, Mapping, Sequence
 
 from markdown_it import MarkdownIt
+from markdown_it.token import Token
 
 import sources
 
@@ -54,7 +56,7 @@ class Block:
     is_next: bool
 
 
-def texts():
+def texts() -> dict[str, str]:
     """The text of each page, by its path."""
     crates = [f"crates/{name}/README.md" for name in sources.crates_of(sources.TOP)]
     paths = [*sorted(glob.glob("*.md")), *sorted(glob.glob("docs/*.md")), *crates]
@@ -65,25 +67,25 @@ def texts():
 
 
 @functools.lru_cache(maxsize=None)
-def parsed(text):
+def parsed(text: str) -> list[Token]:
     """The tokens of the text of a page."""
     return MARKDOWN.parse(text)
 
 
-def blocks_of(text):
+def blocks_of(text: str) -> Iterator[Block]:
     """The blocks of a page."""
     lines = text.split("\n")
     tokens = parsed(text)
     for before, token in zip([None, *tokens], tokens):
         if token.type == "fence":
-            start, end = token.map
+            start, end = token.map or (0, 0)
             language = token.info.strip() if token.markup == "```" else token.markup
             is_closed = lines[end - 1].strip() == token.markup and "```" not in token.content
             is_next = before is not None and before.type == "fence"
             yield Block(start + 1, language, token.content, "\n".join(lines[:start]), is_closed, is_next)
 
 
-def faults_of_blocks(page, blocks):
+def faults_of_blocks(page: str, blocks: Iterable[Block]) -> Iterator[tuple[int, str]]:
     """What is wrong with the blocks of a page, each with the number of its line."""
     for block in blocks:
         is_quoted = block.language in QUOTED or block.code.lstrip().startswith("ensures")
@@ -98,25 +100,25 @@ def faults_of_blocks(page, blocks):
                 yield block.line, "this code is in no file that the page names above it"
 
 
-def stripped(text):
+def stripped(text: str) -> str:
     """The lines of a text without the spaces around them and without blank lines, each with its line end."""
     return "".join(f"{line.strip()}\n" for line in text.split("\n") if line.strip())
 
 
-def is_in_files(code, above):
+def is_in_files(code: str, above: str) -> bool:
     """Whether code is in one of the files that the text above it names."""
     texts = ["\n" + stripped(sources.read(path)) for path in {*FILE.findall(above)} if os.path.isfile(path)]
     return any("\n" + stripped(code) in text for text in texts)
 
 
-def anchors_of(text):
+def anchors_of(text: str) -> list[str]:
     """The names by which links lead to the headings of a page."""
     tokens = parsed(text)
     headings = [inline.content for token, inline in zip(tokens, tokens[1:]) if token.type == "heading_open"]
     return [re.sub(r"[^\w\- ]", "", heading.lower()).replace(" ", "-") for heading in headings]
 
 
-def fault_of_link(page, link):
+def fault_of_link(page: str, link: str) -> str | None:
     """What is wrong with a link of a page, or nothing."""
     path, _, anchor = link.partition("#")
     target = os.path.join(os.path.dirname(page), path) if path else page
@@ -127,19 +129,20 @@ def fault_of_link(page, link):
     return None
 
 
-def links_of(text):
+def links_of(text: str) -> Iterator[tuple[int, str]]:
     """The links of a page to files of the repository, each with the number of its line."""
     for token in parsed(text):
-        links = [part.attrs.get("href") or part.attrs.get("src") for part in token.children or []]
-        yield from ((token.map[0] + 1, link) for link in links if link and ":" not in link)
+        start, _ = token.map or (0, 0)
+        links = [str(part.attrs.get("href") or part.attrs.get("src") or "") for part in token.children or []]
+        yield from ((start + 1, link) for link in links if link and ":" not in link)
 
 
-def cells_of(line):
+def cells_of(line: str) -> list[str]:
     """The cells of a line of a table, without the spaces around them."""
     return [cell.strip() for cell in re.split(r"(?<!\\)\|", line.strip())[1:-1]]
 
 
-def terms_of(page):
+def terms_of(page: str) -> Iterator[tuple[int, list[str]]]:
     """The rows of a page's tables below a head of the glossary's columns: the number of the line, and its cells."""
     in_table = False
     for number, line in enumerate(page.split("\n"), 1):
@@ -151,7 +154,7 @@ def terms_of(page):
             yield number, cells_of(line)
 
 
-def fault_of_term(cells):
+def fault_of_term(cells: Sequence[str]) -> str | None:
     """What is wrong with a row of the glossary, or nothing."""
     if len(cells) != len(COLUMNS) or not all(cells):
         return f"a row without the {len(COLUMNS)} cells"
@@ -165,8 +168,8 @@ def fault_of_term(cells):
     return None
 
 
-def faults_of_glossary(terms):
-    seen = {}
+def faults_of_glossary(terms: Sequence[tuple[int, list[str]]]) -> Iterator[tuple[int, str]]:
+    seen: dict[str, int] = {}
     for number, cells in terms:
         fault = fault_of_term(cells)
         if not fault and cells[0] in seen:
@@ -178,13 +181,15 @@ def faults_of_glossary(terms):
         yield 1, "no term"
 
 
-def words_of(code):
+def words_of(code: str) -> str:
     """The words of code with a space around each, without comments and the commas that a formatter puts last."""
     words = re.findall(r'"(?:\\.|[^"\\])*"|\w+|[^\w\s]', re.sub(r"(?<!:)//.*", "", code))
     return re.sub(r" , (?=[)\]}]|$)", " ", f" {' '.join(words)} ")
 
 
-def faults_of_example(name, page, blocks, tests):
+def faults_of_example(
+    name: str, page: str, blocks: Iterable[Block], tests: Mapping[str, str]
+) -> Iterator[tuple[int, str]]:
     """What is wrong with a crate's page: its length, and each line that its test does not have in its place."""
     if page.count("\n") > LONGEST:
         yield 1, f"{page.count(chr(10))} lines, and at most {LONGEST} are wanted"
@@ -202,12 +207,13 @@ def faults_of_example(name, page, blocks, tests):
         yield 1, "no example"
 
 
-def main():
+def main() -> int:
     sources.parser_of(__doc__, has_top=False).parse_args()
     os.chdir(sources.TOP)
     pages = texts()
     tests = dict(EXAMPLE.findall(sources.read("crates/tests/src/pages.rt")))
-    faults, count = [], 0
+    faults: list[str] = []
+    count = 0
     terms = [*terms_of(pages[GLOSSARY])]
     for page, text in pages.items():
         blocks = [*blocks_of(text)]

@@ -9,6 +9,7 @@ again. The status is 0 where all are built.
 
 import os
 import sys
+from typing import Any
 
 import libraries
 import sources
@@ -17,9 +18,9 @@ FLAGS = ["--jobs", "1", "--cpu", "x86-64"]
 ARM64 = ["--jobs", "1", "--target", "aarch64-unknown-linux-gnu"]
 
 
-def build_for_arm64(library):
+def build_for_arm64(library: Any) -> int:
     """Builds the library for arm64. Its file has the name of that for amd64, and is moved away. Returns its status."""
-    status = library.build_static(ARM64)
+    status: int = library.build_static(ARM64)
     if status == 0:
         built = f"{library.folder}/out/lib{library.name}.a"
         os.makedirs(f"{library.folder}/out/arm64", exist_ok=True)
@@ -27,7 +28,7 @@ def build_for_arm64(library):
     return status
 
 
-def main():
+def main() -> int:
     sources.parser_of(__doc__, has_top=False).parse_args()
     crates = {it.name: it for it in libraries.kit().crates_below(sources.TOP)}
     program, library = crates["labels"], crates["labels_c"]
@@ -36,7 +37,7 @@ def main():
         print(f"{not_proved} is not proved: run rt check in its folder")
         return 1
     program.held = []  # the locks that `rt run` lets go before the program runs
-    return program.run(FLAGS, []) or build_for_arm64(library) or library.build_static(FLAGS)
+    return int(program.run(FLAGS, []) or build_for_arm64(library) or library.build_static(FLAGS))
 
 
 if __name__ == "__main__":

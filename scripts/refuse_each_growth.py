@@ -22,6 +22,7 @@ import sys
 import tempfile
 from collections import Counter
 from pathlib import Path
+from typing import Sequence
 
 import sources
 
@@ -34,6 +35,8 @@ OTHERS = (
     ["--no-such-argument"],
     ["no-such-file"],
 )
+# The status of a run, what it wrote on standard output, and on standard error.
+End = tuple[int, bytes, bytes]
 NO_MEMORY = (3, b"", b"labels: no memory\n")
 # The call of malloc or realloc whose number is GROWTH finds no memory, and leaves the file MARK.
 REFUSE = """
@@ -70,7 +73,7 @@ int main(void) {
 """
 
 
-def build(text, file, *options):
+def build(text: str, file: Path, *options: str) -> None:
     """Builds a program or library of C."""
     file.with_suffix(".c").write_text(text, encoding="utf-8")
     status, said = sources.run(["cc", "-O2", *options, f"{file}.c", "-o", str(file)])
@@ -79,25 +82,25 @@ def build(text, file, *options):
         sys.exit(2)
 
 
-def run(folder, command, growth):
+def run(folder: Path, command: Sequence[str | Path], growth: int) -> End:
     """The status of a command and both of its outputs, with this growth refused; none for 0."""
-    more = {"GROWTH": str(growth), "MARK": folder / "mark", "LD_PRELOAD": folder / "refuse"}
+    more = {"GROWTH": str(growth), "MARK": f"{folder}/mark", "LD_PRELOAD": f"{folder}/refuse"}
     with open(CRATE / "stdin", "rb") as lines:
         done = subprocess.run(command, stdin=lines, capture_output=True, cwd=CRATE, env={**os.environ, **more})
     return done.returncode, done.stdout, done.stderr
 
 
-def kind_of(done, whole):
+def kind_of(done: End, whole: End) -> str:
     """What came of a run, beside what the command does where nothing is refused."""
     if done == whole:
         return "unaffected"
     return "no memory" if done == NO_MEMORY else "wrong"
 
 
-def refuse_each(folder, command):
+def refuse_each(folder: Path, command: Sequence[str | Path]) -> tuple[Counter[str], End]:
     """What comes of each growth of a command, and what it does where none is refused."""
     whole, mark = run(folder, command, 0), folder / "mark"
-    found = Counter()
+    found: Counter[str] = Counter()
     for growth in itertools.count(1):
         status, out, err = done = run(folder, command, growth)
         if not mark.exists():
@@ -106,16 +109,16 @@ def refuse_each(folder, command):
         kind = kind_of(done, whole)
         found[kind] += 1
         if kind == "wrong":
-            print(f"{command}: growth {growth}: status {status}, {len(out)} bytes on standard output, and {err}")
+            print(f"{command}: growth {growth}: status {status}, {len(out)} bytes on standard output, and {err!r}")
     if not found["no memory"]:
         print(f"{command}: none of its growths ended with 'no memory'")
         found["wrong"] += 1
     return found, whole
 
 
-def main():
+def main() -> int:
     program = sources.program_given(__doc__)
-    found = Counter()
+    found: Counter[str] = Counter()
     with tempfile.TemporaryDirectory() as name:
         folder = Path(name)
         build(REFUSE, folder / "refuse", "-fPIC", "-shared")

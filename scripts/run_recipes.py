@@ -30,6 +30,7 @@ import sys
 import tempfile
 from dataclasses import dataclass, replace
 from pathlib import Path
+from typing import Iterable, Iterator, Mapping, Sequence
 
 import pages
 import sources
@@ -56,19 +57,26 @@ class Commands:
     printed: str | None = ""
     may_fail: bool = False
 
-    def fault(self, folder, environment):
+    def fault(self, folder: Path, environment: Mapping[str, str]) -> str:
         """Runs them, and returns what is wrong with what they print, or nothing."""
         shown = SHOWN_FILE.fullmatch(self.text) if self.may_fail else None
         if shown and not (folder / shown[1]).exists():
-            (folder / shown[1]).write_text(self.printed, encoding="utf-8")
-        how = {"cwd": folder, "env": environment, "stdin": subprocess.DEVNULL, "timeout": SECONDS}
-        ran = subprocess.run(["sh", "-c", self.text], stdout=subprocess.PIPE, stderr=subprocess.STDOUT, **how)
+            (folder / shown[1]).write_text(self.printed or "", encoding="utf-8")
+        ran = subprocess.run(
+            ["sh", "-c", self.text],
+            cwd=folder,
+            env=environment,
+            stdin=subprocess.DEVNULL,
+            stdout=subprocess.PIPE,
+            stderr=subprocess.STDOUT,
+            timeout=SECONDS,
+        )
         printed = DATABAR.sub("", ran.stdout.decode("utf-8", "backslashreplace"))
         is_good = (ran.returncode == 0 or self.may_fail) and self.printed in (None, printed)
         return "" if is_good else f"status {ran.returncode} of:\n{self.text}it printed:\n{printed}"
 
 
-def commands_of(page, with_kit):
+def commands_of(page: str, with_kit: bool) -> Iterator[Commands]:
     """The commands of a page that are to run."""
     blocks = [*pages.blocks_of((TOP / page).read_text(encoding="utf-8"))]
     for block, after in zip(blocks, [*blocks[1:], None]):
@@ -78,12 +86,12 @@ def commands_of(page, with_kit):
             yield Commands(block.code, None)
 
 
-def examples_of(page):
+def examples_of(page: Path) -> list[Commands]:
     """The examples of a man page: commands behind a prompt and what they print, and in labels.1 commands alone."""
     environment = {**os.environ, "MANWIDTH": "200", "MAN_KEEP_FORMATTING": ""}
     text = subprocess.run(["man", "-l", page], capture_output=True, check=True, text=True, env=environment).stdout
     section = re.search(r"^EXAMPLES\n(.*?)^\S", text, re.MULTILINE | re.DOTALL)
-    found = []
+    found: list[Commands] = []
     for example in EXAMPLE.findall(section.group(1) if section else ""):
         lines = [f"{line[14:]}\n" for line in example.splitlines()]
         if not lines[0].startswith(PROMPT):
@@ -95,11 +103,11 @@ def examples_of(page):
             elif line.startswith(CONTINUED):
                 found[-1] = replace(found[-1], text=found[-1].text + line.removeprefix(CONTINUED))
             else:
-                found[-1] = replace(found[-1], printed=found[-1].printed + line)
+                found[-1] = replace(found[-1], printed=(found[-1].printed or "") + line)
     return found
 
 
-def prepare(folder, program, with_kit):
+def prepare(folder: Path, program: Path, with_kit: bool) -> dict[str, str]:
     """Copies the repository's files and the program, and returns the environment of the commands."""
     work = folder / "labels"
     if with_kit:
@@ -118,7 +126,7 @@ def prepare(folder, program, with_kit):
     return {**environment, "HOME": f"{folder}/home", "PATH": f"{folder}/bin:{work}/tools:{os.environ['PATH']}"}
 
 
-def faults_of(name, commands, program, with_kit):
+def faults_of(name: str, commands: Sequence[Commands], program: Path, with_kit: bool) -> Iterator[str]:
     """What is wrong with each command of a page, and with each picture that they make; "" for one that is right."""
     if not commands:
         yield "no command to run"
@@ -135,13 +143,13 @@ def faults_of(name, commands, program, with_kit):
                     yield fault_of_picture(picture, work / picture.name)
 
 
-def fault_of_picture(picture, made):
+def fault_of_picture(picture: Path, made: Path) -> str:
     """What is wrong with a picture that was made, or nothing where its pixels are those of a picture of the pages."""
     wanted, found = (subprocess.run(["pngtopnm", file], capture_output=True).stdout for file in (picture, made))
     return "" if wanted and wanted == found else f"{picture.name} is not what docs/RECIPES.md makes"
 
 
-def judged(name, faults):
+def judged(name: str, faults: Iterable[str]) -> tuple[int, int]:
     """How many things were tried and how many are right. Prints what is wrong with the others."""
     count = good = 0
     for fault in faults:
@@ -152,7 +160,7 @@ def judged(name, faults):
     return count, good
 
 
-def with_turned_pixel(picture, folder):
+def with_turned_pixel(picture: Path, folder: Path) -> Path:
     """A copy of a picture whose last pixel is another, so that nothing but that tells them apart."""
     pixels = subprocess.run(["pngtopnm", picture], capture_output=True, check=True).stdout
     turned = subprocess.run(
@@ -162,7 +170,7 @@ def with_turned_pixel(picture, folder):
     return folder / "turned.png"
 
 
-def unseen():
+def unseen() -> Iterator[str]:
     """The wrong cases that are not reported, by their names."""
     one, another = sorted(PICTURES.glob("*.png"))[:2]
     right = Commands("echo right\n", "right\n")
@@ -184,7 +192,7 @@ def unseen():
             yield name
 
 
-def main():
+def main() -> int:
     parser = sources.parser_of(__doc__, has_top=False)
     parser.add_argument("--kit", action="store_true", help="run the blocks that call the kit too, in a fresh clone")
     parser.add_argument("program", metavar="PROGRAM", nargs="?", type=Path, help=f"the program ({PROGRAM})")

@@ -1,15 +1,19 @@
 #!/usr/bin/python3
 """Runs the tests of a folder, or counts them.
 
-A test that is skipped is a failure, but with --quick one of the tools that draws, or takes seconds: the gate runs it
-after the proofs.
-A file of tests that cannot be read is a failure, and so is a folder without tests. The last line is `N passed, M
-failed`, with `, L left out` after it where some were; the status is 1 where some failed.
+A test passes where it ran to its end and nothing was wrong. Any other one failed: one that is skipped, one that passes
+though it is expected to fail, each test of a class or a file that cannot be read or set up. With --quick a test of
+the tools that draws, or takes seconds, is left out: the gate runs it after the proofs. A folder without tests is a
+failure. In each run tests are shown that end in each way, of which just the right one may pass. The last line is `N
+passed, M failed`, with `, L left out` after it where some were; the status is 1 where some failed.
 """
 
+import io
 import os
 import sys
 import unittest
+from dataclasses import dataclass
+from typing import Any, Iterator, TextIO
 
 import sources
 
@@ -17,7 +21,86 @@ import sources
 LEFT_OUT = ("is not built: run ", "takes seconds: ")
 
 
-def main():
+class Result(unittest.TextTestResult):
+    """What came of tests: the names of those that passed."""
+
+    def __init__(self, *given: Any) -> None:
+        super().__init__(*given)
+        self.passed: list[str] = []
+
+    def addSuccess(self, test: unittest.TestCase) -> None:
+        super().addSuccess(test)
+        self.passed.append(test.id())
+
+
+@dataclass(frozen=True)
+class Counts:
+    """How many tests passed, failed and were left out."""
+
+    passed: int
+    failed: int
+    left_out: int
+
+
+def names_in(suite: unittest.TestSuite) -> Iterator[str]:
+    """The names of all tests."""
+    for test in suite:
+        if isinstance(test, unittest.TestSuite):
+            yield from names_in(test)
+        else:
+            yield test.id()
+
+
+def judged(suite: unittest.TestSuite, is_quick: bool, stream: TextIO) -> Counts:
+    """Runs tests, and returns what came of them."""
+    names = [*names_in(suite)]
+    runner = unittest.TextTestRunner(stream, verbosity=2, buffer=True, resultclass=Result)
+    result = runner.run(suite)
+    assert isinstance(result, Result)
+    not_passed = [name for name in names if name not in result.passed]
+    excused = [test.id() for test, why in result.skipped if is_quick and any(it in why for it in LEFT_OUT)]
+    # Of a class or a file that is skipped as a whole the name is in brackets: setUpClass (test_one.One).
+    wholes = tuple(f"{name[:-1].partition('(')[2]}." for name in excused if name.endswith(")"))
+    left_out = [name for name in not_passed if name in excused or name.startswith(wholes)]
+    return Counts(len(result.passed), len(not_passed) - len(left_out), len(left_out))
+
+
+class Shown(unittest.TestCase):
+    """Tests that end in each way."""
+
+    def right(self) -> None:
+        self.assertTrue(True)
+
+    def wrong(self) -> None:
+        self.fail()
+
+    def wrong_in_part(self) -> None:
+        with self.subTest():
+            self.fail()
+
+    def broken(self) -> None:
+        raise ValueError
+
+    def skipped(self) -> None:
+        self.skipTest("takes second thoughts")
+
+    @unittest.expectedFailure
+    def unexpected(self) -> None:
+        self.assertTrue(True)
+
+    @unittest.expectedFailure
+    def expected(self) -> None:
+        self.fail()
+
+
+def sees_wrong_tests() -> bool:
+    """Whether of the tests that are shown just the right one passes, with --quick too."""
+    names = [name for name, member in vars(Shown).items() if callable(member) and not name.startswith("__")]
+    found = [judged(unittest.TestSuite(map(Shown, names)), is_quick, io.StringIO()) for is_quick in (False, True)]
+    return len(names) == 7 and found == [Counts(1, 6, 0)] * 2
+
+
+def main() -> int:
     parser = sources.parser_of(__doc__, has_top=False)
     parser.add_argument("folder", metavar="FOLDER", help="a folder of tests")
     parser.add_argument("--quick", action="store_true", help="leave out the tests that draw, or take seconds")
@@ -32,16 +115,13 @@ def main():
     if given.count:
         print(*loader.errors, tests.countTestCases(), sep="\n")
         return 1 if loader.errors else 0
-    total = tests.countTestCases()
-    result = unittest.TextTestRunner(verbosity=2, buffer=True).run(tests)
-    excused = [test for test, why in result.skipped if given.quick and any(it in why for it in LEFT_OUT)]
-    bad = [*result.failures, *result.errors, *result.unexpectedSuccesses, *result.skipped[len(excused) :]]
-    # Of a class that is skipped as a whole no test ran.
-    good = result.testsRun - len(bad) - sum(isinstance(test, unittest.TestCase) for test in excused)
-    failed = len(bad) or int(good <= 0)
-    left_out = total - good - len(bad) if excused else 0
-    more = f", {left_out} left out" if left_out else ""
-    print(f"{max(good, 0)} passed, {failed} failed{more}", file=sys.stderr)
+    if not sees_wrong_tests():
+        print("a test that did not pass is counted as one that did", file=sys.stderr)
+        return 1
+    found = judged(tests, given.quick, sys.stderr)
+    failed = found.failed or int(not found.passed)
+    more = f", {found.left_out} left out" if found.left_out else ""
+    print(f"{found.passed} passed, {failed} failed{more}", file=sys.stderr)
     return 1 if failed else 0
 
 

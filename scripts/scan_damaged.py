@@ -15,17 +15,19 @@ A scanner may read the full data or nothing. Other data is a misreading; each is
 There is one exception. Where whole modules of a bar code are turned, the reading rules of the standards read nothing,
 but these scanners guess: they take widths that no character has for the nearest one, and look for no quiet zone. Such
 guesses are printed and counted apart, and scripts/counts.txt has their number. Beyond the limits nothing is promised:
-what the scanners make of some labels there is counted too. In each run two labels are damaged so that they are another
-label, as the worked values say; the run fails unless both scanners read them as the other one and are caught.
+what the scanners make of some labels there is counted too. In each run labels of each symbology are shown in place of
+others that differ from them at one end, and an EAN-13 in place of one from which two modules tell it apart, as the
+worked values say; the run fails unless both scanners read them as the other one and are caught.
 
-The last line is `N damaged labels, read twice: F as drawn, U not, M misread, G guessed; beyond the limits: ..`. Status
-2: bad arguments, no such program.
+The last line is `N damaged labels, read twice: F as drawn, U not, M misread, G guessed; beyond the limits: ..; of K of
+each kind`: symbology, level and version. Status 2: bad arguments, no such program.
 """
 
 import functools
 import random
 import sys
 from collections import Counter
+from typing import Iterator
 
 import numpy
 import zbar
@@ -33,26 +35,36 @@ import zxingcpp
 from segno import consts, encoder
 
 import sources
-from pictures import DIGITS, Label, box_of, gray, pictures_of, with_check_digit
+from pictures import DIGITS, Label, Pixels, box_of, gray, kinds_of, pictures_of, with_check_digit
 
 SEED = 15417
 SCALE = 3
 # White around a picture, in pixels.
 MARGIN = 10 * SCALE
-# A run damages at least so many labels.
-LEAST = 2000
+# How many labels there are of each linear symbology, and of QR of each version.
+OF_BARS = 10
+OF_VERSION = 2
 # How many modules may be turned in each row of a bar code, and in a QR symbol.
 TURNED_IN_A_ROW = {"ean13": 1, "ean8": 3, "upca": 3, "code128": 1}
 MOST_TURNED_IN_QR = 13
 SCANNERS = ("zbar", "zxing-cpp")
+# Labels, and others that must not pass as them: their first or last characters differ.
+OTHERS = (
+    ("ean13", "243130913525", ("745230913525", "243130913526")),
+    ("ean8", "7351353", ("1351353", "7351354")),
+    ("upca", "03600029145", ("13600029145", "03600029146")),
+    ("code128", "LOT 7", ("ROT 7", "LOT 8")),
+    ("qr,level=L,min-version=1", "LOT 7", ("ROT 7", "LOT 8")),
+)
 # What segno writes where a codeword may be, and the number of the first bit that it is given.
-FREE, FIRST = 2, 3
+FREE = 2
+FIRST = 3
 
 
 class Picture:
     """A label as drawn: its pixels, 1 where dark, where its symbol is in them, and of a QR symbol what segno says."""
 
-    def __init__(self, label, pixels):
+    def __init__(self, label: Label, pixels: Pixels) -> None:
         self.label = label
         self.pixels = pixels
         left, top, right, bottom = box_of(pixels)
@@ -69,45 +81,50 @@ class Picture:
         else:
             self.limit = TURNED_IN_A_ROW[symbology]
 
-    def no_modules(self):
+    def no_modules(self) -> Pixels:
         """The rows of modules, of which none is to be turned."""
         return numpy.zeros_like(self.pixels[self.symbol][::SCALE, ::SCALE])
 
-    def turned(self, modules):
+    def turned(self, modules: Pixels) -> Pixels:
         """The pixels with the modules turned that are 1 here."""
         pixels = self.pixels.copy()
         pixels[self.symbol] ^= modules.repeat(SCALE, 0).repeat(SCALE, 1)
         return pixels
 
 
-def bar_codes(draw, count):
+def label_of(head: str, text: str) -> Label:
+    """A label of a text, and for EAN and UPC of the digits with their check digit."""
+    full = with_check_digit(text) if text.isdigit() else text
+    return Label(head, text.encode(), full.encode(), SCALE)
+
+
+def bar_codes(draw: random.Random, count: int) -> Iterator[Label]:
     """Labels of the four linear symbologies, `count` of each."""
     for _ in range(count):
         for name, length in (("ean13", 12), ("ean8", 7), ("upca", 11)):
             digits = "".join(draw.choices(DIGITS, k=length))
-            full = with_check_digit(digits).encode()
-            yield Label(f"{name},height={draw.randrange(12, 30)}", digits.encode(), full, SCALE)
+            yield label_of(f"{name},height={draw.randrange(12, 30)}", digits)
         text = "".join(chr(draw.randrange(32, 127)) for _ in range(draw.randrange(1, 30))).encode()
         yield Label(f"code128,height={draw.randrange(12, 30)}", text, text, SCALE)
 
 
-def qr_symbols(draw, count):
-    """Labels of QR symbols, `count` of each version and level."""
-    for _ in range(count):
+def qr_symbols(draw: random.Random, count: int) -> Iterator[Label]:
+    """Labels of QR symbols, `count` of each version, with each level in turn."""
+    for turn in range(count):
         for version in range(1, 11):
-            for level in "LMQH":
-                text = "".join(chr(draw.randrange(33, 127)) for _ in range(draw.randrange(1, 8))).encode()
-                yield Label(f"qr,level={level},min-version={version}", text, text, SCALE)
+            level = "LMQH"[(version + 2 * turn) % 4]
+            text = "".join(chr(draw.randrange(33, 127)) for _ in range(draw.randrange(1, 8))).encode()
+            yield Label(f"qr,level={level},min-version={version}", text, text, SCALE)
 
 
-def pictures(program, labels):
+def pictures(program: str, labels: list[Label]) -> Iterator[Picture]:
     """The labels as the program draws them."""
     for label, pixels in zip(labels, pictures_of(program, labels, "--scale", str(SCALE))):
         yield Picture(label, pixels)
 
 
 @functools.cache
-def codewords_of(version):
+def codewords_of(version: int) -> list[list[tuple[int, int]]]:
     """The places of the eight modules of each codeword, in the order in which codewords are placed (clause 7.7.3)."""
     matrix = encoder.make_matrix(version)
     encoder.add_finder_patterns(matrix, False)
@@ -119,10 +136,10 @@ def codewords_of(version):
     return [[places[bit] for bit in bits[start : start + 8]] for start in range(0, len(bits) - 7, 8)]
 
 
-def blocks_of(picture):
+def blocks_of(picture: Picture) -> list[list[list[tuple[int, int]]]]:
     """The codewords of each block, which are interleaved (clause 7.6)."""
     codewords = iter(codewords_of(picture.version))
-    blocks = [[] for _ in picture.blocks]
+    blocks: list[list[list[tuple[int, int]]]] = [[] for _ in picture.blocks]
     for turn in range(picture.blocks[-1].num_data):
         for block, sizes in zip(blocks, picture.blocks):
             if turn < sizes.num_data:
@@ -133,7 +150,7 @@ def blocks_of(picture):
     return blocks
 
 
-def turn_modules(picture, draw, count):
+def turn_modules(picture: Picture, draw: random.Random, count: int) -> Pixels:
     """Turns modules: of a bar code in all its rows, of a QR symbol anywhere."""
     modules = picture.no_modules()
     if picture.is_qr:
@@ -143,7 +160,7 @@ def turn_modules(picture, draw, count):
     return picture.turned(modules)
 
 
-def turn_in_each_row(picture, draw, count):
+def turn_in_each_row(picture: Picture, draw: random.Random, count: int) -> Pixels:
     """Turns modules of a bar code, other ones in each row of modules."""
     modules = picture.no_modules()
     for row in modules:
@@ -151,14 +168,14 @@ def turn_in_each_row(picture, draw, count):
     return picture.turned(modules)
 
 
-def turn_pixels(picture, draw, count):
+def turn_pixels(picture: Picture, draw: random.Random, count: int) -> Pixels:
     """Turns pixels anywhere in the picture."""
     pixels = picture.pixels.copy()
     pixels.flat[draw.sample(range(pixels.size), count)] ^= 1
     return pixels
 
 
-def spoil_codewords(picture, draw, count):
+def spoil_codewords(picture: Picture, draw: random.Random, count: int) -> Pixels:
     """Spoils this many codewords in each block of a QR symbol."""
     modules = picture.no_modules()
     for block in blocks_of(picture):
@@ -168,7 +185,7 @@ def spoil_codewords(picture, draw, count):
     return picture.turned(modules)
 
 
-def positions(pixels):
+def positions(pixels: Pixels) -> Iterator[Pixels]:
     """The picture turned by a quarter, a half and three quarters, and each of the four in a mirror."""
     for quarters in range(1, 5):
         turned = numpy.rot90(pixels, -quarters)
@@ -176,7 +193,7 @@ def positions(pixels):
         yield numpy.fliplr(turned)
 
 
-def within(picture, draw):
+def within(picture: Picture, draw: random.Random) -> Iterator[tuple[Pixels, bool]]:
     """What is damaged up to the limits, and whether the reading rules of the standard read nothing of it."""
     limit = picture.limit
     for count in sorted({1, (limit + 1) // 2, limit}):
@@ -190,7 +207,7 @@ def within(picture, draw):
         yield turn_in_each_row(picture, draw, limit), True
 
 
-def beyond(picture, draw):
+def beyond(picture: Picture, draw: random.Random) -> Iterator[Pixels]:
     """What is damaged above the limits, of which nothing is promised."""
     yield turn_modules(picture, draw, picture.limit + 1)
     yield turn_modules(picture, draw, 2 * picture.limit + 2)
@@ -201,7 +218,7 @@ def beyond(picture, draw):
 class Scanners:
     """zbar and zxing-cpp, each set to all five symbologies, and what they made of labels."""
 
-    def __init__(self):
+    def __init__(self) -> None:
         self.zbar = zbar.ImageScanner()
         self.zbar.parse_config("disable")
         for name in ("ean13", "ean8", "upca", "code128", "qrcode"):
@@ -209,7 +226,7 @@ class Scanners:
         kinds = zxingcpp.BarcodeFormat
         self.formats = kinds.EAN13 | kinds.EAN8 | kinds.UPCA | kinds.Code128 | kinds.QRCode
 
-    def read(self, pixels):
+    def read(self, pixels: Pixels) -> tuple[set[bytes], set[bytes]]:
         """What each scanner reads in a picture, with white around it."""
         grays = gray(pixels, MARGIN, MARGIN)
         image = zbar.Image(grays.shape[1], grays.shape[0], "Y800", grays.tobytes())
@@ -217,55 +234,57 @@ class Scanners:
         found = zxingcpp.read_barcode(grays, formats=self.formats)
         return {symbol.data.encode() for symbol in image}, {found.bytes} if found else set()
 
-    def scan(self, picture, pixels, wrong="misread", is_shown=True):
+    def scan(self, picture: Picture, pixels: Pixels, wrong: str = "misread", is_shown: bool = True) -> list[str]:
         """What each scanner made of a picture: `read`, `unread`, or for other data the word `wrong`, shown."""
         results = []
         for scanner, found in zip(SCANNERS, self.read(pixels)):
             is_right = {*map(plain, found)} == {plain(picture.label.full)}
             if found and not is_right and is_shown:
-                print(f"{picture.label.line()}: {scanner} {wrong} {sorted(found)!r}")
+                print(f"{picture.label.line()!r}: {scanner} {wrong} {sorted(found)!r}")
             if found:
                 results.append("read" if is_right else wrong)
             else:
                 results.append("unread")
         return results
 
-    def sees_other_labels(self, program):
-        """Whether both scanners are caught where two modules are turned that make a label another one."""
-        numbers = [b"2431309135250", b"7452309135250"]
-        one, other = pictures(program, [Label("ean13", number, number, SCALE) for number in numbers])
-        found = self.scan(one, other.pixels, is_shown=False) + self.scan(other, one.pixels, is_shown=False)
-        return found == ["misread"] * 4
+    def passed_as_others(self, program: str) -> Iterator[str]:
+        """The labels whose pictures pass as those of another label, by one of the scanners."""
+        for head, data, others in OTHERS:
+            one, *rest = pictures(program, [label_of(head, text) for text in (data, *others)])
+            for other in rest:
+                for label, drawn in ((one, other), (other, one)):
+                    if self.scan(label, drawn.pixels, is_shown=False) != ["misread"] * len(SCANNERS):
+                        yield f"{drawn.label.line()!r} passes as {label.label.line()!r}"
 
 
-def plain(data):
+def plain(data: bytes) -> bytes:
     """Data in which the EAN-13 of a UPC-A symbol, which has the same bars, is the UPC-A."""
     return data[1:] if len(data) == 13 and data.isdigit() and data.startswith(b"0") else data
 
 
-def main():
+def main() -> int:
     program = sources.program_given(__doc__)
     draw, scanners = random.Random(SEED), Scanners()
-    unread, inside, outside = 0, Counter(), Counter()
-    for picture in [*pictures(program, [*bar_codes(draw, 100), *qr_symbols(draw, 2)])]:
-        unread += "read" not in scanners.scan(picture, picture.pixels)
+    labels = [*bar_codes(draw, OF_BARS), *qr_symbols(draw, OF_VERSION)]
+    faults = [*scanners.passed_as_others(program)]
+    inside: Counter[str] = Counter()
+    outside: Counter[str] = Counter()
+    for picture in pictures(program, labels):
+        if "read" not in scanners.scan(picture, picture.pixels):
+            faults.append(f"{picture.label.line()!r} is read by no scanner as it is drawn")
         damaged = [(pixels, False) for pixels in positions(picture.pixels)] + [*within(picture, draw)]
         for pixels, is_guess in damaged:
             inside.update(scanners.scan(picture, pixels, "guessed" if is_guess else "misread"))
         for pixels in beyond(picture, draw):
             outside.update(scanners.scan(picture, pixels, is_shown=False))
-    total = inside.total() // len(SCANNERS)
-    is_caught = scanners.sees_other_labels(program)
-    if not is_caught:
-        print("a damaged label that is another label was not caught")
-    if unread:
-        print(f"{unread} labels are read by no scanner as they are drawn")
     print(
-        f"{total} damaged labels, read twice: {inside['read']} as drawn, {inside['unread']} not, "
-        f"{inside['misread']} misread, {inside['guessed']} guessed; beyond the limits: "
-        f"{outside['read']} as drawn, {outside['unread']} not, {outside['misread']} misread"
+        *faults,
+        f"{inside.total() // len(SCANNERS)} damaged labels, read twice: {inside['read']} as drawn, "
+        f"{inside['unread']} not, {inside['misread']} misread, {inside['guessed']} guessed; beyond the limits: "
+        f"{outside['read']} as drawn, {outside['unread']} not, {outside['misread']} misread; of {kinds_of(labels)}",
+        sep="\n",
     )
-    return 0 if is_caught and not unread and not inside["misread"] and total >= LEAST else 1
+    return 1 if faults or inside["misread"] or not inside["read"] else 0
 
 
 if __name__ == "__main__":

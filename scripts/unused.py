@@ -20,16 +20,18 @@ import itertools
 import re
 import sys
 from collections import Counter
+from typing import Iterable, Iterator, Sequence
 
 import reader
 import sources
+from reader import Declaration, File, Import, Key, Token
 
 READ_BY_CHECK = ("Answers", "Invariants", "Proof")
 # Traits of std that code imports for their methods: whether these are called is not looked at.
 TRAITS_OF_STD = {"Read", "Write", "BufRead", "Model", "Error"}
 
 
-def cited_by_code(file):
+def cited_by_code(file: File) -> Iterator[Key]:
     """The definitions and lemmas that a file of code cites: in contracts by imported names, in attributes by paths."""
     yield from file.cites(reader.ghost_tokens(file.tokens))
     for attribute in reader.attributes_in(file.tokens):
@@ -39,7 +41,7 @@ def cited_by_code(file):
             yield reader.Key(file.crate if crate == "crate" else crate, part, ".".join(module), name)
 
 
-def checked_for_itself(file, cited_files):
+def checked_for_itself(file: File, cited_files: set[Key]) -> list[Declaration]:
     """The definitions that the check wants or that are there to be checked; `cited_files` are cited by others."""
     if file.part == "specs":
         return []
@@ -50,15 +52,15 @@ def checked_for_itself(file, cited_files):
     return [one for one in file.declarations if one.worked_values() and file.key() not in cited_files]
 
 
-def unused_definitions(logic, code):
+def unused_definitions(logic: Sequence[File], code: Sequence[File]) -> list[Declaration]:
     """The definitions and lemmas that nothing in use cites."""
     files = {file.key(): file for file in logic}
 
-    def cited_by(key):
+    def cited_by(key: Key) -> list[Key]:
         """The definition that has a name, and what it cites."""
         file = files.get(key._replace(name=""))
         one = file.of_name.get(key.name) if file else None
-        return [one.key, *file.cites(one.tokens)] if one else []
+        return [one.key, *file.cites(one.tokens)] if file and one else []
 
     roots = [key for file in code for key in cited_by_code(file)]
     cited = [*roots, *(one.target for file in logic for one in file.imports if one.target)]
@@ -70,7 +72,7 @@ def unused_definitions(logic, code):
     return [one for file in logic for one in file.declarations if one.key not in reached]
 
 
-def unused_imports(logic, code):
+def unused_imports(logic: Sequence[File], code: Sequence[File]) -> Iterator[Import]:
     """The imported names that are not used where they are imported."""
     for file in logic:
         names = reader.names_in([*file.rest, *(token for one in file.declarations for token in one.tokens)])
@@ -81,7 +83,7 @@ def unused_imports(logic, code):
             yield from unused_in_code(list(imports), traits)
 
 
-def unused_in_code(imports, traits):
+def unused_in_code(imports: Sequence[Import], traits: dict[str, list[Declaration]]) -> Iterator[Import]:
     """The names that are imported for some tokens of code and not used there."""
     scope = imports[0].scope
     tokens, ghost_names = list(reader.without_uses(scope)), reader.names_in(reader.ghost_tokens(scope))
@@ -94,11 +96,11 @@ def unused_in_code(imports, traits):
             yield one
 
 
-def names_of(tokens):
+def names_of(tokens: Iterable[Token]) -> Counter[str]:
     return Counter(token.text for token in tokens if token.kind == "Code")
 
 
-def functions_of(items, is_trait=False):
+def functions_of(items: Iterable[Declaration], is_trait: bool = False) -> Iterator[tuple[Declaration, bool]]:
     """The functions among items, and in these, that somebody has to call, each with whether other crates can."""
     for item in items:
         if item.kind in ("impl", "trait", "mod") and " for " not in item.name:
@@ -108,15 +110,15 @@ def functions_of(items, is_trait=False):
                 yield item, item.is_public or is_trait
 
 
-def unused_functions(code):
+def unused_functions(code: Sequence[File]) -> tuple[list[Declaration], int]:
     """The functions whose names are nowhere but in themselves, and how many were looked at."""
     functions = [one for file in code for one in functions_of(file.declarations)]
-    names = {file.crate: Counter() for file in code}
+    names: dict[str, Counter[str]] = {file.crate: Counter() for file in code}
     for file in code:
         passed_on = [one for one in file.declarations if one.kind == "use" and one.is_public]
         names[file.crate] += names_of(file.tokens)
         names[file.crate] -= names_of(token for one in passed_on for token in one.tokens)
-    everywhere = sum(names.values(), Counter())
+    everywhere = sum(names.values(), Counter[str]())
     found = []
     for one, is_public in functions:
         seen = everywhere if is_public else names[one.key.crate]
@@ -126,7 +128,7 @@ def unused_functions(code):
     return found, len(functions)
 
 
-def main():
+def main() -> int:
     top = sources.parser_of(__doc__).parse_args().top
     files = reader.files_of(top, sources.crates_of(top), "specs", "proofs", "src")
     code = [file for file in files if file.part == "src"]

@@ -17,7 +17,9 @@ several functions, copies too. What fails only because it calls another is not j
 again without it.
 
 The status is 0 where each wrong body is refused, 1 where one is not or there is none, and 2 where
-an argument names no crate or there is no kit. The last line is `N passed, M failed`, as of `rt ci`.
+an argument names no crate or there is no kit. For each crate a line `refused in CRATE:` has the
+names of those that were, which `.ci/run` compares with the files. The last line is `N passed, M
+failed`, as of `rt ci`.
 """
 
 import concurrent.futures
@@ -73,12 +75,12 @@ def outcome(crate: str, body: Body, said: str) -> Outcome:
 
 @dataclass
 class Tried:
-    """What was tried in a crate: how many wrong bodies were refused, how many right ones accepted,
+    """What was tried in a crate: which wrong bodies were refused, how many right ones accepted,
     and a line on each other.
     """
 
     crate: str
-    refused: int = 0
+    refused: list[str] = field(default_factory=list)
     accepted: int = 0
     checks: int = 0
     lines: list[str] = field(default_factory=list)
@@ -99,7 +101,7 @@ class Tried:
         if body.is_right and found is Outcome.PROVED:
             self.accepted += 1
         elif not body.is_right and found is Outcome.REFUSED:
-            self.refused += 1
+            self.refused.append(body.name)
         elif body.is_right:
             self.lines.append(f"{body.name}: it is right, and not reported as not refused")
         else:
@@ -172,8 +174,9 @@ def try_all(rtlib: Any, crate: Any) -> Tried:
         if os.path.isdir(proved):
             shutil.copytree(proved, kept, dirs_exist_ok=True)
         try_bodies(rtlib, crate, left, kept, tried)
-    counts = f"{tried.refused} refused, {tried.accepted} accepted, in {tried.checks} checks"
-    print(f"{crate.name}: {counts}", flush=True)
+    counts = f"{len(tried.refused)} refused, {tried.accepted} accepted, in {tried.checks} checks"
+    names = " ".join(sorted(tried.refused))
+    print(f"{crate.name}: {counts}\nrefused in {crate.name}: {names}", flush=True)
     return tried
 
 
@@ -211,7 +214,7 @@ def judged(results: Sequence[Tried], are_all: bool) -> int:
             "no right body was accepted: nothing shows that others are refused for what they are"
         )
     print(*failed, sep="\n", end="\n" if failed else "")
-    passed = sum(tried.refused + tried.accepted for tried in results)
+    passed = sum(len(tried.refused) + tried.accepted for tried in results)
     print(f"{passed} passed, {len(failed)} failed")
     return 1 if failed else 0
 

@@ -9,7 +9,7 @@ from support import LIB, PROVED, WithLibrary, run, text_of
 FLAGS = ("-std=c11", "-D_GNU_SOURCE", "-Wall", "-Wextra", "-Werror")
 ADDRESS = ("-O1", "-g", "-fsanitize=address,undefined", "-fno-sanitize-recover=all")
 THREAD = ("-O1", "-g", "-fsanitize=thread")
-ROUNDS = "100000"
+ROUNDS = 100_000
 MOST_STACK = 40_000  # what labels.h says
 # Wrong texts of labels.c, each of which hands one byte too many to the proved code: a place, and what takes its place.
 ONE_MORE = "size + (size > 0)"
@@ -54,7 +54,7 @@ class Calls(WithLibrary):
 
     def test_hostile_arguments(self) -> None:
         """No byte too many is read or written, by proved code too, and every code of the calls comes up."""
-        said = self.run_ok(self.program("hostile", *ADDRESS), ROUNDS).decode()
+        said = self.run_ok(self.program("hostile", *ADDRESS), str(ROUNDS)).decode()
         counts = [pair.partition(" of ") for pair in said.strip().split(", ")]
         never = {code for count, _, code in counts if count == "0"}
         self.assertLessEqual(never, {"14"}, said)  # a skipped line: compare_lines.py has it
@@ -74,7 +74,7 @@ class Calls(WithLibrary):
                 source = self.library.changed(("labels.c", place, place.replace(old, new)))
                 self.assert_fails(self.glue(source))
                 if name != "room of the message":
-                    self.assert_fails(self.program("hostile", *ADDRESS, source=source), ROUNDS)
+                    self.assert_fails(self.program("hostile", *ADDRESS, source=source), str(ROUNDS))
 
     def test_what_is_passed_on_wrongly_is_seen(self) -> None:
         for old, new in WRONG:

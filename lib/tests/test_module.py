@@ -9,7 +9,7 @@ from pathlib import Path
 
 from support import LIB, PROGRAM, PYTHON, PYTHONDIR, WithLibrary, run
 
-LINES = "1000"
+LINES = 1000
 TESTS = LIB / "tests"
 DOCSTRINGS = """
 import doctest, liblabels, sys
@@ -156,7 +156,7 @@ class Module(WithLibrary):
         self.assertEqual((below, above), ("unknown code", "unknown code"))
 
     def test_lines_of_the_program(self) -> None:
-        self.run_ok(PYTHON, TESTS / "compare_lines.py", PROGRAM, "1", LINES)
+        self.run_ok(PYTHON, TESTS / "compare_lines.py", PROGRAM, "1", str(LINES))
 
     def test_other_pictures_and_messages_are_seen(self) -> None:
         for more in (["--mask", "0"], ["--escapes"]):

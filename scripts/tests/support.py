@@ -9,6 +9,7 @@ import sys
 import tempfile
 import traceback
 import unittest
+from typing import Callable, Iterable, Sequence
 
 TOP = os.path.dirname(os.path.dirname(os.path.dirname(os.path.abspath(__file__))))
 SCRIPTS = os.path.join(TOP, "scripts")
@@ -19,19 +20,26 @@ sys.path.insert(0, SCRIPTS)
 module = importlib.import_module
 
 
-def run_command(command, **environment):
+def run_command(command: Sequence[str], **environment: str) -> tuple[int, str]:
     """A command's status and all that it prints."""
-    how = {"stdin": subprocess.DEVNULL, "stdout": subprocess.PIPE, "stderr": subprocess.STDOUT, "text": True}
-    ran = subprocess.run(command, cwd="/", env={**os.environ, **environment}, **how)
+    ran = subprocess.run(
+        command,
+        cwd="/",
+        env={**os.environ, **environment},
+        stdin=subprocess.DEVNULL,
+        stdout=subprocess.PIPE,
+        stderr=subprocess.STDOUT,
+        text=True,
+    )
     return ran.returncode, ran.stdout
 
 
-def run(script, *arguments, **environment):
+def run(script: str, *arguments: str, **environment: str) -> tuple[int, str]:
     """The status of a script of scripts/ and all that it prints."""
     return run_command([PYTHON, os.path.join(SCRIPTS, script), *arguments], **environment)
 
 
-def in_copy(folder, name, *arguments):
+def in_copy(folder: str, name: str, *arguments: str) -> tuple[int, str]:
     """The status of a script of this repository over a copy of it, and all that it prints.
 
     It runs in a fork of this process, which has read the files before: the script reads what is changed in the copy.
@@ -44,7 +52,7 @@ def in_copy(folder, name, *arguments):
             os.dup2(said.fileno(), 2)
             sys.stdout = sys.stderr = open(1, "w", encoding="utf-8", errors="backslashreplace", closefd=False)
             sys.argv = [name, *arguments]
-            module("sources").TOP = folder
+            setattr(module("sources"), "TOP", folder)
             status = 1
             try:
                 os.chdir(folder)
@@ -62,7 +70,7 @@ def in_copy(folder, name, *arguments):
         return status, said.read().decode()
 
 
-def read_files():
+def read_files() -> None:
     """Has this process read the crates and the pages, so that its forks read what is changed alone."""
     os.chdir(TOP)
     module("reader").files_of(TOP, module("sources").crates_of(TOP), "src", "specs", "proofs")
@@ -70,12 +78,12 @@ def read_files():
         module("pages").parsed(text)
 
 
-def read(path):
+def read(path: str) -> str:
     with open(path, encoding="utf-8") as file:
         return file.read()
 
 
-def write(path, text, is_program=False):
+def write(path: str, text: str, is_program: bool = False) -> None:
     os.makedirs(os.path.dirname(path), exist_ok=True)
     with open(path, "w", encoding="utf-8") as file:
         file.write(text)
@@ -86,14 +94,14 @@ def write(path, text, is_program=False):
 class InFolder(unittest.TestCase):
     """A test with a folder of its own."""
 
-    def setUp(self):
+    def setUp(self) -> None:
         self.folder = tempfile.mkdtemp(prefix="test-scripts-")
         self.addCleanup(shutil.rmtree, self.folder)
 
-    def path(self, *names):
+    def path(self, *names: str) -> str:
         return os.path.join(self.folder, *names)
 
-    def bare_path(self):
+    def bare_path(self) -> str:
         """A PATH with what every system has, and no kit."""
         return "/usr/bin:/bin"
 
@@ -101,26 +109,28 @@ class InFolder(unittest.TestCase):
 class InCopy(unittest.TestCase):
     """Tests in a copy of the repository, in which each undoes its changes."""
 
+    folder: str
+
     @classmethod
-    def setUpClass(cls):
+    def setUpClass(cls) -> None:
         read_files()
         cls.folder = os.path.join(tempfile.mkdtemp(prefix="test-copy-"), "labels")
         cls.addClassCleanup(shutil.rmtree, os.path.dirname(cls.folder))
         shutil.copytree(TOP, cls.folder, ignore=shutil.ignore_patterns("out", ".git", "__pycache__"))
 
-    def path(self, *names):
+    def path(self, *names: str) -> str:
         return os.path.join(self.folder, *names)
 
-    def judged(self, name, *arguments):
+    def judged(self, name: str, *arguments: str) -> tuple[int, str]:
         """The status of a script over the copy, and all that it prints."""
         return in_copy(self.folder, name, *arguments)
 
-    def move(self, old, new):
+    def move(self, old: str, new: str) -> None:
         """Renames a file or folder until the end of this test."""
         os.rename(self.path(old), self.path(new))
         self.addCleanup(os.rename, self.path(new), self.path(old))
 
-    def replace(self, file, text):
+    def replace(self, file: str, text: str) -> None:
         """Writes a file until the end of this test."""
         if os.path.exists(self.path(file)):
             self.addCleanup(write, self.path(file), read(self.path(file)))
@@ -128,7 +138,9 @@ class InCopy(unittest.TestCase):
             self.addCleanup(os.remove, self.path(file))
         write(self.path(file), text)
 
-    def assert_changes_fail(self, changes, fails):
+    def assert_changes_fail(
+        self, changes: Iterable[tuple[str, str, str, str]], fails: Callable[[], tuple[int, str]]
+    ) -> None:
         """Each change of a file, `new` in the place of the first `old`, makes `fails` end with 1 and say a text."""
         for file, old, new, said in changes:
             with self.subTest(file=file, old=old, new=new):

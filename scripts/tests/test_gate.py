@@ -12,14 +12,42 @@ import subprocess
 import sys
 import tempfile
 import unittest
+from typing import Mapping
+from unittest import mock
 
 from support import PYTHON, SCRIPTS, TOP, InCopy, InFolder, in_copy, module, read, run_command, write
 
 SKIPPED = """import unittest
 class One(unittest.TestCase):
-    def test_one(self):
+    def test_one(self) -> None:
         raise unittest.SkipTest("{}")
+    def test_two(self) -> None:
+        pass
+"""
+# Of these one passes, and with --quick two are left out.
+WAYS = """import unittest
+class One(unittest.TestCase):
+    def test_right(self):
+        pass
+    @unittest.expectedFailure
+    def test_unexpected(self):
+        pass
+    def test_part(self):
+        with self.subTest():
+            self.fail()
+class Two(unittest.TestCase):
+    @classmethod
+    def setUpClass(cls):
+        raise unittest.SkipTest("takes seconds: two")
+    def test_one(self):
+        pass
     def test_two(self):
+        pass
+class Three(unittest.TestCase):
+    @classmethod
+    def setUpClass(cls):
+        raise ValueError
+    def test_three(self):
         pass
 """
 BODIES = "crates/device/wrong-bodies"
@@ -28,15 +56,15 @@ DIFFER = "crates.txt and the folders crates/*/src differ in: "
 # What is moved away for each step, and what that step says.
 MOVED = {
     "counts.py": (
-        (BODIES, "crates/device/bodies", ", and 24 wrong-bodies, "),
-        (f"{BODIES}/{BODY}", "away", "device: 23 wrong-bodies, "),
+        (BODIES, "crates/device/bodies", "device: "),
+        (f"{BODIES}/{BODY}", "away", "device: "),
         (f"{BODIES}/{BODY}", f"{BODIES}/{BODY}.old", ".old, which no script reads"),
-        ("crates/gf256/must-fail", "away", "gf256: 11 wrong-bodies, 1 right-bodies, 27 worked values, and "),
+        ("crates/gf256/must-fail", "away", "gf256: "),
         ("crates/labels/stdout", "away", "labels: nothing, and 1 stored runs"),
-        ("crates/linear/proofs/Examples.antt", "away", " worked values in scripts/counts.txt"),
+        ("crates/linear/proofs/Examples.antt", "away", "linear: "),
         ("crates/picture", "crates/pictures", f"{DIFFER}picture pictures"),
         ("crates", "boxes", DIFFER),
-        ("docs/DECISIONS.md", "away", " manuals in scripts/counts.txt"),
+        ("docs/DECISIONS.md", "away", "pages: "),
     ),
     "pages.py": (
         ("crates/picture", "crates/pictures", f"{DIFFER}picture pictures"),
@@ -62,7 +90,7 @@ CHANGED_SCRIPTS = (
 # What is written in the place of a text, the first one in a file, for each step, and what that step says.
 CHANGED = {
     "counts.py": (
-        ("scripts/counts.txt", "lib/tests: ", "lib/test: ", "has no number of tests of lib/tests"),
+        ("scripts/counts.txt", "\nlib/tests: ", "\nlib/test: ", "has no number of tests of lib/tests"),
         ("crates.txt", "gf256:", "# gf256:", "differ in: gf256"),
         ("docs/RECIPES.md", "```sh\n", "```text\n", "blocks: "),
         ("HANDLES", HANDLES, "Handles allowed: Net.", f"HANDLES is not: {HANDLES}"),
@@ -76,7 +104,11 @@ CHANGED = {
         ("README.md", "drew the same 5", "drew the same 6", "README.md: drew the same 6"),
         ("docs/PROOF.md", "believed definitions", "definitions", "docs/PROOF.md: no operator of"),
         ("README.md", "read all ", "read many ", "README.md: no read all"),
-        ("tools/tests/test_table_mutants.py", "MUTANTS = 4000", "MUTANTS = 4", "MUTANTS 4, test_calls.py "),
+        ("tools/tests/test_table_mutants.py", "MUTANTS = 4000", "MUTANTS = 4", " MUTANTS = 4, "),
+        ("scripts/instructions.py", "ROOM = 5\n", "ROOM = 5.9\n", " ROOM = 5.9, and "),
+        ("lib/tests/test_calls.py", "ROUNDS = 100_000", "ROUNDS = 100_00", " ROUNDS = 10000, "),
+        ("scripts/packages.txt", "zint    ", "# zint  ", "packages of the gate: "),
+        ("debian/tests/control", "Tests: tools", "Tests: tool", "and its control "),
     ),
     "unused.py": (("crates.txt", "gf256:", "# gf256:", "differ in: gf256"),),
     "believed_rows.py": (("crates/labelcore/specs/HeldLine.antt", "1100", "1101", "labelcore/HeldLine"),),
@@ -109,26 +141,26 @@ CHANGED = {
 class TakenAway(InCopy):
     """Each test takes something away, and a step that runs before the proofs fails for it."""
 
-    def gate(self, *steps, **environment):
+    def gate(self, *steps: str, **environment: str) -> tuple[int, str]:
         return run_command([PYTHON, self.path("scripts", "gate.py"), *steps], **environment)
 
-    def assert_fails(self, step, said, **environment):
+    def assert_fails(self, step: str, said: str, **environment: str) -> None:
         status, text = self.gate(step, **environment)
         self.assertEqual((status, said in text), (1, True), text)
 
-    def assert_step_fails(self, step, said):
+    def assert_step_fails(self, step: str, said: str) -> None:
         status, text = self.judged(*step.split())
         self.assertEqual((status, said in text), (1, True), text)
 
-    def test_all_is_there(self):
+    def test_all_is_there(self) -> None:
         status, said = self.gate("counts.py", "pages.py")
         self.assertEqual((status, said.split("\n")[-2]), (0, "2 passed, 0 failed"), said)
 
-    def test_another_python(self):
+    def test_another_python(self) -> None:
         """The gate can be begun by a Python that lacks Debian's modules, which may be the first on the path."""
         self.assertEqual(run_command([PYTHON, "-S", self.path("scripts", "gate.py"), "--help"])[0], 0)
 
-    def test_what_is_moved_away(self):
+    def test_what_is_moved_away(self) -> None:
         for step, rows in MOVED.items():
             for old, new, said in rows:
                 with self.subTest(step=step, old=old, new=new):
@@ -136,24 +168,24 @@ class TakenAway(InCopy):
                     self.assert_step_fails(step, said)
                 self.doCleanups()
 
-    def test_what_is_written_otherwise(self):
+    def test_what_is_written_otherwise(self) -> None:
         for step, changes in CHANGED.items():
             self.assert_changes_fail(changes, lambda: self.judged(*step.split()))
         self.assert_changes_fail(CHANGED_SCRIPTS, lambda: self.gate("counts.py"))
 
-    def test_tests_that_cannot_be_read(self):
+    def test_tests_that_cannot_be_read(self) -> None:
         self.move("lib/tests", "lib/tests-away")
         self.addCleanup(shutil.rmtree, self.path("lib/tests"))
         write(self.path("lib/tests/test_one.py"), "import no_such\n")
         self.assert_fails("run_tests.py lib/tests", "0 passed, 1 failed")
 
-    def test_tests_that_are_not_found(self):
+    def test_tests_that_are_not_found(self) -> None:
         self.move("tools/tests", "tools/tests-away")
         os.mkdir(self.path("tools/tests"))
         self.addCleanup(os.rmdir, self.path("tools/tests"))
         self.assert_fails("run_tests.py tools/tests", "Ran 0 tests")
 
-    def test_skipped_tests(self):
+    def test_skipped_tests(self) -> None:
         """A test that is skipped is a failure, but before the proofs one that draws."""
         self.move("tools/tests", "tools/tests-away")
         self.addCleanup(shutil.rmtree, self.path("tools/tests"))
@@ -168,39 +200,61 @@ class TakenAway(InCopy):
             status, said = self.gate("run_tests.py tools/tests --quick")
             self.assertEqual((status, before[1] in said, said.split("\n")[-2]), (before[0], True, before[2]), said)
 
-    def test_fewer_tests_than_there_are(self):
+    def test_fewer_tests_than_there_are(self) -> None:
         """Where a runner leaves some out, what is printed is as if there were no more."""
         self.move("lib/tests", "lib/tests-away")
         self.addCleanup(shutil.rmtree, self.path("lib/tests"))
         write(self.path("lib/tests/test_one.py"), SKIPPED.replace('raise unittest.SkipTest("{}")', "pass"))
         self.assert_fails("run_tests.py lib/tests", "2 passed, 0 failed\n2 tests, and scripts/counts.txt has ")
 
-    def test_no_labels_to_compare(self):
+    def test_ways_in_which_tests_do_not_pass(self) -> None:
+        self.move("lib/tests", "lib/tests-away")
+        self.addCleanup(shutil.rmtree, self.path("lib/tests"))
+        write(self.path("lib/tests/test_one.py"), WAYS)
+        for words, last in (("", "1 passed, 5 failed"), ("--quick", "1 passed, 3 failed, 2 left out")):
+            found = self.judged("run_tests.py", "lib/tests", *words.split())
+            self.assertEqual((found[0], found[1].split("\n")[-2]), (1, last), found[1])
+
+    def test_runner_that_passes_all(self) -> None:
+        """One that takes another end for the right one finds that out by the tests that it is shown."""
+        run_tests = module("run_tests")
+        for name in ("addFailure", "addError", "addSkip", "addUnexpectedSuccess", "addExpectedFailure"):
+            with self.subTest(name), mock.patch.object(
+                run_tests.Result, name, lambda it, *given: it.addSuccess(given[0])
+            ):
+                self.assertFalse(run_tests.sees_wrong_tests())
+        self.assertTrue(run_tests.sees_wrong_tests())
+
+    def test_step_that_did_nothing(self) -> None:
+        self.replace("scripts/refuse_each_growth.py", "print('0 passed, 0 failed')\n")
+        self.assert_fails("refuse_each_growth.py", "status 0\nFAILED: ")
+
+    def test_no_labels_to_compare(self) -> None:
         text = read(self.path("scripts/compare_symbols.py"))
         self.replace("scripts/compare_symbols.py", text.replace("return [label for", "return [] and [label for"))
         found = run_command([PYTHON, self.path("scripts/compare_symbols.py"), "/bin/true"])
-        self.assertEqual(found, (1, "0 labels: 0 read back, 0 of 0 as zint draws them\n"))
+        self.assertEqual(found, (1, "0 labels: 0 read back, 0 of 0 as zint draws them; of those read back none\n"))
 
-    def test_step_that_looked_at_less(self):
+    def test_step_that_looked_at_less(self) -> None:
         script = "scripts/refuse_each_growth.py"
         self.replace(script, "print('1 growths: 1 no memory, 0 unaffected, 0 wrong')\n")
         self.assert_fails("refuse_each_growth.py", "scripts/counts.txt has ")
         self.replace(script, "print('skipped: no compiler')\nraise SystemExit(77)\n")
         self.assert_fails("refuse_each_growth.py", "status 77")
 
-    def test_lint_that_is_not_installed(self):
+    def test_lint_that_is_not_installed(self) -> None:
         os.makedirs(self.path("empty"), exist_ok=True)
         self.assert_fails("lints.py", "not installed: shellcheck", PATH=self.path("empty"))
 
-    def test_lints_that_find_nothing(self):
+    def test_lints_that_find_nothing(self) -> None:
         """A lint that passes what is wrong is reported, and so is one that is asked for nothing."""
         for tool in ("shellcheck", "black", "flake8", "mypy", "mandoc"):
             write(self.path("bin", tool), "#!/bin/sh\n", is_program=True)
         status, said = self.gate("lints.py", PATH=f"{self.path('bin')}:{os.environ['PATH']}")
         found = (status, said.count(" finds nothing in: "), said.split("\n")[-2])
-        self.assertEqual(found, (1, 8, "0 passed, 8 failed"))
+        self.assertEqual(found, (1, 10, "0 passed, 10 failed"))
 
-    def test_files_that_no_lint_would_read(self):
+    def test_files_that_no_lint_would_read(self) -> None:
         """Another first line, a lint without files, and settings beside the code that the lints do not look at. The
         files are a few, since the lints read all that are there."""
         first = "#!/usr/bin/python3 -B"
@@ -209,6 +263,9 @@ class TakenAway(InCopy):
             "scripts/planted.py": "import os\nx = 'one'\n",
             "scripts/planted.sh": "#!/bin/sh\nrm $1\n",
             "tools/labeltools/one.py": "number: int = 'one'\n",
+            "lib/one.py": "def one() -> None:\n" + "    pass\n" * 31,
+            "completions/two.py": "import os  # noqa\n",
+            "debian/one.sh": "#!/bin/sh\n# shellcheck disable=SC2086\nrm $1\n",
             "tools/label-other": f"{first}\nimport os\n",
             ".flake8": "[flake8]\nextend-ignore = F\n",
             "pyproject.toml": "[tool.black]\nexclude = '.'\n",
@@ -227,6 +284,9 @@ class TakenAway(InCopy):
             "Incompatible types",
             f"tools/label-other: no lint knows {first}",
             "shellcheck --norc --shell=bash reads no file",
+            "lib/one.py:1: one has 31 statements, 30 at most",
+            "completions/two.py:1: it silences a lint: # noqa",
+            "debian/one.sh:2: it silences a lint: # shellcheck disable=SC2086",
         ):
             self.assertIn(wanted, said)
         self.assertEqual(status, 1)
@@ -237,23 +297,29 @@ PART = """import sys
 steps = dict(quick=["one"], built={built!r}).get(sys.argv[-1], [])
 print(*(f"ok: {{step}}, 1.5 s" for step in steps), sep="\\n")
 print("{name}", *sys.argv[1:], "ran")
-print({more!r})
+print({more!r}, end="")
 print({last!r})
 sys.exit({status})
 """
-REFUSED = "one: 2 refused, 1 accepted, in 1 checks"
+REFUSED = "one: 2 refused, 1 accepted, in 1 checks\nrefused in one: low high\n"
 RT = "[ $1 != version ] || {{ echo 'kit-1 logic {version}'; exit; }}; echo rt ci ran; {then}"
 
 
-def part(name, last, status=0, built=("two", "tests of three"), more=REFUSED):
+def part(
+    name: str,
+    last: str,
+    status: int = 0,
+    built: tuple[str, ...] = ("two", "tests of three"),
+    more: str = REFUSED,
+) -> dict[str, str]:
     return {f"scripts/{name}.py": PART.format(name=name, last=last, status=status, built=built, more=more)}
 
 
-def program(name, text):
+def program(name: str, text: str) -> dict[str, str]:
     return {f"bin/{name}": f"#!/bin/sh\n{text}\n"}
 
 
-def kit(then="echo '3 passed, 0 failed (30 minutes)'", version=2):
+def kit(then: str = "echo '3 passed, 0 failed (30 minutes)'", version: int = 2) -> dict[str, str]:
     return program("rt", RT.format(then=then, version=version))
 
 
@@ -268,7 +334,10 @@ def axioms(status=0):
 PARTS = {
     ".ci/run": read(os.path.join(TOP, ".ci/run")),
     "scripts/packages.txt": read(os.path.join(TOP, "scripts/packages.txt")),
-    "scripts/counts.txt": "steps of quick: one\nsteps of built: two, tests of three\none: 2 wrong-bodies, 1 tests\n",
+    "scripts/counts.txt": "steps of quick: one\nsteps of built: two, tests of three\n",
+    "crates/one/wrong-bodies/low.edit": "",
+    "crates/one/wrong-bodies/high.edit": "",
+    "crates/one/right-bodies/low.edit": "",
     "docs/PROOF.md": "The kit: `kit-1 logic 2`.\n",
     **kit(),
     **part("gate", "5 passed, 0 failed"),
@@ -286,7 +355,7 @@ IN_CI, ZINT = {"CI": "true", "MISSING": "zint"}, {"MISSING": "zint"}
 class Run(InFolder):
     """`.ci/run` over stand-ins of its parts: what is missing, the order, the status, the last line."""
 
-    def test_folder_with_a_space(self):
+    def test_folder_with_a_space(self) -> None:
         """It stops before anything runs: the Makefile would fail late."""
         folder = self.path("a folder")
         for name, text in PARTS.items():
@@ -295,29 +364,31 @@ class Run(InFolder):
         found = run_command(["bash", os.path.join(folder, ".ci/run")], CI="", PATH=path)
         self.assertEqual(found, (1, f"make cannot handle the space in the name of this folder: {folder}\n"))
 
-    def test_arguments(self):
+    def test_arguments(self) -> None:
         """--install is as CI=true, and anything else is refused."""
         for words, status, said in ((["--install"], 0, INSTALL), (["--instal"], 2, "usage: .ci/run [--install]")):
             found = self.run_gate({}, ZINT, *words)
             self.assertEqual((found[0], said in found[2]), (status, True), found)
 
-    def run_gate(self, changes, environment, *words):
+    def run_gate(
+        self, changes: Mapping[str, str], environment: Mapping[str, str], *words: str
+    ) -> tuple[int, list[str], list[str]]:
         """The status, the parts that ran, and the lines that are printed."""
         folder = tempfile.mkdtemp(dir=self.folder)
         for name, text in {**PARTS, **changes}.items():
             write(os.path.join(folder, name), text, is_program=name.startswith("bin/"))
-        environment = {"CI": "", "PATH": f"{folder}/bin:/usr/bin:/bin", **environment}
-        status, said = run_command(["bash", os.path.join(folder, ".ci/run"), *words], **environment)
+        given = {"CI": "", "PATH": f"{folder}/bin:/usr/bin:/bin", **environment}
+        status, said = run_command(["bash", os.path.join(folder, ".ci/run"), *words], **given)
         lines = said.rstrip("\n").split("\n")
         return status, [line.removesuffix(" ran") for line in lines if line.endswith(" ran")], lines
 
-    def test_runs(self):
+    def test_runs(self) -> None:
         parts = ["gate quick", "rt ci", "--axioms", "wrong_bodies --built", "gate built"]
-        quick, proofs = parts[:2]
+        quick, proofs, _, bodies, built = parts
         missing = f"packages are missing; as root: .ci/run --install, or apt-get update && {INSTALL}"
         another = "docs/PROOF.md does not name the kit on the path: kit-1 logic 3"
         none = "rt, the command of the Rattle kit, is not on the path"
-        for changes, environment, status, ran, said, last in (
+        rows: tuple[tuple[dict[str, str], dict[str, str], int, list[str], str, str], ...] = (
             ({}, {}, 0, parts, "built", "15 passed, 0 failed"),
             # Elsewhere than in a gate that may install it the run ends at once, with the command to type.
             ({}, ZINT, 1, [], missing, missing),
@@ -330,7 +401,7 @@ class Run(InFolder):
             (program("rt", ""), {**IN_CI, "PATH": "/usr/bin:/bin"}, 1, [], none, none),
             (part("gate", "4 passed, 1 failed", 1), {}, 1, [quick], "4 passed, 1 failed", "4 passed, 1 failed"),
             (
-                part("gate", "4 passed, 0 failed", 0, ["two"]),
+                part("gate", "4 passed, 0 failed", 0, ("two",)),
                 {},
                 1,
                 parts,
@@ -349,14 +420,6 @@ class Run(InFolder):
             (axioms(1), {}, 1, parts, "--axioms ran", "15 passed, 1 failed"),
             (part("wrong_bodies", "1 passed, 1 failed", 1), {}, 1, parts, "1 passed, 1 failed", "14 passed, 1 failed"),
             (part("wrong_bodies", "Traceback", 1), {}, 1, parts, "Traceback", "13 passed, 1 failed"),
-            (
-                part("wrong_bodies", "1 passed, 0 failed", more="one: 1 refused, 0 accepted, in 1 checks"),
-                {},
-                1,
-                parts,
-                "1 wrong bodies were refused, and scripts/counts.txt has 2",
-                "14 passed, 1 failed",
-            ),
             # What needs the program does not run without it.
             (
                 part("plain_builds", "not proved", 1),
@@ -366,7 +429,8 @@ class Run(InFolder):
                 "not proved",
                 "10 passed, 1 failed",
             ),
-        ):
+        )
+        for changes, environment, status, ran, said, last in rows:
             with self.subTest(said=said, status=status):
                 found = self.run_gate(changes, environment)
                 self.assertEqual((*found[:2], found[2][-1]), (status, ran, last), found)
@@ -374,17 +438,31 @@ class Run(InFolder):
                 if len(ran) > 1:
                     self.assertRegex(found[2][-2], r"^\d+\.\d processor minutes$")
 
+    def test_bodies(self) -> None:
+        """Each wrong body that is there is refused once, and no other."""
+        for names, said, failed in (
+            ("low", "not refused: one/high", 1),
+            ("low low", "not refused: one/high", 2),
+            ("low low high", "refused twice, or no wrong body: one/low", 1),
+            ("low high wide", "refused twice, or no wrong body: one/wide", 1),
+        ):
+            with self.subTest(names):
+                bent = part("wrong_bodies", "2 passed, 0 failed", more=f"refused in one: {names}\n")
+                status, _, lines = self.run_gate(bent, {})
+                self.assertEqual((status, lines[-1]), (1, f"15 passed, {failed} failed"))
+                self.assertIn(said, lines)
+
 
 class Packages(unittest.TestCase):
     """The list of packages, and the steps of the gate."""
 
-    def test_each_has_a_reason(self):
+    def test_each_has_a_reason(self) -> None:
         lines = read(os.path.join(TOP, "scripts/packages.txt")).split("\n")
         lines = [line for line in lines if line and not line.startswith("#")]
         self.assertGreater(len(lines), 20)
         self.assertEqual([line for line in lines if len(line.split()) < 2], [])
 
-    def test_each_module_is_of_a_package(self):
+    def test_each_module_is_of_a_package(self) -> None:
         """What the scripts, the tools and their tests import is Python's own, is theirs, or is of a listed package."""
         listed = read(os.path.join(TOP, "scripts/packages.txt"))
         os.chdir(TOP)
@@ -398,11 +476,13 @@ class Packages(unittest.TestCase):
         self.assertIn("numpy", others)
         for name in sorted(others):
             with self.subTest(name):
-                found = subprocess.run(["dpkg", "-S", importlib.util.find_spec(name).origin], capture_output=True)
+                spec = importlib.util.find_spec(name)
+                where = spec.origin if spec else None
+                found = subprocess.run(["dpkg", "-S", where or name], capture_output=True)
                 package = found.stdout.decode().partition(":")[0]
                 self.assertRegex(listed, rf"(?m)^{re.escape(package)} ")
 
-    def test_each_script_is_a_step(self):
+    def test_each_script_is_a_step(self) -> None:
         """Each program of scripts/ is a step of the gate, or is run by `.ci/run` or a page."""
         gate = module("gate")
         run = read(os.path.join(TOP, ".ci/run"))

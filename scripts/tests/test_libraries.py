@@ -13,17 +13,16 @@ LEFT = ["one.rlib/format"]
 
 
 class Libraries(InFolder):
-    def test_build(self):
+    def test_build(self) -> None:
         """A stamp, a library that is not there, or no leave to take them: all are built, up to one that fails."""
-        for number, (files, as_left, wanted) in enumerate(
-            (
-                ({"low": LEFT, "high": LEFT}, True, ("", [])),
-                ({"low": LEFT, "high": LEFT}, False, ("", ["low", "high"])),
-                ({"left": LEFT, "stamped": [*LEFT, "stamp"]}, True, ("", ["left", "stamped"])),
-                ({"left": LEFT, "none": []}, True, ("", ["left", "none"])),
-                ({"wrong": [], "above": []}, True, ("wrong", ["wrong"])),
-            )
-        ):
+        rows: tuple[tuple[dict[str, list[str]], bool, tuple[str, list[str]]], ...] = (
+            ({"low": LEFT, "high": LEFT}, True, ("", [])),
+            ({"low": LEFT, "high": LEFT}, False, ("", ["low", "high"])),
+            ({"left": LEFT, "stamped": [*LEFT, "stamp"]}, True, ("", ["left", "stamped"])),
+            ({"left": LEFT, "none": []}, True, ("", ["left", "none"])),
+            ({"wrong": [], "above": []}, True, ("wrong", ["wrong"])),
+        )
+        for number, (files, as_left, wanted) in enumerate(rows):
             with self.subTest(files=files, as_left=as_left):
                 crates = []
                 for name, left in files.items():

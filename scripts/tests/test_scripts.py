@@ -12,9 +12,10 @@ import shutil
 import types
 import sys
 import unittest
+from typing import Any, Sequence
 from unittest import mock
 
-from support import SCRIPTS, TOP, InCopy, InFolder, in_copy, module, read, run, write
+from support import SCRIPTS, TOP, InCopy, InFolder, in_copy, module, read, run, run_command, write
 
 compare_symbols = module("compare_symbols")
 edits = module("edits")
@@ -27,22 +28,22 @@ wrong_bodies = module("wrong_bodies")
 class Arguments(InFolder):
     """Help ends with status 0 and an unknown argument with usage and status 2, in each script."""
 
-    def names(self):
+    def names(self) -> list[str]:
         return [
             name for name in os.listdir(SCRIPTS) if name.endswith(".py") and os.access(f"{SCRIPTS}/{name}", os.X_OK)
         ]
 
-    def test_help(self):
+    def test_help(self) -> None:
         for name in self.names():
             status, said = in_copy(TOP, name, "--help")
             self.assertEqual((name, status, "usage: " in said), (name, 0, True))
 
-    def test_unknown_flag(self):
+    def test_unknown_flag(self) -> None:
         for name in self.names():
             status, said = in_copy(TOP, name, "--no-such-flag")
             self.assertEqual((name, status, "usage: " in said), (name, 2, True))
 
-    def test_no_such_program(self):
+    def test_no_such_program(self) -> None:
         for name in ("compare_symbols.py", "run_recipes.py", "refuse_each_growth.py"):
             self.assertEqual(run(name, "/no/such/program")[0], 2, name)
 
@@ -50,7 +51,7 @@ class Arguments(InFolder):
 class WrongBodies(InFolder):
     """No crate passes unseen."""
 
-    def test_crates(self):
+    def test_crates(self) -> None:
         """A misspelled crate, one without wrong bodies, no kit."""
         for crate, path, status, wanted in (
             ("labelcor", os.environ["PATH"], 2, "no crate labelcor"),
@@ -78,25 +79,25 @@ EDIT = "refused: one\nfile: src/lib.rt\nold:     1\nnew:     {}\n"
 class Outcomes(InFolder):
     """What comes of bodies, by a stand-in of the kit's check."""
 
-    def setUp(self):
+    def setUp(self) -> None:
         super().setUp()
         self.crate = types.SimpleNamespace(name="small", folder=self.folder)
         write(self.path("src/lib.rt"), ONE)
 
-    def edit(self, text, kind="wrong-bodies", name="one"):
+    def edit(self, text: str, kind: str = "wrong-bodies", name: str = "one") -> None:
         write(self.path(kind, f"{name}.edit"), text)
 
-    def tried(self, *said):
+    def tried(self, *said: str) -> tuple[int, int, list[str]]:
         """What comes of the bodies, where the checks say this, one after the other."""
         with mock.patch.object(wrong_bodies, "check", side_effect=said):
             with contextlib.redirect_stdout(io.StringIO()):
                 tried = wrong_bodies.try_all(None, self.crate)
-        return tried.refused, tried.accepted, tried.lines
+        return len(tried.refused), tried.accepted, tried.lines
 
-    def test_what_a_check_says(self):
+    def test_what_a_check_says(self) -> None:
         wrong = ["one: it is right, and not reported as not refused"]
         unended = "fn small::one: not proved\nkilled"
-        for kind, *said, wanted in (
+        rows: tuple[tuple[Any, ...], ...] = (
             ("wrong-bodies", SAID.format("not proved"), (1, 0, [])),
             ("wrong-bodies", SAID.format("no proof: expected answers for it"), (1, 0, [])),
             ("wrong-bodies", SAID.format("proved"), (0, 0, ["one: NOT REFUSED"])),
@@ -107,13 +108,14 @@ class Outcomes(InFolder):
             ("right-bodies", SAID.format("proved"), (0, 1, [])),
             ("right-bodies", SAID.format("not proved"), (0, 0, wrong)),
             ("right-bodies", "only=1 proved=0\n", (0, 0, wrong)),
-        ):
+        )
+        for kind, *said, wanted in rows:
             with self.subTest(kind=kind, said=said):
                 self.edit(EDIT.format("0 + 1"), kind)
                 self.assertEqual(self.tried(*said), wanted)
                 shutil.rmtree(self.path(kind))
 
-    def test_bodies_that_are_not_tried(self):
+    def test_bodies_that_are_not_tried(self) -> None:
         """A body that no longer applies, or changes something else than a body, is a fault, whatever a check says."""
         clause, both = "old:     ensures { result ≡ 1 }\nnew:     ensures { result ≡ result }\n", EDIT.format("2")
         for text, said in (
@@ -127,17 +129,17 @@ class Outcomes(InFolder):
                 self.edit(text)
                 self.assertEqual(self.tried(), (0, 0, [f"one: {said}"]))
 
-    def test_two_of_one_text(self):
+    def test_two_of_one_text(self) -> None:
         self.edit(EDIT.format("2"))
         self.edit(EDIT.format(" 2"), name="two")
         self.assertEqual(self.tried(SAID.format("not proved")), (1, 0, ["two: it leaves the same text as one"]))
 
-    def of_copies(self, *said):
+    def of_copies(self, *said: str) -> str:
         """What a check says of two copies of a function, and of the one as it is."""
         names = ("one_0", "one_1", "one_as_it_is")
         return "".join(f"fn small::{name}: {line}\n" for name, line in zip(names, said)) + "only=3 proved=1\n"
 
-    def test_two_of_one_function(self):
+    def test_two_of_one_function(self) -> None:
         """Both are tried in copies of the function, beside one in which nothing may be wrong as it is."""
         self.edit(EDIT.format("2"))
         self.edit(EDIT.format("3"), name="two")
@@ -153,7 +155,7 @@ class Outcomes(InFolder):
                 self.assertEqual(self.tried(self.of_copies(*said)), wanted)
         self.assertEqual(self.tried("only=3\n"), (0, 0, ["one: NOT REFUSED", "two: NOT REFUSED", control]))
 
-    def test_copies_that_are_not_judged(self):
+    def test_copies_that_are_not_judged(self) -> None:
         """They are tried again: one that fails only by what it calls, and a control whose goals were not all tried."""
         self.edit(EDIT.format("2"))
         self.edit(EDIT.format("3"), name="two")
@@ -171,7 +173,7 @@ class Outcomes(InFolder):
             with self.subTest(name=name, said=said):
                 self.assertEqual(self.tried(first, f"fn small::{name}: {said}\nonly=1 proved=0\n"), wanted)
 
-    def test_copies_beside_others(self):
+    def test_copies_beside_others(self) -> None:
         """One check tries copies, and bodies in the places of other functions; what has to be alone comes after."""
         text = ONE + "\nfn other() -> u8 {\n    7\n}\n\nfn third() -> u8 {\n    9\n}\n"
         write(self.path("src/lib.rt"), text)
@@ -182,7 +184,7 @@ class Outcomes(InFolder):
         first = "fn small::other: not proved\n" + self.of_copies("not proved", "not proved", CALLS)
         self.assertEqual(self.tried(first, "fn small::third: not proved\nonly=1 proved=0\n"), (4, 1, []))
 
-    def test_two_functions(self):
+    def test_two_functions(self) -> None:
         """They are tried in one check, and what fails by what it calls again: after the others, and then alone."""
         write(self.path("src/lib.rt"), ONE + "\nfn other() -> u8 {\n    7\n}\n")
         self.edit(EDIT.format("2"))
@@ -199,7 +201,7 @@ class Outcomes(InFolder):
             with self.subTest(said):
                 self.assertEqual(self.tried(*said), wanted)
 
-    def test_copies(self):
+    def test_copies(self) -> None:
         """A copy has the text of its own body and a proof of its own; the function stands as it is."""
         self.edit(EDIT.format("2"))
         self.edit(EDIT.format("3"), name="two")
@@ -215,11 +217,11 @@ class Outcomes(InFolder):
         self.assertEqual(goals, "use Rattle.small.proofs.one_1.Goals as goal\n")
         self.assertNotIn("one_1", read(self.path("proofs/one_1/one_more.Goals.antt")))
 
-    def whole(self, text, name="one"):
+    def whole(self, text: str, name: str = "one") -> None:
         """Writes a wrong body that is a text in place of that of `one`."""
         self.edit(f"refused: one\nbody: {text}\n", name=name)
 
-    def test_a_body_as_a_text(self):
+    def test_a_body_as_a_text(self) -> None:
         """It is always a copy, beside the function that it can call, and a control."""
         self.whole("one() + 1")
         (copy, control) = edits.copies_of(edits.bodies_of(self.folder), self.folder)
@@ -233,7 +235,7 @@ class Outcomes(InFolder):
         self.assertEqual(self.tried(said.format("not proved")), (1, 1, []))
         self.assertEqual(self.tried(said.format("proved")), (0, 1, ["one: NOT REFUSED"]))
 
-    def test_texts_that_are_not_tried(self):
+    def test_texts_that_are_not_tried(self) -> None:
         self.whole("2", "first")
         for text, said in (
             (" 2", "it leaves the same text as first"),
@@ -256,27 +258,27 @@ class Outcomes(InFolder):
             with self.subTest(text), self.assertRaises(SystemExit):
                 edits.bodies_of(self.folder)
 
-    def test_status(self):
+    def test_status(self) -> None:
         """What is wrong with a body is printed and makes the status 1; so does a run without a right body."""
         one = wrong_bodies.Tried
         for results, are_all, wanted in (
-            ([one("a", 2, 1)], True, (0, "3 passed, 0 failed\n")),
-            ([one("a", 2, 0)], False, (0, "2 passed, 0 failed\n")),
-            ([one("a", 2, 1, lines=["b: NOT REFUSED"])], True, (1, "a/b: NOT REFUSED\n3 passed, 1 failed\n")),
+            ([one("a", ["b", "c"], 1)], True, (0, "3 passed, 0 failed\n")),
+            ([one("a", ["b", "c"], 0)], False, (0, "2 passed, 0 failed\n")),
+            ([one("a", ["c"], 1, lines=["b: NOT REFUSED"])], True, (1, "a/b: NOT REFUSED\n2 passed, 1 failed\n")),
         ):
             with contextlib.redirect_stdout(io.StringIO()) as said:
                 self.assertEqual((wrong_bodies.judged(results, are_all), said.getvalue()), wanted)
         with contextlib.redirect_stdout(io.StringIO()) as said:
-            self.assertEqual(wrong_bodies.judged([one("a", 2, 0)], True), 1)
+            self.assertEqual(wrong_bodies.judged([one("a", ["b"], 0)], True), 1)
         self.assertIn("no right body was accepted", said.getvalue())
 
-    def test_no_copies(self):
+    def test_no_copies(self) -> None:
         """What is more than one function, one of a trait, or one that calls itself, is tried in its place."""
         text = "const A: u8 = 7;\nimpl<T> Some<T> {\n    #[inline]\n    fn one() -> u8 { 1 }\n}\n"
         write(self.path("src/part.rt"), text + "impl Trait for Some {\n    fn one() -> u8 { 11 }\n}\n")
         write(self.path("src/cycle.rt"), "#[cycle(one)]\nfn one() -> u8 { 1 }\n")
 
-        def copy_of(functions, changes):
+        def copy_of(functions: Sequence[str], changes: Sequence[tuple[str, str, str]]) -> Any:
             body = edits.Body("", tuple(functions), "", tuple(edits.Change(*one) for one in changes))
             return edits.copy_of(body, "0", self.folder)
 
@@ -296,22 +298,104 @@ class Outcomes(InFolder):
                 self.assertIsNone(copy_of(functions, changes))
 
 
+class Subjects(InFolder):
+    """The subjects of a history: as it is, cut off, written anew, or not there."""
+
+    def git(self, *words: str) -> None:
+        identity = ["-c", "user.name=One", "-c", "user.email=one@labels.invalid"]
+        status, said = run_command(["git", "-C", self.path("one"), *identity, *words])
+        self.assertEqual(status, 0, said)
+
+    def judged(self, folder: str, since: str) -> tuple[int, str]:
+        with mock.patch.object(module("subjects"), "SINCE", since):
+            status, said = in_copy(folder, "subjects.py")
+        return status, said.rstrip("\n").split("\n")[-1]
+
+    def test_histories(self) -> None:
+        os.mkdir(self.path("one"))
+        self.assertEqual(self.judged(self.path("one"), "HEAD~1"), (0, "0 subjects, 0 faults, and there is no history"))
+        self.git("init", "--quiet")
+        for subject in ("Before", "S" * 73, "S" * 72, "Last"):
+            self.git("commit", "--quiet", "--allow-empty", "-m", subject)
+        for since, wanted in (
+            ("HEAD~2", (0, "2 subjects, 0 faults")),
+            ("HEAD~3", (1, "3 subjects, 1 faults")),
+            (
+                "0" * 40,
+                (1, f"the history of HEAD has no commit {'0' * 40}: scripts/subjects.py has to name another one"),
+            ),
+        ):
+            with self.subTest(since):
+                self.assertEqual(self.judged(self.path("one"), since), wanted)
+        shallow = self.path("shallow")
+        run_command(["git", "clone", "--quiet", "--depth=2", f"file://{self.path('one')}", shallow])
+        cut = f"2 subjects, 0 faults, of a clone that lacks {'0' * 40}"
+        self.assertEqual(self.judged(shallow, "0" * 40), (0, cut))
+
+    def test_one_that_reports_nothing(self) -> None:
+        with mock.patch.object(module("subjects"), "faults_of", return_value=[]):
+            self.assertEqual(in_copy(TOP, "subjects.py"), (1, "a subject of one letter too many is not reported\n"))
+
+
 class Judges(unittest.TestCase):
     """A judge that passes everything is found by the wrong cases that it is shown in each run."""
 
-    def test_symbols(self):
+    def picture(self) -> Any:
         picture = pictures.pixels_of(b"9 9\n" + b"0" * 81 + b"\n").copy()
         picture[2:7, 1:8] = 1
-        for place, wanted in (("first", (2, 1)), ("middle", (4, 4)), ("last", (6, 1))):
-            turned = compare_symbols.with_turned_module(picture, place)
-            self.assertEqual((turned != picture).nonzero(), wanted)
-        with mock.patch.object(compare_symbols, "pictures_of", return_value=[picture]):
-            for is_same, unread, count in ((True, [], 5), (False, [], 2), (True, ["it"], 3), (False, ["it"], 0)):
-                bent = {"is_as_zint": lambda *given: is_same, "not_read_back": lambda *given: unread}
-                with mock.patch.multiple(compare_symbols, **bent):
-                    self.assertEqual(len([*compare_symbols.not_seen(None)]), count)
+        return picture
 
-    def test_recipes(self):
+    def test_turned_modules(self) -> None:
+        """At both ends and in the middle: of a QR symbol one module, of a bar code one in all rows."""
+        bars, symbol = self.picture(), self.picture()
+        symbol[3, 3] = 0
+        for picture, place, wanted in (
+            (symbol, "first", [(2, 1)]),
+            (symbol, "middle", [(4, 4)]),
+            (symbol, "last", [(6, 1)]),
+            (bars, "first", [(row, 1) for row in range(2, 7)]),
+            (bars, "middle", [(row, 4) for row in range(2, 7)]),
+            (bars, "last", [(row, 7) for row in range(2, 7)]),
+        ):
+            turned = compare_symbols.with_turned_module(picture, place)
+            self.assertEqual([*zip(*(turned != picture).nonzero())], wanted)
+
+    def test_symbols(self) -> None:
+        """A comparison that passes all, or nothing, is found with each symbology."""
+        count = len(compare_symbols.SHOWN)
+
+        def right(_program: str, labels: Sequence[Any]) -> list[tuple[Any, bytes]]:
+            return [(label, label.full) for label in labels]
+
+        for is_same, is_read, wanted in (
+            (True, True, 6 * count),
+            (False, True, 4 * count),
+            (True, False, 4 * count),
+            (False, False, 2 * count),
+        ):
+            with (
+                self.subTest(is_same=is_same, is_read=is_read),
+                mock.patch.object(compare_symbols, "pictures_of", return_value=[self.picture()]),
+                mock.patch.object(compare_symbols, "readings", right),
+                mock.patch.object(compare_symbols, "is_as_zint", return_value=is_same),
+                mock.patch.object(compare_symbols, "is_read_back", return_value=is_read),
+            ):
+                self.assertEqual(len([*compare_symbols.not_seen("")]), wanted)
+
+    def test_more_or_fewer_modules_than_zint(self) -> None:
+        """zint's last digit may have up to three bits more, which are none of the symbol."""
+        label = compare_symbols.SHOWN[0]
+        for dump, wanted in (("F8", False), ("FE", True), ("FC", False), ("FE 0", False), ("7F", False)):
+            ran = mock.Mock(stdout=f"{dump}\n")
+            with self.subTest(dump), mock.patch.object(compare_symbols.subprocess, "run", return_value=ran):
+                self.assertEqual(compare_symbols.is_as_zint(label, self.picture()), wanted)
+
+    def test_kinds(self) -> None:
+        heads = ("ean13,height=9", "qr,level=L,min-version=2,mask=3", "qr,level=L", "ean13")
+        labels = [pictures.Label(head, b"", b"", 1) for head in heads]
+        self.assertEqual(pictures.kinds_of(labels), "2 ean13, 2 level L, 1 mask 3, 2 qr, 1 version 2")
+
+    def test_recipes(self) -> None:
         self.assertEqual([*run_recipes.unseen()], [])
         for where, name, bent, count in (
             (run_recipes.Commands, "fault", lambda *given: "", 4),
@@ -343,9 +427,9 @@ PAGE = """Text.
 class Instructions(unittest.TestCase):
     """Counts are compared with each row of the page."""
 
-    def test_rows(self):
+    def test_rows(self) -> None:
         found = {"one": 20000, "two": 1000, "`labels_draw`, one": 300}
-        for old, new, more, fails in (
+        rows: tuple[tuple[str, str, dict[str, int], list[str]], ...] = (
             ("", "", {}, []),
             ("", "", {"one": 21000, "two": 950}, []),
             ("", "", {"one": 21200}, ["one: 20,000 on the page, 21,200 measured, +6.0 %"]),
@@ -355,13 +439,14 @@ class Instructions(unittest.TestCase):
             ("| two ", "| one | 1 |\n| two ", {}, ["one: the page has 20,000; 1"]),
             ("300 |\n", "300 |\n| more | 1 |\n", {}, ["more: a row of the page that is not measured"]),
             ("liblabels", "labels", {}, ["`labels_draw`, one: the page has no such row"]),
-        ):
+        )
+        for old, new, more, fails in rows:
             with self.subTest(old=old, new=new, more=more):
                 lines, failed = instructions.check({**found, **more}, PAGE.replace(old, new))
                 self.assertEqual([line for line in lines if line.startswith("FAILS")], [f"FAILS {it}" for it in fails])
                 self.assertEqual((failed, len(lines)), (len(fails), max(3, len(lines))))
 
-    def test_comparison_that_passes_all(self):
+    def test_comparison_that_passes_all(self) -> None:
         """One with another room for what is off, or that counts no failure, is shown counts that it has to report."""
         said = io.StringIO()
         for name, bent in (("ROOM", 50), ("compared", lambda *given: "one: fine"), ("check", lambda *given: ([], 0))):
@@ -370,7 +455,7 @@ class Instructions(unittest.TestCase):
                     self.assertEqual(instructions.main(), 1)
         self.assertEqual(said.getvalue().count("is not reported"), 3)
 
-    def test_what_is_not_counted(self):
+    def test_what_is_not_counted(self) -> None:
         """A program that draws nothing or fails, and valgrind where it is not installed."""
         for program, wanted in (("true", "draws no label"), ("false", "status 1"), ("valgrind-9", "not installed")):
             said = io.StringIO()
@@ -425,7 +510,7 @@ PLANTED = (
 class Unused(InCopy):
     """What is planted in a copy of the repository and used by nothing is found, and nothing else."""
 
-    def test_planted(self):
+    def test_planted(self) -> None:
         texts = {file: read(self.path(file)) for file, *_ in PLANTED}
         for file, old, new, _ in PLANTED:
             self.assertIn(old, texts[file])
@@ -442,7 +527,7 @@ class Unused(InCopy):
         self.assertEqual((status, sorted(found)), (1, sorted(wanted)))
         self.assertTrue(last.endswith(f": {len(wanted)} unused"), said)
 
-    def test_what_cannot_be_read(self):
+    def test_what_cannot_be_read(self) -> None:
         """A file of which the kit can make no words; no crate at all."""
         self.replace(FIELD, "fn one() ensures { 1 ")
         self.assertEqual(self.judged("unused.py")[0], 1)

@@ -60,13 +60,6 @@ def run(
     )
 
 
-def script(name: str) -> Any:
-    """A script of scripts/ as a module."""
-    if str(TOP / "scripts") not in sys.path:
-        sys.path.append(str(TOP / "scripts"))
-    return importlib.import_module(name)
-
-
 def processor_seconds() -> float:
     """The processor time, in seconds, of all programs that this process ran to their end."""
     used = resource.getrusage(resource.RUSAGE_CHILDREN)

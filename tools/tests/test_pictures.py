@@ -9,10 +9,9 @@ from pathlib import Path
 from typing import Any
 
 import jobs
+import layouts
 import support
 from laying import laid_out, look
-
-layouts = support.script("draw_layouts")
 
 
 def setUpModule() -> None:

@@ -1,31 +1,30 @@
 #!/usr/bin/python3
 """Draws the pictures of docs/PRINTING.md that show labels of many sizes and contents.
 
-It writes layouts-article.png and layouts-shelf.png, a picture for each design, in which labels are drawn as
-label-print draws them in dots. The program is the one that label-print runs.
+It writes layouts-article.png and layouts-shelf.png, a picture for each design, in which labels are
+drawn as label-print draws them in dots. A test reads each of these labels back.
 """
 
-import importlib
-import os
+import argparse
 import subprocess
-import sys
 from dataclasses import dataclass
+from pathlib import Path
+from typing import Any, Dict, Optional, Sequence, Tuple
 
 import cairo
 import numpy
 
-import sources
-
-sys.path[:0] = [os.path.join(sources.TOP, folder) for folder in ("tools", "tools/tests")]
-sys.dont_write_bytecode = True
-area, laying, support = map(importlib.import_module, ("labeltools.area", "laying", "support"))
+import support
+from labeltools import area
+from laying import laid_out
 
 SCALE = 2.7  # pixels of a millimetre
 WIDTH = 1000  # pixels
 MARGIN = 6
 NAME = 12  # pixels above a label, for its size
 GRAY = 2 / 3
-HEFT = {
+Labels = Sequence[Tuple[str, Optional[Dict[str, Any]]]]
+HEFT: Dict[str, Any] = {
     "title": "Heft „Größe A5“, kariert, 32 Blatt mit Rand und Umschlag",
     "text": ["Art. 20-1187"],
     "price": "12,80 €",
@@ -33,36 +32,37 @@ HEFT = {
     "unit": "1 kg = 5,98 €",
 }
 SEIFE = {"title": "Seife aus Übersee", "price": "2,95 €", "unit": "1 l = 11,80 €"}
-MIXED = [
+MIXED: Labels = [
     ("ean13 978020137962", HEFT),
     ("upca 03600029145", {**SEIFE, "text": ["Art. 36-0002"]}),
     ("ean8 7351353", {"title": "Kaugummi", "price": "0,30 €", "text": ["Art. 7"]}),
     ("code128 LOT 7", {"title": "鉛筆 やわらかい 2B 赤", "price": "1,10 €"}),
     ("ean13 501234567890", {"title": "قلم رصاص ناعم", "price": "3,20 €"}),
 ]
-QR = [
+QR: Labels = [
     ("qr https://example.com/artikel/20-1187", {**HEFT, "unit": ""}),
     ("qr https://example.com/" + "artikel/" * 9, SEIFE),
 ]
-PLAIN = [
+PLAIN: Labels = [
     ("ean13 978020137962", {"title": HEFT["title"], "text": HEFT["text"]}),
     ("ean13 400638133393", {"title": "Bleistift"}),
 ]
-BARE = [("code128 SKU-10234", {})]
-TINY = [("qr A7", {"title": "Ohrringe", "price": "29,00 €"})]
-LONG = [("code128 ABCDEFGHIJKLMNOPQ", HEFT)]
-WIDE = [("ean13 400638133393", {"title": "Klavier, gebraucht", "price": "12.499,00 €"})]
-WIDE += [(f"ean13 40063813{n:04}", {"title": "Heft", "price": "2,95 €"}) for n in range(11)]
+BARE: Labels = [("code128 SKU-10234", {})]
+TINY: Labels = [("qr A7", {"title": "Ohrringe", "price": "29,00 €"})]
+LONG: Labels = [("code128 ABCDEFGHIJKLMNOPQ", HEFT)]
+PIANO = {"title": "Klavier, gebraucht", "price": "12.499,00 €"}
+BOOKS = [(f"ean13 40063813{n:04}", {"title": "Heft", "price": "2,95 €"}) for n in range(11)]
+WIDE: Labels = [("ean13 400638133393", PIANO), *BOOKS]
 
 
 @dataclass(frozen=True)
 class Case:
-    """Labels of a file, the size of the label in millimetres, the dots an inch, how many of the labels are shown, and
-    whether the paper is a roll.
+    """Labels of a file, the size of the label in millimetres, the dots an inch, how many of the
+    labels are shown, and whether the paper is a roll.
     """
 
-    labels: list
-    size: tuple
+    labels: Labels
+    size: tuple[float, float]
     dpi: int
     count: int
     is_roll: bool = True
@@ -103,14 +103,14 @@ CASES = (
 class Sheet:
     """A picture of labels, one beside another and below one another."""
 
-    def __init__(self):
+    def __init__(self) -> None:
         self.surface = cairo.ImageSurface(cairo.FORMAT_RGB24, WIDTH, 4 * WIDTH)
         self.canvas = cairo.Context(self.surface)
         self.canvas.set_source_rgb(GRAY, GRAY, GRAY)
         self.canvas.paint()
         self.x = self.y = self.next = MARGIN
 
-    def add(self, dots, dpi):
+    def add(self, dots: Any, dpi: int) -> None:
         """Adds a label with a millimetre of white around the area in which it has ink."""
         dot = area.MILLIMETRES / dpi
         height, width = (length * dot + 2 * area.PAD for length in dots.shape)
@@ -135,38 +135,39 @@ class Sheet:
         self.next = max(self.next, round(self.y + NAME + height * SCALE + MARGIN))
         self.x += round(width * SCALE) + MARGIN
 
-    def write(self, path):
+    def write(self, path: Path) -> None:
         """Writes the picture, as high as it is filled, in four shades of gray."""
         data = self.surface.get_data()[: self.next * self.surface.get_stride()]
         cut = cairo.ImageSurface.create_for_data(data, cairo.FORMAT_RGB24, WIDTH, self.next)
-        cut.write_to_png(path)
-        small = f"pngtopnm {path} | ppmtopgm | pamdepth 3 | pnmtopng -quiet -compression 9"
-        data = subprocess.run(["bash", "-c", f"set -o pipefail; {small}"], capture_output=True, check=True).stdout
-        with open(path, "wb") as file:
-            file.write(data)
+        cut.write_to_png(str(path))
+        small = "pngtopnm | ppmtopgm | pamdepth 3 | pnmtopng -quiet -compression 9"
+        command = ["bash", "-c", f"set -o pipefail; {small}"]
+        ran = subprocess.run(command, input=path.read_bytes(), capture_output=True, check=True)
+        path.write_bytes(ran.stdout)
 
 
-def surface_of(dots):
+def surface_of(dots: Any) -> cairo.ImageSurface:
     """Dots as a mask."""
     height, width = dots.shape
     stride = cairo.ImageSurface.format_stride_for_width(cairo.FORMAT_A8, width)
-    data = numpy.pad(255 * dots, ((0, 0), (0, stride - width)))
-    return cairo.ImageSurface.create_for_data(memoryview(data), cairo.FORMAT_A8, width, height, stride)
+    data = bytearray(numpy.pad(255 * dots, ((0, 0), (0, stride - width))).tobytes())
+    bits = memoryview(data)
+    return cairo.ImageSurface.create_for_data(bits, cairo.FORMAT_A8, width, height, stride)
 
 
-def main():
-    parser = sources.parser_of(__doc__, has_top=False)
-    parser.add_argument("folder", metavar="FOLDER", help="where the pictures go")
+def main() -> None:
+    """Writes both pictures into the folder that is given."""
+    parser = argparse.ArgumentParser(description=__doc__)
+    parser.add_argument("folder", metavar="FOLDER", type=Path, help="where the pictures go")
     folder = parser.parse_args().folder
     for design in ("article", "shelf"):
         sheet = Sheet()
         for case in CASES:
-            laid = laying.laid_out(
-                support.file_of(case.labels), case.size, case.dpi, design=design, is_roll=case.is_roll
-            )
+            data = support.file_of(case.labels)
+            laid = laid_out(data, case.size, case.dpi, design=design, is_roll=case.is_roll)
             for item in laid.labels[: case.count]:
                 sheet.add(laid.dots(item), case.dpi)
-        sheet.write(f"{folder}/layouts-{design}.png")
+        sheet.write(folder / f"layouts-{design}.png")
 
 
 if __name__ == "__main__":

@@ -1,0 +1,126 @@
+"""What `make release` makes: packages and source as an apt repository, the same each time."""
+
+import hashlib
+import os
+import re
+import shutil
+import subprocess
+import tempfile
+import unittest
+from pathlib import Path
+from typing import Dict, Set
+
+import support
+from test_install import command_of, make
+
+MOST_OF_LABELS = 250_000  # bytes of the program's package
+OF_THE_WINDOW = ("share/applications/", "share/metainfo/", "share/icons/", "bin/label-window")
+
+
+def sums_of(folder: Path) -> Dict[str, str]:
+    """The checksum of each file of a folder."""
+    return {path.name: hashlib.sha256(path.read_bytes()).hexdigest() for path in folder.iterdir()}
+
+
+class Release(unittest.TestCase):
+    folder: Path
+    release: Path
+    other: Path
+
+    @classmethod
+    def setUpClass(cls) -> None:
+        """Makes two releases of new clones, the second one by a user who hides his files."""
+        support.needs("dpkg-buildpackage", "dh", "dpkg-scanpackages", "lintian")
+        folder = tempfile.TemporaryDirectory()
+        cls.addClassCleanup(folder.cleanup)
+        cls.folder = Path(folder.name)
+        os.chmod(cls.folder, 0o755)  # apt reads as a user of its own
+        cls.release, cls.other = (cls.made(name, mask) for name, mask in (("a", 0o22), ("b", 0o77)))
+
+    @classmethod
+    def made(cls, name: str, mask: int) -> Path:
+        clone = cls.folder / name
+        command_of("git", "clone", "-q", str(support.TOP), str(clone))
+        before = os.umask(mask)
+        try:
+            make("release", top=clone)
+        finally:
+            os.umask(before)
+        return clone / "out/release"
+
+    def test_two_releases_are_equal(self) -> None:
+        self.assertEqual(sums_of(self.release), sums_of(self.other))
+
+    def test_sums_are_of_all_files(self) -> None:
+        lines = (self.release / "SHA256SUMS").read_text(encoding="utf-8").split("\n")
+        said = dict(reversed(line.split("  ./")) for line in lines[:-1])
+        self.assertEqual({**said, "SHA256SUMS": ""}, {**sums_of(self.release), "SHA256SUMS": ""})
+
+    def packages(self) -> Dict[str, Set[str]]:
+        """The files of each package for this processor."""
+        found = {}
+        for path in self.release.glob("*.deb"):
+            if not path.name.endswith("_arm64.deb"):
+                listed = command_of("dpkg-deb", "--contents", str(path)).splitlines()
+                found[path.name.partition("_")[0]] = {
+                    line.split()[5].removeprefix("./usr/") for line in listed if line[0] != "d"
+                }
+        return found
+
+    def test_what_is_in_which_package(self) -> None:
+        """No file is in two, the window alone needs a desktop, and pages are apart."""
+        packages = self.packages()
+        files = [file for names in packages.values() for file in names]
+        self.assertEqual(len(files), len({*files}))
+        with_window = {
+            name
+            for name, names in packages.items()
+            for file in names
+            if file.startswith(OF_THE_WINDOW)
+        }
+        self.assertEqual(with_window, {"label-window"})
+        with_pages = {name for name, names in packages.items() if any(".md" in it for it in names)}
+        self.assertEqual(with_pages, {"labels-doc"})
+        (program,) = self.release.glob("labels_*_amd64.deb")
+        self.assertLess(program.stat().st_size, MOST_OF_LABELS)
+
+    def test_the_source_is_what_is_committed(self) -> None:
+        (dsc,) = self.release.glob("*.dsc")
+        self.assertEqual(command_of("lintian", "--allow-root", "-EIL", "+pedantic", str(dsc)), "")
+        source, clone = self.folder / "source", self.folder / "a"
+        command_of("dpkg-source", "--no-check", "--extract", str(dsc), str(source))
+        files = {str(path.relative_to(source)) for path in source.rglob("*") if path.is_file()}
+        committed = {*command_of("git", "ls-files", cwd=clone).splitlines()} - {".gitignore"}
+        self.assertEqual(files, {*committed, "debian/changelog"})
+        for name in sorted(committed):
+            self.assertEqual((source / name).read_bytes(), (clone / name).read_bytes(), name)
+
+    def apt(self, release: Path, *words: str) -> "subprocess.CompletedProcess[str]":
+        """Runs apt-get with a repository alone, and in folders of its own."""
+        own = self.folder / "apt"
+        (own / "lists/partial").mkdir(parents=True, exist_ok=True)
+        (own / "list").write_text(f"deb [trusted=yes] file:{release} ./\n", encoding="utf-8")
+        places = {"Etc::sourcelist": own / "list", "Etc::sourceparts": "-"}
+        places |= {"State::lists": own / "lists", "Cache": own / "cache"}
+        options = [
+            word for name, place in places.items() for word in ("-o", f"Dir::{name}={place}")
+        ]
+        return subprocess.run(["apt-get", *options, *words], capture_output=True, text=True)
+
+    def test_apt_takes_it(self) -> None:
+        """All packages can be installed from it; an index that was changed is refused."""
+        names = sorted(self.packages())
+        self.assertEqual(self.apt(self.release, "update").returncode, 0)
+        how = ("--simulate", "--no-install-recommends", "install")
+        done = self.apt(self.release, *how, *names)
+        found = re.findall(r"^Inst (\S+)", done.stdout, re.M)
+        self.assertEqual((done.returncode, sorted(found)), (0, names), done.stderr)
+        bent = self.folder / "bent"
+        shutil.copytree(self.release, bent)
+        for name in ("Packages", "Packages.gz"):
+            (bent / name).write_bytes((bent / name).read_bytes() + b"\n")
+        self.assertNotEqual(self.apt(bent, "update").returncode, 0)
+
+
+if __name__ == "__main__":
+    unittest.main()
