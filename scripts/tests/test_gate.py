@@ -323,7 +323,7 @@ def kit(then: str = "echo '3 passed, 0 failed (30 minutes)'", version: int = 2) 
     return program("rt", RT.format(then=then, version=version))
 
 
-def axioms(status=0):
+def axioms(status: int = 0) -> dict[str, str]:
     """Stands in for the comparison of the contracts of C functions, which reads what the proofs said."""
     text = (
         f"import sys\nassert 'rt ci ran' in open(sys.argv[2]).read()\nprint(sys.argv[1], 'ran')\nsys.exit({status})\n"
@@ -384,7 +384,7 @@ class Run(InFolder):
 
     def test_runs(self) -> None:
         parts = ["gate quick", "rt ci", "--axioms", "wrong_bodies --built", "gate built"]
-        quick, proofs, _, bodies, built = parts
+        quick, proofs, *_ = parts
         missing = f"packages are missing; as root: .ci/run --install, or apt-get update && {INSTALL}"
         another = "docs/PROOF.md does not name the kit on the path: kit-1 logic 3"
         none = "rt, the command of the Rattle kit, is not on the path"
