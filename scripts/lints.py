@@ -27,10 +27,7 @@ ENDINGS = {".py": "python", ".bash": "completion", ".1": "manual", ".3": "manual
 WRONG = "import os  # noqa\n\n\ndef one():\n    two = three\n"
 FINDS = ("F401", "F841", "F821")
 # The scripts that are laid out as the tools are, and others that are typed as they are.
-AS_TOOLS = tuple(
-    f"scripts/{name}.py"
-    for name in ("bases", "believed", "believed_rows", "changes", "declared", "edits", "judging", "wrong_bodies")
-)
+AS_TOOLS = tuple(f"scripts/{name}.py" for name in ("believed_rows", "changes", "edits", "judging", "wrong_bodies"))
 TYPED = ("scripts/libraries.py", "scripts/reader.py", "scripts/sources.py")
 # black puts a space before the colon of a slice, which E203 is against.
 STYLE = "flake8 --isolated --disable-noqa --extend-ignore E203 --max-line-length"
