@@ -22,10 +22,10 @@ CRATES = [
     *("filter", "labelcore", "device", "picture", "linear", "qrmatrix"),
     *("qrdata", "gf256", "command", "capi", "testing"),
 ]
-# The crate whose functions C calls. It has no definitions of its own.
-EXPORTS = "labels_c"
+# The program, and the crate whose functions C calls. They have no definitions of their own.
+PROGRAM, EXPORTS = "labels", "labels_c"
 # The crates on whose contracts no other crate rests.
-AT_THE_TOP = {"reading", "labels", EXPORTS, "examples", "tests"}
+AT_THE_TOP = {"reading", PROGRAM, EXPORTS, "examples", "tests"}
 CLAP = "clap"
 # The file of the kit that has the traits of std's readers and writers.
 TRAITS_OF_STD = os.path.join("std", "src", "io", "traits.rt")
@@ -93,6 +93,11 @@ class Repository:
         return list(dict.fromkeys(it for key in keys if (it := self.definition(key))))
 
     @property
+    def of_program(self) -> list[File]:
+        """The files of the program itself, which makes one call."""
+        return [it for it in self.code if it.crate == PROGRAM]
+
+    @property
     def public(self) -> list[File]:
         """The files of specs/ that are no business of their crate alone."""
         return [it for (_, module), it in self.specs.items() if not module.startswith("Private")]
@@ -104,7 +109,8 @@ def read_repository(top: str) -> Repository:
     if unknown:
         names = ", ".join(sorted(unknown))
         sys.exit(f"crates.txt has {names}: scripts/bases.py has to name it in CRATES or AT_THE_TOP")
-    files = reader.files_of(top, CRATES, "specs", "src") + reader.files_of(top, [EXPORTS], "src")
+    files = reader.files_of(top, CRATES, "specs", "src")
+    files += reader.files_of(top, [PROGRAM, EXPORTS], "src")
     specs = {(it.crate, it.module): it for it in files if it.part == "specs"}
     code = [it for it in files if it.part == "src"]
     items = list(declared.code_items([it for it in code if it.crate in CRATES]))

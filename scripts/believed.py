@@ -27,6 +27,7 @@ import re
 import signal
 import sys
 import textwrap
+from dataclasses import dataclass
 from typing import Iterable, Iterator, Sequence
 
 import bases
@@ -40,7 +41,8 @@ from reader import Declaration, File
 # The program's own call: its crate, its file, its name and its clauses.
 CALL = ("command", "entry", "program")
 CLAUSES = ("shows", "runs")
-PROGRAM = "labels"
+# The function beside it that has no clause.
+UNSAID = "arguments_of"
 README = "README.md"
 PROOF = os.path.join("docs", "PROOF.md")
 PAGE = os.path.join("docs", "DEFINITIONS.md")
@@ -61,21 +63,26 @@ WHY = re.compile(r"Why: ((?:`[^`]+`,? )*`[^`]+`): ")
 # ---- contracts
 
 
-def call_of(repository: Repository, top: str, names: Sequence[str] = ()) -> CodeItem:
-    """Returns the contract of the program's own call, or its clauses of these names. Stops where it
-    is gone, or where the program does not make that call.
-    """
-    crate, module, function = CALL
+def item_of(repository: Repository, function: str) -> tuple[File, Declaration]:
+    """Returns a function of the file of the program's own call. Stops where it is gone."""
+    crate, module, _ = CALL
     files = [it for it in repository.code if (it.crate, it.module) == (crate, module)]
-    found = [(file, it) for file in files for it in file.declarations if it.name == function]
-    if not found:
-        sys.exit(f"no function {function} in crates/{crate}/src/{module}.rt")
-    program = os.path.join(top, "crates", PROGRAM, "src")
-    texts = [sources.read(path) for path in sources.files_below(program, ".rt")]
-    if not any(f"{function}(" in text for text in texts):
+    for file in files:
+        for it in file.declarations:
+            if it.name == function:
+                return file, it
+    sys.exit(f"no function {function} in crates/{crate}/src/{module}.rt")
+
+
+def call_of(repository: Repository, names: Sequence[str] = ()) -> CodeItem:
+    """Returns the contract of the program's own call, or its clauses of these names. Stops where
+    the program does not make that call.
+    """
+    function = CALL[-1]
+    if not any(f"{function}(" in it.text for it in repository.of_program):
         says = "CALL in scripts/believed.py names the call that it makes"
-        sys.exit(f"crates/{PROGRAM} does not call {function}: {says}")
-    return declared.contract_of(*found[0], names)
+        sys.exit(f"crates/{bases.PROGRAM} does not call {function}: {says}")
+    return declared.contract_of(*item_of(repository, function), names)
 
 
 def exports(repository: Repository) -> list[CodeItem]:
@@ -86,10 +93,10 @@ def exports(repository: Repository) -> list[CodeItem]:
     return [it for it in contracts if "ensures" in it.words]
 
 
-def all_bases(repository: Repository, top: str) -> dict[str, Base]:
+def all_bases(repository: Repository) -> dict[str, Base]:
     """Returns what each contract rests on, by its name."""
-    contracts = {it: [call_of(repository, top, [it])] for it in CLAUSES}
-    contracts["program"] = [call_of(repository, top)]
+    contracts = {it: [call_of(repository, [it])] for it in CLAUSES}
+    contracts["program"] = [call_of(repository)]
     contracts["library"] = exports(repository)
     return {name: bases.base_of(repository, its) for name, its in contracts.items()}
 
@@ -97,46 +104,67 @@ def all_bases(repository: Repository, top: str) -> dict[str, Base]:
 # ---- numbers
 
 
-def rows(found: dict[str, Base]) -> list[tuple[str, Lines]]:
-    """Returns the lines of the table: what has to be read, and how much of it."""
+@dataclass(frozen=True)
+class Counts:
+    """The lines of the table of PROOF, what has to be read and how much of it, and the numbers of
+    README by their names.
+    """
+
+    rows: list[tuple[str, Lines]]
+    of_readme: dict[str, int]
+
+
+def unsaid_lines(repository: Repository) -> int:
+    """Returns how many lines the code has that no clause speaks of: the program and what gives it
+    its arguments.
+    """
+    tokens = [token for file in repository.of_program for token in file.tokens]
+    here = len({token.line for token in tokens})
+    return here + len({token.line for token in item_of(repository, UNSAID)[1].tokens})
+
+
+def counts_of(repository: Repository, found: dict[str, Base]) -> Counts:
+    """Returns all numbers that the pages give."""
+    lines = {name: base.lines for name, base in found.items()}
     behind = sum(it.lines for it in bases.definitions_of_clap(found["program"].of_clap))
     count = sum(it.kind == "contract" for it in found["library"].code)
-    return [
-        ("the clause `shows` of `program`", found["shows"].lines),
-        ("the clause `runs` of `program`", found["runs"].lines),
-        ("both clauses of `program`", found["program"].lines),
-        (f"the {count} exports of the C library", found["library"].lines),
+    unsaid = unsaid_lines(repository)
+    rows = [
+        ("the clause `shows` of `program`", lines["shows"]),
+        ("the clause `runs` of `program`", lines["runs"]),
+        ("both clauses of `program`", lines["program"]),
+        (f"the {count} exports of the C library", lines["library"]),
         ("apart: what stands behind the names of `clap`", Lines(behind, 0, 0)),
+        (f"apart: `main` and `{UNSAID}`, which have no clause", Lines(0, unsaid, 0)),
     ]
+    more = lines["program"].all - lines["shows"].all
+    return Counts(rows, {"shows": lines["shows"].all, "more": more, "clap": behind})
 
 
-def table(found: dict[str, Base]) -> Iterator[str]:
+def table(counts: Counts) -> Iterator[str]:
     """Yields the lines of the table of PROOF."""
     yield "| What has to be read | Definitions | Code | Names | Lines |"
     yield "|---|---|---|---|---|"
-    for what, lines in rows(found):
+    for what, lines in counts.rows:
         numbers = " | ".join(f"{it:,}" for it in (*lines, lines.all))
         yield f"| {what} | {numbers} |"
 
 
-def with_table(proof: str, found: dict[str, Base]) -> str:
+def with_table(proof: str, counts: Counts) -> str:
     """Returns PROOF with its table made anew. Stops where it has no place for it."""
     before, found_begin, rest = proof.partition(BEGIN)
     _, found_end, after = rest.partition(END)
     if not found_begin or not found_end:
         sys.exit(f"{PROOF} lacks the line '{BEGIN}' or, after it, the line '{END}'")
-    return "\n".join([before + BEGIN, "", *table(found), "", END + after])
+    return "\n".join([before + BEGIN, "", *table(counts), "", END + after])
 
 
-def with_numbers(readme: str, found: dict[str, Base]) -> str:
+def with_numbers(readme: str, counts: Counts) -> str:
     """Returns README with its numbers made anew. Stops where it has none of a kind."""
-    lines = {name: base.lines.all for name, base in found.items()}
-    behind = sum(it.lines for it in bases.definitions_of_clap(found["program"].of_clap))
-    values = {"shows": lines["shows"], "more": lines["program"] - lines["shows"], "clap": behind}
     for name, pattern in NUMBERS.items():
         if len(pattern.findall(readme)) != 1:
             sys.exit(f"{README} has to have one number where {pattern.pattern} is looked for")
-        readme = pattern.sub(f"{values[name]:,}", readme)
+        readme = pattern.sub(f"{counts.of_readme[name]:,}", readme)
     return readme
 
 
@@ -156,21 +184,21 @@ def differences(name: str, was: str, text: str) -> list[str]:
     return [*difflib.unified_diff(was.split("\n"), text.split("\n"), *names, lineterm="", n=1)]
 
 
-def compared(top: str, found: dict[str, Base], writes: bool) -> int:
+def compared(top: str, counts: Counts, base: Base, writes: bool) -> int:
     """Compares the pages with what the files give, or writes them, prints the numbers, and returns
-    the status.
+    the status; `base` is that of the program's call.
     """
-    wrong = faults_of_names(sources.read(os.path.join(top, PAGE)), found["program"])
+    wrong = faults_of_names(sources.read(os.path.join(top, PAGE)), base)
     for name, anew in ((README, with_numbers), (PROOF, with_table)):
         path = os.path.join(top, name)
         was = sources.read(path)
-        text = anew(was, found)
+        text = anew(was, counts)
         if writes:
             sources.write(path, text)
         else:
             wrong += differences(name, was, text)
     print(*wrong, sep="\n", end="\n" if wrong else "")
-    for what, lines in rows(found):
+    for what, lines in counts.rows:
         parts = f"{lines.definitions} of definitions, {lines.code} of code, {lines.names} names"
         print(f"{what}: {lines.all} lines, {parts}")
     print(f"{len(wrong)} faults" + ("; see scripts/believed.py --write" if wrong else ""))
@@ -260,17 +288,17 @@ def show(repository: Repository, base: Base) -> None:
 
 def verdict_in(log: str) -> str:
     """Returns what `rt ci` said of the program, or nothing where it proved it before."""
-    return log.partition(f"\n== {PROGRAM}\n")[2].partition("\n== ")[0]
+    return log.partition(f"\n== {bases.PROGRAM}\n")[2].partition("\n== ")[0]
 
 
 def check_of_program(top: str, as_left: bool) -> str:
     """Returns what the kit's check says of the program. Stops where a library is not proved."""
     rtlib = libraries.kit()
-    crate = next(it for it in rtlib.crates_below(top) if it.name == PROGRAM)
+    crate = next(it for it in rtlib.crates_below(top) if it.name == bases.PROGRAM)
     if not_proved := libraries.build(crate.below(), as_left):
         sys.exit(f"{not_proved} is not proved: run rt check in its folder")
     words = crate.words(["--jobs", "1"], keeps=False)
-    return libraries.check(rtlib, os.path.join(top, "crates", PROGRAM), words)
+    return libraries.check(rtlib, os.path.join(top, "crates", bases.PROGRAM), words)
 
 
 def compared_axioms(top: str, log: str, as_left: bool) -> int:
@@ -278,7 +306,7 @@ def compared_axioms(top: str, log: str, as_left: bool) -> int:
     said = verdict_in(log) or check_of_program(top, as_left)
     verdict = ASSUMED.search(said)
     if not verdict:
-        sys.exit(f"crates/{PROGRAM} is not proved:\n{said[-2000:]}")
+        sys.exit(f"crates/{bases.PROGRAM} is not proved:\n{said[-2000:]}")
     written = AXIOMS.findall(sources.read(os.path.join(top, PROOF)))
     is_right = written == [verdict[1]]
     says = "" if is_right else f", and {PROOF} has {' and '.join(written) or 'no number'}"
@@ -307,12 +335,13 @@ def main() -> int:
     if given.axioms:
         return compared_axioms(given.top, sources.read(given.axioms), given.built)
     repository = bases.read_repository(given.top)
-    found = all_bases(repository, given.top)
+    found = all_bases(repository)
     if given.show:
         shown = found | {"other": others(repository, found)}
         show(repository, shown[given.show])
         return 0
-    return compared(given.top, found, given.write)
+    counts = counts_of(repository, found)
+    return compared(given.top, counts, found["program"], given.write)
 
 
 if __name__ == "__main__":

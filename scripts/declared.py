@@ -58,9 +58,7 @@ class CodeItem:
 
 def words_of(declarations: Iterable[Declaration]) -> frozenset[str]:
     """Returns the words of declarations, those of a path apart."""
-    return frozenset(
-        word for one in declarations for token in one.stated for word in token.text.split(".")
-    )
+    return frozenset(word for one in declarations for token in one.stated for word in token.text.split("."))
 
 
 def members_in(declarations: Iterable[Declaration]) -> frozenset[str]:
@@ -69,9 +67,7 @@ def members_in(declarations: Iterable[Declaration]) -> frozenset[str]:
     return frozenset(it.split(".")[-1] for it in texts if re.match(r"[A-Z]\w*\.", it))
 
 
-def item_of(
-    kind: str, name: str, file: File, about: str, declarations: Sequence[Declaration]
-) -> CodeItem:
+def item_of(kind: str, name: str, file: File, about: str, declarations: Sequence[Declaration]) -> CodeItem:
     """Returns an item made of declarations of a file."""
     cites = dict.fromkeys(key for one in declarations for key in file.cites(one.stated))
     wanted = ("fn" if kind == "contract" else "struct", name)
@@ -88,9 +84,7 @@ def item_of(
     )
 
 
-def of_impl(
-    file: File, item: Declaration, types: Container[str], traits: Container[str]
-) -> Iterator[CodeItem]:
+def of_impl(file: File, item: Declaration, types: Container[str], traits: Container[str]) -> Iterator[CodeItem]:
     """Yields what an `impl` adds: a view of a type, or the members of a trait for a type."""
     trait, _, name = item.name.partition(" for ")
     # A member that a private lemma proves is a law of the trait, and says nothing more.
@@ -110,9 +104,7 @@ def of_impl(
 
 def code_items(code: Sequence[File]) -> Iterator[CodeItem]:
     """Yields the traits, types, views, members and constants of files of code, in their order."""
-    public = {
-        file.crate: {it.name for it in file.passed_on} for file in code if file.module == "lib"
-    }
+    public = {file.crate: {it.name for it in file.passed_on} for file in code if file.module == "lib"}
     all_public = set[str]().union(*public.values())
     for file in code:
         types = public[file.crate] | {it.name for it in file.imports} & all_public
