@@ -9,7 +9,7 @@ use linear::{Ean8, Linear, Refusal, Row, read_any};
 use picture::{Bars, Dots, Framed, QuietZone, Scaled, write_pbm};
 use qrdata::{Codewords, Level, Version, choose, codewords};
 use qrmatrix::Matrix;
-use reading::{bars_are_read, read_bars};
+use reading::{bars_are_read, labels_are_read, read, read_bars, symbols_are_read};
 use std::test::Fail;
 use testing::{FailAt, MemSink, MemSource};
 
@@ -46,7 +46,12 @@ fn page_of_linear(rt: HostRuntime) {
 fn page_of_reading(rt: HostRuntime) {
     let digits = [b'0'; 81];
     assert!(rt; Dots::new(81, 1, &digits).is_some_and(|dots| read_bars::<Ean8>(dots, 1).is_none()));
+    assert!(rt;
+        Dots::new(9, 9, &digits).is_some_and(|dots| read(Symbology::Qr, dots, 1).is_none())
+    );
     bars_are_read();
+    symbols_are_read();
+    labels_are_read(&Options::default(), Symbology::Qr, b"1");
 }
 
 #[test]
@@ -80,6 +85,8 @@ fn page_of_qrmatrix(rt: HostRuntime) {
     codewords(&plan, &mut symbol);
     let matrix = Matrix::draw(plan.version(), plan.level(), None, &symbol);
     assert!(rt; matrix.side() == 21 && matrix.mask().number() == 0 && matrix.penalty() == 297);
+    let seen = qrmatrix::read(&matrix.rows()[..21]);
+    assert!(rt; seen.is_some_and(|seen| seen.codewords() == symbol.as_slice()));
 }
 
 #[test]
