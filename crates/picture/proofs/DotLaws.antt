@@ -27,15 +27,6 @@ dot_at width height digits x y wide high =
     ∙ ap (λ (row : List Bool). get_or row x false) (sym (get_or-map-range_with_len
     (λ y. map (λ b. b == 49) (take width (drop (width * y) digits))) 0 height y y [] high (omega arith)))
 
--- a test of numbers in turn
-pub passes_on : (test : ℕ → Bool) (a b n m : ℕ) → n ≡ suc m → b ≡ a + 1 → true ≡ test a
-    → list_all test (range_with_len a n) ≡ list_all test (range_with_len b m)
-passes_on test a b n m more next passes = rw (more, next, ← passes) refl
-
-pub fails_at : (test : ℕ → Bool) (a n m : ℕ) → n ≡ suc m → false ≡ test a
-    → list_all test (range_with_len a n) ≡ false
-fails_at test a n m more fails = rw (more, ← fails) refl
-
 -- the row that all rows are equal to is the first
 pub first_row : (p : Picture) (m : ℕ) (row : List Bool) → p.height ≡ suc m → row ≡ pixel_row p 0
     → common_row (raster p).rows

@@ -1,5 +1,5 @@
 -- What is computed for each number of a range holds for each of them.
-use Rattle.std.proofs.Common.{◌≡◌, ℕ, ◌+◌, ◌-◌, ◌<◌, ◌≤◌, sym, ap, subst, ◌∙◌, arith, map, Bool, true, zero-add}
+use Rattle.std.proofs.Common.{◌≡◌, ℕ, ◌+◌, ◌-◌, ◌<◌, ◌≤◌, sym, ap, subst, ◌∙◌, arith, map, Bool, true, false, zero-add, suc, zero, refl}
 use Rattle.std.specs.Prelude.{slice_index_or}
 use Rattle.std.specs.List.{list_all, range_with_len}
 use Rattle.std.proofs.lemmas.List.FromFn.{get_or-map-range_with_len, get_or-range_with_len, length-range_with_len}
@@ -30,3 +30,25 @@ pub pairs_pass : (test : ℕ → ℕ → Bool) (n j k : ℕ)
     → test j k ≡ true
 pairs_pass test n j k all first second =
     passes (test j) n k (passes (λ j. list_all (test j) (range_with_len 0 n)) n j all first) second
+
+-- a test of numbers in turn
+pub passes_on : (test : ℕ → Bool) (a b n m : ℕ) → n ≡ suc m → b ≡ a + 1 → true ≡ test a
+    → list_all test (range_with_len a n) ≡ list_all test (range_with_len b m)
+passes_on test a b n m more next passes = rw (more, next, ← passes) refl
+
+pub fails_at : (test : ℕ → Bool) (a n m : ℕ) → n ≡ suc m → false ≡ test a
+    → list_all test (range_with_len a n) ≡ false
+fails_at test a n m more fails = rw (more, ← fails) refl
+
+-- two tests agree on the numbers below n
+pub same_tests : (p q : ℕ → Bool) (n : ℕ) → ((k : ℕ) → k < n → p k ≡ q k)
+    → list_all p (range_with_len 0 n) ≡ list_all q (range_with_len 0 n)
+same_tests p q n same = from 0 n (λ k low high. same k (omega (arith, high)))
+  where
+    from : (a m : ℕ) → ((k : ℕ) → a ≤ k → k < a + m → p k ≡ q k)
+        → list_all p (range_with_len a m) ≡ list_all q (range_with_len a m)
+    from a zero each = refl
+    from a (suc m) each = rw (
+      each a (omega arith) (omega arith),
+      from (a + 1) m (λ k low high. each k (omega arith) (omega arith)),
+    ) refl

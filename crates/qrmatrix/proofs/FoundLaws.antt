@@ -68,7 +68,7 @@ if_both true true x y e = (refl, refl, same_Some x y e)
 if_both true false x y e = absurd (none-some y e)
 if_both false b x y e = absurd (none-some y e)
 
-IsFormat-of : (n : ℕ) (m : ℕ → ℕ → Bool) (format : Level × ℕ) → read_format n m ≡ Some format → IsFormat n m format
+pub IsFormat-of : (n : ℕ) (m : ℕ → ℕ → Bool) (format : Level × ℕ) → read_format n m ≡ Some format → IsFormat n m format
 unfolding read_format
 IsFormat-of n m format e =
     let first = information_at m format_copy_1 in
@@ -93,7 +93,7 @@ IsFormat-of n m format e =
       value = sym parts.2 ∙ ap format_of word;
     }
 
-find_in_range : (test : ℕ → Bool) (a n k : ℕ) → find test (range_with_len a n) ≡ Some k
+pub find_in_range : (test : ℕ → Bool) (a n k : ℕ) → find test (range_with_len a n) ≡ Some k
     → (test k ≡ true) × (a ≤ k) × (k < a + n)
 find_in_range test a zero k e = absurd (none-some k e)
 find_in_range test a (suc n) k e = at (test a) refl e (find_in_range test (a + 1) n k)

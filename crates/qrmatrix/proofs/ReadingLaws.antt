@@ -1,11 +1,11 @@
 -- Reading inverts drawing.
-use Rattle.std.proofs.Common.{◌≡◌, ℕ, ◌<◌, ◌≤◌, refl, ap, ◌∙◌, Bool, true, false, cond, List}
+use Rattle.std.proofs.Common.{◌≡◌, ℕ, ◌<◌, ◌≤◌, refl, sym, ap, ◌∙◌, Bool, true, false, cond, List}
 use Rattle.std.proofs.Common.{[], ◌∷◌, length, Option, Some, eq-eqb, arith, inl, inr}
 use mathlib.Core.Bool.{xor}
 use Rattle.std.specs.Bool.{beq}
 use Rattle.std.specs.Prelude.{◌==◌, not, find, is_none, option_map, unwrap_or, map, nat_lt, reverse, All}
 use Rattle.std.specs.List.{range_with_len, filter, list_all}
-use Rattle.std.proofs.lemmas.Bool.{and_from, and_parts, cases_lt, lt-leb, lt-ltb}
+use Rattle.std.proofs.lemmas.Bool.{and_from, and_parts, cases_lt, lt-leb, lt-ltb, ltb-true}
 use Rattle.std.proofs.lemmas.Bool.Decides.{nat_tests}
 use Rattle.qrdata.specs.declared.level.Level.{Level}
 use Rattle.qrmatrix.specs.Functions.{Role, Format, Version, is_free, role, fixed_module}
@@ -19,7 +19,8 @@ use Rattle.qrmatrix.specs.Masks.{is_flipped}
 use Rattle.qrmatrix.specs.Placement.{codeword_bit, rank, remainder_bits}
 use Rattle.qrmatrix.specs.Reading.{walk, read_bits, read_matrix, format_copy_1, format_copy_2, version_copy_1}
 use Rattle.qrmatrix.specs.Reading.{version_copy_2, information_at, read_format, shows_version, shows_functions}
-use Rattle.qrmatrix.proofs.ComputedLaws.{by_version}
+use Rattle.qrmatrix.proofs.ComputedLaws.{by_version, passes}
+use Rattle.qrmatrix.proofs.RowBitsLaws.{same_beq}
 use Rattle.qrmatrix.proofs.SumLaws.{list_all-range}
 use Rattle.qrmatrix.proofs.VersionLaws.{is_walked, room, walked}
 use Rattle.qrmatrix.proofs.WalkLaws.{walk_ranks}
@@ -36,7 +37,7 @@ map_filter_step : {X Y : Type 0} (b : Bool) (f g : X → Y) (x : X) (ys : List X
 map_filter_step true f g x ys h e = let k = h refl in cc
 map_filter_step false f g x ys h e = e
 
-map_filter : {X Y : Type 0} (test inside : X → Bool) (f g : X → Y)
+pub map_filter : {X Y : Type 0} (test inside : X → Bool) (f g : X → Y)
     → ((x : X) → inside x ≡ true → test x ≡ true → f x ≡ g x) → (xs : List X)
     → list_all inside xs ≡ true → map f (filter test xs) ≡ map g (filter test xs)
 map_filter test inside f g h [] i = refl
@@ -132,20 +133,32 @@ module _ (v : ℕ) (level : Level) (mask : ℕ) (codewords : List ℕ) where
       (λ x lx. rw (module_inside x y (inside_from (side_of v) x y (omega arith) (omega arith)))
       (grind arith)))
 
+module _ (v : ℕ) (level : Level) (mask : ℕ) (m : ℕ → ℕ → Bool) (shown : shows_functions v level mask m ≡ true) where
+  -- each module that a pattern has
+  pub fixed_at : (x y : ℕ) → is_inside (side_of v) x y ≡ true → m x y ≡ unwrap_or (fixed_module v level mask x y) (m x y)
+  unfolding shows_functions
+  fixed_at x y inside =
+      let places = range_with_len 0 (side_of v) in
+      let test : ℕ → ℕ → Bool = λ x y. beq (unwrap_or (fixed_module v level mask x y) (m x y)) (m x y) in
+      let parts = and_parts (nat_lt x (side_of v)) (nat_lt y (side_of v)) inside in
+      sym (same_beq _ _ (passes (λ x. test x y) (side_of v) x
+      (passes (λ y. list_all (λ x. test x y) places) (side_of v) y shown (ltb-true y (side_of v) parts.1))
+      (ltb-true x (side_of v) parts.0)))
+
   -- the number at places where its bits have their roles
   information_at-shown : (places : List (ℕ × ℕ)) (kind : ℕ → Role) (information count : ℕ)
       → ((i : ℕ) → module_of_role v level mask (kind i) ≡ bit information i) → roles_at v places ≡ roles_of kind count
-      → information_at (module_at v level mask codewords) places ≡ respelled count information
+      → information_at m places ≡ respelled count information
   unfolding fixed_module
   information_at-shown places kind information count by roles =
       ap (λ bits. number_of (reverse bits))
       (map_related (λ (p : ℕ × ℕ). (role v p.0 p.1, is_inside (side_of v) p.0 p.1)) (λ i. (Some (kind i), true))
-      (λ (p : ℕ × ℕ). module_at v level mask codewords p.0 p.1) (bit information)
-      (λ p i e. module_inside p.0 p.1 (ap (λ (r : Option Role × Bool). r.1) e)
+      (λ (p : ℕ × ℕ). m p.0 p.1) (bit information)
+      (λ p i e. fixed_at p.0 p.1 (ap (λ (r : Option Role × Bool). r.1) e)
       ∙ rw (ap (λ (r : Option Role × Bool). r.0) e) (by i)) places (range_with_len 0 count) roles)
 
   module _ (at_least : 1 ≤ v) (at_most : v ≤ 10) (mask_below : mask < 8) where
-    pub format_shown : read_format (side_of v) (module_at v level mask codewords) ≡ Some (level, mask)
+    pub format_shown : read_format (side_of v) m ≡ Some (level, mask)
     unfolding read_format
     format_shown =
         let information = format_information level mask in
@@ -158,7 +171,7 @@ module _ (v : ℕ) (level : Level) (mask : ℕ) (codewords : List ℕ) where
         let number = ap (λ (r : FormatReading). r.number) read in
         rw (one, two, number, eq-eqb information information refl) (ap (λ (r : FormatReading). r.read) read)
 
-    pub version_is_shown : shows_version v (side_of v) (module_at v level mask codewords) ≡ true
+    pub version_is_shown : shows_version v (side_of v) m ≡ true
     unfolding shows_version
     version_is_shown =
         elim (cases_lt v 7) [
@@ -177,15 +190,18 @@ module _ (v : ℕ) (level : Level) (mask : ℕ) (codewords : List ℕ) where
               rw (one, two, number, rest, version) (grind (arith, nat_tests))
         ]
 
+module _ (v : ℕ) (level : Level) (mask : ℕ) (codewords : List ℕ) where
+  module _ (at_least : 1 ≤ v) (at_most : v ≤ 10) (mask_below : mask < 8) where
     pub reads_back : length codewords ≡ total_codewords v → All (λ w. w < 256) codewords
         → read_matrix (side_of v) (module_at v level mask codewords)
         ≡ Some (record { version = v; level = level; codewords = codewords })
     unfolding read_matrix
     reads_back n h =
+        let shown = functions_shown v level mask codewords in
         rw (
           version_by_side v at_least at_most,
-          format_shown,
-          version_is_shown,
-          functions_shown,
-          codewords_of-read_bits at_least at_most n h,
+          format_shown v level mask (module_at v level mask codewords) shown at_least at_most mask_below,
+          version_is_shown v level mask (module_at v level mask codewords) shown at_least at_most mask_below,
+          shown,
+          codewords_of-read_bits v level mask codewords at_least at_most n h,
         )

@@ -74,7 +74,7 @@ unfolding left_by taken_rows total_codewords remainder_bits version_information 
 left = by_version (λ v. left_by (side_of v) (taken_rows v)) (λ v. record { square = room v; walk = room v }) refl
 
 -- tests that agree inside pass the same places
-same_filter : (p q inside : ℕ × ℕ → Bool) → ((a : ℕ × ℕ) → inside a ≡ true → p a ≡ q a) → (xs : List (ℕ × ℕ))
+pub same_filter : (p q inside : ℕ × ℕ → Bool) → ((a : ℕ × ℕ) → inside a ≡ true → p a ≡ q a) → (xs : List (ℕ × ℕ))
     → list_all inside xs ≡ true → filter p xs ≡ filter q xs
 same_filter p q inside h [] i = refl
 same_filter p q inside h (x ∷ xs) i =

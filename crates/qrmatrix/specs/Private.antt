@@ -8,3 +8,5 @@ pub mod Squares
 pub mod PenaltyParts
 pub mod MaskOrder
 pub mod Drawing
+pub mod BitsInCodewords
+pub mod Walking

@@ -39,7 +39,7 @@ impl Model for Matrix {
 
 /// Proves that the numbers of a slice of bytes are below 256, which the type of an `ArrayVec` does not say to a proof.
 /// It does nothing when it runs.
-fn are_bytes(bytes: &[u8])
+pub(crate) fn are_bytes(bytes: &[u8])
     ensures { All (λ b. b < 256) bytes.now }
 {}
 

@@ -1,1 +1,2 @@
 mod WidthLaws
+mod SquareLaws

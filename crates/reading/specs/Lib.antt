@@ -1,1 +1,3 @@
 pub mod Bars
+pub mod Squares
+pub mod Private

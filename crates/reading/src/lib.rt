@@ -5,5 +5,7 @@
 #![tactic(auto)]
 
 mod bars;
+mod squares;
 
 pub use bars::{bars_are_read, read_bars};
+pub use squares::{read_qr, symbols_are_read};

@@ -2,7 +2,8 @@ use Rattle.std.proofs.Common.{◌≡◌, ◌+◌, ◌-◌, Bool, suc, refl, sym,
 use Rattle.std.specs.Bool.{beq, then_some}
 use Rattle.std.specs.Cmp.Lexicographic.{pointwise}
 use Rattle.picture.specs.Text.{pixel_row}
-use Rattle.picture.proofs.DotLaws.{equal_rows_pass, fails_at, first_row, passes_on}
+use Rattle.picture.proofs.DotLaws.{equal_rows_pass, first_row}
+use Rattle.qrmatrix.proofs.ComputedLaws.{fails_at, passes_on}
 use Rattle.picture.proofs.one_row.common_row.Goals as goal
 
 pub loop-y-init : goal.loop-y-init

@@ -3,7 +3,7 @@ use Rattle.std.specs.List.{list_all}
 use Rattle.picture.specs.Dots.{raster_in}
 use Rattle.picture.specs.Private.Dots.{is_of_cell}
 use Rattle.picture.specs.Text.{below}
-use Rattle.picture.proofs.DotLaws.{passes_on, fails_at}
+use Rattle.qrmatrix.proofs.ComputedLaws.{fails_at, passes_on}
 use Rattle.picture.proofs.EqualDotLaws.{first_tells}
 use Rattle.picture.proofs.sampled.are_cells.Goals as goal
 

@@ -1,7 +1,7 @@
 use Rattle.std.proofs.Common.{◌+◌, ◌-◌, ◌/◌, ℕ, refl, sym, ◌∙◌, arith}
 use Rattle.picture.specs.Dots.{raster_in}
 use Rattle.picture.specs.Private.Dots.{is_of_cell}
-use Rattle.picture.proofs.DotLaws.{passes_on, fails_at}
+use Rattle.qrmatrix.proofs.ComputedLaws.{fails_at, passes_on}
 use Rattle.picture.proofs.sampled.is_row_of_cells.Goals as goal
 
 pub returns-then-not-is_of_cell : goal.returns-then-not-is_of_cell

@@ -1,0 +1,49 @@
+-- The walk over the modules, row by row of a strip (ISO/IEC 18004, 7.7.3).
+use Rattle.std.specs.Prelude.{◌≡◌, ◌<◌, ℕ, ◌+◌, ◌-◌, ◌*◌, ◌/◌, Bool, false, List, [], ◌∷◌, ◌++◌, if◌then◌else◌}
+use Rattle.std.specs.Prelude.{not, ◌||◌, Some}
+use Rattle.std.specs.Bool.{beq}
+use Rattle.std.specs.List.{flat_map, list_all, range_with_len}
+use Rattle.qrdata.specs.declared.level.Level.{Level}
+use Rattle.qrdata.specs.declared.level.Level.TheVariants.{L, M, Q, H}
+use Rattle.qrdata.specs.Versions.{side_of}
+use Rattle.qrmatrix.specs.Functions.{fixed_module, is_free}
+use Rattle.qrmatrix.specs.Private.Counting.{one_if}
+use Rattle.qrmatrix.specs.Private.Placing.{right_column, row_of}
+use Rattle.qrmatrix.specs.Private.Drawing.{MarksFree}
+use Rattle.qrmatrix.specs.Square.{value_at}
+
+-- the free ones of two modules: the right one, then the left one
+abbrev pub pair_bits : (right_free left_free right left : Bool) → List Bool
+pair_bits right_free left_free right left =
+    (if right_free then right ∷ [] else []) ++ (if left_free then left ∷ [] else [])
+
+-- the free modules of a row that a strip reaches after t others
+abbrev pub row_bits : ℕ → (free modules : ℕ → ℕ → Bool) → ℕ → ℕ → List Bool
+row_bits n free modules strip t =
+    let x = right_column n strip in
+    let y = row_of n strip t in
+    pair_bits (free x y) (free (x - 1) y) (modules x y) (modules (x - 1) y)
+
+-- the free modules of a strip
+unfoldable pub strip_bits : ℕ → (free modules : ℕ → ℕ → Bool) → ℕ → List Bool
+strip_bits n free modules strip = flat_map (row_bits n free modules strip) (range_with_len 0 n)
+
+-- the free modules of all strips
+unfoldable pub walk_bits : ℕ → (free modules : ℕ → ℕ → Bool) → List Bool
+walk_bits n free modules = flat_map (strip_bits n free modules) (range_with_len 0 ((n - 1) / 2))
+
+-- the level and the mask that the five highest bits of the format information name, the highest first
+abbrev pub format_named : (fourteen thirteen twelve eleven ten : Bool) → Level × ℕ
+format_named fourteen thirteen twelve eleven ten =
+    let level = if fourteen then (if thirteen then L else M) else (if thirteen then Q else H) in
+    (level, 4 * one_if (not twelve) + (2 * one_if eleven + one_if (not ten)))
+
+-- whether each module of a row that is not free is as it should be
+abbrev pub shows_row : ℕ → (row free dark : ℕ → Bool) → Bool
+shows_row n row free dark = list_all (λ x. free x || beq (dark x) (row x)) (range_with_len 0 n)
+
+-- the free modules of a symbol, and those of the others that are dark
+pub record DrawsPatterns (v : ℕ) (level : Level) (mask : ℕ) (free dark : List (List Bool)) : Type 0 where
+  pub marked : MarksFree v free
+  pub drawn : (x y : ℕ) → x < side_of v → y < side_of v → is_free v x y ≡ false
+      → fixed_module v level mask x y ≡ Some (value_at dark x y)

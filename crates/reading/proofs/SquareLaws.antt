@@ -1,0 +1,151 @@
+-- Modules that are a square, and what they are read as.
+use mathlib.Core.Path.{fun_ext}
+use Rattle.std.proofs.Common.{◌≡◌, ◌≢◌, ℕ, zero, suc, ◌+◌, ◌<◌, ◌≤◌, refl, sym, ap, ◌∙◌, arith, Bool, true, false, inl, inr}
+use Rattle.std.proofs.Common.{List, Option, [], None, length, map, take, get_or, ◌&&◌, ◌||◌, ◌==◌, ◌*◌, ◌^◌, ◌%◌}
+use Rattle.std.specs.Prelude.{bit_or, nat_lt, option_and_then, slice_index}
+use Rattle.std.specs.Bool.{then_some}
+use Rattle.std.specs.List.{list_all, range_with_len}
+use Rattle.std.proofs.lemmas.Bool.{cases_eq, cases_lt, eq-eqb, ne_eqb}
+use Rattle.std.proofs.lemmas.Bool.Decides.{nat_tests}
+use Rattle.std.proofs.lemmas.List.{get_or-take, get_or_past, length-take-le}
+use Rattle.std.proofs.lemmas.List.FromFn.{get_or-map-range_with_len, length-map-range_with_len}
+use Rattle.qrdata.specs.Reading.{data_in}
+use Rattle.qrmatrix.specs.Bits.{bit}
+use Rattle.qrmatrix.specs.Reading.{Reading, read_matrix, read_rows, read_square}
+use Rattle.qrmatrix.specs.Symbol.{is_dark}
+use Rattle.qrmatrix.proofs.ReadingLaws.{module_outside}
+use Rattle.qrmatrix.proofs.RowBitsLaws.{above_bit, or_bit, two_bits}
+use Rattle.qrmatrix.specs.Square.{value_at}
+use Rattle.qrmatrix.proofs.SymbolReadingLaws.{wide_side}
+use Rattle.picture.specs.Picture.{Picture, symbol_picture}
+use Rattle.picture.specs.Reading.{raster}
+use Rattle.picture.specs.Text.{pixel_row}
+use Rattle.picture.proofs.SampleLaws.{sample-raster, value_at-raster}
+use Rattle.reading.specs.Private.{symbol_in}
+use Rattle.reading.specs.Squares.{SymbolsAreRead, qr_zone}
+
+module _ (p : Picture) where
+  -- a pixel of a raster, which is light outside
+  pub pixel_at : (x y : ℕ) → value_at (raster p).rows x y ≡ ((nat_lt x p.width && nat_lt y p.height) && p.dark x y)
+  pixel_at x y = elim (cases_lt y p.height) [
+    | inl high ↦ elim (cases_lt x p.width) [
+      | inl wide ↦ value_at-raster p x y wide high ∙ grind (arith, nat_tests)
+      | inr past ↦
+          ap (λ (row : List Bool). get_or row x false)
+          (get_or-map-range_with_len (pixel_row p) 0 p.height y y [] high (omega arith))
+          ∙ get_or_past (pixel_row p y) x false (omega (arith, past, length-map-range_with_len (λ x. p.dark x y) 0 p.width))
+          ∙ grind (arith, nat_tests)
+    ]
+    | inr past ↦
+        ap (λ (row : List Bool). get_or row x false)
+        (get_or_past (raster p).rows y [] (omega (arith, past, length-map-range_with_len (pixel_row p) 0 p.height)))
+        ∙ grind (arith, nat_tests)
+  ]
+
+  long : length (raster p).rows ≡ p.height
+  long = length-map-range_with_len (pixel_row p) 0 p.height
+
+  -- whether rows are as long as some number
+  are_long : ℕ → List (List Bool) → Bool
+  are_long n rows = list_all (λ row. length row == n) rows
+
+  wide_rows : (n a m : ℕ) → p.width ≡ n → are_long n (map (pixel_row p) (range_with_len a m)) ≡ true
+  unfolding are_long
+  wide_rows n a zero e = refl
+  wide_rows n a (suc m) e =
+      rw (length-map-range_with_len (λ x. p.dark x a) 0 p.width, eq-eqb p.width n e) (wide_rows n (a + 1) m e)
+
+  other_rows : (n m : ℕ) → p.width ≢ n → are_long n (map (pixel_row p) (range_with_len 0 (suc m))) ≡ false
+  unfolding are_long
+  other_rows n m ne = rw (length-map-range_with_len (λ x. p.dark x 0) 0 p.width, ne_eqb p.width n ne) refl
+
+  pub square_read : p.width ≡ p.height → symbol_in (raster p).rows ≡ read_matrix p.width (value_at (raster p).rows)
+  unfolding symbol_in are_long
+  square_read e = rw (long, wide_rows p.height 0 p.height e, e) refl
+
+  pub not_square : p.width ≢ p.height → symbol_in (raster p).rows ≡ None
+  unfolding symbol_in are_long read_matrix
+  not_square ne = at p.height refl
+    where
+      at : (h : ℕ) → p.height ≡ h → symbol_in (raster p).rows ≡ None
+      at zero e = rw (long, e) refl
+      at (suc h) e =
+          let other : p.width ≢ suc h = λ same. ne (same ∙ sym e) in
+          rw (long, e, other_rows (suc h) h other) refl
+
+  pub wide_square : 57 < p.width → symbol_in (raster p).rows ≡ None
+  wide_square wide = elim (cases_eq p.width p.height) [
+    | inl e ↦ square_read e ∙ wide_side p.width (value_at (raster p).rows) wide
+    | inr ne ↦ not_square ne
+  ]
+
+-- ---- data
+
+-- the data of what modules were read as
+abbrev pub symbol_data : Option Reading → Option (List ℕ)
+symbol_data symbol = option_and_then (λ symbol. data_in symbol.version symbol.level symbol.codewords) symbol
+
+pub data_of_symbol : (rows : List (List Bool)) → read_rows rows ≡ symbol_data (symbol_in rows)
+unfolding symbol_in
+data_of_symbol rows = at (list_all (λ row. length row == length rows) rows)
+  where
+    at : (b : Bool) → option_and_then (λ n. read_square n (value_at rows)) (then_some b (length rows))
+        ≡ symbol_data (option_and_then (λ n. read_matrix n (value_at rows)) (then_some b (length rows)))
+    at true = refl
+    at false = refl
+
+-- ---- words
+
+-- one module more in a word
+pub module_added : (row b k x : ℕ) (dark : Bool) → k < 57 → (dark ≡ true → b ≡ 1) → (dark ≡ false → b ≡ 0)
+    → bit (bit_or row (b * 2 ^ k % 2 ^ 64)) x ≡ (bit row x || (x == k && dark))
+module_added row b k x dark few on off =
+    or_bit row (b * 2 ^ k % 2 ^ 64) x ∙ ap (λ z. bit row x || z) (at dark refl)
+  where
+    at : (d : Bool) → dark ≡ d → bit (b * 2 ^ k % 2 ^ 64) x ≡ (x == k && dark)
+    at true is = rw (on is, two_bits 1 k x (omega arith) (omega arith)) (grind arith)
+    at false is = rw (off is, two_bits 0 k x (omega arith) (omega arith)) (grind arith)
+
+-- the columns of a row so far, and one more
+pub column_added : (line : ℕ → Bool) (k x : ℕ) → ((nat_lt x k && line x) || (x == k && line k)) ≡ (nat_lt x (k + 1) && line x)
+column_added line k x = elim (cases_eq x k) [
+  | inl e ↦ rw e (grind (arith, nat_tests))
+  | inr ne ↦ grind (arith, nat_tests)
+]
+
+-- words that have the rows of a square are read as the square
+pub square_of_words : (p : Picture) (rows : List ℕ) (n : ℕ) → p.width ≡ n → p.height ≡ n → n ≤ length rows
+    → ((x y : ℕ) → y < n → bit (get_or rows y 0) x ≡ (nat_lt x p.width && p.dark x y))
+    → read_matrix (length (take n rows)) (λ x y. bit (slice_index (take n rows) y) x) ≡ symbol_in (raster p).rows
+square_of_words p rows n wide high long is =
+    rw (length-take-le n rows long) (ap (read_matrix n) (fun_ext (λ x. fun_ext (λ y. same x y))))
+    ∙ ap (λ k. read_matrix k (value_at (raster p).rows)) (sym wide)
+    ∙ sym (square_read p (wide ∙ sym high))
+  where
+    same : (x y : ℕ) → bit (slice_index (take n rows) y) x ≡ value_at (raster p).rows x y
+    same x y = elim (cases_lt y n) [
+      | inl inside ↦
+          ap (λ w. bit w x) (get_or-take n rows y 0 inside) ∙ is x y inside
+          ∙ sym (pixel_at p x y ∙ grind (arith, nat_tests))
+      | inr past ↦
+          ap (λ w. bit w x) (get_or_past (take n rows) y 0 (omega (arith, past, length-take-le n rows long)))
+          ∙ above_bit 0 0 x (omega arith) (omega arith) ∙ sym (pixel_at p x y ∙ grind (arith, nat_tests))
+    ]
+
+-- ---- symbols that are drawn
+
+pub are_read : SymbolsAreRead
+unfolding are_long
+are_read v level asked codewords s scale is some =
+    ap (option_and_then read_rows) (sample-raster (symbol_picture s) qr_zone scale some)
+    ∙ rw (long (symbol_picture s), wide_rows (symbol_picture s) s.side 0 s.side refl)
+    (ap (read_square s.side) (fun_ext (λ x. fun_ext (λ y. pixel x y)))
+    ∙ ap (option_and_then (λ symbol. data_in symbol.version symbol.level symbol.codewords)) is.reads)
+  where
+    pixel : (x y : ℕ) → value_at (raster (symbol_picture s)).rows x y ≡ is_dark s x y
+    pixel x y = pixel_at (symbol_picture s) x y ∙ at (nat_lt x s.side && nat_lt y s.side) refl
+      where
+        at : (b : Bool) → (nat_lt x s.side && nat_lt y s.side) ≡ b → (b && is_dark s x y) ≡ is_dark s x y
+        at true inside = refl
+        at false outside = sym (is.modules x y ∙ module_outside v level s.mask codewords x y
+            (rw is.side at outside))
