@@ -59,7 +59,7 @@ use Rattle.qrmatrix.proofs.ReadingLaws.{module_outside, reads_back}
 use Rattle.picture.specs.Text.{below, pixel_row}
 
 -- modules of some size that are read as the full data
-record IsReadable (symbol : Symbol) : Type 0 where
+pub record IsReadable (symbol : Symbol) : Type 0 where
   pub some_columns : 0 < symbol.modules.width
   pub columns : symbol.modules.width ≤ 1795
   pub some_rows : 0 < symbol.modules.height
@@ -319,6 +319,17 @@ module _ (options : Options) (range : AreInRange options.run options.label) wher
       → IfOk (symbol_of options.label symbology bytes)
       (λ symbol. IsRead options.run.format options.run.scale (image_of options.run (drawn symbol)) symbol)
   image_of_data_read symbology bytes fits = outcome_read options.run options.label range _
+      (symbol_readable options.run options.label range symbology bytes (recursion_from_All (λ b. b < 256) bytes
+      (are_bytes bytes fits)))
+
+  outcome_is_readable : (found : Result Symbol Fault) → HasReadable (outcome_of found) → IfOk found IsReadable
+  outcome_is_readable (Ok symbol) h = h
+  outcome_is_readable (Err fault) h = tt
+
+  -- the modules of data are of some size, and are read as its full data
+  pub data_is_readable : (symbology : Symbology) (bytes : List ℕ) → ((i : ℕ) → Fits w8 (get_or bytes i 0))
+      → IfOk (symbol_of options.label symbology bytes) IsReadable
+  data_is_readable symbology bytes fits = outcome_is_readable _
       (symbol_readable options.run options.label range symbology bytes (recursion_from_All (λ b. b < 256) bytes
       (are_bytes bytes fits)))
 

@@ -1,2 +1,3 @@
 mod WidthLaws
 mod SquareLaws
+mod LabelLaws

@@ -1,3 +1,4 @@
 pub mod Bars
 pub mod Squares
+pub mod Labels
 pub mod Private

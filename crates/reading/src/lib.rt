@@ -5,7 +5,9 @@
 #![tactic(auto)]
 
 mod bars;
+mod labels;
 mod squares;
 
 pub use bars::{bars_are_read, read_bars};
+pub use labels::{labels_are_read, read};
 pub use squares::{read_qr, symbols_are_read};

@@ -1,0 +1,18 @@
+-- What dots are read as by the rules of a label's symbology.
+-- Why: `read_short`, `read_dots`: the same sampling and the same rules as of an image that was drawn.
+use Rattle.std.specs.Prelude.{ℕ, Bool, List, [], None, Option, if◌then◌else◌, length, nat_le, slice_index_or}
+use Rattle.labelcore.specs.declared.symbology.Symbology.{Symbology}
+use Rattle.linear.specs.declared.limits.TheConstants.{MAX_MODULES}
+use Rattle.qrdata.specs.Steps.{◌>>=◌}
+use Rattle.picture.specs.Reading.{Raster, sample}
+use Rattle.filter.specs.Reading.{read_modules}
+use Rattle.filter.specs.Symbol.{quiet_zone}
+
+-- the full data of a symbol's modules, row by row; those whose first row is longer than that of any symbol are not read
+abbrev pub read_short : Symbology → List (List Bool) → Option (List ℕ)
+read_short symbology rows =
+    if nat_le (length (slice_index_or rows 0 [])) MAX_MODULES then read_modules symbology rows else None
+
+-- the full data of a raster as a symbol of a symbology, in its quiet zone
+abbrev pub read_dots : Symbology → ℕ → Raster → Option (List ℕ)
+read_dots symbology scale r = sample r scale (quiet_zone symbology) >>= read_short symbology
