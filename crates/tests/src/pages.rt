@@ -7,7 +7,7 @@ use gf256::{Generator, mul, pow_alpha};
 use labelcore::{Fault, Format, Item, LineBuf, Options, Scratch, Symbology, parse};
 use linear::{Ean8, Linear, Refusal, Row, read_any};
 use picture::{Bars, Dots, Framed, QuietZone, Scaled, write_pbm};
-use qrdata::{Codewords, Level, Version, choose, codewords};
+use qrdata::{Codewords, Level, Version, choose, codewords, read_data};
 use qrmatrix::Matrix;
 use reading::{bars_are_read, labels_are_read, read, read_bars, symbols_are_read};
 use std::test::Fail;
@@ -73,6 +73,8 @@ fn page_of_qrdata(rt: HostRuntime) {
     let mut symbol = Codewords::new();
     codewords(&plan, &mut symbol);
     assert!(rt; symbol.len() == 26 && symbol[0] == 32 && symbol[1] == 91);
+    let read = read_data(plan.version(), plan.level(), symbol.as_slice());
+    assert!(rt; read.is_some_and(|data| data.as_slice() == b"HELLO WORLD".as_slice()));
 }
 
 #[test]
