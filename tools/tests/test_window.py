@@ -683,10 +683,10 @@ class WindowTest(unittest.TestCase):
         self.assertLess(time.process_time() - before, 0.005 * len(numbers))
 
     def test_a_child_that_is_not_there_is_seen_at_the_start(self):
-        """All widgets that the window names are in window.ui."""
-        for name, child in vars(window.Window).items():
-            if isinstance(child, Gtk.Template.Child):
-                self.assertIsNotNone(getattr(self.window, name))
+        self.assertEqual(window.lacking(self.window), [])
+        count, self.window.count = self.window.count, None
+        self.assertEqual(window.lacking(self.window), ["count"])
+        self.window.count = count
 
     def test_saves_beside_the_table(self):
         self.open()
