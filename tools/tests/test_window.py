@@ -683,10 +683,10 @@ class WindowTest(unittest.TestCase):
         self.assertLess(time.process_time() - before, 0.005 * len(numbers))
 
     def test_a_child_that_is_not_there_is_seen_at_the_start(self):
-        """All widgets that the window names are in window.ui."""
-        for name, child in vars(window.Window).items():
-            if isinstance(child, Gtk.Template.Child):
-                self.assertIsNotNone(getattr(self.window, name))
+        self.assertEqual(window.lacking(self.window), [])
+        count, self.window.count = self.window.count, None
+        self.assertEqual(window.lacking(self.window), ["count"])
+        self.window.count = count
 
     def test_saves_beside_the_table(self):
         self.open()
@@ -849,7 +849,8 @@ class WindowTest(unittest.TestCase):
             "from labeltools.window import _, Gtk\n"
             "print(_('of {all}').format(all=1))\n"
             "text = window.FILE.read_text()\n"
-            "text = text.replace('<template class=', '<object id=').replace('template>', 'object>')\n"
+            "text = text.replace('<template class=', '<object id=')\n"
+            "text = text.replace('template>', 'object>')\n"
             "text = text.replace('parent=', 'class=')\n"
             "builder = Gtk.Builder()\n"
             "builder.add_from_string(text)\n"
