@@ -30,6 +30,7 @@ from labeltools.symbologies import SYMBOLOGIES, Span, Symbology
 DARK = re.compile("1+")
 INSET = 0.01  # of a dot: what touches a dot paints it
 NOT_LATIN = re.compile("[^\0-\u024f]")  # letters that may leave their line
+ELLIPSIS = 1 << 1  # PANGO_ANALYSIS_FLAG_IS_ELLIPSIS of a run
 SIDE = 16  # lines have this part of the size of letters as room at their sides
 STEP = 20  # letters that do not fit lose this part of their size
 # texts that are kept as they are laid out, and those that are known to have come once: many
@@ -179,6 +180,16 @@ class Pen:
         if item.label.is_cut:
             return True
         return any(self.is_cut(*part) for part in self.lines_of(item.label, item.layout))
+
+    def shown_texts(self, item: LaidOut) -> tuple[str, ...]:
+        """Returns the title and the text of a label as they are seen: up to the ellipsis, where
+        they have one.
+        """
+        shown = []
+        for text, style, width in self.lines_of(item.label, item.layout):
+            layout = self.laid_out(text, style, width, style.size)
+            shown.append(seen_in(layout) if layout.is_ellipsized() else text)
+        return tuple(shown)
 
     def lines_of(self, label: PrintLabel, layout: Layout) -> Iterator[tuple[str, Style, int]]:
         """Yields the texts of a label that may be cut, with the width of their lines."""
@@ -466,6 +477,18 @@ def titled(title: str, frame: Frame) -> tuple[str, int]:
     if lines < 1:
         return title.replace("\n", " "), max(1, frame.lines)
     return title, lines
+
+
+def seen_in(layout: Any) -> str:
+    """Returns the letters of a layout of Pango, with an ellipsis where it has left some out."""
+    text = layout.get_text().encode()
+    seen = b""
+    for line in layout.get_lines_readonly():
+        for run in line.runs:
+            item = run.item
+            is_ellipsis = item.analysis.flags & ELLIPSIS
+            seen += "…".encode() if is_ellipsis else text[item.offset : item.offset + item.length]
+    return seen.decode()
 
 
 def ink_of(layout: Any) -> Box:

@@ -18,6 +18,7 @@ from labeltools.command_line import (
     hold_signals,
     read_input,
     standard_output,
+    wrong_argument,
 )
 from labeltools.engine import option_words
 from labeltools.files import save, send
@@ -84,7 +85,7 @@ def reads(example: str, least: float = 0.0, kind: type = float) -> Callable[[str
         match = pattern.fullmatch(argument)
         numbers = [kind(number) for number in match.groups()] if match else []
         if not numbers or min(numbers) < least:
-            raise argparse.ArgumentTypeError(f"{argument!r} is not as {example}")
+            raise wrong_argument(Text("{!r} is not as {}", argument, example))
         return tuple(numbers) if len(numbers) > 1 else numbers[0]
 
     return number
@@ -100,15 +101,16 @@ def edges(argument: str) -> tuple[float, float, float, float]:
 def design_of(argument: str) -> str:
     """Returns the name of a design, or the file of a user's own."""
     if argument not in DESIGNS and not is_file(argument):
-        known = f"{', '.join(DESIGNS)}, or a file such as rack.svg"
-        raise argparse.ArgumentTypeError(f"{argument!r} is none of {known}")
+        known = ", ".join(DESIGNS)
+        what = Text("{!r} is none of {}, or a file such as rack.svg", argument, known)
+        raise wrong_argument(what)
     return argument
 
 
 def rows(argument: str) -> str:
     """Returns rows such as 2,7-9 or 7-."""
     if not ROWS.fullmatch(argument):
-        raise argparse.ArgumentTypeError(f"{argument!r} is not as 2,7-9 or 7-")
+        raise wrong_argument(Text("{!r} is not as 2,7-9 or 7-", argument))
     return argument
 
 

@@ -18,7 +18,7 @@ from labeltools.forms import ESCPOS, FORMS, PDF, Form
 from labeltools.layout import LaidOut, LaidOutFile, PrintLabel, lay_out, print_label
 from labeltools.letters import Fonts, Letters
 from labeltools.lines_file import UNPRINTABLE, LineRecord, LinesFile, read_lines
-from labeltools.messages import BAD_ARGUMENTS, Place, Talk, ToolError
+from labeltools.messages import BAD_ARGUMENTS, Place, Talk, ToolError, quoted
 from labeltools.own_design import is_file, read_design, size_of_page
 from labeltools.own_layout import OwnLayouts
 from labeltools.own_pen import with_colours
@@ -398,6 +398,24 @@ def remarks_on(
     if shortened:
         said = Text("{}: shortened to fit, with an ellipsis", places_of(shortened, has_tables))
         yield Remark(shortened[0].label.record.place, said)
+        yield from alike(shortened, has_tables, pen)
+
+
+def alike(items: Sequence[LaidOut], has_tables: bool, pen: Pen) -> Iterable[Remark]:
+    """Yields which labels show the same title and text once these are shortened, though their own
+    differ: the first of each kind of them.
+    """
+    found: dict[tuple[str, ...], list[LaidOut]] = {}
+    for item in items:
+        found.setdefault(pen.shown_texts(item), []).append(item)
+    for shown, same in found.items():
+        if len({(item.label.title, item.label.text) for item in same}) > 1:
+            said = Text(
+                "{}: the same once shortened, {}: put what differs in front",
+                places_of(same, has_tables),
+                quoted(" ".join(shown)),
+            )
+            yield Remark(same[0].label.record.place, said)
 
 
 def has_low_bars(item: LaidOut) -> bool:
