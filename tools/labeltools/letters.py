@@ -17,6 +17,7 @@ KEPT = 2048  # words of which the extent is kept
 MOST_NAMED = 9  # letters that a message names
 # letters that stand one behind another: Latin, Greek, Cyrillic; punctuation; currencies
 SIMPLE = ((0x20, 0x2FF), (0x370, 0x482), (0x48A, 0x52F), (0x2010, 0x2027), (0x20A0, 0x20CF))
+OTHERS = re.compile("[^" + "".join(f"{chr(one)}-{chr(other)}" for one, other in SIMPLE) + "]")
 SPACED = re.compile("[^ ]+ *| +")
 FONTS_OF_LETTERS = "apt-get install fonts-noto-core fonts-noto-cjk"
 FONTS_OF_SIGNS = "apt-get install fonts-symbola"
@@ -140,7 +141,7 @@ class Letters:
         """Returns the parts of a line behind which it may be wrapped, with the spaces behind them:
         words, or in scripts that are written without spaces what Pango says.
         """
-        if self.line(line, False):
+        if not OTHERS.search(line):
             return SPACED.findall(line)
         self.wrapped.set_text(line, -1)
         written = line.encode()

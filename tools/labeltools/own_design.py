@@ -17,6 +17,7 @@ from base64 import b64decode
 from contextlib import suppress
 from copy import deepcopy
 from dataclasses import dataclass, replace
+from functools import lru_cache
 from pathlib import Path
 from typing import Any, Iterator, NamedTuple, Optional
 from xml.etree import ElementTree
@@ -49,6 +50,7 @@ MOST_PIXELS = 50_000_000  # of a picture
 PICTURE_HEAD = 65_536  # letters of base 64 in which its size is
 NEAR = 1.0  # millimetres by which a page may differ from a label
 ALIKE = 0.015  # by which the proportions of a page without millimetres may
+MOST_KNOWN = 1024  # names whose keys are kept
 THIN = 1e-4  # the height of what shows the upper edge of a place
 TINY = 0.01  # millimetres
 # names that programs give by themselves
@@ -156,6 +158,7 @@ def is_file(design: str) -> bool:
     return design.lower().endswith(SUFFIX)
 
 
+@lru_cache(maxsize=MOST_KNOWN)
 def key_of(name: str) -> str:
     """Returns a name as it is compared.
 

@@ -6,6 +6,7 @@ texts in sizes of their letters.
 import math
 from collections import Counter
 from dataclasses import dataclass, field
+from functools import cache
 from typing import Iterable, Iterator, Mapping, NamedTuple, Optional, Sequence
 
 from labeltools.area import LARGEST_MODULE, TINY, Area
@@ -232,6 +233,7 @@ def sign_of(letters: Letters, line: str, is_bold: bool) -> Sign:
     return found if found else letters.whole_sign(line, is_bold)
 
 
+@cache
 def sizes_between(least: int, most: int) -> list[int]:
     """Returns sizes of letters from the largest to the least one."""
     sizes = {max(least, int(most * STEP**step)) for step in range(STEPS)}

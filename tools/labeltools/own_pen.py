@@ -73,15 +73,24 @@ class OwnPen(Pen):
                 self.draw_data(canvas, symbol.data, symbol)
             canvas.restore()
         for text in layout.texts:
-            canvas.save()
-            turned(canvas, text.box, text.place.quarters)
-            if not self.medium.is_dots:
-                canvas.set_source_rgb(*text.place.colour or BLACK)
-            elif text.place.colour and is_light(text.place.colour):
-                canvas.set_operator(cairo.Operator.DEST_OUT)  # takes black dots away
-            found = self.fitted_text(text)
-            self.show(canvas, found, self.family_of(text.place), 0, 0)
-            canvas.restore()
+            self.draw_letters(canvas, text)
+
+    def draw_letters(self, canvas: Any, text: OwnText) -> None:
+        """Draws a text in its colour; in dots it is black, or takes black dots away."""
+        found = self.fitted_text(text)
+        family = self.family_of(text.place)
+        colour = text.place.colour or BLACK
+        if colour == BLACK and not text.place.quarters:
+            self.show(canvas, found, family, text.box.left, text.box.top)
+            return
+        canvas.save()
+        turned(canvas, text.box, text.place.quarters)
+        if not self.medium.is_dots:
+            canvas.set_source_rgb(*colour)
+        elif is_light(colour):
+            canvas.set_operator(cairo.Operator.DEST_OUT)
+        self.show(canvas, found, family, 0, 0)
+        canvas.restore()
 
     def is_shortened(self, item: LaidOut) -> bool:
         """Returns whether a text of a label ends in an ellipsis."""
@@ -92,6 +101,11 @@ class OwnPen(Pen):
         return item.label.is_cut
 
     def fitted_text(self, text: OwnText) -> Fitted:
+        """Returns a text as it fits its box. One that comes again is kept as it is laid out."""
+        key = id(text.place), text.text, text.size, text.lines
+        return self.keep(key, lambda: self.new_fitted(text))
+
+    def new_fitted(self, text: OwnText) -> Fitted:
         """Returns a text as it fits its box: smaller where its ink would leave it."""
         wide, high = text.box.width, text.box.height
         if text.place.quarters % 2:

@@ -4,7 +4,18 @@ import math
 import re
 from dataclasses import dataclass
 from functools import cache
-from typing import Any, Iterable, Iterator, Mapping, NamedTuple, Optional, Protocol, Sequence
+from typing import (
+    Any,
+    Callable,
+    Hashable,
+    Iterable,
+    Iterator,
+    Mapping,
+    NamedTuple,
+    Optional,
+    Protocol,
+    Sequence,
+)
 
 import cairo
 
@@ -63,9 +74,6 @@ class Style(NamedTuple):
     across: int
     down: float
     struck: int
-
-
-Place = tuple[str, Style, int, int]  # a text, and the width and height of its box
 
 
 class Fitted(NamedTuple):
@@ -131,8 +139,8 @@ class Pen:
         self.digit_height = -extents.y_bearing / LARGE
         self.context = pango_context(self.options, medium.is_dots)
         self.blank = cache(self.new_blank)
-        self.kept: dict[Place, Fitted] = {}
-        self.seen: set[Place] = set()
+        self.kept: dict[Hashable, Fitted] = {}
+        self.seen: set[Hashable] = set()
         self.style = cache(self.new_style)
         self.digit_places = cache(self.new_digit_places)
 
@@ -286,10 +294,14 @@ class Pen:
     def found(self, text: str, style: Style, width: int, height: int) -> Fitted:
         """Returns what fitted() does. A text that comes again is kept as it is laid out."""
         key = text, style, width, height
+        return self.keep(key, lambda: self.fitted(text, style, width, height))
+
+    def keep(self, key: Hashable, make: Callable[[], Fitted]) -> Fitted:
+        """Returns what is kept for a key, or makes it, which is kept from the second time on."""
         kept = self.kept.get(key)
         if kept is not None:
             return kept
-        fitted = self.fitted(text, style, width, height)
+        fitted = make()
         if key in self.seen and len(self.kept) < KEPT:
             self.kept[key] = fitted._replace(layout=fitted.layout.copy())
         elif len(self.seen) < SEEN:

@@ -12,13 +12,14 @@ from pathlib import Path
 from typing import Any
 
 from labeltools.text import Text, counted, translated
-from labeltools.area import MILLIMETRES
+from labeltools.area import ARTICLE, MILLIMETRES
 from labeltools.forms import PBM, SVG
 from labeltools.forms.pdf import POINTS
 from labeltools.messages import Offers, ToolError, of_system
 from labeltools import setups
 from labeltools.gtk import Gdk, Gio, GLib, Gtk
 from labeltools.menu import Menu, add_recent
+from labeltools.own_design import is_file
 from labeltools.preview import Preview
 from labeltools.print_command import check_count, print_on
 from labeltools.print_job import Prepared
@@ -35,6 +36,7 @@ CONTROLS = {
     **dict.fromkeys(("header-row", "first", "width", "height"), "value"),
     **dict.fromkeys(("sheet", "roll", "new-only"), "active"),
 }
+A_FILE = "file"  # the choice of a design of one's own
 MANY = 1000  # labels above it are asked for before they are printed
 MOST_NOTES = 2000
 DOT = 2  # pixels of a dot, where dots are looked at
@@ -65,7 +67,7 @@ class Window(Gtk.ApplicationWindow):
     sheet, stock, first, roll, width, height, design = (child() for _ in range(7))
     to, dpi, for_table, for_print = (child() for _ in range(4))
     # their lists
-    columns, sheets, notes, completion = (child() for _ in range(4))
+    columns, sheets, designs, notes, completion = (child() for _ in range(5))
     # what is shown
     head, stack, result, guessed, below = (child() for _ in range(5))
     paper, desk, view, number, of, count, left_out, left_out_list = (child() for _ in range(8))
@@ -73,7 +75,8 @@ class Window(Gtk.ApplicationWindow):
     # what is said
     info, problem, offers, done, said, working, progress = (child() for _ in range(7))
     # dialogs and menus
-    opener, saver, many, naming, setup_name, menu_button = (child() for _ in range(6))
+    opener, design_opener, saver, many, naming, setup_name = (child() for _ in range(6))
+    menu_button = child()
     open_button, save_button, print_button = map(child, ("open", "save", "print"))
 
     labels: Prepared  # that were made last
@@ -102,6 +105,7 @@ class Window(Gtk.ApplicationWindow):
         self.path: Path | None = None  # None too while controls are filled
         self.chosen: tuple[Path | None, Sequence[str], Choices] = None, (), {}  # for which names
         self.words = ""  # by which the table is read
+        self.last_design = ARTICLE.name
         self.table: Table | None = None
         self.has_labels = False  # that are chosen
         self.let_out(False)
@@ -251,6 +255,8 @@ class Window(Gtk.ApplicationWindow):
         for name, value in choices.items():
             with suppress(KeyError, TypeError):
                 kind = CONTROLS[name]
+                if name == "design":
+                    self.offer_design(value)
                 self.control(name).set_property(kind, value)
 
     def choices(self) -> Choices:
@@ -281,6 +287,25 @@ class Window(Gtk.ApplicationWindow):
             path, self.path = self.path, None
             self.take({"dpi": USUAL_DPI.get(printer.get_active_id(), "600")})
             self.path = path
+            self.make()
+
+    def offer_design(self, name: str) -> None:
+        """Offers a design of a file, before the choice of another one."""
+        known = [row[1] for row in self.designs]
+        if name not in known and is_file(name):
+            self.designs.insert(len(known) - 1, [Path(name).name, name])
+
+    @Gtk.Template.Callback()
+    def on_design(self, design: Any) -> None:
+        """Makes the labels in another design; asks for its file where that is chosen."""
+        name = design.get_active_id()
+        if name == A_FILE:
+            is_found = self.design_opener.run() == Gtk.ResponseType.ACCEPT
+            self.take(
+                {"design": self.design_opener.get_filename() if is_found else self.last_design}
+            )
+        elif name:
+            self.last_design = name
             self.make()
 
     @Gtk.Template.Callback()

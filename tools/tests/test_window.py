@@ -546,6 +546,35 @@ class WindowTest(unittest.TestCase):
         self.open()  # what is kept is not changed
         self.assertEqual(self.window.choices()["dpi"], "300")
 
+    def test_a_design_is_a_file(self):
+        """It is drawn at once, what is said of it is in the list, and it is chosen the next time."""
+        path = self.folder / "own.svg"
+        code = '<rect id="code" x="1" y="12" width="52" height="20"/>'
+        title = '<rect id="title" x="1" y="1" width="{}" height="10"/>'
+        size = 'width="60mm" height="40mm" viewBox="0 0 60 40"'
+        whole = f'<svg xmlns="http://www.w3.org/2000/svg" {size}>{title}{code}</svg>'
+        path.write_text(whole.format(58))
+        self.open()
+        self.change(roll=True, width=60, height=40)
+        built_in, _ = self.shown()
+        with mock.patch.object(self.window, "design_opener") as opener:
+            opener.run.return_value = Gtk.ResponseType.ACCEPT
+            opener.get_filename.return_value = str(path)
+            self.change(design="file")
+            self.assertEqual(self.window.design.get_active_id(), str(path))
+            self.assertNotEqual(self.shown()[0], built_in)
+            said = [row[2] for row in self.window.notes]
+            self.assertIn("own.svg has no place for price", " ".join(said))
+            self.assertIn(f"--design {path}", self.window.command.get_text())
+            path.write_text(whole.format(70))
+            self.change(design="file")
+            self.assertIn("the place title leaves the label by 11.0 mm", self.problem())
+            opener.run.return_value = Gtk.ResponseType.CANCEL
+            self.change(design="file")
+            self.assertEqual(self.window.design.get_active_id(), str(path))
+        self.change(design="article")
+        self.assertEqual(self.shown()[0], built_in)
+
     def test_setups_are_named_and_picked_again(self):
         self.open()
         self.change(roll=True, width=50, height=25, to="zpl")
