@@ -1,7 +1,7 @@
 """ZPL II of label printers."""
 
 import re
-from functools import cache
+from functools import cache, lru_cache
 from itertools import chain
 
 from labeltools.engine import bytes_a_row
@@ -13,7 +13,8 @@ MOST_COUNT = 400
 TWENTY = 20
 BEFORE_ONE = ord("F")
 BEFORE_TWENTY = ord("f")
-OFTEN = re.compile(r"((.)\2{2,})")
+OFTEN = re.compile(r"(([0F])\2{4,})")  # a count of fewer digits saves next to nothing
+KNOWN = 4096  # rows that are kept as they were written: most labels share some
 RESTS = {"0": ",", "F": "!"}  # the rest of a row is light or dark
 
 
@@ -56,6 +57,7 @@ def run_lengths(rows: tuple[bytes, ...]) -> bytes:
     return "".join(texts).encode()
 
 
+@lru_cache(KNOWN)
 def run_lengths_of(row: bytes) -> str:
     """Returns one row in hexadecimal with run lengths."""
     text = row.hex().upper()
