@@ -128,6 +128,9 @@ def rows_of_field(text: str, size: int) -> list[bytes]:
     # each piece ends with a sign that fills its row; what has none is together with the next one
     pieces = text.replace(",", ",\n").replace("!", "!\n").replace(":", "\n:").split("\n")
     known = known_rows(size)
+    if len(known) > MOST_KNOWN:
+        known.clear()
+        known[""] = []
     new = [piece for piece in dict.fromkeys(pieces) if piece.lstrip(":") not in known]
     if new:
         learn(known, [piece.lstrip(":") for piece in new], 2 * size)
@@ -148,9 +151,6 @@ def known_rows(size: int) -> dict[str, list[bytes]]:
 
 def learn(known: dict[str, list[bytes]], texts: Sequence[str], digits: int) -> None:
     """Reads texts of rows, all at once, which is quicker; raises `NotDecoded`."""
-    if len(known) > MOST_KNOWN:
-        known.clear()
-        known[""] = []
     for text, plain in zip(texts, expanded("\n".join(texts)).split("\n")):
         rest = RESTS.get(plain[-1:])
         if rest:  # it fills the row, or a whole one where a row has just ended

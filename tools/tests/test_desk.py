@@ -114,17 +114,20 @@ class Network(Folder):
     """--print tcp://HOST."""
 
     def test_each_label_arrives(self) -> None:
-        printer = Printer()
+        printer = Printer().start()
         self.said(printed("--print", printer.name), 0, "30 labels taken by tcp://127")
         self.assertEqual(len(set(printer.labels)), 30)
 
     def test_a_slow_one_and_one_that_talks(self) -> None:
-        for printer in (Printer(slow=0.02), Printer(says=b"\x02030,0,0\x03\r\n" * 200)):
+        for printer in (
+            Printer(slow=0.02).start(),
+            Printer(says=b"\x02030,0,0\x03\r\n" * 200).start(),
+        ):
             self.said(printed("--print", printer.name), 0, "30 labels taken")
             self.assertEqual(len(set(printer.labels)), 30)
 
     def test_off(self) -> None:
-        printer = Printer()
+        printer = Printer().start()
         printer.off()
         done = printed("--print", printer.name, "--journal", self.path)
         self.said(done, 1, "refused: line 1 and what follows it were not sent; is it on")
@@ -132,13 +135,13 @@ class Network(Folder):
         self.said(printed("--print", "tcp://no.invalid"), 1, "line 1 and what follows it")
 
     def test_the_row_to_go_on_from(self) -> None:
-        printer = Printer(cut=10)
+        printer = Printer(cut=10).start()
         done = printed("--print", printer.name)
         self.said(done, 1, r"broke off: it took \d+ labels? whole; look at the last one on paper")
         self.assertRegex(done.stderr, rb"then print from line (\d+) on by --only \1-\n")
 
     def test_one_that_hangs(self) -> None:
-        printer = Printer(stuck=3)
+        printer = Printer(stuck=3).start()
         with mock.patch("labeltools.print_command.NetworkPrinter", SHORT):
             done = printed("--print", printer.name, "--dpi", "600")
         self.said(done, 1, "takes nothing for 0 seconds: it took .* print from line")
@@ -179,7 +182,7 @@ class Journals(Folder):
         """Two lanes; the first forgets the labels in its memory, and those alone are printed once
         more: the last good ticket is the fourth one.
         """
-        lanes = Printer(), Printer()
+        lanes = Printer().start(), Printer().start()
         for printer, rows in zip(lanes, ("1-8", "9-15")):
             words = ("--journal", self.path, "--print", printer.name, "--only", rows)
             self.assertEqual(printed(*words).returncode, 0)
@@ -193,7 +196,7 @@ class Journals(Folder):
 
     def test_a_roll_that_runs_out(self) -> None:
         """The printer breaks off; the same command prints what is missing, and one is named."""
-        printer = Printer(cut=12)
+        printer = Printer(cut=12).start()
         words = ("--journal", self.path, "--print", printer.name)
         self.said(printed(*words), 1, "line [0-9]+ may be on paper: look there, then give the same")
         doubtful = self.events().count("sending") - self.events().count("taken")
@@ -414,7 +417,7 @@ class Streams(Folder):
 
     def test_each_word_by_a_printer(self) -> None:
         """Its second label is more than the systems of both sides take."""
-        printer = Printer(torn=2)
+        printer = Printer(torn=2).start()
         long = b"#" + b'{"title":"%s"}' % (b"Wegeplan " * 60)
         lines = b"qr T1\n" + long + b"\nqr T2\nqr T3\n"
         words = ("--paper", "100x150", "--dpi", "1200", "--print", printer.name)

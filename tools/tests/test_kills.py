@@ -74,7 +74,7 @@ class Kills(unittest.TestCase):
             Path(self.journal).unlink(missing_ok=True)
             codes = [f"B{batch:02}-{number:03}" for number in range(TICKETS)]
             Path(self.lines).write_text("".join(f"qr {code}\n" for code in codes))
-            printers = [Printer(), Printer()]
+            printers = [Printer().start(), Printer().start()]
             for _ in range(8):
                 self.killed(printers)
             done = support.printed(*self.words(printers[0]))
