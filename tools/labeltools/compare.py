@@ -348,9 +348,9 @@ def fault(what: Text, place: Text) -> ToolError:
 
 def check_inks(inks: Iterable[Ink], regions: Sequence[tuple[Wanted, Text]], dot: float) -> None:
     """Raises `Different` where ink of letters, lines or pictures meets a symbol."""
-    near = Regions(regions).near if len(regions) > FEW else lambda _: regions
+    squares = Regions(regions) if len(regions) > FEW else None
     for ink in inks:
-        for wanted, place in near(ink):
+        for wanted, place in squares.near(ink) if squares else regions:
             if wanted.is_met_by(ink):
                 raise Different(said(ink.left * dot, ink.top * dot), place)
 

@@ -7,7 +7,7 @@ from xml.etree import ElementTree
 from xml.etree.ElementTree import Element
 
 from labeltools.decode import Dots, NotDecoded
-from labeltools.drawn_codes import NEAR, PLAIN, POINTS, Ink, Matrix, ink_of
+from labeltools.drawn_codes import NEAR, POINTS, Ink, Matrix, ink_of
 from labeltools.text import Text
 
 SPACE = "{http://www.w3.org/2000/svg}"
