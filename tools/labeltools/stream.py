@@ -142,7 +142,7 @@ class Stream:
             lines = read_lines(data, Text("the line"), "--escapes" in self.options.words)
             drawn = run_labels(data, self.options.words, Silence())
             found = DrawnLines(lines, drawn)
-            done = prepared(self.options, self.job, found, Silence(), self.letters)
+            done = prepared(self.options, self.job, found, Silence(), self.letters, False)
         except ToolError as error:
             if error.status == LABELS_FAILED:
                 raise
