@@ -8,6 +8,7 @@ import math
 import re
 import struct
 from array import array
+from functools import lru_cache
 from typing import Callable, Mapping, NamedTuple, Sequence
 
 STRING = re.compile(rb"\(((?:[^\\()]|\\.)*)\)|<([0-9A-Fa-f]*)>|(-?[0-9.]+)", re.DOTALL)
@@ -18,6 +19,7 @@ W_ARRAY = re.compile(rb"/W \[([0-9]+) \[([^\]]*)\]")
 DESCRIPTOR = re.compile(rb"/FontDescriptor ([0-9]+) 0 R")
 DESCENDANT = re.compile(rb"/DescendantFonts \[ ?([0-9]+) 0 R")
 TRUETYPE = re.compile(rb"/FontFile2 ([0-9]+) 0 R")
+KNOWN = 4096  # strings whose reach is kept: many numbers begin alike
 EM = 1000.0  # in which widths are
 APART = 0.2  # of the size of letters: more than kerning, as between the digits of an EAN
 FILLED = (0.0, 0.45)  # the part of any letter above its base line that is taken for its ink
@@ -64,12 +66,26 @@ class Font:
         self.advances = [letter.advance for letter in self.letters]
         self.bottoms = [letter.bottom for letter in self.letters]
         self.tops = [letter.top for letter in self.letters]
+        self.word = lru_cache(KNOWN)(self.new_word)
 
     def codes(self, text: bytes) -> Sequence[int]:
         """Returns the codes of a text."""
         if self.size == 1:
             return text
         return [code for (code,) in struct.iter_unpack(">H", text)]
+
+    def new_word(self, plain: bytes, coded: bytes) -> Reach:
+        """Returns how far the letters of a string go, as if they were one letter."""
+        codes = self.codes(bytes.fromhex(coded.decode()) if coded else unescaped(plain))
+        if not codes:
+            return NO_LETTER
+        return Reach(
+            sum(map(self.advances.__getitem__, codes)),
+            self.letters[codes[0]].left,
+            self.letters[codes[-1]].right,
+            min(map(self.bottoms.__getitem__, codes)),
+            max(map(self.tops.__getitem__, codes)),
+        )
 
     def extents(self, shown: bytes) -> tuple[list[Extent], float]:
         """Returns where the letters of `Tj` or `TJ` have ink, words that are far from one another
@@ -84,15 +100,12 @@ class Font:
                 at -= by
                 is_apart = is_apart or abs(by) > APART
                 continue
-            codes = self.codes(bytes.fromhex(coded.decode()) if coded else unescaped(plain))
+            word = self.word(plain, coded)
             start = at
-            at += sum(map(self.advances.__getitem__, codes))
-            top = max(map(self.tops.__getitem__, codes), default=-math.inf)
-            if top == -math.inf:
+            at += word.advance
+            if word.top == -math.inf:
                 continue
-            bottom = min(map(self.bottoms.__getitem__, codes))
-            left = start + self.letters[codes[0]].left
-            ink = Extent(left, bottom, at - self.letters[codes[-1]].right, top)
+            ink = Extent(start + word.left, word.bottom, at - word.right, word.top)
             if is_apart:
                 found.append(ink)
             else:
