@@ -1,3 +1,4 @@
+mod Examples
 mod WidthLaws
 mod SquareLaws
 mod LabelLaws
