@@ -1,3 +1,4 @@
 mod WidthLaws
 mod SquareLaws
 mod LabelLaws
+mod ScaleLaws
