@@ -1,6 +1,8 @@
 -- What an image is read as: pbm(5), and the readings of ISO/IEC 15420, 15417 and 18004 with no correction.
 -- Why: `cut`, `pixels`, `modules_in`, `read_modules`, `read_image`: "read back by the standards' reading rules".
-use Rattle.std.specs.Prelude.{ℕ, Bool, List, Option}
+use Rattle.std.specs.Prelude.{ℕ, ◌==◌, Bool, List, length, Option}
+use Rattle.std.specs.List.{list_all}
+use Rattle.std.specs.Bool.{then_some}
 use Rattle.labelcore.specs.declared.options.Format.{Format}
 use Rattle.labelcore.specs.declared.options.Format.TheVariants.{Pbm, Ascii}
 use Rattle.labelcore.specs.declared.symbology.Symbology.{Symbology}
@@ -8,7 +10,8 @@ use Rattle.labelcore.specs.declared.symbology.Symbology.TheVariants.{Ean13, Ean8
 use Rattle.qrdata.specs.Steps.{◌>>=◌}
 use Rattle.linear.specs.EanReading.{read_ean13, read_ean8, read_upca}
 use Rattle.linear.specs.Code128Reading.{read_code128}
-use Rattle.qrmatrix.specs.Reading.{read_rows}
+use Rattle.qrmatrix.specs.Reading.{read_square}
+use Rattle.qrmatrix.specs.Square.{value_at}
 use Rattle.picture.specs.Reading.{Raster, pbm_files, ascii_files, pbm_pixels, ascii_pixels, sample, common_row}
 use Rattle.filter.specs.Symbol.{quiet_zone}
 
@@ -28,7 +31,8 @@ read_modules Ean13 rows = common_row rows >>= read_ean13
 read_modules Ean8 rows = common_row rows >>= read_ean8
 read_modules UpcA rows = common_row rows >>= read_upca
 read_modules Code128 rows = common_row rows >>= read_code128
-read_modules Qr rows = read_rows rows
+read_modules Qr rows =
+    then_some (list_all (λ row. length row == length rows) rows) (length rows) >>= λ n. read_square n (value_at rows)
 
 -- the modules that an image shows, row by row; the reader knows the format, the scale and the symbology
 unfoldable pub modules_in : Format → ℕ → Symbology → List ℕ → Option (List (List Bool))

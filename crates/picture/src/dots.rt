@@ -38,6 +38,20 @@ impl<'a> Dots<'a> {
         })
     }
 
+    /// Returns the number of columns.
+    pub fn width(&self) -> usize
+        ensures { result ≡ self.now.width }
+    {
+        self.width
+    }
+
+    /// Returns the number of rows.
+    pub fn height(&self) -> usize
+        ensures { result ≡ self.now.height }
+    {
+        self.height
+    }
+
     /// Returns whether the dot in column `x` and row `y` is dark.
     pub fn is_dark(&self, x: usize, y: usize) -> bool
         requires wide { x < self.now.width }

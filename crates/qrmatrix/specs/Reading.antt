@@ -4,7 +4,7 @@
 use Rattle.std.specs.Prelude.{ℕ, ◌+◌, ◌-◌, ◌*◌, ◌/◌, ◌%◌, ◌^◌, Bool, not, ◌&&◌, ◌||◌, ◌==◌, nat_le, if◌then◌else◌}
 use Rattle.std.specs.Prelude.{◌≡◌, ◌≤◌, ◌<◌, All, IfSome, false, length}
 use Rattle.std.specs.Prelude.{List, [], ◌∷◌, ◌++◌, map, reverse, Option, None, Some, bit_xor, unwrap_or}
-use Rattle.std.specs.Bool.{beq, then_some, xor}
+use Rattle.std.specs.Bool.{beq, xor}
 use Rattle.std.specs.List.{range_with_len, filter, find, flat_map, list_all, list_any}
 use Rattle.gf256.specs.BinaryPolynomial.{binary_remainder}
 use Rattle.gf256.specs.ErrorCorrection.{wrong_codewords}
@@ -16,7 +16,6 @@ use Rattle.qrdata.specs.Reading.{data_in}
 use Rattle.qrdata.specs.Versions.{total_codewords, side_of}
 use Rattle.qrmatrix.specs.Functions.{fixed_module, is_free}
 use Rattle.qrmatrix.specs.Masks.{is_flipped}
-use Rattle.qrmatrix.specs.Square.{value_at}
 
 -- the places of the bits of the format information, bit 0 first, in its first copy
 abbrev pub format_copy_1 : List (ℕ × ℕ)
@@ -107,11 +106,6 @@ read_matrix n m = find (λ v. side_of v == n) (range_with_len 1 10) >>= λ v. re
 -- the data of a symbol
 abbrev pub read_square : ℕ → (ℕ → ℕ → Bool) → Option (List ℕ)
 read_square n m = read_matrix n m >>= λ symbol. data_in symbol.version symbol.level symbol.codewords
-
--- the data of modules, row by row, which have to be a square
-abbrev pub read_rows : List (List Bool) → Option (List ℕ)
-read_rows rows =
-    then_some (list_all (λ row. length row == length rows) rows) (length rows) >>= λ n. read_square n (value_at rows)
 
 -- a square in its seven other positions: with columns for rows, left for right and upside down; then turned by a half,
 -- by a quarter either way, and with columns for rows along the other diagonal

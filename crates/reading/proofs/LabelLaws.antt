@@ -9,13 +9,14 @@ use Rattle.std.proofs.lemmas.List.FromFn.{get_or-map-range_with_len, length-map-
 use Rattle.labelcore.specs.declared.fault.Fault.{Fault}
 use Rattle.labelcore.specs.declared.symbology.Symbology.TheVariants.{Qr}
 use Rattle.linear.specs.declared.limits.TheConstants.{MAX_MODULES}
-use Rattle.qrmatrix.specs.Reading.{read_rows, read_square}
+use Rattle.qrmatrix.specs.Reading.{read_square}
 use Rattle.qrmatrix.specs.Square.{value_at}
 use Rattle.qrmatrix.proofs.SymbolReadingLaws.{wide_side}
 use Rattle.picture.specs.Picture.{Picture, enlargement, with_quiet_zone}
 use Rattle.picture.specs.Reading.{Raster, raster, sample}
 use Rattle.picture.specs.Text.{pixel_row}
 use Rattle.picture.proofs.SampleLaws.{sample-raster}
+use Rattle.filter.specs.Reading.{read_modules}
 use Rattle.filter.specs.Symbol.{Symbol, quiet_zone}
 use Rattle.filter.proofs.ReadLaws.{IsReadable}
 use Rattle.reading.specs.Labels.{read_dots, read_short}
@@ -24,7 +25,7 @@ use Rattle.reading.proofs.SquareLaws.{symbol_data}
 
 -- ---- QR symbols
 
-wide_unread : (row : List Bool) (rows : List (List Bool)) → 57 < length row → read_rows (row ∷ rows) ≡ None
+wide_unread : (row : List Bool) (rows : List (List Bool)) → 57 < length row → read_modules Qr (row ∷ rows) ≡ None
 wide_unread row rows wide = at (list_all (λ row'. length row' == length (row ∷ rows)) (row ∷ rows)) refl
   where
     at : (b : Bool) → list_all (λ row'. length row' == length (row ∷ rows)) (row ∷ rows) ≡ b
@@ -38,12 +39,12 @@ pub qr_dots : (scale : ℕ) (r : Raster) → read_qr scale r ≡ read_dots Qr sc
 qr_dots scale r = at (sample r scale (quiet_zone Qr))
   where
     limited : (rows : List (List Bool)) (l : Bool) → nat_le (length (slice_index_or rows 0 [])) MAX_MODULES ≡ l
-        → read_rows rows ≡ (if nat_le (length (slice_index_or rows 0 [])) MAX_MODULES then read_rows rows else None)
+        → read_modules Qr rows ≡ (if nat_le (length (slice_index_or rows 0 [])) MAX_MODULES then read_modules Qr rows else None)
     limited rows true e = rw e refl
     limited [] false e = cc
     limited (row ∷ rows) false e = rw e (wide_unread row rows (omega (arith, leb-false (length row) MAX_MODULES e)))
 
-    at : (o : Option (List (List Bool))) → option_and_then read_rows o ≡ option_and_then (read_short Qr) o
+    at : (o : Option (List (List Bool))) → option_and_then (read_modules Qr) o ≡ option_and_then (read_short Qr) o
     at None = refl
     at (Some rows) = limited rows (nat_le (length (slice_index_or rows 0 [])) MAX_MODULES) refl
 

@@ -2,3 +2,4 @@ mod Examples
 mod WidthLaws
 mod SquareLaws
 mod LabelLaws
+mod ScaleLaws

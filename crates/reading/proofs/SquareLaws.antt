@@ -11,7 +11,7 @@ use Rattle.std.proofs.lemmas.List.{get_or-take, get_or_past, length-take-le}
 use Rattle.std.proofs.lemmas.List.FromFn.{get_or-map-range_with_len, length-map-range_with_len}
 use Rattle.qrdata.specs.Reading.{data_in}
 use Rattle.qrmatrix.specs.Bits.{bit}
-use Rattle.qrmatrix.specs.Reading.{Reading, read_matrix, read_rows, read_square}
+use Rattle.qrmatrix.specs.Reading.{Reading, read_matrix, read_square}
 use Rattle.qrmatrix.specs.Symbol.{is_dark}
 use Rattle.qrmatrix.proofs.ReadingLaws.{module_outside}
 use Rattle.qrmatrix.proofs.RowBitsLaws.{above_bit, or_bit, two_bits}
@@ -21,8 +21,11 @@ use Rattle.picture.specs.Picture.{Picture, symbol_picture}
 use Rattle.picture.specs.Reading.{raster}
 use Rattle.picture.specs.Text.{pixel_row}
 use Rattle.picture.proofs.SampleLaws.{sample-raster, value_at-raster}
+use Rattle.labelcore.specs.declared.symbology.Symbology.TheVariants.{Qr}
+use Rattle.filter.specs.Reading.{read_modules}
+use Rattle.filter.specs.Symbol.{quiet_zone}
 use Rattle.reading.specs.Private.{symbol_in}
-use Rattle.reading.specs.Squares.{SymbolsAreRead, qr_zone}
+use Rattle.reading.specs.Squares.{SymbolsAreRead}
 
 module _ (p : Picture) where
   -- a pixel of a raster, which is light outside
@@ -85,7 +88,7 @@ module _ (p : Picture) where
 abbrev pub symbol_data : Option Reading → Option (List ℕ)
 symbol_data symbol = option_and_then (λ symbol. data_in symbol.version symbol.level symbol.codewords) symbol
 
-pub data_of_symbol : (rows : List (List Bool)) → read_rows rows ≡ symbol_data (symbol_in rows)
+pub data_of_symbol : (rows : List (List Bool)) → read_modules Qr rows ≡ symbol_data (symbol_in rows)
 unfolding symbol_in
 data_of_symbol rows = at (list_all (λ row. length row == length rows) rows)
   where
@@ -137,7 +140,7 @@ square_of_words p rows n wide high long is =
 pub are_read : SymbolsAreRead
 unfolding are_long
 are_read v level asked codewords s scale is some =
-    ap (option_and_then read_rows) (sample-raster (symbol_picture s) qr_zone scale some)
+    ap (option_and_then (read_modules Qr)) (sample-raster (symbol_picture s) (quiet_zone Qr) scale some)
     ∙ rw (long (symbol_picture s), wide_rows (symbol_picture s) s.side 0 s.side refl)
     (ap (read_square s.side) (fun_ext (λ x. fun_ext (λ y. pixel x y)))
     ∙ ap (option_and_then (λ symbol. data_in symbol.version symbol.level symbol.codewords)) is.reads)

@@ -1,6 +1,6 @@
 -- What dots are read as by the rules of a label's symbology.
--- Why: `read_short`, `read_dots`: the same sampling and the same rules as of an image that was drawn.
-use Rattle.std.specs.Prelude.{ℕ, Bool, List, [], None, Option, if◌then◌else◌, length, nat_le, slice_index_or}
+-- Why: `read_short`, `read_dots`, `IsReadAtSomeScale`: the same sampling and the same rules as of an image that was drawn.
+use Rattle.std.specs.Prelude.{◌≡◌, ◌<◌, ℕ, Bool, List, [], None, Some, Option, if◌then◌else◌, length, nat_le, slice_index_or}
 use Rattle.labelcore.specs.declared.symbology.Symbology.{Symbology}
 use Rattle.linear.specs.declared.limits.TheConstants.{MAX_MODULES}
 use Rattle.qrdata.specs.Steps.{◌>>=◌}
@@ -16,3 +16,9 @@ read_short symbology rows =
 -- the full data of a raster as a symbol of a symbology, in its quiet zone
 abbrev pub read_dots : Symbology → ℕ → Raster → Option (List ℕ)
 read_dots symbology scale r = sample r scale (quiet_zone symbology) >>= read_short symbology
+
+-- a raster is read as a symbol of a symbology at some scale
+pub record IsReadAtSomeScale (symbology : Symbology) (r : Raster) (full : List ℕ) : Type 0 where
+  pub scale : ℕ
+  pub some : 0 < scale
+  pub read : read_dots symbology scale r ≡ Some full

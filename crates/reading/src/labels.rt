@@ -1,11 +1,11 @@
 //! Labels read from dots, by their symbology.
-ghost use Rattle.std.specs.Prelude.{◌≡◌, ◌<◌, ◌≤◌, ℕ, IfOk, Some, length, option_map};
+ghost use Rattle.std.specs.Prelude.{◌≡◌, ◌<◌, ◌≤◌, ℕ, List, IfOk, IfSome, Some, length, option_map};
 ghost use Rattle.filter.specs.Symbol.{quiet_zone, symbol_of};
 ghost use Rattle.picture.specs.Dots.{raster_in};
 ghost use Rattle.picture.specs.Picture.{enlargement, with_quiet_zone};
 ghost use Rattle.picture.specs.Reading.{raster};
 ghost use Rattle.reading.specs.Bars;
-ghost use Rattle.reading.specs.Labels.{read_dots};
+ghost use Rattle.reading.specs.Labels.{IsReadAtSomeScale, read_dots};
 
 use crate::bars::read_bars;
 use crate::squares::read_qr;
@@ -49,6 +49,23 @@ pub fn read(symbology: Symbology, dots: Dots, scale: usize) -> Option<SymbolData
         Symbology::Code128 => read_linear::<Code128>(dots, scale),
         Symbology::Qr => read_qr(dots, scale),
     }
+}
+
+/// Reads dots as a symbol of a symbology, at whatever scale. No dots are read at two scales.
+pub fn read_at_any_scale(symbology: Symbology, dots: Dots) -> Option<SymbolData>
+    ensures found { (scale : ℕ) (full : List ℕ) → 0 < scale → read_dots symbology scale
+        (raster_in dots.entry.width dots.entry.height dots.entry.digits.now) ≡ Some full
+        → option_map (λ bytes. bytes.items) result ≡ Some full }
+    ensures read { IfSome result (λ bytes. IsReadAtSomeScale symbology
+        (raster_in dots.entry.width dots.entry.height dots.entry.digits.now) bytes.items) }
+{
+    for before in 0..dots.width().min(dots.height()) {
+        let data = read(symbology, dots, before + 1);
+        if data.is_some() {
+            return data;
+        }
+    }
+    None
 }
 
 /// What is drawn is read: the picture of each symbol that is drawn, in its quiet zone and at any scale, is read as the

@@ -9,5 +9,5 @@ mod labels;
 mod squares;
 
 pub use bars::{bars_are_read, read_bars};
-pub use labels::{labels_are_read, read};
+pub use labels::{labels_are_read, read, read_at_any_scale};
 pub use squares::{read_qr, symbols_are_read};

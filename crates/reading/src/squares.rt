@@ -1,7 +1,8 @@
 //! QR symbols read from dots.
 ghost use Rattle.std.specs.Prelude.{◌≡◌, ◌<◌, ◌≤◌, ◌&&◌, ℕ, nat_lt, option_map};
 ghost use Rattle.qrmatrix.specs.Bits.{bit};
-ghost use Rattle.qrmatrix.specs.Reading.{read_rows};
+ghost use Rattle.filter.specs.Reading.{read_modules};
+ghost use Rattle.labelcore.specs.declared.symbology.Symbology.TheVariants.{Qr};
 ghost use Rattle.picture.specs.Dots.{raster_in};
 ghost use Rattle.picture.specs.Reading.{raster};
 ghost use Rattle.reading.specs.Squares.{SymbolsAreRead, read_qr};
@@ -43,8 +44,8 @@ fn read_square<G: Grid>(modules: &G) -> Option<ReadSymbol>
 }
 
 /// Reads modules as a QR symbol: its data.
-fn read_modules<G: Grid>(modules: &G) -> Option<SymbolData>
-    ensures { option_map (λ bytes. bytes.items) result ≡ read_rows (raster (G.picture modules.now)).rows }
+fn read_data_of<G: Grid>(modules: &G) -> Option<SymbolData>
+    ensures { option_map (λ bytes. bytes.items) result ≡ read_modules Qr (raster (G.picture modules.now)).rows }
 {
     let symbol = read_square(modules)?;
     read_data(symbol.version(), symbol.level(), symbol.codewords())
@@ -63,7 +64,7 @@ pub fn read_qr(dots: Dots, scale: usize) -> Option<SymbolData>
         bottom: QUIET_ZONE,
     };
     let modules = Sampled::new(dots, scale, zone)?;
-    read_modules(&modules)
+    read_data_of(&modules)
 }
 
 /// What is drawn is read: a symbol in its quiet zone, at any scale, is read as the data of its codewords.

@@ -9,7 +9,9 @@ use linear::{Ean8, Linear, Refusal, Row, read_any};
 use picture::{Bars, Dots, Framed, QuietZone, Scaled, write_pbm};
 use qrdata::{Codewords, Level, Version, choose, codewords, read_data};
 use qrmatrix::Matrix;
-use reading::{bars_are_read, labels_are_read, read, read_bars, symbols_are_read};
+use reading::{
+    bars_are_read, labels_are_read, read, read_at_any_scale, read_bars, symbols_are_read,
+};
 use std::test::Fail;
 use testing::{FailAt, MemSink, MemSource};
 

@@ -1,7 +1,7 @@
 use Rattle.std.proofs.Common.{◌∙◌, sym, ap}
 use Rattle.picture.specs.Reading.{raster}
 use Rattle.reading.proofs.SquareLaws.{data_of_symbol, symbol_data}
-use Rattle.reading.proofs.squares.read_modules.Goals as goal
+use Rattle.reading.proofs.squares.read_data_of.Goals as goal
 
 pub returns-in_err-symbol : goal.returns-in_err-symbol
 returns-in_err-symbol g c =
