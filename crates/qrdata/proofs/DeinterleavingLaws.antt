@@ -4,11 +4,11 @@ use Rattle.std.proofs.Common.{length, refl, sym, ap, ◌∙◌, append_assoc, le
 use Rattle.std.proofs.Common.{sum}
 use Rattle.std.proofs.Common.{cond, inl, inr}
 use Rattle.std.specs.Bool.{then_some}
-use Rattle.std.specs.Prelude.{None, Option, Some, bytes_eq, nat_lt, slice_index}
+use Rattle.std.specs.Prelude.{None, Option, bytes_eq, nat_lt, slice_index}
 use Rattle.std.specs.List.{concat, list_all, range_with_len, sum_by, zip}
 use Rattle.std.proofs.lemmas.Bool.{cases_lt, le-ltb, lt-ltb}
 use Rattle.std.proofs.lemmas.Bool.Decides.{nat_tests}
-use Rattle.std.proofs.lemmas.List.{append-nil, take_all}
+use Rattle.std.proofs.lemmas.List.{take_all}
 use Rattle.std.proofs.lemmas.List.Elements.{All-append}
 use Rattle.std.proofs.lemmas.List.FromFn.{length-map-range_with_len}
 use Rattle.std.proofs.lemmas.List.Sums.{sum_by-cons}
@@ -144,7 +144,3 @@ module _ (k : ℕ) (lengths ec_lengths codewords ec_codewords : List ℕ) where
       → None ≡ with_blocks message b (n - b)
   no_block message b n inside fails =
       let more : n - b ≡ suc (n - (b + 1)) = omega arith in rw (more, fails) refl
-
-  pub blocks_end : (message : List ℕ) (b n : ℕ) → n ≤ b → Some message ≡ with_blocks message b (n - b)
-  blocks_end message b n past =
-      let none : n - b ≡ 0 = omega arith in rw none (ap Some (sym (append-nil message)))

@@ -1,5 +1,5 @@
 //! The examples of the crates' pages (`crates/*/README.md`). `scripts/pages.py` compares them with the pages.
-use capi::{CallOptions, draw_into};
+use capi::{CallOptions, draw_into, read_into};
 use command::{ArgumentsFault, options_of};
 use device::{Buffered, Sink, write_whole};
 use filter::{Status, run};
@@ -172,4 +172,5 @@ fn page_of_capi(rt: HostRuntime) {
     let mut message = [0; 103];
     let answer = draw_into(&options, 1, b"7351353", &mut out, &mut message);
     assert!(rt; answer.code == 0 && answer.length == 164 && out[163] == b'\n' && out[164] == 7);
+    assert!(rt; read_into(1, 1, 81, 1, &[b'0'; 81], &mut out).code == 17);
 }
