@@ -265,7 +265,8 @@ def tables():
             times = [partial(time_of_call, one, OF_LIBRARY[name]) for one in calls]
             function, *scale = call.split(", ")
             rows[", ".join([f"`{function}`", name, *scale])] = [*counts, *none, *times]
-    yield ["Call", "liblabels", *LIBRARIES, "microseconds", *LIBRARIES], rows
+    times = [f"{name}, µs" for name in ("liblabels", *LIBRARIES)]
+    yield ["Call", "liblabels", *LIBRARIES, *times], rows
 
 
 def shown(count):
