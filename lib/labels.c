@@ -1,5 +1,5 @@
-/* Between callers in C and the proved calls of crates/labels_c: NULL, data that overlaps its room, modules that are 0 or
- * 1, and the end of a message. Nothing here is proved. */
+/* Between callers in C and the proved calls of crates/labels_c: NULL, a room that overlaps its data, modules that are 0
+ * or 1, and the end of a message. Nothing here is proved. */
 #include "proved.h"
 #include <string.h>
 
@@ -7,7 +7,7 @@ enum { MESSAGE_ROOM = sizeof(((labels_answer *)0)->message) - 1 };
 enum { DATA_ROOM = sizeof(((labels_symbol_info *)0)->data) - 1 };
 
 static const labels_options defaults = LABELS_DEFAULTS;
-static char nothing; /* what a pointer to no bytes points to: it is not read or written */
+static char nothing; /* it is not read or written */
 
 static const char *const texts[] = {
     "done",
@@ -42,24 +42,19 @@ void labels_defaults(labels_options *options) {
 
 static const labels_options *or_defaults(const labels_options *options) { return options ? options : &defaults; }
 
-static int is_bad(const void *bytes, size_t size) { return (!bytes && size) || size > PTRDIFF_MAX; }
+/* A pointer to no bytes points to this one, wherever it pointed to. */
+static const void *read_from(const void *bytes, size_t size) { return size ? bytes : &nothing; }
 
-/* Whether data and the room that is written share a byte. */
-static int do_overlap(const void *data, size_t size, const void *to, size_t room) {
+static void *write_to(void *bytes, size_t size) { return size ? bytes : &nothing; }
+
+/* Whether one of these is NULL or too large, or both share a byte. */
+static inline int are_bad(const void *data, size_t size, const void *to, size_t room) {
     uintptr_t read = (uintptr_t)data, written = (uintptr_t)to;
-    return size > 0 && room > 0 && (read < written ? written - read < size : read - written < room);
+    return !data || !to || size > PTRDIFF_MAX || room > PTRDIFF_MAX || written - read < size || read - written < room;
 }
-
-static int are_bad(const void *data, size_t size, const void *to, size_t room) {
-    return is_bad(data, size) || is_bad(to, room) || do_overlap(data, size, to, room);
-}
-
-static const void *read_from(const void *bytes) { return bytes ? bytes : &nothing; }
-
-static void *write_to(void *room) { return room ? room : &nothing; }
 
 /* Ends the message of an answer. Where the proved call put none, it is what the code means. */
-static int finish(labels_answer *answer) {
+static inline int finish(labels_answer *answer) {
     size_t end = answer->message_length < MESSAGE_ROOM ? answer->message_length : MESSAGE_ROOM;
     if (end == 0 && answer->code != LABELS_OK)
         for (const char *text = labels_code_text((int)answer->code); text[end]; end++)
@@ -92,16 +87,10 @@ static int refuse_symbol(labels_answer *answer, labels_symbol_info *info) {
 /* The most modules that a symbol of so many bytes has. In Code 128 a byte takes two characters of 11 modules at most,
  * beside the start and check characters and the stop character of 13. */
 static size_t most_modules(int symbology, size_t size) {
-    switch (symbology) {
-    case LABELS_EAN13:
-    case LABELS_EAN8:
-    case LABELS_UPCA:
-        return 95;
-    case LABELS_CODE128:
-        return size < 80 ? 22 * size + 35 : LABELS_MAX_BARS;
-    default:
-        return LABELS_MAX_MODULES;
-    }
+    static const size_t most[] = {95, 95, 95, LABELS_MAX_BARS, LABELS_MAX_MODULES};
+    if (symbology == LABELS_CODE128 && size < 80)
+        return 22 * size + 35;
+    return symbology >= 0 && symbology <= LABELS_QR ? most[symbology] : 0;
 }
 
 /* The proved code takes modules as truth values, so each byte that it may write has to be 0 or 1. Clears as many as a
@@ -116,10 +105,12 @@ int labels_draw(const labels_options *options, int symbology, const void *data, 
                 labels_answer *answer) {
     labels_answer own;
     answer = answer ? answer : &own;
+    data = read_from(data, size);
+    out = write_to(out, room);
     if (are_bad(data, size, out, room))
         return refuse(answer);
-    labels_proved_draw(or_defaults(options), (uint32_t)symbology, read_from(data), size, write_to(out), room,
-                       answer->message, MESSAGE_ROOM, answer);
+    labels_proved_draw(or_defaults(options), (uint32_t)symbology, data, size, out, room, answer->message, MESSAGE_ROOM,
+                       answer);
     return finish(answer);
 }
 
@@ -127,10 +118,11 @@ int labels_draw_line(const labels_options *options, const void *text, size_t siz
                      labels_answer *answer) {
     labels_answer own;
     answer = answer ? answer : &own;
+    text = read_from(text, size);
+    out = write_to(out, room);
     if (are_bad(text, size, out, room))
         return refuse(answer);
-    labels_proved_draw_line(or_defaults(options), read_from(text), size, write_to(out), room, answer->message,
-                            MESSAGE_ROOM, answer);
+    labels_proved_draw_line(or_defaults(options), text, size, out, room, answer->message, MESSAGE_ROOM, answer);
     return finish(answer);
 }
 
@@ -140,12 +132,13 @@ int labels_symbol(const labels_options *options, int symbology, const void *data
     labels_symbol_info own_info;
     answer = answer ? answer : &own;
     info = info ? info : &own_info;
+    data = read_from(data, size);
+    modules = write_to(modules, room);
     if (are_bad(data, size, modules, room))
         return refuse_symbol(answer, info);
-    modules = write_to(modules);
     room = cleared(modules, room, most_modules(symbology, size));
-    labels_proved_symbol(or_defaults(options), (uint32_t)symbology, read_from(data), size, modules, room,
-                         answer->message, MESSAGE_ROOM, info->data, DATA_ROOM, info, answer);
+    labels_proved_symbol(or_defaults(options), (uint32_t)symbology, data, size, modules, room, answer->message,
+                         MESSAGE_ROOM, info->data, DATA_ROOM, info, answer);
     return finish_symbol(answer, info);
 }
 
@@ -155,12 +148,13 @@ int labels_line(const labels_options *options, const void *text, size_t size, un
     labels_symbol_info own_info;
     answer = answer ? answer : &own;
     info = info ? info : &own_info;
+    text = read_from(text, size);
+    modules = write_to(modules, room);
     if (are_bad(text, size, modules, room))
         return refuse_symbol(answer, info);
-    modules = write_to(modules);
     room = cleared(modules, room, LABELS_MAX_MODULES);
-    labels_proved_line(or_defaults(options), read_from(text), size, modules, room, answer->message,
-                       MESSAGE_ROOM, info->data, DATA_ROOM, info, answer);
+    labels_proved_line(or_defaults(options), text, size, modules, room, answer->message, MESSAGE_ROOM, info->data,
+                       DATA_ROOM, info, answer);
     return finish_symbol(answer, info);
 }
 
@@ -171,10 +165,12 @@ int labels_bitmap(const labels_options *options, int symbology, const void *data
     answer = answer ? answer : &own;
     dots = dots ? dots : &own_dots;
     *dots = (labels_dots){0};
+    data = read_from(data, size);
+    bits = write_to(bits, room);
     if (are_bad(data, size, bits, room))
         return refuse(answer);
-    labels_proved_bitmap(or_defaults(options), (uint32_t)symbology, read_from(data), size, write_to(bits), room, stride,
-                         answer->message, MESSAGE_ROOM, &dots->width, &dots->height, answer);
+    labels_proved_bitmap(or_defaults(options), (uint32_t)symbology, data, size, bits, room, stride, answer->message,
+                         MESSAGE_ROOM, &dots->width, &dots->height, answer);
     return finish(answer);
 }
 
@@ -185,9 +181,11 @@ int labels_bitmap_line(const labels_options *options, const void *text, size_t s
     answer = answer ? answer : &own;
     dots = dots ? dots : &own_dots;
     *dots = (labels_dots){0};
+    text = read_from(text, size);
+    bits = write_to(bits, room);
     if (are_bad(text, size, bits, room))
         return refuse(answer);
-    labels_proved_bitmap_line(or_defaults(options), read_from(text), size, write_to(bits), room, stride, answer->message,
-                              MESSAGE_ROOM, &dots->width, &dots->height, answer);
+    labels_proved_bitmap_line(or_defaults(options), text, size, bits, room, stride, answer->message, MESSAGE_ROOM,
+                              &dots->width, &dots->height, answer);
     return finish(answer);
 }

@@ -225,8 +225,8 @@ def time_of_call(call, label):
     """The microseconds of a call of a library, as text, or nothing where it does not draw the label."""
     if not draws(call, label):
         return None
-    nanoseconds = float(output_of("./count_calls", "--time", *words_of_call(call, label)))
-    return f"{nanoseconds / 1000:.3g}"
+    microseconds = float(output_of("./count_calls", "--time", *words_of_call(call, label))) / 1000
+    return f"{microseconds:,.0f}" if microseconds >= 100 else f"{microseconds:.2g}"
 
 
 def nothing_drawn():
@@ -265,7 +265,8 @@ def tables():
             times = [partial(time_of_call, one, OF_LIBRARY[name]) for one in calls]
             function, *scale = call.split(", ")
             rows[", ".join([f"`{function}`", name, *scale])] = [*counts, *none, *times]
-    yield ["Call", "liblabels", *LIBRARIES, "microseconds", *LIBRARIES], rows
+    times = [f"{name}, µs" for name in ("liblabels", *LIBRARIES)]
+    yield ["Call", "liblabels", *LIBRARIES, *times], rows
 
 
 def shown(count):

@@ -3,9 +3,9 @@
 
 - Each block of code is closed, and its language is one that a script reads: text, one of those below, and sh and sh
   kit on the pages alone that run_recipes.py runs.
-- Code is quoted as it is: each block of Rust, C, C++, Go, Lua and Python in docs/LIBRARY.md and docs/PROOF.md, and
-  each block of text that begins with a clause (`ensures`), is in a file of crates or lib that the page names before
-  it, line by line, but for the spaces in front. A block below a line `Not checked:` is left out.
+- Code is quoted as it is: each block of a program's language in docs/LIBRARY.md and docs/PROOF.md, and each block of
+  text that begins with a clause (`ensures`), is in a file crates/*.rt or lib/* that the page names before it, line by
+  line, but for the spaces in front. A block below a line `Not checked:` is left out.
 - Each link from one file of the repository to another leads to a file and a heading.
 - Each name in the tables of docs/GLOSSARY.md is in the file beside it, as a whole word.
 - Each crate has a page of at most 40 lines. Each line of a block of Rust in it, but for imports and comments, is a

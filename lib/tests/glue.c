@@ -225,7 +225,8 @@ static void see_bad(int call) {
 }
 
 int main(void) {
-    static const size_t sizes[] = {0, 1, FEW, 79, 80, 81}, rooms[] = {0, 1, FEW, LABELS_MAX_BARS, LABELS_MAX_MODULES, MANY};
+    static const size_t sizes[] = {0, 1, FEW, 79, 80, 81};
+    static const size_t rooms[] = {0, 1, FEW, LABELS_MAX_BARS, LABELS_MAX_MODULES, MANY};
     int done = 0;
     for (int call = 0; call < CALLS; call++) {
         for (size_t s = 0; s < sizeof sizes / sizeof *sizes; s++)

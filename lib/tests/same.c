@@ -73,6 +73,14 @@ static uint64_t with_bits(const labels_options *options, int symbology, const ch
     return hash_of(bits, room, sum);
 }
 
+/* The symbology that a line begins with, QR where it begins with none. */
+static int symbology_of(const char *line) {
+    int symbology = 0;
+    while (symbology < LABELS_QR && strncmp(line, symbologies[symbology], strlen(symbologies[symbology])) != 0)
+        symbology++;
+    return symbology;
+}
+
 int main(void) {
     static char line[LINE];
     unsigned number = 0;
@@ -87,9 +95,7 @@ int main(void) {
         const char *space = memchr(line, ' ', length);
         const char *data = space ? space + 1 : line;
         size_t size = length - (size_t)(data - line);
-        int symbology = 0;
-        while (symbology < SYMBOLOGIES - 1 && strncmp(line, symbologies[symbology], strlen(symbologies[symbology])) != 0)
-            symbology++;
+        int symbology = symbology_of(line);
         uint64_t sum = UINT64_C(14695981039346656037);
         sum = with_pictures(&options, symbology, data, size, line, length, sum);
         sum = with_modules(&options, symbology, data, size, line, length, sum);

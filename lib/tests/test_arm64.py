@@ -37,7 +37,7 @@ class Arm64(WithLibrary):
         self.assertEqual(wanted.count(b"\n"), LINES)
         arm64 = f"{PREFIX}gcc"
         self.assertEqual(self.run_ok(*QEMU, self.program(arm64, PROVED_ARM64), given=text), wanted)
-        place = "(uint32_t)symbology, read_from(data)"
+        place = "(uint32_t)symbology, data"
         wrong = self.library.changed(("labels.c", place, place.replace("symbology", "symbology ^ 1")))
         self.assertNotEqual(self.run_ok(*QEMU, self.program(arm64, PROVED_ARM64, wrong), given=text), wanted)
 

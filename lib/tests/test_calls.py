@@ -14,29 +14,29 @@ MOST_STACK = 40_000  # what labels.h says
 # Wrong texts of labels.c, each of which hands one byte too many to the proved code: a place, and what takes its place.
 ONE_MORE = "size + (size > 0)"
 MUTANTS = {
-    "data of labels_draw": ("(uint32_t)symbology, read_from(data), size, write_to(out)", "size", ONE_MORE),
-    "data of labels_symbol": ("read_from(data), size, modules, room,", "size", ONE_MORE),
-    "line of labels_draw_line": ("read_from(text), size, write_to(out), room, answer->message,", "size", ONE_MORE),
-    "line of labels_line": ("read_from(text), size, modules, room, answer->message,", "size", ONE_MORE),
+    "data of labels_draw": ("(uint32_t)symbology, data, size, out", "size", ONE_MORE),
+    "data of labels_symbol": ("(uint32_t)symbology, data, size, modules, room,", "size", ONE_MORE),
+    "line of labels_draw_line": ("or_defaults(options), text, size, out, room,", "size", ONE_MORE),
+    "line of labels_line": ("or_defaults(options), text, size, modules, room,", "size", ONE_MORE),
     "room of the modules": ("    return used;", "used", "used + (room > 0)"),
-    "room of the bits": ("size, write_to(bits), room, stride,", "room", "room + (room > 0)"),
+    "room of the bits": ("data, size, bits, room, stride,", "room", "room + (room > 0)"),
     "room of the message": ("MESSAGE_ROOM = sizeof(((labels_answer *)0)->message) - 1", "- 1", "+ 1"),
 }
 # Other wrong texts, and what takes their place.
 WRONG = (
     ("    memset(modules, 0, used);\n", "    memset(modules, 0, most);\n"),
     ("    memset(modules, 0, used);\n", "    (void)modules;\n"),
-    ("write_to(out), room, answer->message,", "write_to(out), room + (room > 0), answer->message,"),
+    ("size, out, room, answer->message,", "size, out, room + (room > 0), answer->message,"),
     ("    *dots = (labels_dots){0};\n", ""),
     ("    answer->message[end] = 0;\n", ""),
     ("DATA_ROOM = sizeof(((labels_symbol_info *)0)->data) - 1", "DATA_ROOM = sizeof(((labels_symbol_info *)0)->data)"),
     ("    info->data[info->data_length < DATA_ROOM ? info->data_length : DATA_ROOM] = 0;\n", "    (void)info;\n"),
     ("    *info = (labels_symbol_info){0};\n", "    (void)info;\n"),
     ("written - read < size", "written - read <= size"),
-    ("read - written < room", "read - written < size / 2"),
+    ("read - written < room", "read - written < room / 2"),
     ("    answer->at = 0;\n", ""),
     ("22 * size + 35", "22 * size + 34"),
-    ("        return 95;\n", "        return 94;\n"),
+    ("most[] = {95, 95, 95,", "most[] = {95, 94, 95,"),
 )
 
 
