@@ -167,9 +167,10 @@ class RowReader:
         currency = self.currency(row)
         copies = columns.copies.copies(row) if columns.copies else 1
         price = self.price(columns.price, row, currency)
-        unit = self.price(columns.unit_price, row, currency)
-        was = self.price(columns.old_price, row, currency)
-        self.noticed.prices(row.number, price, was)
+        unit = self.price(columns.unit_price, row, currency) if columns.unit_price else None
+        was = self.price(columns.old_price, row, currency) if columns.old_price else None
+        if was:
+            self.noticed.prices(row.number, price, was)
         return Draft(row.number, code, title, text, tuple(texts), copies, price, unit, was)
 
     def is_names(self, row: Row) -> bool:

@@ -189,6 +189,22 @@ class Styles(CellTest):
             data = xlsx(sheet, styles=styles, before=before)
             self.check_price(data, None if said else "14.25", said)
 
+    def test_a_condition_that_strikes_letters_is_said(self) -> None:
+        styles = "<dxfs><dxf><font><b/></font></dxf><dxf><font><strike/></font></dxf></dxfs>"
+        rule = '<conditionalFormatting sqref="{}"><cfRule type="expression" dxfId="{}">'
+        rule += "<formula>$D2=0</formula></cfRule></conditionalFormatting>"
+        said = 'column 3 ("Price") has a condition from row 2 on that strikes letters through: are'
+        said += " these rows to be printed? --where chooses rows"
+        for area, number, is_said in (
+            ("C2:C9", 1, True),
+            ("C2:C9", 0, False),
+            ("C7:C9", 1, False),
+            ("D2:D9", 1, False),
+        ):
+            sheet = rows(HEAD, [PENCIL, "Tea", 14.25])
+            data = xlsx(sheet, styles=styles, after=rule.format(area, number))
+            self.assertEqual(self.ran(data, *PRICED), (["14.25"], [said] * is_said))
+
 
 class Kinds(CellTest):
     def test_a_price_is_no_date_and_not_below_zero(self) -> None:

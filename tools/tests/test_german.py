@@ -111,6 +111,9 @@ def german(folder):
 
 # the seconds of a message with 40 quoted names, and of 2,000 notes, the least of some tries
 TIMES = """
+import time
+from labeltools.messages import quoted
+from labeltools.text import Text, joined, translated
 names = joined(", ", (quoted(f'Spalte "{number}"') for number in range(40)))
 message = Text("no column {}; row {} has {}", quoted("EAN"), 1, names)
 note = Text("{}: the check digit is {}, should be {}", "4006381333932", 2, 1)
@@ -205,7 +208,9 @@ class German(unittest.TestCase):
                 environment = speaking(language, folder) if known else {**os.environ}
                 environment["PYTHONPATH"] = str(support.TOOLS)
                 words = [sys.executable, "-c", TIMES]
-                ran = subprocess.run(words, env=environment, capture_output=True, text=True)
+                ran = subprocess.run(
+                    words, env=environment, capture_output=True, text=True, check=True
+                )
                 times[language] = [float(one) for one in ran.stdout.split()]
             for language in LANGUAGES:
                 self.assertLess(times[language][0] - times["en"][0], 0.1, times)
