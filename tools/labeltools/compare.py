@@ -46,6 +46,7 @@ ZONES = {
     "code128": (10, 10, 0),
     "qr": (4, 4, 4),
 }
+KNOWN = 4096  # geometries that are kept: most labels share some
 FEW = 2  # symbols of a page that are looked at one by one
 DIGITS = bytes.maketrans(b"\0\1", b"01")
 FAULT = Text("this is a fault of label-print: nothing of it has gone out; report it")
@@ -222,6 +223,8 @@ class Comparison:
         key = (*spot[3:], at, symbol.symbology, symbol.width, symbol.rows)
         place = self.known.get(key)
         if place is None:
+            if len(self.known) >= KNOWN:
+                self.known.clear()
             place = self.known[key] = self.geometry(spot, at, symbol)
         return Wanted(symbol, place)
 

@@ -6,7 +6,7 @@ import re
 import struct
 import zlib
 from dataclasses import dataclass
-from functools import cache
+from functools import cache, lru_cache
 from typing import Sequence
 
 from labeltools.text import Text
@@ -15,7 +15,8 @@ ZPL_HEAD = re.compile(rb"\^XA\^PON\^LH0,0\^LS0\^PW([0-9]+)\^LL([0-9]+)\n")
 ZPL_FIELD = re.compile(rb"\^FO([0-9]+),([0-9]+)\^GFA,([0-9]+),([0-9]+),([0-9]+),([^^]*)\^FS\n")
 ZPL_END = re.compile(rb"(?:\^PQ([0-9]+)\n)?\^XZ\n")
 COUNTED = re.compile(r"([G-Yg-z]+[0-9A-F])")
-ROWS = re.compile(r"[^,!:]+[,!]?|[,!:]")  # some of them together where none has a sign
+MOST_KNOWN = 4096  # texts of rows of ZPL that are kept as they were read: most labels share some
+KNOWN = 256  # fields that are kept as they were read: what is alike on all labels
 RESTS = {",": "0", "!": "F"}
 RASTER = b"\x1dv0\0"
 LINES_AND_CUT = b"\x1bd\x03\x1dV\x42\x00"
@@ -143,22 +144,42 @@ def together(rows: list[bytes], field: list[bytes], left: int, blank: bytes) -> 
     return [row.to_bytes(len(blank), "big") for row in both]
 
 
+@lru_cache(KNOWN)
 def rows_of_field(text: str, size: int) -> list[bytes]:
     """Returns the rows of a graphic field in run lengths; raises `NotDecoded`."""
-    digits = 2 * size
-    row = ""
-    rows: list[str] = []
-    for one in ROWS.findall(expanded(text)):
-        if one != ":":
-            rest = RESTS.get(one[-1])
-            if rest:  # it fills the row, or a whole one where a row has just ended
-                one = one[:-1].ljust((len(one) + digits - 1) // digits * digits, rest)
-            if len(one) % digits:
-                raise NotDecoded(Text("a row of the zpl has not its length"))
-            row = one[-digits:]
-            rows.append(one[:-digits])
-        rows.append(row)
-    return rows_in(bytes.fromhex("".join(rows)), size)
+    # each piece ends with a sign that fills its row; what has none is together with the next one
+    pieces = text.replace(",", ",\n").replace("!", "!\n").replace(":", "\n:").split("\n")
+    known = known_rows(size)
+    if len(known) > MOST_KNOWN:
+        known.clear()
+        known[""] = []
+    new = [piece for piece in dict.fromkeys(pieces) if piece.lstrip(":") not in known]
+    if new:
+        learn(known, [piece.lstrip(":") for piece in new], 2 * size)
+    rows: list[bytes] = []
+    for piece in pieces:
+        if piece.startswith(":"):
+            rows += rows[-1:]
+            piece = piece[1:]
+        rows += known[piece]
+    return rows
+
+
+@cache
+def known_rows(size: int) -> dict[str, list[bytes]]:
+    """Returns the rows of so many bytes that were read before, by their texts."""
+    return {"": []}
+
+
+def learn(known: dict[str, list[bytes]], texts: Sequence[str], digits: int) -> None:
+    """Reads texts of rows, all at once, which is quicker; raises `NotDecoded`."""
+    for text, plain in zip(texts, expanded("\n".join(texts)).split("\n")):
+        rest = RESTS.get(plain[-1:])
+        if rest:  # it fills the row, or a whole one where a row has just ended
+            plain = plain[:-1].ljust((len(plain) + digits - 1) // digits * digits, rest)
+        if len(plain) % digits:
+            raise NotDecoded(Text("a row of the zpl has not its length"))
+        known[text] = rows_in(bytes.fromhex(plain), digits // 2)
 
 
 def expanded(text: str) -> str:

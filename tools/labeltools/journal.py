@@ -15,6 +15,7 @@ was never followed by its label, and is taken out.
 import fcntl
 import os
 import re
+import stat
 import time
 from typing import NamedTuple, Optional
 
@@ -54,7 +55,10 @@ class Journal:
         """Opens a journal, or makes it; raises `ToolError` where it is none, and `OSError`."""
         self.path = path
         self.printer = printer.replace("\t", " ")
-        self.file = os.open(path, os.O_RDWR | os.O_CREAT | os.O_CLOEXEC, 0o644)
+        flags = os.O_RDWR | os.O_CREAT | os.O_CLOEXEC | os.O_NONBLOCK  # it waits for no FIFO
+        self.file = os.open(path, flags, 0o644)
+        if not stat.S_ISREG(os.fstat(self.file).st_mode):
+            raise ToolError(Text("{} is no journal", path), NO_JOURNAL)
         self.entries: dict[Code, Entry] = {}
         self.end = 0
         self.lines = 0
@@ -140,9 +144,9 @@ class Journal:
     def read(self) -> None:
         """Reads what was written since the last time, and takes out a line that was cut off."""
         size = os.fstat(self.file).st_size
-        if size < self.end:
-            what = Text("{}: it has become shorter", self.path)
-            raise ToolError(what, Text("another program has changed it"))
+        if size < self.end or not self.is_in_place():
+            what = Text("{}: another program has changed it", self.path)
+            raise ToolError(what, Text("nothing more is printed: give the same command again"))
         data = os.pread(self.file, size - self.end, self.end)
         whole = data.rfind(b"\n") + 1
         if not self.end and not data.startswith(HEAD):
@@ -159,6 +163,17 @@ class Journal:
             self.lines += 1
             self.learn(line)
         self.end += whole
+
+    def is_in_place(self) -> bool:
+        """Returns whether the file has its name still: an editor may write a new one."""
+        try:
+            return os.path.samestat(os.stat(self.path), os.fstat(self.file))
+        except FileNotFoundError:
+            return False
+
+    def printers(self) -> set[str]:
+        """Returns the printers that it has labels of."""
+        return {entry.printer for entry in self.entries.values()}
 
     def learn(self, line: bytes) -> None:
         """Takes a line."""

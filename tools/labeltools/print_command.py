@@ -364,6 +364,10 @@ def sender_of(arguments: argparse.Namespace) -> Sender:
     if journal is not None and journal.is_mended:
         what = Text("{}: its last line was cut off, and was taken out", arguments.journal)
         write_message(TOOL, Text("{}: its label was not sent", what))
+    if journal is not None and arguments.again and arguments.again not in journal.printers():
+        names = ", ".join(sorted(journal.printers())) or Text("nothing")
+        what = Text("{} has no label of {}", arguments.journal, arguments.again)
+        raise ToolError(what, Text("--again names a printer of it: {}", names))
     return Sender(outlet, journal, arguments.again)
 
 

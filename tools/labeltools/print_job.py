@@ -321,7 +321,7 @@ def without_line(lines: LinesFile, only: Optional[Selection]) -> Iterable[LeftOu
     for place in named:
         yield LeftOut(place, "", reason)
     if count and not named:
-        yield LeftOut(None, "", reason)
+        yield LeftOut(None, "", Text("{}: {}", Text("some rows"), reason))
 
 
 def only_wanted(items: Sequence[LaidOut], only: Optional[Selection]) -> list[LaidOut]:

@@ -33,7 +33,8 @@ def report(left_out: Sequence[LeftOut], tables: Iterable[str]) -> Iterator[Text]
             named.append(one.place)
     reasons = sorted(places, key=lambda reason: -len(places[reason]))
     for reason in reasons[:MOST_REASONS]:
-        yield Text("{}: {}", places_text(places[reason], has_tables), reason)
+        named = places[reason]
+        yield Text("{}: {}", places_text(named, has_tables), reason) if named else reason
     rest = [place for reason in reasons[MOST_REASONS:] for place in places[reason]]
     if rest:
         where = places_text(rest, has_tables)

@@ -1,6 +1,7 @@
 """Which labels of a file are printed: rows, ranges of them, and codes."""
 
 import re
+from codecs import BOM_UTF8
 from dataclasses import dataclass
 from pathlib import Path
 from typing import Iterable, Iterator, Optional
@@ -83,7 +84,8 @@ def codes_of(argument: str) -> set[bytes]:
     """Returns the code that an argument is, or those of the lines of a file, as in @damaged.txt."""
     if not argument.startswith(FILE):
         return {argument.encode("utf-8", "surrogateescape")}
-    found = {line.strip() for line in Path(argument[len(FILE) :]).read_bytes().splitlines()}
+    data = Path(argument[len(FILE) :]).read_bytes().removeprefix(BOM_UTF8)
+    found = {line.strip() for line in data.splitlines()}
     found.discard(b"")
     if not found:
         raise ToolError(Text("{}: there is no code", argument[len(FILE) :]))

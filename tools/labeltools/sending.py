@@ -44,8 +44,11 @@ class StandardOutput:
         return standard_output()
 
     def send(self, data: bytes) -> None:
-        """Writes a whole label; raises `OSError`."""
-        send(BytesIO(data), standard_output().fileno())
+        """Writes a whole label; raises `Broken` where it does not take it."""
+        try:
+            send(BytesIO(data), standard_output().fileno())
+        except OSError as error:
+            raise Broken(Text("{}: {}", OUTPUT, error.strerror)) from error
 
     def close(self) -> None:
         """Does nothing: it is closed at the end of the tool."""

@@ -15,7 +15,6 @@ it, as in the file of label-table; its first and last remarks are skipped.
 import os
 import stat
 import sys
-from contextlib import suppress
 from typing import BinaryIO, Iterator, NamedTuple, Optional
 
 from labeltools.engine import LABELS_FAILED, run_labels
@@ -25,7 +24,7 @@ from labeltools.messages import Silence, ToolError, sentence, visible
 from labeltools.network import Broken, Unreachable
 from labeltools.press import Press, PrintJob
 from labeltools.print_job import DrawnLines, Prepared, PrintOptions, prepared
-from labeltools.sending import Sender
+from labeltools.sending import OUTPUT, Sender
 from labeltools.text import NOTHING, Text, translated
 
 SKIPPED = (b'#{"labels"', b'#{"end"')
@@ -150,6 +149,8 @@ class Stream:
             raise Refused(sentence(error.what, error.hint)) from error
         if done.left_out:
             raise Refused(done.left_out[0].reason)
+        if not done.labels:
+            raise Refused(Text("none is printed: it has 0 copies"))
         return lines.records[0], done
 
     def press(self, found: Prepared) -> Press:
@@ -161,13 +162,19 @@ class Stream:
 
 
 def run(options: PrintOptions, job: PrintJob, path: Optional[str], sender: Sender) -> int:
-    """Prints the lines of a source and answers each; returns 1 where one is not printed."""
+    """Prints the lines of a source and answers each; returns 1 where one is not printed. It ends
+    where nobody takes its labels, or reads its answers, any more: a line without an answer would be
+    sent again, and its label be there twice.
+    """
     status = 0
     stream = Stream(options, job, sender)
     for one in jobs(source_of(path)):
         word, text = stream.answer(one)
         status = status if word == TAKEN else 1
-        with suppress(OSError):
-            said = visible(translated(text))
-            print(word, one.number, said, file=sys.stderr, flush=True)
+        try:
+            print(word, one.number, visible(translated(text)), file=sys.stderr, flush=True)
+        except OSError:
+            return 1
+        if word == DOUBTFUL and sender.outlet.name == OUTPUT:
+            return 1  # it takes nothing any more
     return status

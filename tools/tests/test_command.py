@@ -11,7 +11,6 @@ FULL = "standard output: No space left on device"
 
 # arguments and an input with which each tool writes a message and ends with status 1
 COMPLAINING = {
-    "label-lines": ((), b"ean8 1\n"),
     "label-print": (("--paper", "60x40"), b"ean8 1\n"),
     "label-table": (("--code", "1"), b""),
 }

@@ -416,6 +416,14 @@ class Read(unittest.TestCase):
             with self.assertRaises(decode.NotDecoded):
                 decode.rows_of_field(text, 4)
 
+    def test_more_rows_than_are_kept(self) -> None:
+        """Labels that have a blank row in common, and more different ones than are kept."""
+        for first in range(0, 3 * decode.MOST_KNOWN, 1000):
+            numbers = range(first, first + 1000)
+            rows = tuple(number.to_bytes(2, "big") + b"\0" for number in numbers)
+            picture = Picture(24, 1001, (bytes(3), *rows))
+            self.assertEqual(tuple(decode.dots_of("zpl", zpl.zpl(picture, 1)).rows), picture.rows)
+
     def test_where_letters_are(self) -> None:
         """A letter of an em, with its ink from 0.1 to 0.8; one apart from the others."""
         font = Font({65: Reach(1.0, 0.1, 0.2, 0.0, 0.7), 103: Reach(0.5, 0.0, 0.0, -0.2, 0.5)}, 1)

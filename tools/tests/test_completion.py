@@ -16,7 +16,7 @@ import support
 
 COMPLETIONS = support.TOP / "completions"
 SHELLS = ("bash", "fish", "zsh")
-TOOLS = ["label-lines", "label-print", "label-table"]  # the window is opened from a menu
+TOOLS = ["label-print", "label-table"]  # the window is opened from a menu
 # What an option of the tools proposes, where that is no text of any kind; None: files.
 VALUES: Dict[str, Optional[str]] = {
     "label-table --symbology": "auto ean13 ean8 upca code128 qr",

@@ -1,14 +1,17 @@
-"""label-print at a desk: chosen labels, a network printer, the journal, lines as they come."""
+"""label-print at a desk: chosen labels, a network printer, the journal, lines as they come; and what
+fails there.
+"""
 
-import re
-import socket
-import struct
+import functools
+import os
+import resource
 import subprocess
 import tempfile
-import threading
+import time
 import unittest
 from pathlib import Path
-from typing import Optional
+from typing import Any, Optional
+from unittest import mock
 
 import support
 from labeltools.journal import Journal, code_in, escaped
@@ -16,54 +19,51 @@ from labeltools.lines_file import read_lines
 from labeltools.messages import ToolError
 from labeltools.network import NetworkPrinter
 from labeltools.selection import selection_of
+from printers import LABEL, Printer
 
 ROLL = ("--paper", "60x40", "--dpi", "203", "--to", "zpl")
 TICKETS = b"".join(b"qr T%05d\n" % number for number in range(1, 31))
-LABEL = re.compile(rb"\^XA.*?\^XZ\n", re.DOTALL)
+SHORT = functools.partial(NetworkPrinter, stuck=0.5)
 
 
 def setUpModule() -> None:
     support.labels_program()
 
 
-class Printer:
-    """A printer on this machine that breaks off after some labels, once."""
-
-    def __init__(self, cut: int = 0) -> None:
-        self.server = socket.create_server(("127.0.0.1", 0))
-        self.name = f"tcp://127.0.0.1:{self.server.getsockname()[1]}"
-        self.cut = cut
-        self.got = b""
-        threading.Thread(target=self.work, daemon=True).start()
-
-    def work(self) -> None:
-        while True:
-            try:
-                line, _ = self.server.accept()
-            except OSError:
-                return
-            self.read(line)
-            line.close()
-
-    def read(self, line: socket.socket) -> None:
-        buffer = b""
-        while data := line.recv(2048):
-            buffer += data
-            for label in LABEL.findall(buffer):
-                self.got += label
-            buffer = buffer[buffer.rfind(b"^XZ\n") + 4 :] if b"^XZ\n" in buffer else buffer
-            if self.cut and len(LABEL.findall(self.got)) >= self.cut:
-                self.cut = 0
-                line.setsockopt(socket.SOL_SOCKET, socket.SO_LINGER, struct.pack("ii", 1, 0))
-                return
-
-    def off(self) -> None:
-        self.server.shutdown(socket.SHUT_RDWR)
-        self.server.close()
+def printed(*words: str, input: bytes = TICKETS) -> "support.Finished[bytes]":
+    """Runs label-print on a roll."""
+    return support.printed(*ROLL, *words, input=input)
 
 
-class Chosen(unittest.TestCase):
-    """--only and --only-code."""
+def labels_in(done: "support.Finished[bytes]") -> list[bytes]:
+    """The labels on standard output."""
+    return LABEL.findall(done.stdout)
+
+
+class Folder(unittest.TestCase):
+    """Tests with a folder and the name of a journal in it."""
+
+    def setUp(self) -> None:
+        folder = tempfile.TemporaryDirectory()
+        self.addCleanup(folder.cleanup)
+        self.folder = folder.name
+        self.path = f"{self.folder}/journal"
+        self.records = read_lines(TICKETS, "lines").records
+
+    def events(self) -> list[str]:
+        """The events of the journal."""
+        lines = Path(self.path).read_text().splitlines()[1:]
+        return [line.split("\t")[1] for line in lines]
+
+    def said(self, done: "support.Finished[bytes]", status: int, pattern: str) -> None:
+        """Compares a status and a message."""
+        text = done.stderr.decode()
+        self.assertEqual(done.returncode, status, text)
+        self.assertRegex(text, pattern)
+
+
+class Chosen(Folder):
+    """--only, --only-code and --unique; the library; a line that is cut off."""
 
     def rows(self, rows: Optional[str], *codes: str) -> list[int]:
         only = selection_of(rows, codes)
@@ -73,37 +73,78 @@ class Chosen(unittest.TestCase):
     def test_rows_and_codes(self) -> None:
         self.assertEqual(self.rows("2,29-"), [2, 29, 30, 31])
         self.assertEqual(self.rows("3-4", "T00030", "400638133393"), [1, 3, 4, 31])
-        with tempfile.NamedTemporaryFile() as file:
-            file.write(b"T00005\r\n\nT00001\n")
-            file.flush()
-            self.assertEqual(self.rows(None, f"@{file.name}"), [2, 6])
+        codes = Path(self.folder, "codes")
+        for data in (b"T00005\r\n\nT00001\n", b"\xef\xbb\xbfT00001\r\nT00005"):
+            codes.write_bytes(data)
+            self.assertEqual(self.rows(None, f"@{codes}"), [2, 6])
 
     def test_what_is_not_there_is_said(self) -> None:
-        words = ("--only", "40-", "--only-code", "T9", "--only-code", "T00001")
-        done = support.run("label-print", *ROLL, *words, input=TICKETS)
-        self.assertEqual((done.returncode, len(LABEL.findall(done.stdout))), (1, 1))
-        self.assertIn(b"row 40: of --only, but not in the input", done.stderr)
-        self.assertIn(b"T9: of --only-code, but not in the input", done.stderr)
+        done = printed("--only", "40-", "--only-code", "T9", "--only-code", "T00001")
+        self.said(done, 1, "row 40: of --only, but not in the input")
+        self.said(done, 1, "label-print: T9: of --only-code, but not in the input")
+        self.assertEqual(len(labels_in(done)), 1)
+        self.said(printed("--only-code", f"@{self.folder}/no"), 1, "no: No such file")
+
+    def test_few_are_named(self) -> None:
+        done = printed("--only", "3", "--only-code", "T00007", "--summary")
+        self.said(done, 0, "2 labels: line 3, T00003; line 7, T00007")
+
+    def test_each_code_once(self) -> None:
+        lines = b"qr 4006381333931\nean13 4006381333931\nean13 400638133393\nqr A\nqr A\n"
+        done = printed("--unique", input=lines)
+        self.said(
+            done, 1, "line 3: has the code of line 2\n(.*\n)*.*line 5: has the code of line 4"
+        )
+        self.assertEqual(len(labels_in(done)), 3)
+        copies = support.file_of([("qr A", {"copies": 2}), ("qr B", {})])
+        self.said(printed("--unique", input=copies), 1, "row 2: has copies")
+
+    def test_a_last_line_that_may_be_cut_off(self) -> None:
+        done = printed(input=b"code128 PALLET-4711\ncode128 PALLET-47")
+        self.said(done, 1, "line 2: has no line end, so it may be cut off")
+        self.assertEqual(len(labels_in(done)), 1)
+
+    def test_the_library_is_not_there(self) -> None:
+        done = support.run("label-print", *ROLL, input=TICKETS, LABELS_LIBRARY="/no/such.so")
+        self.said(done, 1, "the library liblabels is not there: .*python3-liblabels")
+        self.said(printed("--labels", "--level X"), 2, "bad words")
 
 
-class Network(unittest.TestCase):
+class Network(Folder):
     """--print tcp://HOST."""
 
     def test_each_label_arrives(self) -> None:
-        printer = Printer()
-        done = support.run("label-print", *ROLL, "--print", printer.name, input=TICKETS)
-        self.assertEqual((done.returncode, done.stdout), (0, b""), done.stderr)
-        self.assertEqual(len(LABEL.findall(printer.got)), 30)
+        printer = Printer().start()
+        self.said(printed("--print", printer.name), 0, "30 labels taken by tcp://127")
+        self.assertEqual(len(set(printer.labels)), 30)
+
+    def test_a_slow_one_and_one_that_talks(self) -> None:
+        for printer in (
+            Printer(slow=0.02).start(),
+            Printer(says=b"\x02030,0,0\x03\r\n" * 200).start(),
+        ):
+            self.said(printed("--print", printer.name), 0, "30 labels taken")
+            self.assertEqual(len(set(printer.labels)), 30)
+
+    def test_off(self) -> None:
+        printer = Printer().start()
         printer.off()
-        done = support.run("label-print", *ROLL, "--print", printer.name, input=TICKETS)
-        self.assertEqual(done.returncode, 1)
-        self.assertIn(b"line 1 and what follows it were not sent", done.stderr)
+        done = printed("--print", printer.name, "--journal", self.path)
+        self.said(done, 1, "refused: line 1 and what follows it were not sent; is it on")
+        self.assertEqual(self.events(), [])
+        self.said(printed("--print", "tcp://no.invalid"), 1, "line 1 and what follows it")
 
     def test_the_row_to_go_on_from(self) -> None:
-        printer = Printer(cut=10)
-        done = support.run("label-print", *ROLL, "--print", printer.name, input=TICKETS)
-        self.assertEqual(done.returncode, 1)
-        self.assertRegex(done.stderr, rb"broke off: it took \d+ labels? whole; .* --only \d+-")
+        printer = Printer(cut=10).start()
+        done = printed("--print", printer.name)
+        self.said(done, 1, r"broke off: it took \d+ labels? whole; look at the last one on paper")
+        self.assertRegex(done.stderr, rb"then print from line (\d+) on by --only \1-\n")
+
+    def test_one_that_hangs(self) -> None:
+        printer = Printer(stuck=3).start()
+        with mock.patch("labeltools.print_command.NetworkPrinter", SHORT):
+            done = printed("--print", printer.name, "--dpi", "600")
+        self.said(done, 1, "takes nothing for 0 seconds: it took .* print from line")
 
     def test_names(self) -> None:
         self.assertEqual(NetworkPrinter("tcp://[::1]:9101").address, ("::1", 9101))
@@ -112,23 +153,65 @@ class Network(unittest.TestCase):
             with self.assertRaises(ToolError):
                 NetworkPrinter(name)
 
+    def test_a_queue_and_other_forms_are_refused(self) -> None:
+        for words in (("--journal", self.path), ("--stream",)):
+            self.said(printed(*words, "--print", "Q"), 2, "is a queue of CUPS; .* tcp://HOST")
+            done = support.printed("--paper", "60x40", *words, input=TICKETS)
+            self.said(done, 2, "needs labels one by one: give --to zpl or escpos")
 
-class Journals(unittest.TestCase):
+
+class Journals(Folder):
     """--journal and --again."""
-
-    def setUp(self) -> None:
-        self.folder = tempfile.TemporaryDirectory()
-        self.addCleanup(self.folder.cleanup)
-        self.path = f"{self.folder.name}/journal"
-        self.records = read_lines(TICKETS, "lines").records
 
     def test_a_code_goes_out_once(self) -> None:
         for count in (30, 0):
-            done = support.run("label-print", *ROLL, "--journal", self.path, input=TICKETS)
-            self.assertEqual((done.returncode, len(LABEL.findall(done.stdout))), (0, count))
-        again = ("--only", "5-6", "--again", "standard output")
-        done = support.run("label-print", *ROLL, "--journal", self.path, *again, input=TICKETS)
-        self.assertEqual((done.returncode, len(LABEL.findall(done.stdout))), (0, 2), done.stderr)
+            done = printed("--journal", self.path)
+            self.assertEqual((done.returncode, len(labels_in(done))), (0, count))
+        self.said(done, 0, "0 labels; 30 labels in .*/journal already")
+        done = printed("--journal", self.path, "--only", "5-6", "--again", "standard output")
+        self.assertEqual((done.returncode, len(labels_in(done))), (0, 2), done.stderr)
+        self.assertEqual(self.events(), ["sending", "taken"] * 32)
+
+    def test_again_by_a_name_that_is_not_there(self) -> None:
+        printed("--journal", self.path)
+        done = printed("--journal", self.path, "--only", "5", "--again", "tcp://lane-1")
+        self.said(done, 1, "has no label of tcp://lane-1: --again names .*: standard output")
+        self.said(printed("--journal", self.path, "--again", "tcp://lane-1"), 2, "by --only")
+
+    def test_a_jam(self) -> None:
+        """Two lanes; the first forgets the labels in its memory, and those alone are printed once
+        more: the last good ticket is the fourth one.
+        """
+        lanes = Printer().start(), Printer().start()
+        for printer, rows in zip(lanes, ("1-8", "9-15")):
+            words = ("--journal", self.path, "--print", printer.name, "--only", rows)
+            self.assertEqual(printed(*words).returncode, 0)
+        paper = [*lanes[0].labels[:4], *lanes[1].labels]
+        lanes[0].labels.clear()
+        again = ("--only", "5-", "--again", lanes[0].name)
+        done = printed("--journal", self.path, "--print", lanes[0].name, *again)
+        self.said(done, 0, "19 labels taken")
+        paper += lanes[0].labels
+        self.assertEqual(sorted(paper), sorted(labels_in(printed())))
+
+    def test_a_roll_that_runs_out(self) -> None:
+        """The printer breaks off; the same command prints what is missing, and one is named."""
+        printer = Printer(cut=12).start()
+        words = ("--journal", self.path, "--print", printer.name)
+        self.said(printed(*words), 1, "line [0-9]+ may be on paper: look there, then give the same")
+        doubtful = self.events().count("sending") - self.events().count("taken")
+        self.assertEqual(doubtful, 1)
+        done = printed(*words)
+        self.said(
+            done, 1, "line [0-9]+: may be on paper, from tcp://127.* --only-code CODE --again"
+        )
+        self.assertEqual(len(printer.labels), len(set(printer.labels)))
+        self.assertGreaterEqual(len(printer.labels), 29)
+        text = Path(self.path).read_text()
+        lines = text.splitlines()[1:]
+        line = next(line for line in lines if text.count(line.split("\t")[-1] + "\n") == 1)
+        Path(self.path).write_text(text.replace(line, line.replace("sending", "taken")))
+        self.said(printed(*words), 0, "30 labels in")  # it was looked at, and is there
 
     def test_two_lanes(self) -> None:
         """A lock is of a process: the other lane is one."""
@@ -154,6 +237,23 @@ class Journals(unittest.TestCase):
             other.wait()
             self.assertTrue(ours.is_doubtful(self.records[1]))
 
+    def test_a_lane_that_is_killed_while_another_one_waits(self) -> None:
+        script = (
+            "import sys\n"
+            "from labeltools.journal import Journal\n"
+            "journal = Journal(sys.argv[1], 'tcp://b'); journal.lock()\n"
+            "print('locked', flush=True); sys.stdin.read()\n"
+        )
+        ours = Journal(self.path, "tcp://a")
+        words = ["/usr/bin/python3", "-c", script, self.path]
+        pipe = subprocess.PIPE
+        with subprocess.Popen(words, stdin=pipe, stdout=pipe, cwd=support.TOOLS) as other:
+            assert other.stdout is not None
+            other.stdout.readline()
+            killer = subprocess.Popen(["sh", "-c", f"sleep 0.3; kill -9 {other.pid}"])
+            self.assertTrue(ours.claim(self.records[0]))
+            killer.wait()
+
     def test_lines_that_are_cut_off(self) -> None:
         journal = Journal(self.path, "tcp://a")
         journal.claim(self.records[0])
@@ -167,12 +267,46 @@ class Journals(unittest.TestCase):
             self.assertTrue(again.is_mended)
             self.assertIsNone(again.entry(self.records[1]))
             self.assertEqual(Path(self.path).read_bytes(), whole[:start])
+        Path(self.path).write_bytes(whole[:-3])
+        done = printed("--journal", self.path)
+        self.said(done, 0, "its last line was cut off, and was taken out: its label was not sent")
+        self.assertEqual(len(labels_in(done)), 29)
 
-    def test_another_file_is_kept(self) -> None:
-        Path(self.path).write_bytes(b"Code;Name\n")
-        with self.assertRaisesRegex(ToolError, "is no journal"):
-            Journal(self.path, "tcp://a")
-        self.assertEqual(Path(self.path).read_bytes(), b"Code;Name\n")
+    def test_a_mark_that_is_cut_off(self) -> None:
+        journal = Journal(self.path, "tcp://a")
+        journal.claim(self.records[0])
+        journal.take(self.records[0])
+        os.close(journal.file)
+        whole = Path(self.path).read_bytes()
+        Path(self.path).write_bytes(whole[:-5])
+        self.said(printed("--journal", self.path), 1, "line 1: may be on paper, from tcp://a")
+
+    def test_other_files_are_kept(self) -> None:
+        for data in (b"Code;Name\n", b"#labels journal 2\n", b"#labels journal 1\r\n", b"\0" * 99):
+            Path(self.path).write_bytes(data)
+            self.said(printed("--journal", self.path), 1, "journal is no journal: give a file that")
+            self.assertEqual(Path(self.path).read_bytes(), data)
+        os.unlink(self.path)
+        os.mkfifo(self.path)
+        self.said(printed("--journal", self.path), 1, "journal is no journal")
+        self.said(printed("--journal", "/dev/null"), 1, "/dev/null is no journal")
+        self.said(printed("--journal", self.folder), 1, "Is a directory")
+        self.said(printed("--journal", f"{self.folder}/no/journal"), 1, "No such file")
+
+    def test_a_line_that_is_none(self) -> None:
+        Path(self.path).write_bytes(b"#labels journal 1\n# my remark\nT00001\n")
+        done = printed("--journal", self.path)
+        self.said(done, 1, "line 3 is no line of a journal; nothing is printed")
+        self.assertEqual(labels_in(done), [])
+
+    def test_an_editor_that_writes_a_new_file(self) -> None:
+        journal = Journal(self.path, "tcp://a")
+        self.assertTrue(journal.claim(self.records[0]))
+        new = f"{self.folder}/new"
+        Path(new).write_bytes(Path(self.path).read_bytes())
+        os.rename(new, self.path)
+        with self.assertRaisesRegex(ToolError, "another program has changed it"):
+            journal.claim(self.records[1])
 
     def test_each_byte_comes_back(self) -> None:
         data = bytes(range(256))
@@ -180,8 +314,67 @@ class Journals(unittest.TestCase):
         self.assertTrue(escaped(data).isascii() and escaped(data).decode().isprintable())
 
 
-class Streams(unittest.TestCase):
+class FullDisks(Folder):
+    """A journal that takes no more bytes than a limit."""
+
+    def limited(self, size: int) -> "support.Finished[bytes]":
+        """Runs label-print whose files have so many bytes at most."""
+        words = [str(support.TOOLS / "label-print"), *ROLL, "--journal", self.path]
+        limit = functools.partial(resource.setrlimit, resource.RLIMIT_FSIZE, (size, size))
+        return subprocess.run(
+            words,
+            input=TICKETS,
+            capture_output=True,
+            env=support.environment(),
+            preexec_fn=limit,
+        )
+
+    def test_each_size(self) -> None:
+        """The disk is full in the first line, before a label, at its mark, or within a line; with
+        room again the same command prints what is missing, and names what may be there.
+        """
+        done = printed("--journal", self.path, "--only", "1")
+        self.assertEqual(done.returncode, 0)
+        head, first, mark = Path(self.path).read_bytes().splitlines(keepends=True)
+        sizes = [
+            4,
+            len(head),
+            len(head + first) - 1,
+            len(head + first),
+            len(head + first + mark) + 5,
+        ]
+        for size in sizes:
+            with self.subTest(size=size):
+                os.unlink(self.path)
+                done = self.limited(size)
+                self.said(done, 1, "journal: File too large")
+                went = labels_in(done)
+                rest = printed("--journal", self.path)
+                labels = [*went, *labels_in(rest)]
+                self.assertEqual(len(labels), len(set(labels)))
+                is_doubtful = b"may be on paper" in rest.stderr
+                self.assertEqual(len(labels) == 30, True)
+                self.assertEqual(rest.returncode, int(is_doubtful), rest.stderr)
+                self.assertEqual(is_doubtful, size == len(head + first))
+
+
+class Streams(Folder):
     """--stream."""
+
+    def start(self, *words: str) -> "subprocess.Popen[bytes]":
+        """Starts a stream."""
+        pipe = subprocess.PIPE
+        command = [str(support.TOOLS / "label-print"), *ROLL, "--stream", *words]
+        env = support.environment()
+        stream = subprocess.Popen(command, stdin=pipe, stdout=pipe, stderr=pipe, env=env)
+        self.addCleanup(ended, stream)
+        return stream
+
+    def answers(self, input: bytes, *words: str) -> list[str]:
+        """The answers to lines."""
+        done = printed("--stream", *words, input=input)
+        self.assertEqual(done.stderr.count(b"\n"), len(done.stderr.splitlines()))
+        return done.stderr.decode().splitlines()
 
     def test_answers_and_bytes(self) -> None:
         lines = [
@@ -189,23 +382,136 @@ class Streams(unittest.TestCase):
             b'#{"row":7,"title":"Heft"}\nean13 400638133393\n',
             b"ean13 4006381333932\n",
         ]
-        words = [str(support.TOOLS / "label-print"), *ROLL, "--stream", "--unique"]
-        pipe = subprocess.PIPE
-        env = support.environment()
-        with subprocess.Popen(words, stdin=pipe, stdout=pipe, stderr=pipe, env=env) as stream:
-            assert stream.stdin and stream.stdout and stream.stderr
-            for line, word in zip([*lines, b"qr A\n"], ("taken", "taken", "refused", "known")):
-                stream.stdin.write(line)
-                stream.stdin.flush()
-                answer = stream.stderr.readline().decode().split()
-                self.assertEqual(answer[0], word)
-                if word == "taken":
-                    alone = support.run("label-print", *ROLL, input=line).stdout
-                    self.assertEqual(stream.stdout.read(int(answer[2])), alone)
-            stream.stdin.write(b"qr CUT")
-            stream.stdin.close()
-            self.assertEqual(stream.stderr.read(), b"refused 6 cut off before its line end\n")
-        self.assertEqual(stream.returncode, 1)
+        stream = self.start("--unique")
+        assert stream.stdin and stream.stdout and stream.stderr
+        for line, word in zip([*lines, b"qr A\n"], ("taken", "taken", "refused", "known")):
+            stream.stdin.write(line)
+            stream.stdin.flush()
+            answer = stream.stderr.readline().decode().split()
+            self.assertEqual(answer[0], word)
+            if word == "taken":
+                alone = printed(input=line).stdout
+                self.assertEqual(stream.stdout.read(int(answer[2])), alone)
+        stream.stdin.write(b"qr CUT")
+        stream.stdin.close()
+        self.assertEqual(stream.stderr.read(), b"refused 6 cut off before its line end\n")
+        self.assertEqual(stream.wait(), 1)
+
+    def test_lines_that_have_no_label(self) -> None:
+        lines = {
+            b"qr " + b"A" * 1098: "refused 1 line is longer than 1100 bytes",
+            b"qr " + b"A" * 70_000: "refused 1 longer than 65536 bytes",
+            b"PALLET": "refused 1 unknown symbology",
+            b'#{"row":"x"}\nqr A': "refused 2 .*not understood: .row.",
+            b'#{"row":1,"copies":0}\nqr A': "refused 2 none is printed: it has 0 copies",
+            b"code128 " + b"A" * 60: "refused 1 Code 128 is .* mm wide",
+        }
+        for line, pattern in lines.items():
+            first, second = self.answers(line + b"\nqr B\n")
+            self.assertRegex(first, f"^{pattern}")
+            self.assertRegex(second, r"^taken \d \d+ qr B$")
+
+    def test_any_bytes_are_one_line(self) -> None:
+        lines = b"qr A\0\x1b[2J\r\n# remark\n\nqr \xff\xe2\x80\xa8\n"
+        self.assertEqual([line.split()[0] for line in self.answers(lines)], ["taken", "taken"])
+
+    def test_each_word_by_a_printer(self) -> None:
+        """Its second label is more than the systems of both sides take."""
+        printer = Printer(torn=2).start()
+        long = b"#" + b'{"title":"%s"}' % (b"Wegeplan " * 60)
+        lines = b"qr T1\n" + long + b"\nqr T2\nqr T3\n"
+        words = ("--paper", "100x150", "--dpi", "1200", "--print", printer.name)
+        words = (*words, "--journal", self.path)
+        found = self.answers(lines, *words)
+        self.assertEqual([line.split()[0] for line in found], ["taken", "doubtful", "taken"])
+        self.assertRegex(found[1], "^doubtful 3 tcp://.*: the printer broke off$")
+        self.assertEqual(
+            self.answers(b"qr T1\nqr T2\n", *words), ["known 1 qr T1", "known 2 qr T2"]
+        )
+        printer.off()
+        said = self.answers(b"qr NEW\nqr T1\n", *words)
+        self.assertRegex(said[0], "^unsent 1 tcp://.*refused; is it on")
+        self.assertEqual(said[1], "known 2 qr T1")
+        self.assertNotIn("NEW", Path(self.path).read_text())
+
+    def test_nobody_reads_the_labels(self) -> None:
+        stream = self.start()
+        assert stream.stdin and stream.stdout and stream.stderr
+        stream.stdout.close()
+        stream.stdin.write(b"qr A\nqr B\n")
+        stream.stdin.close()
+        self.assertEqual(stream.stderr.read(), b"doubtful 1 standard output: Broken pipe\n")
+        self.assertEqual(stream.wait(), 1)
+
+    def test_nobody_reads_the_answers(self) -> None:
+        """It ends: a line without an answer would be sent again."""
+        stream = self.start()
+        assert stream.stdin and stream.stdout and stream.stderr
+        stream.stderr.close()
+        stream.stdin.write(TICKETS)
+        stream.stdin.close()
+        self.assertEqual(len(LABEL.findall(stream.stdout.read())), 1)
+        self.assertEqual(stream.wait(), 1)
+
+    def test_a_fifo_is_kept_open(self) -> None:
+        fifo = f"{self.folder}/till"
+        os.mkfifo(fifo)
+        stream = self.start(fifo)
+        assert stream.stderr and stream.stdout
+        for code in ("A", "B"):
+            Path(fifo).write_bytes(f"qr {code}\n".encode())  # a writer that comes and goes
+            answer = stream.stderr.readline().split()
+            self.assertEqual(answer[3:], [b"qr", code.encode()])
+            stream.stdout.read(int(answer[2]))
+        stream.terminate()
+
+    @support.slow
+    def test_memory_and_descriptors_are_level(self) -> None:
+        stream = self.start()
+        assert stream.stdin and stream.stdout and stream.stderr
+        status = Path(f"/proc/{stream.pid}/status")
+        found = []
+        spent = []
+        for number in range(900):
+            start = processor_time(stream.pid)
+            stream.stdin.write(b"ean13 400638133393\n" if number % 4 == 0 else b"qr %d\n" % number)
+            stream.stdin.flush()
+            answer = stream.stderr.readline().split()
+            stream.stdout.read(int(answer[2]))
+            spent.append(processor_time(stream.pid) - start)
+            if number in (300, 899):
+                size = int(status.read_text().split("VmRSS:")[1].split()[0])
+                found.append((size, len(os.listdir(f"/proc/{stream.pid}/fd"))))
+        self.assertEqual(found[0][1], found[1][1])
+        self.assertLess(found[1][0], found[0][0] * 1.05)
+        self.assertLess(sum(spent[100:]) / len(spent[100:]), 0.02)
+
+
+def ended(stream: "subprocess.Popen[bytes]") -> None:
+    """Waits for the end of a stream, and closes its pipes."""
+    for pipe in (stream.stdin, stream.stdout, stream.stderr):
+        if pipe is not None:
+            pipe.close()
+    stream.wait(support.SECONDS)
+
+
+def processor_time(process: int) -> float:
+    """The processor time of a process in seconds."""
+    fields = Path(f"/proc/{process}/stat").read_text().rpartition(")")[2].split()
+    return (int(fields[11]) + int(fields[12])) / os.sysconf("SC_CLK_TCK")
+
+
+class Receipts(Folder):
+    """ESC/POS without white at the right."""
+
+    def test_half_the_bytes(self) -> None:
+        """A ticket of 72 by 110 mm would be 79 kB of whole rows."""
+        labels = [("qr T00001", {"title": "Konzert", "price": "12,00 €", "text": ["Reihe 7"]})]
+        words = ("--paper", "72x110", "--dpi", "203", "--to", "escpos")
+        done = support.printed(*words, input=support.file_of(labels))
+        whole = 72 * 110 * (203 / 25.4) ** 2 / 8
+        self.assertLess(len(done.stdout), whole / 2)
+        self.assertGreater(len(done.stdout), 5000)
 
 
 if __name__ == "__main__":

@@ -1,4 +1,4 @@
-"""label-print and label-lines from input to end: files that are cut, full disks, closed pipes,
+"""label-print from input to end: files that are cut, full disks, closed pipes,
 signals, streams.
 """
 
@@ -388,46 +388,6 @@ class Signals(unittest.TestCase):
             env=support.environment(),
         )
         self.assertEqual((done.returncode, len(jobs.dots_of_zpl(done.stdout))), (0, 2))
-
-
-class Lines(unittest.TestCase):
-    """label-lines: which picture is which line, from a run of its own."""
-
-    def listed(self, data: bytes, *arguments: str) -> Tuple[int, bytes, List[str]]:
-        done = support.run("label-lines", *arguments, input=data)
-        return done.returncode, done.stdout, support.messages(done)
-
-    def test_refused_lines_remarks_and_empty_lines(self) -> None:
-        lines = b"ean8 7351353\n# remark\nean8 x\n\nqr K\xc3\xa4se\r\nqr \xff"
-        said = ["label-lines: line 3: not a digit at byte 1"]
-        self.assertEqual(
-            self.listed(lines), (1, b"1 1 ean8 7351353\n2 5 qr K\xc3\xa4se\r\n3 6 qr \xff\n", said)
-        )
-        self.assertEqual(self.listed(b"# none\n"), (0, b"", []))
-
-    def test_options_of_labels(self) -> None:
-        long = b"qr " + b"x" * 150 + b"\n"
-        self.assertEqual(self.listed(long)[0], 0)
-        said = ["label-lines: line 1: data does not fit version 10-H"]
-        self.assertEqual(self.listed(long, "--labels", "--level H"), (1, b"", said))
-
-    def test_as_labels_draws(self) -> None:
-        lines = (
-            b"qr a\n\r\n\n#" + b"x" * 1200 + b"\n" + b"y" * 1200 + b"\nqr \x00\n\xe4\nean8 7351353"
-        )
-        pictures, _, _ = support.draw(lines, "--height", "1")
-        status, listed, said = self.listed(lines)
-        self.assertEqual((status, listed), (1, b"1 1 qr a\n2 6 qr \x00\n3 8 ean8 7351353\n"))
-        self.assertEqual((pictures.count(b"P1\n"), len(said)), (3, 3))
-
-    def test_endings(self) -> None:
-        done = support.run("label-lines", "nothing.txt")
-        self.assertEqual((done.returncode, done.stdout), (1, b""))
-        self.assertEqual(
-            support.messages(done), ["label-lines: nothing.txt: No such file or directory"]
-        )
-        self.assertEqual(self.listed(b"")[:2], (1, b""))
-        self.assertEqual(self.listed(b"qr a\n", "--labels", "--no-such")[:2], (2, b""))
 
 
 if __name__ == "__main__":

@@ -1,0 +1,128 @@
+#!/usr/bin/python3
+"""Printers of ZPL on this machine, for tests: they break off, hang, are slow or talk.
+
+usage: printers.py PORT FILE [LABELS]: plays a printer in the background, which adds the labels that
+it takes to a file, and breaks off once after so many. It ends when nobody has printed for a while.
+"""
+
+import os
+import re
+import socket
+import struct
+import sys
+import threading
+import time
+from typing import List
+
+LABEL = re.compile(rb"\^XA.*?\^XZ\n", re.DOTALL)
+QUIET = 20.0  # seconds without a connection after which the program ends
+BROKEN = struct.pack("ii", 1, 0)  # a connection that is closed so is reset
+
+
+class Printer:
+    """A printer in the network. After `cut` labels it breaks off once; the connection of the
+    number `torn` it breaks off within the first label; after `stuck` labels it reads no more;
+    `slow` are the seconds that it takes for each piece; `says` is what it sends.
+    """
+
+    def __init__(
+        self,
+        cut: int = 0,
+        torn: int = 0,
+        stuck: int = 0,
+        slow: float = 0.0,
+        says: bytes = b"",
+        port: int = 0,
+    ) -> None:
+        self.server = socket.create_server(("127.0.0.1", port))
+        self.port = self.server.getsockname()[1]
+        self.name = f"tcp://127.0.0.1:{self.port}"
+        self.cut = cut
+        self.torn = torn
+        self.stuck = stuck
+        self.slow = slow
+        self.says = says
+        self.labels: List[bytes] = []
+        self.file = ""
+
+    def start(self) -> "Printer":
+        """Begins to take labels."""
+        threading.Thread(target=self.work, daemon=True).start()
+        return self
+
+    def work(self) -> None:
+        """Takes one connection after another until it is switched off."""
+        while True:
+            try:
+                line, _ = self.server.accept()
+            except OSError:
+                return
+            threading.Thread(target=self.read, args=(line,), daemon=True).start()
+
+    def read(self, line: socket.socket) -> None:
+        """Reads labels; a part of one is no label."""
+        line.setsockopt(socket.SOL_SOCKET, socket.SO_RCVBUF, 4096)
+        buffer = b""
+        with line:
+            self.torn -= 1
+            if self.torn == 0:
+                line.recv(100)
+                line.setsockopt(socket.SOL_SOCKET, socket.SO_LINGER, BROKEN)
+                return
+            while data := self.received(line):
+                buffer += data
+                found = LABEL.findall(buffer)
+                self.keep(found)
+                buffer = buffer[sum(map(len, found)) :]
+                if self.stuck and len(self.labels) >= self.stuck:
+                    time.sleep(60)
+                if self.cut and len(self.labels) >= self.cut:
+                    self.cut = 0
+                    line.setsockopt(socket.SOL_SOCKET, socket.SO_LINGER, BROKEN)
+                    return
+
+    def keep(self, labels: List[bytes]) -> None:
+        """Keeps labels, in a file where one is named."""
+        self.labels += labels
+        if self.file:
+            with open(self.file, "ab") as file:
+                file.writelines(labels)
+
+    def received(self, line: socket.socket) -> bytes:
+        """A piece of what comes in; nothing at its end, or where the other side broke off."""
+        try:
+            if self.says:
+                line.sendall(self.says)
+            time.sleep(self.slow)
+            return line.recv(2048)
+        except OSError:
+            return b""
+
+    def off(self) -> None:
+        """Switches it off."""
+        self.server.shutdown(socket.SHUT_RDWR)
+        self.server.close()
+
+    def wait(self, count: int) -> None:
+        """Waits until so many labels have come, some seconds at most."""
+        end = time.monotonic() + 20
+        while len(self.labels) < count and time.monotonic() < end:
+            time.sleep(0.01)
+
+
+def main() -> None:
+    """Plays a printer in the background."""
+    port, file, *cut = sys.argv[1:]
+    printer = Printer(cut=int(cut[0]) if cut else 0, port=int(port))
+    printer.file = file
+    open(file, "wb").close()
+    if os.fork():
+        os._exit(0)  # it listens already
+    for number in range(3):
+        os.dup2(os.open(os.devnull, os.O_RDWR), number)
+    printer.server.settimeout(QUIET)
+    printer.work()
+
+
+if __name__ == "__main__":
+    main()
