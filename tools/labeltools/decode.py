@@ -133,15 +133,18 @@ def dots_of_zpl(data: bytes) -> Dots:
 
 def together(rows: list[bytes], field: list[bytes], left: int, blank: bytes) -> list[bytes]:
     """Returns rows with those of a field from a byte on; dark dots of both are dark."""
-    before = blank[:left]
-    behind = blank[left + len(field[0]) :]
-    wide = [before + row + behind for row in field]
+    size = len(field[0])
+    end = left + size
+    there = [row[left:end] for row in rows]
+    if there.count(bytes(size)) < len(there):
+        both = zip(there, field)
+        dots = (int.from_bytes(one, "big") | int.from_bytes(other, "big") for one, other in both)
+        field = [dot.to_bytes(size, "big") for dot in dots]
     if rows.count(blank) == len(rows):
-        return wide
-    both = (
-        int.from_bytes(one, "big") | int.from_bytes(other, "big") for one, other in zip(rows, wide)
-    )
-    return [row.to_bytes(len(blank), "big") for row in both]
+        before = blank[:left]
+        behind = blank[end:]
+        return [before + piece + behind for piece in field]
+    return [row[:left] + piece + row[end:] for row, piece in zip(rows, field)]
 
 
 @lru_cache(KNOWN)

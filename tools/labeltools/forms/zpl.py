@@ -65,11 +65,12 @@ def blocks(whole: Block) -> Iterator[Block]:
     """Yields the blocks of a label from top to bottom, and from left to right."""
     for band in bands(whole):
         mask = reduce(or_, (int.from_bytes(row, "big") for row in set(band.rows)))
-        parts = list(INKED.finditer(mask.to_bytes(len(band.rows[0]), "big")))
-        for part in parts:
-            rows = [row[part.start() : part.end()] for row in band.rows]
-            block = Block(band.left + part.start(), band.top, rows)
-            if len(parts) > 1:
+        inked = mask.to_bytes(len(band.rows[0]), "big")
+        spans = [found.span() for found in INKED.finditer(inked)]
+        for first, last in spans:
+            rows = [row[first:last] for row in band.rows]
+            block = Block(band.left + first, band.top, rows)
+            if len(spans) > 1:
                 yield from blocks(block)
             else:
                 yield block
