@@ -6,7 +6,7 @@ import re
 import struct
 import zlib
 from dataclasses import dataclass
-from functools import cache
+from functools import cache, lru_cache
 from typing import Sequence
 
 from labeltools.text import Text
@@ -17,6 +17,7 @@ ZPL_END = re.compile(rb"(?:\^PQ([0-9]+)\n)?\^XZ\n")
 COUNTED = re.compile(r"([G-Yg-z]+[0-9A-F])")
 UNSIGNED = re.compile(r"(?<=[0-9A-F]):")  # a row comes again that has no sign at its end
 MOST_KNOWN = 4096  # texts of rows of ZPL that are kept as they were read: most labels share some
+KNOWN = 256  # fields that are kept as they were read: what is alike on all labels
 RESTS = {",": "0", "!": "F"}
 RASTER = b"\x1dv0\0"
 LINES_AND_CUT = b"\x1bd\x03\x1dV\x42\x00"
@@ -133,17 +134,21 @@ def dots_of_zpl(data: bytes) -> Dots:
 
 def together(rows: list[bytes], field: list[bytes], left: int, blank: bytes) -> list[bytes]:
     """Returns rows with those of a field from a byte on; dark dots of both are dark."""
-    before = blank[:left]
-    behind = blank[left + len(field[0]) :]
-    wide = [before + row + behind for row in field]
+    size = len(field[0])
+    end = left + size
+    there = [row[left:end] for row in rows]
+    if there.count(bytes(size)) < len(there):
+        both = zip(there, field)
+        dots = (int.from_bytes(one, "big") | int.from_bytes(other, "big") for one, other in both)
+        field = [dot.to_bytes(size, "big") for dot in dots]
     if rows.count(blank) == len(rows):
-        return wide
-    both = (
-        int.from_bytes(one, "big") | int.from_bytes(other, "big") for one, other in zip(rows, wide)
-    )
-    return [row.to_bytes(len(blank), "big") for row in both]
+        before = blank[:left]
+        behind = blank[end:]
+        return [before + piece + behind for piece in field]
+    return [row[:left] + piece + row[end:] for row, piece in zip(rows, field)]
 
 
+@lru_cache(KNOWN)
 def rows_of_field(text: str, size: int) -> list[bytes]:
     """Returns the rows of a graphic field in run lengths; raises `NotDecoded`."""
     # each piece has signs of rows that come again, and a row that ends with the sign that fills it;

@@ -14,7 +14,7 @@ from labeltools.letters import Fonts, Letters
 from labeltools.messages import ToolError
 from labeltools.own_design import BLACK, WHITE, Colour, OwnDesign, Place
 from labeltools.own_layout import OwnLayout, OwnText
-from labeltools.pen import Fitted, Medium, Page, Pen, Style, ink_of, padded
+from labeltools.pen import Fitted, Medium, Page, Pen, Style, ink_of, padded, seen_in
 from labeltools.pango import Pango
 from labeltools.text import Text
 
@@ -59,12 +59,13 @@ class OwnPen(Pen):
         """Draws a label."""
         layout = own_layout(item)
         drawing = self.drawing(layout.absent)
-        if drawing and self.medium.is_dots:
-            canvas.mask(drawing)
-        elif drawing:
+        if drawing:
+            canvas.save()
+            if self.medium.is_dots:  # which takes a quarter of the time of a mask
+                canvas.set_operator(cairo.Operator.ADD)
             canvas.set_source(drawing)
             canvas.paint()
-            canvas.set_source_rgb(*BLACK)
+            canvas.restore()
         for symbol in layout.symbols:
             canvas.save()
             turned(canvas, symbol.box, symbol.place.quarters)
@@ -94,11 +95,19 @@ class OwnPen(Pen):
 
     def is_shortened(self, item: LaidOut) -> bool:
         """Returns whether a text of a label ends in an ellipsis."""
-        for text in own_layout(item).texts:
-            if text.is_cut or text.lines > 1:
-                if self.fitted_text(text).layout.is_ellipsized():
-                    return True
-        return item.label.is_cut
+        return item.label.is_cut or any(map(self.is_ellipsized, own_layout(item).texts))
+
+    def shown_texts(self, item: LaidOut) -> tuple[str, ...]:
+        """Returns the texts of a label as they are seen, up to the ellipsis where one is."""
+        return tuple(
+            seen_in(self.fitted_text(text).layout) if self.is_ellipsized(text) else text.text
+            for text in own_layout(item).texts
+        )
+
+    def is_ellipsized(self, text: OwnText) -> bool:
+        """Returns whether a text ends in an ellipsis."""
+        may_be = text.is_cut or text.lines > 1
+        return may_be and bool(self.fitted_text(text).layout.is_ellipsized())
 
     def fitted_text(self, text: OwnText) -> Fitted:
         """Returns a text as it fits its box. One that comes again is kept as it is laid out."""

@@ -182,7 +182,7 @@ def in_rows(change: Callable[[list[str], int], object]) -> Callable[..., bytes]:
 
     def call(rows: Any) -> bytes:
         size = 2 * len(rows[0])
-        texts = [RUN_LENGTHS([row]).decode() for row in rows]
+        texts = [RUN_LENGTHS((row,)).decode() for row in rows]
         whole = [
             ":" if n and rows[n - 1] == row else text
             for n, (text, row) in enumerate(zip(texts, rows))

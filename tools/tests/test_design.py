@@ -347,6 +347,16 @@ class Texts(OwnPages):
         self.assertEqual(self.said(found), ["line 2: shortened to fit, with an ellipsis"])
         self.assertAlmostEqual(texts_of(found)[0].size * found.laid_out.area.dot, 1.8, delta=0.13)
 
+    def test_labels_that_are_the_same_once_shortened_are_said(self) -> None:
+        place = '<rect data-place="title, lines=1" x="2" y="2" width="20" height="9"/>' + CODE
+        titles = [f"A long title that has many words and ends in {end}" for end in ("red", "blue")]
+        found = self.found(place, [("code128 A", {"title": title}) for title in titles])
+        (shortened, same) = self.said(found)
+        self.assertEqual(shortened, "lines 2, 4: shortened to fit, with an ellipsis")
+        self.assertRegex(
+            same, "^lines 2, 4: the same once shortened, .*: put what differs in front"
+        )
+
     def test_scripts_without_spaces_wrap(self) -> None:
         place = '<rect id="title" x="2" y="2" width="30" height="12"/>' + CODE
         for title in ("明治ブルガリアヨーグルト低糖四百五十グラム", "สวัสดีชาวโลกทุกคนที่นี่และที่นั่น"):

@@ -1,7 +1,7 @@
 """ZPL II of label printers."""
 
 import re
-from functools import cache, reduce
+from functools import cache, lru_cache, reduce
 from itertools import chain
 from operator import or_
 from typing import Iterator, NamedTuple, Sequence
@@ -17,7 +17,8 @@ MOST_COUNT = 400
 TWENTY = 20
 BEFORE_ONE = ord("F")
 BEFORE_TWENTY = ord("f")
-OFTEN = re.compile("(0000*|FFFF*)")  # other digits hardly come often, and this is quick
+OFTEN = re.compile("(000000*|FFFFFF*)")  # five or more: a count of fewer saves next to nothing
+KNOWN = 256  # blocks that are kept as they were written: what is alike on all labels
 RESTS = {"0": ",", "F": "!"}  # the rest of a row is light or dark
 
 
@@ -53,7 +54,7 @@ def graphic_fields(picture: Picture) -> list[bytes]:
         rows_a_field = MOST_BYTES // size
         for start in range(0, len(block.rows), rows_a_field):
             rows = block.rows[start : start + rows_a_field]
-            data = run_lengths(rows)
+            data = run_lengths(tuple(rows))
             place = (8 * block.left, block.top + start)
             length = len(rows) * size
             fields.append(b"^FO%d,%d^GFA,%d,%d,%d,%b^FS\n" % (*place, length, length, size, data))
@@ -64,11 +65,12 @@ def blocks(whole: Block) -> Iterator[Block]:
     """Yields the blocks of a label from top to bottom, and from left to right."""
     for band in bands(whole):
         mask = reduce(or_, (int.from_bytes(row, "big") for row in set(band.rows)))
-        parts = list(INKED.finditer(mask.to_bytes(len(band.rows[0]), "big")))
-        for part in parts:
-            rows = [row[part.start() : part.end()] for row in band.rows]
-            block = Block(band.left + part.start(), band.top, rows)
-            if len(parts) > 1:
+        inked = mask.to_bytes(len(band.rows[0]), "big")
+        spans = [found.span() for found in INKED.finditer(inked)]
+        for first, last in spans:
+            rows = [row[first:last] for row in band.rows]
+            block = Block(band.left + first, band.top, rows)
+            if len(spans) > 1:
                 yield from blocks(block)
             else:
                 yield block
@@ -90,7 +92,8 @@ def bands(block: Block) -> Iterator[Block]:
         yield Block(block.left, block.top + start, block.rows[start : last + 1])
 
 
-def run_lengths(rows: Sequence[bytes]) -> bytes:
+@lru_cache(KNOWN)
+def run_lengths(rows: tuple[bytes, ...]) -> bytes:
     """Returns rows in hexadecimal: a count before 0 and F that come often, `,` and `!` for a rest
     of them, `:` for the row above once more.
 
