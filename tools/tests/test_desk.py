@@ -434,6 +434,25 @@ class Streams(Folder):
         self.assertEqual(said[1], "known 2 qr T1")
         self.assertNotIn("NEW", Path(self.path).read_text())
 
+    def test_an_input_that_does_not_wait(self) -> None:
+        """A supervisor may hand on a pipe that it does not wait for itself."""
+        source, target = os.pipe()
+        os.set_blocking(source, False)
+        pipe = subprocess.PIPE
+        command = [str(support.TOOLS / "label-print"), *ROLL, "--stream"]
+        env = support.environment()
+        with subprocess.Popen(command, stdin=source, stdout=pipe, stderr=pipe, env=env) as stream:
+            assert stream.stdout and stream.stderr
+            for code in (b"A", b"B"):
+                os.write(target, b"qr " + code + b"\n")
+                answer = stream.stderr.readline().split()
+                self.assertEqual(answer[3:], [b"qr", code])
+                stream.stdout.read(int(answer[2]))
+            os.close(target)
+            self.assertEqual(stream.stderr.read(), b"")
+        os.close(source)
+        self.assertEqual(stream.returncode, 0)
+
     def test_nobody_reads_the_labels(self) -> None:
         stream = self.start()
         assert stream.stdin and stream.stdout and stream.stderr
