@@ -7,10 +7,9 @@ import os
 import resource
 import subprocess
 import tempfile
-import time
 import unittest
 from pathlib import Path
-from typing import Any, Optional
+from typing import Optional
 from unittest import mock
 
 import support
