@@ -39,7 +39,7 @@ PICTURES = TOP / "docs/pictures"
 # A picture of the window: themes and fonts of a desktop make it another one, so it is drawn by hand.
 OF_A_SCREEN = "window.png"
 PROGRAM = "crates/labels/out/labels"
-FOLDERS = ("man", "completions", "tools", "docs", "scripts")
+FOLDERS = ("man", "completions", "tools", "lib", "docs", "scripts", "designs")
 SECONDS = 3600
 PROMPT, CONTINUED = "$ ", "> "
 EXAMPLE = re.compile(r"(?:^ {14}.*\n)+", re.MULTILINE)
@@ -115,6 +115,8 @@ def prepare(folder, program, with_kit):
         shutil.copy(program, work / PROGRAM)
     (folder / "bin/labels").symlink_to(work / PROGRAM)
     environment = {name: value for name, value in os.environ.items() if name != "LABELS"}
+    for library in sorted((TOP / "out/lib").glob("liblabels.so.*")):  # the tools draw by it
+        environment.setdefault("LABELS_LIBRARY", str(library))
     return {**environment, "HOME": f"{folder}/home", "PATH": f"{folder}/bin:{work}/tools:{os.environ['PATH']}"}
 
 

@@ -28,15 +28,15 @@ DIFFER = "crates.txt and the folders crates/*/src differ in: "
 # What is moved away for each step, and what that step says.
 MOVED = {
     "counts.py": (
-        (BODIES, "crates/device/bodies", "device: 1 worked values, and 24 wrong-bodies, "),
+        (BODIES, "crates/device/bodies", ", and 24 wrong-bodies, "),
         (f"{BODIES}/{BODY}", "away", "device: 23 wrong-bodies, "),
         (f"{BODIES}/{BODY}", f"{BODIES}/{BODY}.old", ".old, which no script reads"),
         ("crates/gf256/must-fail", "away", "gf256: 11 wrong-bodies, 1 right-bodies, 27 worked values, and "),
         ("crates/labels/stdout", "away", "labels: nothing, and 1 stored runs"),
-        ("crates/linear/proofs/Examples.antt", "away", "linear: 17 wrong-bodies, 50 worked values, and "),
+        ("crates/linear/proofs/Examples.antt", "away", " worked values in scripts/counts.txt"),
         ("crates/picture", "crates/pictures", f"{DIFFER}picture pictures"),
         ("crates", "boxes", DIFFER),
-        ("docs/DECISIONS.md", "away", "pages: 29 pages, "),
+        ("docs/DECISIONS.md", "away", " manuals in scripts/counts.txt"),
     ),
     "pages.py": (
         ("crates/picture", "crates/pictures", f"{DIFFER}picture pictures"),

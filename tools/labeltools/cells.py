@@ -34,10 +34,13 @@ UNSEEN_TEXT = re.compile("Cc|Z[lp]|Cf .*(?:EMBEDDING|OVERRIDE|ISOLATE|DIRECTIONA
 UNSEEN_PRICE = re.compile("C[cf]|Z[lp]")
 STRUCK = Text("has letters that are struck through")
 STRUCK_HINT = Text("enter it again without them")
+SUPERSCRIPT = "superscript"
+SUBSCRIPT = "subscript"
 PLACES = {
-    "superscript": str.maketrans("0123456789", "⁰¹²³⁴⁵⁶⁷⁸⁹"),
-    "subscript": str.maketrans("0123456789", "₀₁₂₃₄₅₆₇₈₉"),
+    SUPERSCRIPT: str.maketrans("0123456789", "⁰¹²³⁴⁵⁶⁷⁸⁹"),
+    SUBSCRIPT: str.maketrans("0123456789", "₀₁₂₃₄₅₆₇₈₉"),
 }
+RAISED = Text("is a number that is raised or lowered")
 
 
 class Kind(Enum):
@@ -151,7 +154,9 @@ Cell = Union[str, Special]
 
 
 class Run(NamedTuple):
-    """Letters of one form in a cell; `place` is as `superscript`, empty for the usual one."""
+    """Letters of one form in a cell; `place` is `SUPERSCRIPT`, `SUBSCRIPT`, empty for the usual
+    one.
+    """
 
     text: str
     is_struck: bool = False

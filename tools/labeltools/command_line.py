@@ -11,10 +11,26 @@ from io import RawIOBase, TextIOWrapper
 from pathlib import Path
 from typing import Any, BinaryIO, Callable, Iterator, Mapping, NoReturn, Optional
 
-from labeltools.text import NOTHING, Text
+from labeltools.text import NOTHING, Text, translated
 from labeltools.messages import BadArguments, Place, ToolError, of_system, sentence, write_message
 
 ENDING = (signal.SIGHUP, signal.SIGINT, signal.SIGTERM)
+
+
+# what argparse says of bad arguments; it looks for them where words.py has the translations
+OF_ARGPARSE = (
+    Text("argument %(argument_name)s: %(message)s"),
+    Text("unrecognized arguments: %s"),
+    Text("not allowed with argument %s"),
+    Text("ignored explicit argument %r"),
+    Text("the following arguments are required: %s"),
+    Text("one of the arguments %s is required"),
+    Text("expected one argument"),
+    Text("expected at most one argument"),
+    Text("expected at least one argument"),
+    Text("invalid %(type)s value: %(value)r"),
+    Text("invalid choice: %(value)r (choose from %(choices)s)"),
+)
 
 
 class Parser(argparse.ArgumentParser):
@@ -23,8 +39,14 @@ class Parser(argparse.ArgumentParser):
     """
 
     def error(self, message: str) -> NoReturn:
-        """Raises `BadArguments`."""
-        raise BadArguments(Text("{}", message), self.format_usage())
+        """Raises `BadArguments`; a message of argparse is in the language of the user already."""
+        what = message if isinstance(message, Text) else Text("{}", message)
+        raise BadArguments(what, self.format_usage())
+
+
+def wrong_argument(what: Text) -> argparse.ArgumentTypeError:
+    """Returns the error of an argument, which argparse says behind its name."""
+    return argparse.ArgumentTypeError(translated(what))
 
 
 class CommandTalk:

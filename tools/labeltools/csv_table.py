@@ -1,15 +1,14 @@
 """Reads a table of text: CSV, in whatever encoding and with whatever delimiter."""
 
-import codecs
 import csv
 import re
-import unicodedata
 from dataclasses import dataclass, field
 from itertools import count, islice
-from typing import Iterator, Mapping, NamedTuple, Sequence
+from typing import Iterator, NamedTuple, Sequence
 
-from labeltools.text import Text, joined
-from labeltools.messages import BAD_ARGUMENTS, RowError, Talk, ToolError, named, quoted
+from labeltools.encoding import decoded
+from labeltools.text import Text
+from labeltools.messages import BAD_ARGUMENTS, RowError, Talk, ToolError, named
 from labeltools.names import name_of, row_of_names
 from labeltools.rows import Row
 from labeltools.shape import Shape, said_of_unnamed, shape_of
@@ -26,15 +25,6 @@ DELIMITERS = {"tab": "\t", "none": ONE_COLUMN}
 # row
 SEPARATOR_LINE = re.compile(r'"?sep=([^"\r\n])"?[;,\t]*(?:\r\n|\r|\n|\Z)', re.IGNORECASE)
 LINE = re.compile(r"[^\r\n]*(?:\r\n|\r|\n)|[^\r\n]+")
-# the marks in front of a text; that of UTF-32 before the one of UTF-16, which is its beginning
-UNICODE = ("utf-8", "utf-32-le", "utf-32-be", "utf-16-le", "utf-16-be")
-MARKS = {"\ufeff".encode(codec): codec for codec in UNICODE}
-# the encodings of old files that a message tries on a word
-CANDIDATES = ("cp1252", "cp1250", "cp1251", "cp1253", "cp932", "gb18030")
-MOST_READINGS = 4
-OTHER_WORD = re.compile(rb'[^\s;,|"]*[\x80-\xff][^\s;,|"]*')
-# what words have that were read by the wrong one of two encodings of Windows
-SUSPICIOUS = re.compile(r"[^\W\d_]+[¡-©«-±´¶-¸»-¿×÷]+[^\W\d_]\w*|\w*[À-ÿ]{3,}\w*")
 UNCLOSED = Text("a quote is not closed")
 AFTER_QUOTE = Text("text after a closing quote")
 AFTER_QUOTE_HINT = Text('write a quote in a quoted cell twice ("")')
@@ -163,133 +153,6 @@ def first_row(rows: Iterator[Record], number: int | None) -> Record | None:
         if is_wanted:
             return row
     return None
-
-
-def decoded(data: bytes, name: str, encoding: str | None, talk: Talk) -> str:
-    """Returns the text of a table, with its mark; raises `ToolError` with what to do."""
-    known = known_encoding(data)
-    try:
-        codec = codecs.lookup(encoding or known or "utf-8").name
-        text = data.decode(codec)
-    except LookupError:
-        raise unknown_encoding(encoding or "") from None
-    except UnicodeError as error:
-        if not isinstance(error, UnicodeDecodeError):
-            raise unknown_encoding(encoding or "") from None
-        refuse_other(known, codec, encoding, name)
-        raise wrong_encoding(data, name, codec, error.start) from None
-    refuse_other(known, codec, encoding, name)
-    unread = re.search("[\0\x80-\x9f]" if codec == "iso8859-1" else "\0", text)
-    if unread:
-        start = len(text[: unread.start()].encode(codec, "replace"))
-        raise wrong_encoding(data, name, codec, start)
-    if encoding and not known:
-        say_suspicious(text, codec, talk)
-    return text
-
-
-def known_encoding(data: bytes) -> str:
-    """Returns the encoding that a table surely has: by its mark, or as it is UTF-8 with other
-    letters than ASCII.
-    """
-    for mark, codec in MARKS.items():
-        if data.startswith(mark):
-            return codec
-    if data.isascii() or b"\0" in data:
-        return ""
-    try:
-        data.decode("utf-8")
-    except UnicodeDecodeError:
-        return ""
-    return "utf-8"
-
-
-def refuse_other(known: str, codec: str, encoding: str | None, name: str) -> None:
-    """Raises `ToolError` where another encoding was given than the one that is known."""
-    if known and known not in codec and codec not in known:
-        raise ToolError(
-            Text("{} is {}", name, known.upper()),
-            Text("leave --encoding {} away", encoding),
-            BAD_ARGUMENTS,
-        )
-
-
-def unknown_encoding(encoding: str) -> ToolError:
-    """Returns the error of an encoding that is none."""
-    return ToolError(
-        Text("--encoding {} is unknown", quoted(encoding)),
-        Text("give one as cp1252"),
-        BAD_ARGUMENTS,
-    )
-
-
-def wrong_encoding(data: bytes, name: str, codec: str, start: int) -> ToolError:
-    """Returns the error of a table in another encoding, with how others would read a word of it."""
-    line = data.count(b"\n", 0, start) + 1
-    what = Text("{} is not {}, as line {} shows", name, codec.upper(), line)
-    if data.startswith(tuple(MARKS)):
-        return ToolError(what, Text("it is cut off or damaged, save it again"))
-    if b"\0" in data:
-        return ToolError(what, Text("save it as UTF-8, or give --encoding utf-16-le or utf-16-be"))
-    begin = data.rfind(b"\n", 0, start) + 1
-    end = data.find(b"\n", start)
-    found = readings(data[begin : end if end >= 0 else len(data)], codec)
-    if not found:
-        return ToolError(what, Text("save it as UTF-8"))
-    hint = Text(
-        "save it as UTF-8, or give the --encoding that reads it right: {}", readings_text(found)
-    )
-    offers = [(word, ["--encoding", other]) for other, word in found.items()]
-    return ToolError(what, hint, offers=offers)
-
-
-def readings(line: bytes, without: str) -> dict[str, str]:
-    """Returns how encodings, but for one, read a word of a line, where that makes a word.
-
-    >>> readings("Zażółć".encode("cp1250"), "utf-8")
-    {'cp1252': 'Za¿ó³æ', 'cp1250': 'Zażółć'}
-    >>> readings("Мыло".encode("cp1251"), "utf-8")["cp1251"]
-    'Мыло'
-    >>> readings("Käse".encode("cp1252"), "utf-8")
-    {'cp1252': 'Käse'}
-    """
-    found = OTHER_WORD.search(line)
-    word = found[0][:40] if found else line[:40]
-    read: dict[str, str] = {}
-    for codec in CANDIDATES:
-        try:
-            text = word.decode(codec)
-        except UnicodeDecodeError:
-            continue
-        if codec != without and text not in read.values() and is_word(text):
-            read[codec] = text
-    return dict(islice(read.items(), MOST_READINGS))
-
-
-def readings_text(readings: Mapping[str, str]) -> Text:
-    """Returns how encodings read a word."""
-    return joined(", ", (Text("{} reads {}", one, quoted(word)) for one, word in readings.items()))
-
-
-def is_word(text: str) -> bool:
-    """Returns whether a text can be seen, and its letters are of one script."""
-    letters = [letter for letter in text if letter.isalpha()]
-    scripts = {unicodedata.name(letter, "?").split()[0] for letter in letters}
-    return text.isprintable() and len(scripts - {"MODIFIER", "MICRO", "FEMININE", "MASCULINE"}) <= 1
-
-
-def say_suspicious(text: str, codec: str, talk: Talk) -> None:
-    """Says a word that looks as if it was read by the wrong encoding."""
-    if codec not in ("cp1252", "iso8859-1", "cp1250"):
-        return
-    if found := SUSPICIOUS.search(text):
-        others = readings(found[0].encode(codec), codec)
-        read = readings_text(others)
-        if read:
-            talk.say(
-                Text("the table is read as {}, with {}", codec.upper(), quoted(found[0])),
-                Text("is that right? {}", read),
-            )
 
 
 def delimiter_of(text: str, begin: int, given: str | None, options: TableOptions) -> str:

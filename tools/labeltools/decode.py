@@ -6,17 +6,18 @@ import re
 import struct
 import zlib
 from dataclasses import dataclass
-from functools import cache
+from functools import cache, lru_cache
 from typing import Sequence
 
 from labeltools.text import Text
 
 ZPL_HEAD = re.compile(rb"\^XA\^PON\^LH0,0\^LS0\^PW([0-9]+)\^LL([0-9]+)\n")
-ZPL_FIELD = re.compile(rb"\^FO0,([0-9]+)\^GFA,([0-9]+),([0-9]+),([0-9]+),([^^]*)\^FS\n")
+ZPL_FIELD = re.compile(rb"\^FO([0-9]+),([0-9]+)\^GFA,([0-9]+),([0-9]+),([0-9]+),([^^]*)\^FS\n")
 ZPL_END = re.compile(rb"(?:\^PQ([0-9]+)\n)?\^XZ\n")
 COUNTED = re.compile(r"([G-Yg-z]+[0-9A-F])")
 UNSIGNED = re.compile(r"(?<=[0-9A-F]):")  # a row comes again that has no sign at its end
 MOST_KNOWN = 4096  # texts of rows of ZPL that are kept as they were read: most labels share some
+KNOWN = 256  # fields that are kept as they were read: what is alike on all labels
 RESTS = {",": "0", "!": "F"}
 RASTER = b"\x1dv0\0"
 LINES_AND_CUT = b"\x1bd\x03\x1dV\x42\x00"
@@ -104,26 +105,50 @@ def dots_of_escpos(data: bytes) -> Dots:
 
 
 def dots_of_zpl(data: bytes) -> Dots:
-    """Reads the graphic fields of a label, one below the other."""
+    """Reads the graphic fields of a label, which is white where none is."""
     head = ZPL_HEAD.match(data)
     if not head:
         raise NotDecoded(Text("no zpl of label-print"))
     width = int(head[1])
     height = int(head[2])
-    rows: list[bytes] = []
+    blank = bytes((width + 7) // 8)
+    rows = [blank] * height
     at = head.end()
     while found := ZPL_FIELD.match(data, at):
-        top, length, again, size = (int(found[number]) for number in range(1, 5))
-        if top != len(rows) or length != again or size != (width + 7) // 8 or length % size:
-            raise NotDecoded(Text("zpl with a gap between graphic fields"))
-        rows += rows_of_field(found[5].decode("ascii"), size)
+        left, top, length, again, size = (int(found[number]) for number in range(1, 6))
+        end = top + length // size
+        if length != again or length % size or left % 8:
+            raise NotDecoded(Text("zpl with a field that is no whole bytes"))
+        if end > height or left // 8 + size > len(blank):
+            raise NotDecoded(Text("zpl with a field that leaves the label"))
+        field = rows_of_field(found[6].decode("ascii"), size)
+        if len(field) != end - top:
+            raise NotDecoded(Text("zpl with {} rows, which has {}", end - top, len(field)))
+        rows[top:end] = together(rows[top:end], field, left // 8, blank)
         at = found.end()
-    end = ZPL_END.fullmatch(data, at)
-    if not end or len(rows) != height:
-        raise NotDecoded(Text("zpl with {} rows, which has {}", height, len(rows)))
-    return Dots(width, rows, int(end[1] or 1))
+    end_of_label = ZPL_END.fullmatch(data, at)
+    if not end_of_label:
+        raise NotDecoded(Text("zpl without an end"))
+    return Dots(width, rows, int(end_of_label[1] or 1))
 
 
+def together(rows: list[bytes], field: list[bytes], left: int, blank: bytes) -> list[bytes]:
+    """Returns rows with those of a field from a byte on; dark dots of both are dark."""
+    size = len(field[0])
+    end = left + size
+    there = [row[left:end] for row in rows]
+    if there.count(bytes(size)) < len(there):
+        both = zip(there, field)
+        dots = (int.from_bytes(one, "big") | int.from_bytes(other, "big") for one, other in both)
+        field = [dot.to_bytes(size, "big") for dot in dots]
+    if rows.count(blank) == len(rows):
+        before = blank[:left]
+        behind = blank[end:]
+        return [before + piece + behind for piece in field]
+    return [row[:left] + piece + row[end:] for row, piece in zip(rows, field)]
+
+
+@lru_cache(KNOWN)
 def rows_of_field(text: str, size: int) -> list[bytes]:
     """Returns the rows of a graphic field in run lengths; raises `NotDecoded`."""
     # each piece has signs of rows that come again, and a row that ends with the sign that fills it;

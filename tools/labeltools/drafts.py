@@ -2,6 +2,7 @@
 
 import re
 from dataclasses import dataclass, field
+from decimal import Decimal
 from typing import Iterator, NamedTuple, Sequence
 
 from labeltools.text import NOTHING, Text
@@ -12,6 +13,7 @@ from labeltools.leftovers import left_in, twice_encoded
 from labeltools.messages import RowError, quoted
 from labeltools.money import MOST_DECIMALS, Money, NotMoney, currency_of, parse
 from labeltools.money import parse_unit_price, plain, text_price
+from labeltools.prices import ARITHMETIC, MOST_LOST, nearest
 from labeltools.names import is_repeated, looks_like, name_of
 from labeltools.rows import Row
 from labeltools.table_options import TableOptions
@@ -19,6 +21,7 @@ from labeltools.table_options import TableOptions
 DATE = re.compile(r"(?<![0-9.,])[0-9]{1,4}[./-][0-9]{1,2}(?:[./-](?:[0-9]{2,4})?)?(?![0-9,])")
 MARK = re.compile("[0-9][./-]")  # a text without one is like no date
 ZERO_HINT = Text("it is a zero, which its number format shows so")
+SHOWN_DECIMALS = 6  # of the number of a cell, in a message
 PROGRAM_DECIMALS = 17  # of a number that a program has calculated
 
 
@@ -70,7 +73,8 @@ class Found(NamedTuple):
 class Noticed:
     """What is said of the rows at the end, each once: what another program has left in texts, by
     its template; dates, and texts like dates, by the places of their columns; values like those
-    that rows are chosen by, by the same; an old price that is not above the price.
+    that rows are chosen by, by the same; an old price that is not above the price; prices that
+    are shown rounded, by the places of their columns.
     """
 
     left: dict[str, Found] = field(default_factory=dict)
@@ -78,6 +82,7 @@ class Noticed:
     like_dates: dict[int, Found] = field(default_factory=dict)
     like_values: dict[tuple[Column, str], Found] = field(default_factory=dict)
     low: Found | None = None
+    rounded: dict[int, Found] = field(default_factory=dict)
 
     def text(self, column: Column, row: Row, text: str) -> None:
         """Looks at a title or text; raises `RowError` for one that was encoded twice."""
@@ -102,6 +107,26 @@ class Noticed:
             key = column, wanted
             before = self.like_values.get(key, Found(row.number, value, rows=0))
             self.like_values[key] = before._replace(rows=before.rows + 1)
+
+    def shown(self, price: Price, row: Row) -> None:
+        """Looks at a price that is the number of a cell; raises `RowError` where it is shown as
+        another one. Rounded to two decimals or more it is the same price.
+        """
+        number = number_of(row.cell(price.column.place))
+        money = price.money
+        if number is None or money is None or money.currency == "cent":
+            return
+        lost = abs(money.value - number)
+        value = format(round(number, SHOWN_DECIMALS).normalize(), "f")
+        if lost > abs(number) * MOST_LOST:
+            what = Text("is shown as {}, and its value is {}", quoted(price.text), value)
+            raise price.column.error(
+                RowError(what, Text("give it a number format of two decimals"))
+            )
+        if money.decimals < 2 and lost > ARITHMETIC:
+            place = price.column.place
+            before = self.rounded.get(place, Found(row.number, price.text, Text("{}", value), 0))
+            self.rounded[place] = before._replace(rows=before.rows + 1)
 
     def prices(self, row: int, price: Price | None, was: Price | None) -> None:
         """Looks at an old price."""
@@ -241,7 +266,12 @@ class RowReader:
             what = Text("has {}, which is no price: it {}", quoted(text), problem.what)
             hint = ZERO_HINT if is_zero(row.cell(column.place)) else problem.hint
             raise column.error(RowError(what, hint)) from None
-        return Price(column, text, money, currency)
+        number = number_of(row.cell(column.place))
+        if money and number is not None:
+            money = nearest(money, number)
+        found = Price(column, text, money, currency)
+        self.noticed.shown(found, row)
+        return found
 
     def money(self, text: str, is_unit: bool, currency: str) -> Money | None:
         """Returns the price of a text, None for free text; raises `NotMoney`."""
@@ -251,6 +281,11 @@ class RowReader:
             return None
         most = PROGRAM_DECIMALS if rules.pattern else MOST_DECIMALS
         return parse_unit_price(text, currency, most) if is_unit else parse(text, currency, most)
+
+
+def number_of(cell: Cell) -> Decimal | None:
+    """Returns the number of a cell; None where it has none."""
+    return None if isinstance(cell, str) else cell.number()
 
 
 def is_zero(cell: Cell) -> bool:

@@ -12,6 +12,7 @@ from typing import Any, Callable, Iterator, Mapping, Optional, Sequence
 
 from labeltools.text import Text
 from labeltools.lines_file import lines_of
+from labeltools.reasons import reason_of
 from labeltools.messages import BAD_ARGUMENTS, Talk, ToolError
 
 LABELS_FAILED = 3  # the status of a tool that is not in order
@@ -182,7 +183,7 @@ def run_labels(data: bytes, words: Sequence[str], talk: Talk) -> Drawn:
         try:
             pictures[number] = engine.draw(line)
         except Refused as error:
-            refused[number] = Text("{}", str(error))
+            refused[number] = reason_of(str(error))
     return Drawn(pictures, refused)
 
 

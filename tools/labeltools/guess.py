@@ -18,7 +18,7 @@ from labeltools.symbologies import CODE128, QR
 from labeltools.table import head_of
 from labeltools.table_options import TableOptions
 
-# parts of names in seven languages; those in front count more. Counts of stock are no counts of
+# parts of names in many languages; those in front count more. Counts of stock are no counts of
 # labels, so only names of labels are taken for these.
 NAMES = {
     "code": "ean gtin upc isbn barcode strichcode code-barres codebarre streepjescode qr link url "
@@ -27,21 +27,42 @@ NAMES = {
     "libelle descripcion descrizione omschrijving description beschreibung nazwa name nom nombre "
     "nome naam",
     "price": "vk verkauf ttc brutto retail pvp pvc avp rrp srp ladenpreis preis price prix precio "
-    "prezzo prijs cena fiyat uvp chf euro eur",
+    "prezzo prijs cena fiyat pris hinta preco pret cijena kaina hind цена ціна τιμη "
+    "eladasi fogyasztoi 税込 売価 定価 価格 零售 售价 售價 价格 價格 판매가 가격 uvp chf euro "
+    "eur",
     "copies": "etiketten labels etiquettes etiquetas etichette etykiet copies kopien exemplare",
 }
-# parts of names of what a shop pays or has asked for, of prices without tax, of a unit or of many,
-# and of what was sold or is in stock
-NO_PRICE = re.compile(
-    r"\b(?:ek\b|einkauf|achat|cost|acquisto|compra|inkoop|zakup|al[i\u0131]s\b|alte|statt|old"
-    r"|ancien|antiguo|vecchio|oude|stara|ht\b|net\b|netto|trade|ex\.? vat|dealer|wholesale|hurt)"
-    r"|liter|litre|kilo|/kg|/ ?1|grund|unit|umsatz|summe|gesamt|total|wert\b|warenwert|revenue"
-    r"|turnover|value|\u7a0e\u629c|\u4ed5\u5165"
+# parts of names, without accents, of prices that customers do not pay for one article: what a shop
+# pays, those without tax, older ones, and those of a unit or of many
+PAID = (
+    r"ek\b einkauf achat pa\b cost kost acquisto compra custo inkoop inkop zakup nakup nabav"
+    r" innpris innkjop osto alis\b beszerz закуп αγορ trade dealer handler wholesale grosshandel"
+    r" gros\b hurt pvd\b"
 )
-# parts of names of what customers pay; where two columns have prices, only these tell which
+OTHER_PRICES = (
+    r"ht\b net\b netto neto excl exkl ex\.?\svat alt\b alte alter statt old compare was\b ancien"
+    r" antiguo vecchio oude stara barre"
+)
+NO_PRICE = re.compile(
+    rf"\b(?:{'|'.join(f'{PAID} {OTHER_PRICES}'.split())})"
+    r"|liter|litre|kilo|/kg|/ ?1|grund|unit|umsatz|summe|gesamt|total|wert\b|warenwert|revenue"
+    r"|turnover|value|\bab [0-9]|税抜|仕入|原価|进价|進價|매입"
+)
+# parts of names of other numbers with decimals, where they have no part of the name of a price
+OTHER_NUMBERS = re.compile(
+    r"\b(?:pfand|deposit|consigne|statiegeld|cauzione|kaucja|gewicht|weight|poids|peso|waga|vikt"
+    r"|vekt|mass|inhalt|content|volum|mwst|tva|iva\b|btw|moms|vat\b|tax\b|steuer|marge|margin"
+    r"|rating|bewertung|rabatt|discount|remise|sconto|descuento|lange|breite|hohe|length|width"
+    r"|height|versand|porto|shipping|freight)|%"
+)
+# parts of names of what customers pay; where two columns have prices, only these say which. What a
+# maker recommends (UVP, RRP, MSRP) may be another price than the one of the shop.
 SALE = re.compile(
-    r"\b(?:vk|uvp|pvp|pvc|avp|m?srp|rrp|ttc)\b|verkauf|brutto|retail|ladenpreis|venta|vente"
-    r"|vendita|verkoop|detal|sat[i\u0131]s|\u7a0e\u8fbc"
+    r"\b(?:vk|pvp|pvc|avp|ttc|retail|laden|endkunden|public|venta|vente|vendita|venda"
+    r"|verkoop|detal|satis|sprzed|prodej|predaj|prodaj|salg|utpris|utsalg|myynti|eladas|sales"
+    "|selling"
+    "|рознич|πωλησ)"
+    "|verkauf|brutto|ladenpreis|税込|売価|零售|售价|售價|판매"
 )
 # parts of names of the codes of a case; and of codes that are surely EAN or UPC
 CASE = re.compile(r"\b(?:case|carton|outer|inner|box|pallet|colis|vpe)\b|karton|palette")
@@ -137,7 +158,9 @@ def rivals(kind: str, columns: Mapping[int, tuple[str, Sequence[str]]], best: in
     others = []
     for place, (name, other) in columns.items():
         is_like = is_amount if named(name, NAMES[kind].split()) else is_price
-        if not NO_PRICE.search(plain(name)) and share(other, is_like) >= LEAST and other != texts:
+        if is_no_price(name) or other == texts:
+            continue
+        if share(other, is_like) >= LEAST:
             others.append(place)
     sales = [place for place in (best, *others) if SALE.search(plain(columns[place][0]))]
     return [] if sales == [best] else others
@@ -150,13 +173,21 @@ def score(kind: str, name: str, texts: Sequence[str]) -> float:
         is_case = 3 * bool(CASE.search(plain(name)))
         return by_name + 3 * share(texts, is_code) + share(texts, LINK.search) - is_case
     if kind == "price":
-        if NO_PRICE.search(plain(name)):
+        if is_no_price(name):
             return 0.0
         return by_name + share(texts, is_price if by_name or not name else has_currency)
     if kind == "copies":
         return by_name if share(texts, COPIES.fullmatch) == 1 else 0.0
     differ = len(set(texts)) / max(1, len(texts))
     return by_name + share(texts, WORDS.search) * differ - share(texts, is_price)
+
+
+def is_no_price(name: str) -> bool:
+    """Returns whether a name is of numbers that customers do not pay for one article."""
+    words = plain(name)
+    if OTHER_NUMBERS.search(words) and not named(name, NAMES["price"].split()):
+        return True
+    return NO_PRICE.search(words) is not None or CASE.search(words) is not None
 
 
 def named(name: str, words: Sequence[str]) -> float:

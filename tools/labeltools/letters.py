@@ -1,5 +1,6 @@
 """Letters by Pango: which font has them, and how large texts are, measured alike for all forms."""
 
+import re
 import unicodedata
 from dataclasses import dataclass
 from typing import Any, Iterable, NamedTuple, Optional
@@ -16,6 +17,8 @@ KEPT = 2048  # words of which the extent is kept
 MOST_NAMED = 9  # letters that a message names
 # letters that stand one behind another: Latin, Greek, Cyrillic; punctuation; currencies
 SIMPLE = ((0x20, 0x2FF), (0x370, 0x482), (0x48A, 0x52F), (0x2010, 0x2027), (0x20A0, 0x20CF))
+OTHERS = re.compile("[^" + "".join(f"{chr(one)}-{chr(other)}" for one, other in SIMPLE) + "]")
+SPACED = re.compile("[^ ]+ *| +")
 FONTS_OF_LETTERS = "apt-get install fonts-noto-core fonts-noto-cjk"
 FONTS_OF_SIGNS = "apt-get install fonts-symbola"
 
@@ -68,13 +71,18 @@ def plain_options() -> cairo.FontOptions:
     return options
 
 
+def font_for(family: str) -> str:
+    """Returns the font that is there for a wanted one: itself, or what is taken in its place."""
+    context = pango_context(plain_options(), False)
+    wanted = Pango.FontDescription(f"{family}, 9")
+    found = PangoCairo.FontMap.get_default().load_font(context, wanted)
+    return str(found.describe().get_family()) if found else ""
+
+
 def require_fonts(fonts: Fonts) -> None:
     """Raises `ToolError` where a font is not there."""
-    context = pango_context(plain_options(), False)
     for family in (fonts.texts, fonts.digits):
-        wanted = Pango.FontDescription(f"{family}, 9")
-        found = PangoCairo.FontMap.get_default().load_font(context, wanted)
-        if found is None or found.describe().get_family().lower() != family.lower():
+        if font_for(family).lower() != family.lower():
             hint = Text("fc-list : family lists what there is")
             usual = Text("apt-get install fonts-dejavu-core has the usual ones")
             raise ToolError(Text("there is no font {}", family), Text("{}, {}", hint, usual))
@@ -89,6 +97,8 @@ class Letters:
         self.layouts = tuple(self.layout(context, fonts.texts, style) for style in ("", "Bold"))
         self.signs: tuple[dict[str, Optional[Sign]], ...] = ({}, {})
         self.words: tuple[dict[str, Optional[Sign]], ...] = ({}, {})
+        self.wrapped = self.layout(context, fonts.texts, "")
+        self.wrapped.set_width(1)  # so that each part of a line is a line
         blanks = [self.extents(" ", is_bold)[1] for is_bold in (False, True)]
         self.spaces = [blank.width for blank in blanks]
         self.heights = [blank.height for blank in blanks]  # of lines
@@ -126,6 +136,18 @@ class Letters:
         top = min([sign.top for sign in found])
         bottom = max([sign.bottom for sign in found])
         return Sign(advance, found[0].left, found[-1].right, top, bottom)
+
+    def parts(self, line: str) -> list[str]:
+        """Returns the parts of a line behind which it may be wrapped, with the spaces behind them:
+        words, or in scripts that are written without spaces what Pango says.
+        """
+        if not OTHERS.search(line):
+            return SPACED.findall(line)
+        self.wrapped.set_text(line, -1)
+        written = line.encode()
+        lines = self.wrapped.get_lines_readonly()
+        ends = [found.start_index + found.length for found in lines]
+        return [written[start:end].decode() for start, end in zip([0, *ends], ends)]
 
     def word(self, word: str, is_bold: bool) -> Optional[Sign]:
         """Returns what a word takes, letter by letter; None where letters change beside others."""

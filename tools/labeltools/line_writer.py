@@ -117,7 +117,7 @@ class LineWriter:
         try:
             if pattern is None:
                 return with_currency(price.money, price.text, price.currency)
-            money = settled(price.money, column)
+            money = settled(price.money, column, pattern)
             text = pattern.write(money, price.currency or "")
             if pattern.changes(money.value):
                 self.rounded.append(Rounded(row, price.text, text))

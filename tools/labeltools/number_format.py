@@ -341,7 +341,7 @@ def date_section(pattern: str) -> Section:
     '25.11.26'
     """
     if DATE_TOKEN.sub("", pattern) or not re.search("[dmy]", pattern):
-        raise ValueError(f"{pattern!r} is not as 'dd.mm.yyyy'")
+        raise ValueError(Text("{!r} is not as 'dd.mm.yyyy'", pattern))
     parts = [Part(match.lastgroup or "", match[0]) for match in DATE_TOKEN.finditer(pattern)]
     return Section(with_minutes(parts))
 

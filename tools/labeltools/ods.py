@@ -12,7 +12,8 @@ from zipfile import ZipFile
 from labeltools.text import Text
 from labeltools.messages import RowError, ToolError, quoted
 from labeltools.number_format import DAY_ZERO, Formatter, date_section, date_text, digits_of
-from labeltools.cells import Cell, Fault, Kind, Run, Special, Truth, text_of_runs
+from labeltools.cells import RAISED, Cell, Fault, Kind, Run, Special, Truth, text_of_runs
+from labeltools.ods_styles import CELL, NO_FORM, PARAGRAPH, SPAN, Form, Styles, common_styles
 from labeltools.rows import Merge, Row
 from labeltools.workbook import (
     LARGEST_ROW,
@@ -33,11 +34,15 @@ from labeltools.workbook import (
 )
 from labeltools.workbook import repeats, rows_from, whole
 
-# groups of rows, which may be in one another, and count nothing
-GROUPS = ("table-row-group", "table-header-rows", "table-rows")
+# groups of rows and columns, which may be in one another, and count nothing
+GROUPS = (
+    *("table-row-group", "table-header-rows", "table-rows"),
+    *("table-column-group", "table-header-columns", "table-columns"),
+)
 TABLE = "/document-content/body/spreadsheet/table"
+COLUMN = f"{TABLE}/table-column"
 STYLE = "/document-content/automatic-styles/style"
-HEADS = (STYLE, f"{STYLE}/table-properties", f"{STYLE}/text-properties", TABLE)
+HEADS = (STYLE, f"{STYLE}/table-properties", f"{STYLE}/text-properties", TABLE, COLUMN)
 NUMBERS = ("float", "percentage", "currency", "date", "time")
 # white space that counts, by signs that no XML has, and other white space
 SIGNS = {"s": "\0", "tab": "\1", "line-break": "\2"}
@@ -111,13 +116,36 @@ class Content:
 
     formatter: Formatter
     is_calculated: bool
+    styles: Styles
     hidden: set[str] = field(default_factory=set)
-    struck: set[str] = field(default_factory=set)
-    places: dict[str, str] = field(default_factory=dict)  # of letters that are raised or lowered
-    style: str = ""
     sheet: tuple[str, bool] = ("", True)
+    columns: list[str] = field(default_factory=list)  # the styles of their cells
+    row: str = ""  # the style of the cells of the row that is read
     number: int = 1
     merges: list[Merge] = field(default_factory=list)
+
+    def begin_sheet(self, name: str, is_visible: bool) -> None:
+        """Begins a sheet."""
+        self.sheet = name, is_visible
+        self.columns = []
+        self.number = 1
+        self.merges = []
+
+    def add_columns(self, attributes: Mapping[str, str]) -> None:
+        """Adds the style of columns, which may be repeated."""
+        count = repeats(attributes, "number-columns-repeated")
+        style = attributes.get("default-cell-style-name", "")
+        self.columns += [style] * min(count, MOST_COLUMNS - len(self.columns))
+
+    def form(self, cell: Element, place: int) -> Form:
+        """Returns how the letters of a cell look that has no other style: that of the row, or else
+        that of the column (ISO/IEC 26300, table:default-cell-style-name).
+        """
+        if self.styles.is_plain:
+            return NO_FORM
+        of_column = self.columns[place] if place < len(self.columns) else ""
+        name = cell.get("style-name") or self.row or of_column
+        return self.styles.form(CELL, name)
 
 
 def rows_of_ods(archive: ZipFile, wanted: str | None, formatter: Formatter) -> Iterator[Row]:
@@ -133,36 +161,24 @@ def sheet_rows(archive: ZipFile, formatter: Formatter) -> Iterator[tuple[tuple[s
     """Yields each row behind the name of its sheet, and whether that is visible; an empty one for
     each sheet.
     """
-    content = Content(formatter, is_calculated(archive))
+    content = Content(formatter, is_calculated(archive), common_styles(archive))
     for element in elements(archive, "content.xml", f"{TABLE}/table-row", HEADS, GROUPS):
         if element.tag == "table-row":
             for row in element_rows(element, content):
                 yield content.sheet, row
         elif element.tag == "style":
-            content.style = element.get("name", "")
+            content.styles.begin(element.attrib)
         elif element.tag == "table-properties":
             if element.get("display") == "false":
-                content.hidden.add(content.style)
+                content.hidden.add(content.styles.last[1])
         elif element.tag == "text-properties":
-            add_letters(element.attrib, content)
+            content.styles.take(element.attrib)
+        elif element.tag == "table-column":
+            content.add_columns(element.attrib)
         else:
             is_visible = element.get("style-name") not in content.hidden
-            content.sheet = (element.get("name", ""), is_visible)
-            content.number = 1
-            content.merges = []
+            content.begin_sheet(element.get("name", ""), is_visible)
             yield content.sheet, Row(0, ())
-
-
-def add_letters(attributes: Mapping[str, str], content: Content) -> None:
-    """Adds a style that strikes letters through, raises or lowers them."""
-    lines = (attributes.get("text-line-through-style"), attributes.get("text-line-through-type"))
-    if any(line not in (None, "none") for line in lines):
-        content.struck.add(content.style)
-    place = attributes.get("text-position", "").split(" ")[0]
-    if place == "super" or re.fullmatch("[1-9][0-9]*%", place):
-        content.places[content.style] = "superscript"
-    elif place == "sub" or place.startswith("-"):
-        content.places[content.style] = "subscript"
 
 
 def is_calculated(archive: ZipFile) -> bool:
@@ -180,6 +196,7 @@ def element_rows(element: Element, content: Content) -> Iterator[Row]:
     hidden.
     """
     number = content.number
+    content.row = element.get("default-cell-style-name", "")
     content.merges = merges_at(content.merges, number)
     links: dict[int, str] = {}
     cells = cells_of(element, content, links)
@@ -204,17 +221,32 @@ def cells_of(row: Element, content: Content, links: dict[int, str]) -> list[Cell
         repeat = repeats(attributes, "number-columns-repeated")
         if "number-rows-spanned" in attributes or "number-columns-spanned" in attributes:
             add_merge(attributes, content, place)
-        cell = cell_of(element, content)
-        if cell:
-            length = len(cell) if isinstance(cell, str) else 1
-            letters += length * min(repeat, MOST_COLUMNS)
-            if letters > LARGEST_ROW:
-                raise ToolError(TOO_LARGE, SAVE_AGAIN)
-            if has_links:
-                add_link(element, place, links)
-            filled(cells, place).extend([cell] * min(repeat, MOST_COLUMNS + 1))
-        place = min(place + repeat, MOST_COLUMNS)
+        for count, cell in cells_from(element, content, place, repeat):
+            if cell:
+                length = len(cell) if isinstance(cell, str) else 1
+                letters += length * count
+                if letters > LARGEST_ROW:
+                    raise ToolError(TOO_LARGE, SAVE_AGAIN)
+                if has_links:
+                    add_link(element, place, links)
+                filled(cells, place).extend([cell] * count)
+            place = min(place + count, MOST_COLUMNS)
     return cells
+
+
+def cells_from(
+    element: Element, content: Content, place: int, repeat: int
+) -> Iterator[tuple[int, Cell]]:
+    """Yields the cells that an element is for, each with how often it follows: columns may differ
+    in their styles.
+    """
+    most = min(repeat, MOST_COLUMNS + 1)
+    if content.styles.is_plain or most == 1:
+        yield most, cell_of(element, content, content.form(element, place))
+        return
+    forms = (content.form(element, place + number) for number in range(most))
+    for form, same in groupby(forms):
+        yield len(list(same)), cell_of(element, content, form)
 
 
 def mark_spaces(row: Element) -> int:
@@ -247,14 +279,16 @@ def add_link(cell: Element, place: int, links: dict[int, str]) -> None:
         links[place] = addresses.pop()
 
 
-def cell_of(cell: Element, content: Content) -> Cell:
+def cell_of(cell: Element, content: Content, form: Form) -> Cell:
     """Returns a cell by its type and its text, which is what the spreadsheet shows."""
     kind = cell.get("value-type", "")
-    text = text_of(cell, content)
+    text = text_of(cell, content, form)
     if isinstance(text, Fault):
         return text
     if kind in NUMBERS:
         value = cell.get("value", "")
+        if form.place:
+            return Fault(RAISED, TYPED, value or text)
         exact = exact_of(value) if value else None
         moment = cell.get("date-value", "")
         own = Kind.MOMENT if kind in ("date", "time") else Kind.NUMBER
@@ -301,32 +335,36 @@ def decimals_of(number: str) -> tuple[int, ...]:
     return (3, 0) if count == 3 else (count,)
 
 
-def text_of(cell: Element, content: Content) -> str | Fault:
+def text_of(cell: Element, content: Content, form: Form) -> str | Fault:
     """Returns the text of a cell, without the comments and pictures that it has."""
     lines: list[str] = []
-    is_struck = cell.get("style-name") in content.struck
     for line in cell:
         if line.tag == "p":
             text: str | Fault = "".join(line.itertext()) if len(line) else line.text or ""
-            if text and (is_struck or content.places or content.struck):
-                text = text_of_runs(runs_of(line, content, Run("", is_struck)))
+            if text and not content.styles.is_plain:
+                text = text_of_runs(runs_of(line, content.styles, form))
             if isinstance(text, Fault):
                 return text
             lines.append(spaced(text))
     return "\n".join(lines).translate(UNSIGNED)
 
 
-def runs_of(element: Element, content: Content, around: Run) -> Iterator[Run]:
+def runs_of(element: Element, styles: Styles, around: Form) -> Iterator[Run]:
     """Yields the letters in an element, which have the form of what is around them where it has
     none of its own.
     """
-    style = element.get("style-name", "")
-    is_struck = around.is_struck or style in content.struck
-    form = Run(element.text or "", is_struck, content.places.get(style, around.place))
-    yield form
+    name = element.get("style-name", "")
+    family = PARAGRAPH if element.tag == "p" else SPAN
+    form = styles.form(family, name).over(around) if name else around
+    yield run_of(element.text, form)
     for one in element:
-        yield from runs_of(one, content, form)
-        yield form._replace(text=one.tail or "")
+        yield from runs_of(one, styles, form)
+        yield run_of(one.tail, form)
+
+
+def run_of(text: str | None, form: Form) -> Run:
+    """Returns letters of a form."""
+    return Run(text or "", bool(form.is_struck), form.place or "")
 
 
 def spaced(text: str) -> str:

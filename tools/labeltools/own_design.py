@@ -1,7 +1,8 @@
 """A design of a user's own: an SVG page of the label's size, drawn in any program.
 
 A rectangle with a name is the place of a part of labels, and is not drawn itself; all else is drawn
-on each label as it is. The name is that of the part, then how it is drawn:
+on each label as it is, but for a group with the name of a part, which is drawn where a label has
+that part. The name is that of the part, then how it is drawn:
 
     <rect data-place="title, bold, middle" x="2" y="2" width="96" height="22"/>
     <rect data-place="code" x="2" y="25" width="72" height="23"/>
@@ -16,10 +17,13 @@ from base64 import b64decode
 from contextlib import suppress
 from copy import deepcopy
 from dataclasses import dataclass, replace
+from functools import lru_cache
 from pathlib import Path
 from typing import Any, Iterator, NamedTuple, Optional
 from xml.etree import ElementTree
 from xml.etree.ElementTree import Element
+
+import cairo
 
 from labeltools.area import Edges
 from labeltools.messages import BAD_ARGUMENTS, ToolError, quoted
@@ -33,6 +37,7 @@ SUFFIX = ".svg"
 SPACE = "{http://www.w3.org/2000/svg}"
 BEGIN = '<svg xmlns="http://www.w3.org/2000/svg"'
 LABEL = "{http://www.inkscape.org/namespaces/inkscape}label"
+MODE = "{http://www.inkscape.org/namespaces/inkscape}groupmode"
 LINK = "{http://www.w3.org/1999/xlink}href"
 PARTS = ("code", "title", "text", "price", "unit", "was", "note")
 DPI = 96.0  # of CSS, in which lengths without a unit are; librsvg takes 90 where nothing is said
@@ -40,10 +45,12 @@ PX = 25.4 / DPI  # millimetres
 UNITS = {"px": 1.0, "mm": 1 / PX, "cm": 10 / PX, "in": DPI, "pt": DPI / 72, "pc": DPI / 6}
 MOST_BYTES = 8_000_000
 MOST_DEPTH = 200  # of elements in one another
+PICTURES = ("png", "jpeg")
 MOST_PIXELS = 50_000_000  # of a picture
 PICTURE_HEAD = 65_536  # letters of base 64 in which its size is
 NEAR = 1.0  # millimetres by which a page may differ from a label
 ALIKE = 0.015  # by which the proportions of a page without millimetres may
+MOST_KNOWN = 1024  # names whose keys are kept
 THIN = 1e-4  # the height of what shows the upper edge of a place
 TINY = 0.01  # millimetres
 # names that programs give by themselves
@@ -52,18 +59,26 @@ AGAIN = re.compile(r"(.+?)[-_ ]\d+")
 OUTSIDE = re.compile(r"url\(\s*[\"']?(?!#|data:)|@import", re.IGNORECASE)
 SHAPES = ("path", "circle", "ellipse", "polygon", "polyline", "line", "image", "use", "text")
 NOT_DRAWN = ("flowRoot", "foreignObject")
+WITH_FONTS = ("svg", "g", "text", "tspan", "textPath", "a")
+FAMILY = re.compile(r"(?<![\w-])font-family\s*:\s*([^;}]+)")
+GENERAL = ("serif", "sans-serif", "sans", "monospace", "cursive", "fantasy", "system-ui", "inherit")
 ACROSS = {"left": -1, "middle": 0, "right": 1}
 DOWN = {"top": 0.0, "centre": 0.5, "bottom": 1.0}
-NUMBERS = ("module", "size", "lines")
-NUMBER = re.compile(r"\d{1,3}(?:\.\d{1,3})?", re.ASCII)
+LENGTH = re.compile(r"\d{1,3}(?:\.\d{1,3})?", re.ASCII)
+NUMBERS = {"module": LENGTH, "size": LENGTH, "lines": re.compile("[0-9]{1,2}")}
+
+
+Colour = tuple[float, float, float]  # red, green, blue: 0 to 1
+BLACK = (0.0, 0.0, 0.0)
+WHITE = (1.0, 1.0, 1.0)
 
 
 @dataclass(frozen=True)
 class Place:
     """The place of a part: how messages call it, its name, its sides, by how many quarters it is
-    turned to the right; how its letters are written; the symbology and settings of a symbol that is
-    made of its text; its module, the largest letters in millimetres, the most lines: 0 for what
-    suits.
+    turned to the right; how its letters are written, and their colour (None: what can be read on
+    the drawing); the symbology and settings of a symbol that is made of its text; its module, the
+    largest letters in millimetres, the most lines: 0 for what suits.
     """
 
     title: str
@@ -77,6 +92,7 @@ class Place:
     down: float = 0.5
     is_bold: bool = False
     font: str = ""
+    colour: Optional[Colour] = None
     symbology: str = ""
     settings: tuple[str, ...] = ()
     module: float = 0.0
@@ -105,23 +121,29 @@ class Place:
 @dataclass(frozen=True)
 class OwnDesign:
     """A design that suits a label: its file, the sides of a label as it is read, whether labels are
-    turned to the right, its places, its drawing, which begins at `corner` and has a size, and the
-    places that are smaller than they are drawn, since an edge of the paper takes no ink.
+    turned to the right, its places, what is drawn, which begins at `corner` and has a size, the
+    parts of labels whose groups are drawn only with them, the places that are smaller than they are
+    drawn, since an edge of the paper takes no ink, and the fonts of its words.
     """
 
     file: str
     label: Size
     is_turned: bool
     places: tuple[Place, ...]
-    drawing: Any
+    root: Element
     corner: Size
     size: Size
+    groups: frozenset[str]
     smaller: tuple[str, ...]
+    fonts: tuple[str, ...]
 
-    def draw(self, canvas: Any, scale: float) -> None:
-        """Draws what is alike on all labels, in so many units a millimetre; raises `ToolError`."""
+    def draw(self, canvas: Any, scale: float, absent: frozenset[str] = frozenset()) -> None:
+        """Draws what is alike on all labels without some parts, in so many units a millimetre;
+        raises `ToolError`.
+        """
         area = rectangle(*self.corner, *self.size, scale)
-        draw(self.file, self.drawing, canvas, area)
+        root = without_groups(self.root, absent) if absent else self.root
+        draw(self.file, handle_of(self.file, root), canvas, area)
 
 
 class Page(NamedTuple):
@@ -136,6 +158,7 @@ def is_file(design: str) -> bool:
     return design.lower().endswith(SUFFIX)
 
 
+@lru_cache(maxsize=MOST_KNOWN)
 def key_of(name: str) -> str:
     """Returns a name as it is compared.
 
@@ -165,8 +188,10 @@ def read_design(name: str, cell: Size, white: Edges, turn: Optional[bool]) -> Ow
     smaller = [one.title for one, whole in zip(cut, placed) if is_smaller(one, whole)]
     for parent, rect, _ in places:
         parent.remove(rect)
-    drawing = handle_of(name, root)
-    return OwnDesign(name, label, is_turned, cut, drawing, corner, size, tuple(smaller))
+    keys = frozenset(key for place in placed for key in (key_of(place.name), place.part))
+    groups = frozenset(key for _, _, key in groups_of(root) if key in keys)
+    how = (root, corner, size, groups, tuple(smaller), fonts_of(root))
+    return OwnDesign(name, label, is_turned, cut, *how)
 
 
 def size_of_page(name: str) -> Size:
@@ -193,6 +218,9 @@ def root_of(name: str) -> Element:
     if b"\0" in data or b"<!ENTITY" in data:
         what = Text("{} has entities, or is not in UTF-8", name)
         raise ToolError(what, Text("save it as plain SVG"))
+    if b"<?xml-stylesheet" in data:
+        what = Text("{}: its style sheet is another file, which is not read", name)
+        raise ToolError(what, Text("save it as plain SVG"))
     try:
         root = ElementTree.fromstring(data)
     except (ElementTree.ParseError, LookupError, ValueError) as error:
@@ -210,6 +238,46 @@ def walked(root: Element) -> Iterator[tuple[Element, Element, int]]:
         parent, element, depth = waiting.pop()
         yield parent, element, depth
         waiting += [(element, child, depth + 1) for child in reversed(element)]
+
+
+def written_name(element: Element) -> str:
+    """Returns the name of an element with what is behind it."""
+    return element.get("data-place") or element.get(LABEL) or element.get("id") or ""
+
+
+def groups_of(root: Element) -> Iterator[tuple[Element, Element, str]]:
+    """Yields the groups with a name, but for layers of Inkscape: each with its parent and key."""
+    for parent, element, _ in walked(root):
+        name = written_name(element).split(",")[0].strip()
+        if element.tag == f"{SPACE}g" and name and element.get(MODE) != "layer":
+            yield parent, element, key_of(name)
+
+
+def without_groups(root: Element, absent: frozenset[str]) -> Element:
+    """Returns a tree without the groups of some parts."""
+    found = deepcopy(root)
+    for parent, group, key in list(groups_of(found)):
+        if key in absent:
+            parent.remove(group)
+    return found
+
+
+def fonts_of(root: Element) -> tuple[str, ...]:
+    """Returns the fonts that words are to have first, but for general ones such as sans-serif."""
+    fonts: dict[str, None] = {}
+    has_words = False
+    for _, element, _ in walked(root):
+        tag = str(element.tag).removeprefix(SPACE)
+        has_words = has_words or tag == "text"
+        sheet = element.text or "" if tag == "style" else ""
+        wanted = [element.get("font-family", "")] if tag in WITH_FONTS else []
+        written = element.get("style", "") if tag in WITH_FONTS else ""
+        wanted += FAMILY.findall(f"{written};{sheet}")
+        for families in wanted:
+            family = families.split(",")[0].strip().strip("\"'")
+            if family and family.lower() not in GENERAL:
+                fonts[family] = None
+    return tuple(fonts) if has_words else ()
 
 
 def check_elements(name: str, root: Element) -> None:
@@ -233,16 +301,17 @@ def check_elements(name: str, root: Element) -> None:
 
 
 def check_picture(name: str, link: str) -> None:
-    """Raises `ToolError` for a picture that would take too much memory: a small file may have very
-    many pixels.
+    """Raises `ToolError` for a picture that would not be drawn, or would take too much memory: a
+    small file may have very many pixels. Its head says how many.
     """
-    kind, _, data = link.partition(";base64,")
-    if not kind.startswith("data:image/") or "svg" in kind:
+    before, _, data = link.partition(";base64,")
+    if not before.startswith("data:"):
         return
-    found: list[Size] = []
+    pixels = 0
 
     def take(loader: Any, width: int, height: int) -> None:
-        found.append((width, height))
+        nonlocal pixels
+        pixels = width * height
         loader.set_size(0, 0)  # none of it is drawn
 
     loader = library("GdkPixbuf", "2.0").PixbufLoader()
@@ -251,7 +320,8 @@ def check_picture(name: str, link: str) -> None:
         loader.write(b64decode("".join(data.split())[:PICTURE_HEAD]))
     with suppress(library("GLib", "2.0").Error):
         loader.close()  # what is not whole
-    if not found or found[0][0] * found[0][1] > MOST_PIXELS:
+    kind = loader.get_format()
+    if not kind or kind.get_name() not in PICTURES or not 0 < pixels <= MOST_PIXELS:
         what = Text(
             "{}: a picture is not PNG or JPEG, or has more than {:,} pixels", name, MOST_PIXELS
         )
@@ -278,7 +348,7 @@ def page_of(name: str, root: Element) -> Page:
     for key in ("width", "height"):
         root.attrib.pop(key, None)
     scale = PX if is_real else 1.0
-    return Page((width * scale, height * scale), is_real)
+    return Page((round(width * scale, 3), round(height * scale, 3)), is_real)
 
 
 def fitting_turn(name: str, page: Page, cell: Size, turn: Optional[bool]) -> bool:
@@ -316,7 +386,7 @@ def taken_places(name: str, root: Element) -> list[Taken]:
     """Returns the rectangles that are places; raises `ToolError` for a wrong name."""
     found: list[Taken] = []
     for parent, element, _ in walked(root):
-        written = element.get("data-place") or element.get(LABEL) or element.get("id") or ""
+        written = written_name(element)
         title = written.split(",")[0].strip()
         tag = str(element.tag).removeprefix(SPACE)
         if tag == "rect" and not UNNAMED.fullmatch(title):
@@ -332,9 +402,9 @@ def taken_places(name: str, root: Element) -> list[Taken]:
 
 def place_of(name: str, written: str) -> Place:
     """Returns the place of a name, without its sides; raises `ToolError`."""
-    title, *words = (word.strip() for word in written.split(","))
+    title, *words = (" ".join(word.split()) for word in written.split(","))
     place = Place(title, title)
-    for word in words:
+    for word in filter(None, words):
         key, _, value = word.partition("=")
         if word in ACROSS:
             place = replace(place, across=ACROSS[word])
@@ -344,7 +414,7 @@ def place_of(name: str, written: str) -> Place:
             place = replace(place, is_bold=True)
         elif word in SYMBOLOGIES:
             place = replace(place, symbology=word)
-        elif key in NUMBERS and NUMBER.fullmatch(value):
+        elif key in NUMBERS and NUMBERS[key].fullmatch(value) and float(value) > 0:
             place = replace(place, **{key: float(value)})
         elif key == "font" and value:
             place = replace(place, font=value)
@@ -373,7 +443,8 @@ def located(name: str, root: Element, taken: list[Taken], area: Any) -> tuple[Pl
     for number, (_, _, place) in enumerate(taken):
         whole = sides_of(handle, f"#place-{number}", area)
         upper = sides_of(handle, f"#edge-{number}", area)
-        places.append(located_place(name, place, whole, upper))
+        found = located_place(name, place, whole, upper)
+        places.append(replace(found, colour=colour_of(handle, f"#place-{number}", area, whole)))
     for parent, edge in edges:
         parent.remove(edge)
     return tuple(places)
@@ -417,6 +488,22 @@ def quarters_of(whole: Any, upper: Any) -> int:
 def sides_of(handle: Any, name: str, area: Any) -> Any:
     """Returns the rectangle of an element, without its line; raises `ToolError`."""
     return handle.get_geometry_for_layer(name, area).out_logical_rect
+
+
+def colour_of(handle: Any, name: str, area: Any, whole: Any) -> Optional[Colour]:
+    """Returns the colour in the middle of a place, which is at `whole`; None where it is not
+    filled, or more than half transparent.
+    """
+    surface = cairo.ImageSurface(cairo.FORMAT_ARGB32, 1, 1)
+    canvas = cairo.Context(surface)
+    canvas.scale(1 / TINY, 1 / TINY)  # a dot is a hundredth of a millimetre
+    canvas.translate(-whole.x - whole.width / 2, -whole.y - whole.height / 2)
+    handle.render_layer(canvas, name, area)
+    surface.flush()
+    blue, green, red, alpha = bytes(surface.get_data())[:4]
+    if alpha < 128:
+        return None
+    return red / alpha, green / alpha, blue / alpha
 
 
 def check_places(name: str, places: tuple[Place, ...], label: Size) -> None:

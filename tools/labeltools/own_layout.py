@@ -6,13 +6,14 @@ texts in sizes of their letters.
 import math
 from collections import Counter
 from dataclasses import dataclass, field
+from functools import cache
 from typing import Iterable, Iterator, Mapping, NamedTuple, Optional, Sequence
 
 from labeltools.area import LARGEST_MODULE, TINY, Area
 from labeltools.engine import Modules, run_labels
 from labeltools.frames import DIGITS_ROOM, HINTING, LEAST_TEXT, LINE, LOWEST, Box, Frame, share
 from labeltools.layout import ASKED, LaidOut, LaidOutFile, Layout, PrintLabel, short
-from labeltools.letters import BLANK, Fonts, Letters, Sign
+from labeltools.letters import BLANK, Fonts, Letters, Sign, font_for
 from labeltools.lines_file import symbology_and_data
 from labeltools.messages import Place as LinePlace
 from labeltools.messages import Talk, quoted
@@ -47,8 +48,8 @@ class OwnText:
 
 @dataclass(frozen=True, slots=True)
 class OwnSymbol:
-    """A symbol in a place: its box, its data and modules, and where its bars and digits are in
-    that.
+    """A symbol in a place: its box, its data and modules, and where its bars and digits are in that
+    as it is read.
     """
 
     place: Place
@@ -62,12 +63,13 @@ class OwnSymbol:
 
 @dataclass(frozen=True, slots=True)
 class OwnLayout(Layout):
-    """What is on a label beside the drawing; as a layout it is that of its finest symbol of QR, or
-    else of its finest one.
+    """What is on a label beside the drawing, and the parts that it has not, whose groups are not
+    drawn; as a layout it is that of its finest symbol of QR, or else of its finest one.
     """
 
     texts: tuple[OwnText, ...]
     symbols: tuple[OwnSymbol, ...]
+    absent: frozenset[str]
 
 
 # symbols by their places and texts: their modules and data, or why they are refused
@@ -80,6 +82,20 @@ class NoRoom(Exception):
     def __init__(self, reason: Text) -> None:
         super().__init__(reason)
         self.reason = reason
+
+
+class Word(NamedTuple):
+    """The width of a part of a line that is not wrapped, and of the space before it."""
+
+    advance: float
+    space: float
+
+
+class Measured(NamedTuple):
+    """The words of each line of a text, and the width of its ink where it is one line, else 0."""
+
+    paragraphs: Sequence[Sequence[Word]]
+    ink: float
 
 
 class Fit(NamedTuple):
@@ -143,47 +159,49 @@ class Room:
 
     def largest_fit(self, text: str) -> Fit:
         """Returns the largest letters in which a text is whole, or else the least ones."""
-        paragraphs = [self.widths(line) for line in text.split("\n")]
+        measured = self.measured(text)
         best = Fit(self.least, self.most_lines, True)
-        sizes = sizes_between(self.least, self.largest(len(paragraphs)))
+        sizes = sizes_between(self.least, self.largest(len(measured.paragraphs)))
         first = 0
         last = len(sizes)
         while first < last:  # the sizes fall: the first one in which it is whole
             middle = (first + last) // 2
-            if fit := self.fit(paragraphs, sizes[middle]):
+            if fit := self.fit(measured, sizes[middle]):
                 best = fit
                 last = middle
             else:
                 first = middle + 1
         return best
 
-    def fit(self, paragraphs: Sequence[Sequence[float]], size: int) -> Optional[Fit]:
+    def fit(self, text: Measured, size: int) -> Optional[Fit]:
         """Returns how a text fits in letters of a size; None where it does not."""
         room = self.wide / size / HINTING
-        if len(paragraphs) == 1 and sum(paragraphs[0]) <= room:
+        if 0 < text.ink <= room:
             return Fit(size, 1)
         lines = 0
-        for words in paragraphs:
-            found = lines_of(words, room - SIDE, self.space)
+        for words in text.paragraphs:
+            found = lines_of(words, room - SIDE)
             if not found:
                 return None
             lines += found
         is_fitting = lines <= self.most_lines and size <= self.largest(lines)
         return Fit(size, lines) if is_fitting else None
 
-    @property
-    def space(self) -> float:
-        """The width of a space."""
-        return self.letters.spaces[self.place.is_bold]
+    def measured(self, text: str) -> Measured:
+        """Returns the widths of a text; those of a price are of one word."""
+        lines = text.split("\n")
+        ink = self.letters.extent(text, self.place.is_bold).width if len(lines) == 1 else 0.0
+        return Measured([self.words(line) for line in lines], ink)
 
-    def widths(self, line: str) -> list[float]:
-        """Returns the widths of words, each but the first with the space before it; prices are
-        one word.
-        """
-        found: list[float] = []
-        for word in [line] if self.is_price else line.split(" "):
-            advance = sign_of(self.letters, word, self.place.is_bold).advance
-            found.append(advance + (self.space if found else 0.0))
+    def words(self, line: str) -> list[Word]:
+        """Returns the words of a line; a price is one word."""
+        is_bold = self.place.is_bold
+        found: list[Word] = []
+        space = 0.0
+        for part in [line] if self.is_price else self.letters.parts(line):
+            bare = part.rstrip(" ")
+            found.append(Word(sign_of(self.letters, bare, is_bold).advance, space))
+            space = self.letters.spaces[is_bold] * (len(part) - len(bare))
         return found
 
     @property
@@ -200,7 +218,7 @@ class Room:
         size = min(fit.size, self.common)
         lines = fit.lines
         if size < fit.size and lines > 1:
-            found = self.fit([self.widths(line) for line in text.split("\n")], size)
+            found = self.fit(self.measured(text), size)
             lines = found.lines if found else lines
         tall = ((lines - 1) * LINE + self.bottom - self.top) * size
         base = (self.high - tall) * self.place.down - self.top * size
@@ -215,25 +233,26 @@ def sign_of(letters: Letters, line: str, is_bold: bool) -> Sign:
     return found if found else letters.whole_sign(line, is_bold)
 
 
+@cache
 def sizes_between(least: int, most: int) -> list[int]:
     """Returns sizes of letters from the largest to the least one."""
     sizes = {max(least, int(most * STEP**step)) for step in range(STEPS)}
     return sorted(sizes, reverse=True)
 
 
-def lines_of(words: Sequence[float], room: float, space: float) -> int:
+def lines_of(words: Sequence[Word], room: float) -> int:
     """Returns how many lines words take; 0 where one is too wide."""
     lines = 1
     used = 0.0
-    for number, word in enumerate(words):
-        bare = word - (space if number else 0.0)
-        if bare > room:
+    for word in words:
+        if word.advance > room:
             return 0
-        if used and used + word > room:
+        wide = word.space + word.advance if used else word.advance
+        if used and used + wide > room:
             lines += 1
-            used = bare
+            used = word.advance
         else:
-            used += word if used else bare
+            used += wide
     return lines
 
 
@@ -389,7 +408,8 @@ class OwnLayouts:
                 texts.append(rooms[place].text(text))
         finest = min(symbols, key=lambda one: (one.symbology.nominal > 0, one.module))
         found = (finest.symbology, finest.module, finest.boxes, False)
-        return OwnLayout(NO_FRAME, *found, tuple(texts), tuple(symbols))
+        absent = frozenset(key for key in self.design.groups if not values.texts.get(key))
+        return OwnLayout(NO_FRAME, *found, tuple(texts), tuple(symbols), absent)
 
     def symbol(
         self, place: Place, symbology: Symbology, modules: Modules, data: bytes
@@ -458,6 +478,12 @@ class OwnLayouts:
             why = Text("an edge of the page takes no ink there (--edge)")
             named = ", ".join(self.design.smaller)
             yield first, Text("{}: smaller than drawn: {}: {}", file, named, why)
+        for family in self.design.fonts:
+            there = font_for(family)
+            if there.lower() != family.lower():
+                yield first, Text(
+                    "{}: there is no font {}: its words are in {}", file, family, there
+                )
         names: dict[str, str] = {}
         for value in values:
             for key in value.texts:

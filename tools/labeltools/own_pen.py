@@ -1,5 +1,7 @@
 """Draws labels in a design of a user's own. Lengths are in dots."""
 
+from dataclasses import replace
+from functools import cache
 from typing import Any, Optional
 
 import cairo
@@ -10,16 +12,19 @@ from labeltools.frames import Box
 from labeltools.layout import LaidOut
 from labeltools.letters import Fonts, Letters
 from labeltools.messages import ToolError
-from labeltools.own_design import OwnDesign, Place
+from labeltools.own_design import BLACK, WHITE, Colour, OwnDesign, Place
 from labeltools.own_layout import OwnLayout, OwnText
-from labeltools.pen import Fitted, Medium, Page, Pen, Style, ink_of, padded
+from labeltools.pen import Fitted, Medium, Page, Pen, Style, ink_of, padded, seen_in
 from labeltools.pango import Pango
 from labeltools.text import Text
 
 STEP = 40  # letters that do not fit lose this part of their size
 DARK = bytes(128) + b"\1" * 128  # the darkness of a dot from which on it is black
 CHECKED = 8.0  # dots a millimetre, in which a drawing is looked at
-NOT_LIGHT = bytes(range(160))
+LIGHT = bytes(range(160, 256))  # what symbols take behind them
+DOTS_LIGHT = bytes(range(128, 256))  # what is white in dots
+MIXED = 0.4  # part of a place: more of it dark, and as much of it light, leave letters unread
+CONTRAST = 0.3  # between letters and what is behind them, of that between black and white
 DIGITS = bytes.maketrans(b"\0\1", b"01")
 
 
@@ -29,9 +34,15 @@ class OwnPen(Pen):
     def __init__(self, medium: Medium, fonts: Fonts, letters: Letters, design: OwnDesign) -> None:
         super().__init__(medium, fonts, letters)
         self.design = design
-        dot = MILLIMETRES / medium.dpi
-        wide, high = (max(1, int(side / dot)) for side in design.label)
-        self.drawing = darkness(design, wide, high) if medium.is_dots else recorded(design, dot)
+        self.drawing = cache(self.new_drawing)
+
+    def new_drawing(self, absent: frozenset[str]) -> Optional[cairo.SurfacePattern]:
+        """Returns what is drawn on labels without some parts; None where there is none."""
+        dot = MILLIMETRES / self.medium.dpi
+        if not self.medium.is_dots:
+            return recorded(self.design, dot, absent)
+        wide, high = (max(1, int(side / dot)) for side in self.design.label)
+        return darkness(self.design, wide, high, absent)
 
     def draw(self, canvas: Any, page: Page, turn: int = 0) -> None:
         """Draws labels in the areas that begin at their places, as `Pen.draw` does."""
@@ -47,12 +58,14 @@ class OwnPen(Pen):
     def draw_label(self, canvas: Any, item: LaidOut) -> None:
         """Draws a label."""
         layout = own_layout(item)
-        if self.drawing and self.medium.is_dots:
-            canvas.mask(self.drawing)
-        elif self.drawing:
-            canvas.set_source(self.drawing)
+        drawing = self.drawing(layout.absent)
+        if drawing:
+            canvas.save()
+            if self.medium.is_dots:  # which takes a quarter of the time of a mask
+                canvas.set_operator(cairo.Operator.ADD)
+            canvas.set_source(drawing)
             canvas.paint()
-            canvas.set_source_rgb(0, 0, 0)
+            canvas.restore()
         for symbol in layout.symbols:
             canvas.save()
             turned(canvas, symbol.box, symbol.place.quarters)
@@ -61,25 +74,54 @@ class OwnPen(Pen):
                 self.draw_data(canvas, symbol.data, symbol)
             canvas.restore()
         for text in layout.texts:
-            canvas.save()
-            turned(canvas, text.box, text.place.quarters)
-            found = self.fitted_text(text)
-            self.show(canvas, found, self.family_of(text.place), 0, 0)
-            canvas.restore()
+            self.draw_letters(canvas, text)
+
+    def draw_letters(self, canvas: Any, text: OwnText) -> None:
+        """Draws a text in its colour; in dots it is black, or takes black dots away."""
+        found = self.fitted_text(text)
+        family = self.family_of(text.place)
+        colour = text.place.colour or BLACK
+        if colour == BLACK and not text.place.quarters:
+            self.show(canvas, found, family, text.box.left, text.box.top)
+            return
+        canvas.save()
+        turned(canvas, text.box, text.place.quarters)
+        if not self.medium.is_dots:
+            canvas.set_source_rgb(*colour)
+        elif is_light(colour):
+            canvas.set_operator(cairo.Operator.DEST_OUT)
+        self.show(canvas, found, family, 0, 0)
+        canvas.restore()
 
     def is_shortened(self, item: LaidOut) -> bool:
         """Returns whether a text of a label ends in an ellipsis."""
-        for text in own_layout(item).texts:
-            if text.is_cut or text.lines > 1:
-                if self.fitted_text(text).layout.is_ellipsized():
-                    return True
-        return item.label.is_cut
+        return item.label.is_cut or any(map(self.is_ellipsized, own_layout(item).texts))
+
+    def shown_texts(self, item: LaidOut) -> tuple[str, ...]:
+        """Returns the texts of a label as they are seen, up to the ellipsis where one is."""
+        return tuple(
+            seen_in(self.fitted_text(text).layout) if self.is_ellipsized(text) else text.text
+            for text in own_layout(item).texts
+        )
+
+    def is_ellipsized(self, text: OwnText) -> bool:
+        """Returns whether a text ends in an ellipsis."""
+        may_be = text.is_cut or text.lines > 1
+        return may_be and bool(self.fitted_text(text).layout.is_ellipsized())
 
     def fitted_text(self, text: OwnText) -> Fitted:
+        """Returns a text as it fits its box. One that comes again is kept as it is laid out."""
+        key = id(text.place), text.text, text.size, text.lines
+        return self.keep(key, lambda: self.new_fitted(text))
+
+    def new_fitted(self, text: OwnText) -> Fitted:
         """Returns a text as it fits its box: smaller where its ink would leave it."""
         wide, high = text.box.width, text.box.height
         if text.place.quarters % 2:
             wide, high = high, wide
+        quick = self.quick_text(text, wide)
+        if quick is not None:
+            return quick
         size = text.size
         while True:
             is_lines = text.lines > 1 or text.is_cut or "\n" in text.text
@@ -93,6 +135,21 @@ class OwnPen(Pen):
         y = text.base - layout.get_baseline() // Pango.SCALE
         x = max(-ink.left, min(x, wide - ink.width - ink.left))
         return Fitted(layout, x, max(-ink.top, min(y, high - ink.height - ink.top)))
+
+    def quick_text(self, text: OwnText, wide: int) -> Optional[Fitted]:
+        """Returns a line of text as it fits its box by the widths of its letters, which Pango takes
+        long to say; None in dots, where their shapes are others.
+        """
+        if self.medium.is_dots or text.lines > 1 or text.is_cut or text.place.font:
+            return None
+        sign = self.letters.line(text.text, text.place.is_bold) if "\n" not in text.text else None
+        if sign is None:
+            return None
+        size = text.size
+        layout = self.laid_out(text.text, self.style_of(text, size, 0), wide, size)
+        ink = (sign.advance - sign.left - sign.right) * size
+        x = (wide - ink) * (text.place.across + 1) / 2 - sign.left * size
+        return Fitted(layout, round(x), text.base - layout.get_baseline() // Pango.SCALE)
 
     def style_of(self, text: OwnText, size: int, lines: int) -> Style:
         """Returns how a text is written."""
@@ -120,41 +177,75 @@ def turned(canvas: Any, box: Box, quarters: int) -> None:
     canvas.transform(cairo.Matrix(*rows[quarters], *corners[quarters]))
 
 
-def recorded(design: OwnDesign, dot: float) -> Optional[cairo.SurfacePattern]:
+def recorded(
+    design: OwnDesign, dot: float, absent: frozenset[str]
+) -> Optional[cairo.SurfacePattern]:
     """Returns a drawing as it is, which a file has once; None where there is no ink."""
     extents = tuple(side / dot for side in design.label)
     surface = cairo.RecordingSurface(cairo.CONTENT_COLOR_ALPHA, cairo.Rectangle(0, 0, *extents))
-    design.draw(cairo.Context(surface), 1 / dot)
+    design.draw(cairo.Context(surface), 1 / dot, absent)
     _, _, width, height = surface.ink_extents()
     return cairo.SurfacePattern(surface) if min(width, height) > 0 else None
 
 
-def check_drawing(design: OwnDesign) -> None:
-    """Raises `ToolError` where a drawing is dark where a symbol or letters have to be seen."""
+def with_colours(design: OwnDesign) -> OwnDesign:
+    """Returns a design whose letters have colours that can be read on its drawing; raises
+    `ToolError` where a symbol or letters cannot be.
+    """
     wide, high = (max(1, round(side * CHECKED)) for side in design.label)
     rows = lightness(design, wide, high)
+    places = []
     for place in design.places:
         first = round(place.left * CHECKED)
         last = round((place.left + place.width) * CHECKED)
         down = slice(round(place.top * CHECKED), round((place.top + place.height) * CHECKED))
-        dots = b"".join(row[first:last] for row in rows[down])
-        light = dots.translate(None, NOT_LIGHT)
-        if place.is_symbol and len(light) < len(dots):
+        behind = b"".join(row[first:last] for row in rows[down])
+        if not place.is_symbol:
+            places.append(replace(place, colour=colour_on(design.file, place, behind)))
+            continue
+        if behind.translate(None, LIGHT):
             what = Text("{}: the drawing is dark in the place {}", design.file, place.title)
             hint = Text("a symbol needs white there, up to the edge of its place")
             raise ToolError(what, hint)
-        if len(light) * 2 < len(dots):
-            what = Text("{}: the drawing is dark in most of the place {}", design.file, place.title)
-            raise ToolError(what, Text("letters are black: make it light there"))
+        places.append(place)
+    return replace(design, places=tuple(places))
 
 
-def lightness(design: OwnDesign, wide: int, high: int) -> list[bytes]:
+def colour_on(file: str, place: Place, behind: bytes) -> Colour:
+    """Returns the colour of letters on what is behind them, a byte from 0 for black for each dot:
+    that of their place where it can be read, or else black or white. Raises `ToolError` where
+    neither can.
+    """
+    dark = len(behind.translate(None, DOTS_LIGHT)) / max(1, len(behind))
+    if MIXED < dark < 1 - MIXED:
+        what = Text("{}: the drawing is light and dark in the place {}", file, place.title)
+        raise ToolError(what, Text("letters need light or dark behind them: move the place"))
+    usual = BLACK if dark <= MIXED else WHITE
+    wanted = place.colour or usual
+    contrast = abs(light_of(wanted) - sum(behind) / 255 / max(1, len(behind)))
+    return wanted if is_light(wanted) == is_light(usual) and contrast > CONTRAST else usual
+
+
+def light_of(colour: Colour) -> float:
+    """Returns how light a colour is, from 0 to 1."""
+    red, green, blue = colour
+    return 0.3 * red + 0.59 * green + 0.11 * blue
+
+
+def is_light(colour: Colour) -> bool:
+    """Returns whether a colour is white in dots."""
+    return light_of(colour) >= 0.5
+
+
+def lightness(
+    design: OwnDesign, wide: int, high: int, absent: frozenset[str] = frozenset()
+) -> list[bytes]:
     """Returns the rows of a drawing, a byte from 0 for black to 255 for white for each dot."""
     surface = cairo.ImageSurface(cairo.FORMAT_RGB24, wide, high)
     canvas = cairo.Context(surface)
     canvas.set_source_rgb(1, 1, 1)
     canvas.paint()
-    design.draw(canvas, wide / design.label[0])
+    design.draw(canvas, wide / design.label[0], absent)
     canvas.set_operator(cairo.Operator.HSL_COLOR)  # grey, as light as the colours are
     canvas.set_source_rgb(1, 1, 1)
     canvas.paint()
@@ -164,11 +255,13 @@ def lightness(design: OwnDesign, wide: int, high: int) -> list[bytes]:
     return [light[start : start + wide] for start in range(0, stride * high, stride)]
 
 
-def darkness(design: OwnDesign, wide: int, high: int) -> Optional[cairo.SurfacePattern]:
+def darkness(
+    design: OwnDesign, wide: int, high: int, absent: frozenset[str]
+) -> Optional[cairo.SurfacePattern]:
     """Returns a drawing in black dots: those that are darker than half of black; None where there
     is none.
     """
-    rows = [dark_row(row) for row in lightness(design, wide, high)]
+    rows = [dark_row(row) for row in lightness(design, wide, high, absent)]
     return mask_of(rows, wide) if any(map(any, rows)) else None
 
 

@@ -4,7 +4,18 @@ import math
 import re
 from dataclasses import dataclass
 from functools import cache
-from typing import Any, Iterable, Iterator, Mapping, NamedTuple, Optional, Protocol, Sequence
+from typing import (
+    Any,
+    Callable,
+    Hashable,
+    Iterable,
+    Iterator,
+    Mapping,
+    NamedTuple,
+    Optional,
+    Protocol,
+    Sequence,
+)
 
 import cairo
 
@@ -19,6 +30,7 @@ from labeltools.symbologies import SYMBOLOGIES, Span, Symbology
 DARK = re.compile("1+")
 INSET = 0.01  # of a dot: what touches a dot paints it
 NOT_LATIN = re.compile("[^\0-\u024f]")  # letters that may leave their line
+ELLIPSIS = 1 << 1  # PANGO_ANALYSIS_FLAG_IS_ELLIPSIS of a run
 SIDE = 16  # lines have this part of the size of letters as room at their sides
 STEP = 20  # letters that do not fit lose this part of their size
 # texts that are kept as they are laid out, and those that are known to have come once: many
@@ -62,9 +74,6 @@ class Style(NamedTuple):
     across: int
     down: float
     struck: int
-
-
-Place = tuple[str, Style, int, int]  # a text, and the width and height of its box
 
 
 class Fitted(NamedTuple):
@@ -130,8 +139,8 @@ class Pen:
         self.digit_height = -extents.y_bearing / LARGE
         self.context = pango_context(self.options, medium.is_dots)
         self.blank = cache(self.new_blank)
-        self.kept: dict[Place, Fitted] = {}
-        self.seen: set[Place] = set()
+        self.kept: dict[Hashable, Fitted] = {}
+        self.seen: set[Hashable] = set()
         self.style = cache(self.new_style)
         self.digit_places = cache(self.new_digit_places)
 
@@ -171,6 +180,16 @@ class Pen:
         if item.label.is_cut:
             return True
         return any(self.is_cut(*part) for part in self.lines_of(item.label, item.layout))
+
+    def shown_texts(self, item: LaidOut) -> tuple[str, ...]:
+        """Returns the title and the text of a label as they are seen: up to the ellipsis, where
+        they have one.
+        """
+        shown = []
+        for text, style, width in self.lines_of(item.label, item.layout):
+            layout = self.laid_out(text, style, width, style.size)
+            shown.append(seen_in(layout) if layout.is_ellipsized() else text)
+        return tuple(shown)
 
     def lines_of(self, label: PrintLabel, layout: Layout) -> Iterator[tuple[str, Style, int]]:
         """Yields the texts of a label that may be cut, with the width of their lines."""
@@ -275,10 +294,14 @@ class Pen:
     def found(self, text: str, style: Style, width: int, height: int) -> Fitted:
         """Returns what fitted() does. A text that comes again is kept as it is laid out."""
         key = text, style, width, height
+        return self.keep(key, lambda: self.fitted(text, style, width, height))
+
+    def keep(self, key: Hashable, make: Callable[[], Fitted]) -> Fitted:
+        """Returns what is kept for a key, or makes it, which is kept from the second time on."""
         kept = self.kept.get(key)
         if kept is not None:
             return kept
-        fitted = self.fitted(text, style, width, height)
+        fitted = make()
         if key in self.seen and len(self.kept) < KEPT:
             self.kept[key] = fitted._replace(layout=fitted.layout.copy())
         elif len(self.seen) < SEEN:
@@ -359,7 +382,7 @@ class Pen:
         """Draws the modules of a label, and the longer guards of bars."""
         box = layout.boxes["bars"]
         module = layout.module
-        if self.medium.is_smooth:
+        if self.medium.is_smooth or self.medium.is_dots:  # in dots that is quicker, too
             draw_rectangles(canvas, modules, box, module, layout.symbology.guards)
             return
         # in whole modules: one row that is stretched far is off by a dot in Cairo's fixed numbers
@@ -368,7 +391,7 @@ class Pen:
         if len(modules.packed) == modules.row_size and layout.symbology.guards:
             high += GUARD
         place = box._replace(height=high * module)
-        mask.set_matrix(scaled(place, modules.width, high, 0.0 if self.medium.is_dots else INSET))
+        mask.set_matrix(scaled(place, modules.width, high))
         canvas.mask(mask)
 
     def draw_data(self, canvas: Any, whole: bytes, layout: Symbol) -> None:
@@ -456,6 +479,18 @@ def titled(title: str, frame: Frame) -> tuple[str, int]:
     return title, lines
 
 
+def seen_in(layout: Any) -> str:
+    """Returns the letters of a layout of Pango, with an ellipsis where it has left some out."""
+    text = layout.get_text().encode()
+    seen = b""
+    for line in layout.get_lines_readonly():
+        for run in line.runs:
+            item = run.item
+            is_ellipsis = item.analysis.flags & ELLIPSIS
+            seen += "…".encode() if is_ellipsis else text[item.offset : item.offset + item.length]
+    return seen.decode()
+
+
 def ink_of(layout: Any) -> Box:
     """Returns where a layout has ink; each number is read once, since Pango takes long for it."""
     ink, _ = layout.get_pixel_extents()
@@ -497,13 +532,13 @@ def bars_mask(modules: Modules, symbology: Symbology, high: int) -> Any:
     return mask
 
 
-def scaled(box: Box, width: int, height: int, inset: float) -> cairo.Matrix:
+def scaled(box: Box, width: int, height: int) -> cairo.Matrix:
     """Returns from where in a picture the dots of a box are, which it fills but for an inset: a
     program that draws a PDF takes each dot that the picture touches.
     """
-    across = width / (box.width - 2 * inset)
-    down = height / (box.height - 2 * inset)
-    return cairo.Matrix(across, 0, 0, down, -(box.left + inset) * across, -(box.top + inset) * down)
+    across = width / (box.width - 2 * INSET)
+    down = height / (box.height - 2 * INSET)
+    return cairo.Matrix(across, 0, 0, down, -(box.left + INSET) * across, -(box.top + INSET) * down)
 
 
 def padded(row: bytes, stride: int) -> bytes:

@@ -11,6 +11,11 @@ from labeltools.money import LOOKS, PER_UNIT, SPACES, WITH_THREE_DECIMALS, Money
 from labeltools.money import currency_of, is_pair, plain
 from labeltools.summary import rows_text
 
+OF_CENTS = re.compile(
+    r"\b(?:cents?|ct|cts|pence|centimes?|centimos?|céntimos?|centavos?|centesimi|grosze|öre|øre"
+    r"|haléřů?|minor)\b",
+    re.IGNORECASE,
+)
 ARITHMETIC = Decimal("1e-9")  # what a program's arithmetic may leave
 MOST_LOST = Decimal("0.01")  # of a price that is rounded
 THOUSANDS_OR_DECIMALS = Text("may have thousands or decimals")
@@ -58,6 +63,7 @@ class PriceColumn:
     lengths: Counter[int] = field(default_factory=Counter)
     currencies: set[str] = field(default_factory=set)
     has_thousands: bool = False
+    has_cents: bool = False
 
     def add(self, row: int, price: Money) -> None:
         """Takes the price of a row."""
@@ -75,6 +81,7 @@ class PriceColumn:
             see(self.kinds, "zero", row, price.text)
         if price.currency not in ("", "cent"):
             self.currencies.add(ONE_SIGN.get(price.currency, price.currency))
+        self.has_cents = self.has_cents or price.currency == "cent"
         self.has_thousands = self.has_thousands or price.value >= 1000 and not price.group
 
     @property
@@ -90,6 +97,11 @@ class PriceColumn:
     def decimals(self) -> int:
         """How many decimals most cells have."""
         return self.lengths.most_common(1)[0][0] if self.lengths else 0
+
+    @property
+    def are_bare(self) -> bool:
+        """Whether its cells have whole numbers alone, without a currency or a sign of cents."""
+        return set(self.lengths) == {0} and not self.currencies and not self.has_cents
 
     def says(self) -> Iterator[Said]:
         """Yields what is said once of prices that are printed as they are."""
@@ -127,6 +139,16 @@ class PriceColumn:
             yield Said(Text("the prices have several currencies: {}", listed))
 
 
+def is_of_cents(name: str) -> bool:
+    """Returns whether the name of a column says that its numbers are hundredths.
+
+    >>> [is_of_cents(name) for name in ("price_cents", "PriceCents", "Preis (ct)", "Center", "CT1")]
+    [True, True, True, False, False]
+    """
+    words = re.sub(r"(?<=[a-z])(?=[A-Z])|_", " ", name)
+    return OF_CENTS.search(words) is not None
+
+
 def see(found: dict[str, Seen], kind: str, row: int, text: str) -> None:
     """Counts what was seen in a row."""
     before = found.get(kind)
@@ -150,9 +172,9 @@ def column_of(prices: Mapping[int, Money], decimal: str | None = None) -> PriceC
     return column
 
 
-def settled(price: Money, column: PriceColumn) -> Money:
-    """Returns an open price as its column reads it; raises `NotMoney` where the column does not say
-    it.
+def settled(price: Money, column: PriceColumn, pattern: "PricePattern | None" = None) -> Money:
+    """Returns an open price as its column reads it, or else as a pattern does that has the three
+    decimals of its currency; raises `NotMoney` where neither says it.
 
     >>> from labeltools.money import parse
     >>> prices = {2: parse("1.234"), 3: parse("0,80")}
@@ -164,9 +186,14 @@ def settled(price: Money, column: PriceColumn) -> Money:
     labeltools.money.NotMoney: has three digits behind ., which is the decimal sign of its column
     >>> settled(prices[2], column_of({**prices, 4: parse("1234.50")})).value
     Decimal('1.005')
+    >>> prices = {2: parse("KD 1.250")}
+    >>> settled(prices[2], column_of(prices), PricePattern.of("KD 0.000")).value
+    Decimal('1.25')
     """
     if not price.is_open:
         return price
+    if not column.point and pattern and pattern.has_decimals_of(price):
+        return with_three_decimals(price)
     if not column.point:
         raise NotMoney(THOUSANDS_OR_DECIMALS, Text("give --decimal , or --decimal ."))
     if column.point != price.group:
@@ -176,6 +203,24 @@ def settled(price: Money, column: PriceColumn) -> Money:
         raise NotMoney(
             Text("has three digits behind {}, which is the decimal sign of its column", price.group)
         )
+    return with_three_decimals(price)
+
+
+def nearest(price: Money, number: Decimal) -> Money:
+    """Returns an open price as it is read that is nearest to the number of its cell.
+
+    >>> from labeltools.money import parse
+    >>> [str(nearest(parse("1.234"), Decimal(one)).value) for one in ("1234", "1.2341")]
+    ['1234', '1.234']
+    """
+    if not price.is_open:
+        return price
+    readings = replace(price, is_open=False), with_three_decimals(price)
+    return min(readings, key=lambda one: abs(one.value - number))
+
+
+def with_three_decimals(price: Money) -> Money:
+    """Returns an open price whose sign is the decimal one."""
     value = price.value / 1000
     return replace(price, value=value, point=price.group, group="", decimals=3, is_open=False)
 
@@ -196,16 +241,18 @@ class PricePattern:
     @classmethod
     def of(cls, text: str) -> "PricePattern":
         """Returns a pattern; raises ValueError. A sign with three zeros behind it and no other is
-        one of thousands.
+        one of thousands, but for a currency with three decimals.
 
         >>> PricePattern.of("0.000,00 €")
         PricePattern(front='', group='.', point=',', decimals=2, dash='', end=' €')
+        >>> PricePattern.of("KD 0.000")
+        PricePattern(front='KD ', group='', point='.', decimals=3, dash='', end='')
         >>> PricePattern.of("¥0,000").group, PricePattern.of("0,–").dash
         (',', '–')
         """
         found = PATTERN.fullmatch(text.translate(dict.fromkeys(map(ord, SPACES[:-1]), " ")))
         if not found or (found["group"] or found["hash"]) == found["point"] is not None:
-            raise ValueError(f"{text!r} is no pattern as '0,00 €'")
+            raise ValueError(Text("{!r} is no pattern as '0,00 €'", text))
         front = text[: len(found["front"])]
         end = text[len(text) - len(found["end"] or "") :]
         check_currencies(text, front, end)
@@ -215,12 +262,22 @@ class PricePattern:
         if group == " ":  # it may be a narrow one
             inside = text[len(front) : len(text) - len(end)]
             group = next(sign for sign in inside if LOOKS.get(sign, sign) == " ")
+        named = currency_of(plain(front.strip() or end.strip()))
+        if found["point"] is None and group and named in WITH_THREE_DECIMALS:
+            return cls(front, "", group, 3, "", end)
         return cls(front, group, found["point"] or "", behind.count("0"), dash, end)
 
     @property
     def currency(self) -> str:
         """The currency of the pattern as it is written, which may be ¤ or empty."""
         return self.front.strip() + self.end.strip()
+
+    def has_decimals_of(self, price: Money) -> bool:
+        """Returns whether the sign of an open price is the decimal one of this pattern, and its
+        currency has three decimals, as the dinar.
+        """
+        has_three = price.currency in WITH_THREE_DECIMALS
+        return has_three and self.decimals == 3 and self.point == price.group
 
     def write(self, price: Money, currency: str = "") -> str:
         """Returns a price as it is printed; raises `NotMoney` where it would be another price.
@@ -311,6 +368,10 @@ def with_currency(price: Money, text: str, currency: str | None) -> str:
     """Returns the text of a price with the currency of its row, which stands before the unit;
     `currency` is None where the table has no column of them. Raises `NotMoney` where there is none
     or another one.
+
+    >>> from labeltools.money import parse_unit_price
+    >>> with_currency(parse_unit_price("(1 l = 4,98)"), "(1 l = 4,98)", "€")
+    '(1 l = 4,98 €)'
     """
     if currency is None:
         return text
@@ -319,19 +380,20 @@ def with_currency(price: Money, text: str, currency: str | None) -> str:
         return text
     if not currency:
         raise NotMoney(Text("has no currency, and its row has none"))
-    unit = PER_UNIT.search(text) if price.unit else None
+    bare = text.rstrip().removesuffix(price.end)
+    unit = PER_UNIT.search(bare) if price.unit else None
     if unit is None:
-        return f"{text} {currency}"
-    return f"{text[: unit.start()]} {currency}{text[unit.start() :]}"
+        return f"{bare} {currency}{price.end}"
+    return f"{bare[: unit.start()]} {currency}{bare[unit.start() :]}{price.end}"
 
 
 def check_currencies(text: str, front: str, end: str) -> None:
     """Raises ValueError where a pattern has what is no currency, or two."""
     for one in (front.strip(), end.strip()):
         if one not in ("", "¤") and currency_of(plain(one)) is None:
-            raise ValueError(f"{one!r} in {text!r} is no currency")
+            raise ValueError(Text("{!r} in {!r} is no currency", one, text))
     if front.strip() and end.strip():
-        raise ValueError(f"{text!r} has two currencies")
+        raise ValueError(Text("{!r} has two currencies", text))
 
 
 def is_same(one: str, other: str) -> bool:

@@ -6,6 +6,7 @@ import argparse
 import re
 import sys
 import time
+from io import BytesIO
 from pathlib import Path
 from typing import Any, Callable, Iterable, Optional, Sequence
 
@@ -17,15 +18,17 @@ from labeltools.command_line import (
     hold_signals,
     read_input,
     standard_output,
+    wrong_argument,
 )
 from labeltools.engine import option_words
 from labeltools.files import save, send
-from labeltools.forms import FORMS
+from labeltools.forms import DESIGN, FORMS
 from labeltools.journal import Journal
 from labeltools.layout import LaidOut
 from labeltools.messages import BAD_ARGUMENTS, ToolError, write_message
 from labeltools.network import SCHEME, NetworkPrinter
 from labeltools.own_design import is_file
+from labeltools.own_frame import svg_of
 from labeltools.press import PrintJob, Press, Prints, once
 from labeltools.print_job import (
     DRAWING_DPI,
@@ -82,7 +85,7 @@ def reads(example: str, least: float = 0.0, kind: type = float) -> Callable[[str
         match = pattern.fullmatch(argument)
         numbers = [kind(number) for number in match.groups()] if match else []
         if not numbers or min(numbers) < least:
-            raise argparse.ArgumentTypeError(f"{argument!r} is not as {example}")
+            raise wrong_argument(Text("{!r} is not as {}", argument, example))
         return tuple(numbers) if len(numbers) > 1 else numbers[0]
 
     return number
@@ -98,15 +101,16 @@ def edges(argument: str) -> tuple[float, float, float, float]:
 def design_of(argument: str) -> str:
     """Returns the name of a design, or the file of a user's own."""
     if argument not in DESIGNS and not is_file(argument):
-        known = f"{', '.join(DESIGNS)}, or a file such as rack.svg"
-        raise argparse.ArgumentTypeError(f"{argument!r} is none of {known}")
+        known = ", ".join(DESIGNS)
+        what = Text("{!r} is none of {}, or a file such as rack.svg", argument, known)
+        raise wrong_argument(what)
     return argument
 
 
 def rows(argument: str) -> str:
     """Returns rows such as 2,7-9 or 7-."""
     if not ROWS.fullmatch(argument):
-        raise argparse.ArgumentTypeError(f"{argument!r} is not as 2,7-9 or 7-")
+        raise wrong_argument(Text("{!r} is not as 2,7-9 or 7-", argument))
     return argument
 
 
@@ -257,6 +261,13 @@ def write(press: Press, prints: Prints) -> None:
             send(file, output)
 
 
+def write_design(found: Prepared) -> None:
+    """Writes the places of labels to standard output as a design of SVG."""
+    output = standard_output().fileno()
+    with BytesIO(svg_of(found.laid_out, found.job.plan).encode()) as file, hold_signals():
+        send(file, output)
+
+
 def write_files(press: Press, items: Iterable[LaidOut], paths: Iterable[Path]) -> None:
     """Writes each label into its file."""
     at = press.job.plan.places[0]
@@ -319,6 +330,10 @@ def check_arguments(arguments: argparse.Namespace, job: PrintJob) -> None:
     form = job.form
     queue: str = arguments.queue or ""
     is_network = queue.startswith(SCHEME)
+    if form == DESIGN and (job.design or queue or arguments.each):
+        what = Text("--to design writes the places of a built-in design to standard output")
+        hint = Text("leave out --design FILE.svg, --each and --print")
+        raise ToolError(what, hint, BAD_ARGUMENTS)
     wants = "--journal" if arguments.journal else "--stream" if arguments.is_stream else ""
     if (is_network or wants) and not form.is_roll:
         what = Text("{} needs labels one by one", wants or queue)
@@ -390,6 +405,9 @@ def run() -> int:
     talk = PrintTalk()
     found = found_labels(options, job, arguments.lines, talk)
     say(found)
+    if job.form == DESIGN and found.labels:
+        write_design(found)
+        return 1 if found.left_out else 0
     press = found.press(talk)
     items = found.labels
     prints = found.prints if options.each is None else once(items)

@@ -18,10 +18,10 @@ from labeltools.forms import ESCPOS, FORMS, PDF, Form
 from labeltools.layout import LaidOut, LaidOutFile, PrintLabel, lay_out, print_label
 from labeltools.letters import Fonts, Letters
 from labeltools.lines_file import UNPRINTABLE, LineRecord, LinesFile, read_lines
-from labeltools.messages import BAD_ARGUMENTS, Place, Talk, ToolError
+from labeltools.messages import BAD_ARGUMENTS, Place, Talk, ToolError, quoted
 from labeltools.own_design import is_file, read_design, size_of_page
 from labeltools.own_layout import OwnLayouts
-from labeltools.own_pen import check_drawing
+from labeltools.own_pen import with_colours
 from labeltools.pen import Medium, Pen
 from labeltools.names import listed
 from labeltools.press import Press, PrintJob, Prints, pen_of, pens_of, with_copies
@@ -144,8 +144,8 @@ def planned(options: PrintOptions) -> PrintJob:
             what = Text("--height is not for a design of one's own")
             hint = Text("the places of a design say how high bars are")
             raise ToolError(what, hint, BAD_ARGUMENTS)
-        own = read_design(options.design, sheet.cell, white_of(sheet, edges), options.turn)
-        check_drawing(own)
+        white = white_of(sheet, edges)
+        own = with_colours(read_design(options.design, sheet.cell, white, options.turn))
     wishes = Wishes(
         OWN if own else DESIGNS[options.design],
         options.module,
@@ -400,6 +400,24 @@ def remarks_on(
     if shortened:
         said = Text("{}: shortened to fit, with an ellipsis", places_of(shortened, has_tables))
         yield Remark(shortened[0].label.record.place, said)
+        yield from alike(shortened, has_tables, pen)
+
+
+def alike(items: Sequence[LaidOut], has_tables: bool, pen: Pen) -> Iterable[Remark]:
+    """Yields which labels show the same title and text once these are shortened, though their own
+    differ: the first of each kind of them.
+    """
+    found: dict[tuple[str, ...], list[LaidOut]] = {}
+    for item in items:
+        found.setdefault(pen.shown_texts(item), []).append(item)
+    for shown, same in found.items():
+        if len({(item.label.title, item.label.text) for item in same}) > 1:
+            said = Text(
+                "{}: the same once shortened, {}: put what differs in front",
+                places_of(same, has_tables),
+                quoted(" ".join(shown)),
+            )
+            yield Remark(same[0].label.record.place, said)
 
 
 def has_low_bars(item: LaidOut) -> bool:

@@ -30,4 +30,4 @@ def main() -> NoReturn:
 
 def main_of_window() -> NoReturn:
     """Runs label-window to its end."""
-    start("label-window", "labeltools.window", f"gir1.2-gtk-3.0 {PACKAGES}")
+    start("label-window", "labeltools.application", f"gir1.2-gtk-3.0 {PACKAGES}")

@@ -7,7 +7,7 @@ import json
 import os
 import shlex
 import time
-from collections.abc import Mapping, Sequence
+from collections.abc import Mapping, Sequence, Set
 from contextlib import suppress
 from pathlib import Path
 from typing import Any
@@ -17,16 +17,19 @@ from labeltools.text import NOTHING, Text
 from labeltools.command_line import read_input, words_of
 from labeltools.engine import option_words
 from labeltools.guess import guess_of
+from labeltools.lines_file import LineRecord, first_remark, label_lines, last_remark, read_lines
 from labeltools.messages import Cancelled, Place, ToolError, quoted
-from labeltools.press import Press
-from labeltools.print_job import Prepared, faults, labels_of, planned
+from labeltools.press import once
+from labeltools.print_job import Prepared, labels_of, planned
 from labeltools.report import LeftOut
 from labeltools.table import Lines, lines_of_table
 
 CONFIG = os.environ.get("XDG_CONFIG_HOME") or Path.home() / ".config"
 MEMORY = Path(CONFIG, "labels", "window.json")
-COLUMNS = ("code", "title", "text", "price", "unit-price", "old-price", "copies")
+COLUMNS = ("code", "title", "text", "text-2", "price", "unit-price", "old-price", "copies")
 PAPER = ("sheet", "roll", "stock", "width", "height", "design", "to", "dpi")
+FILES = "files.json"  # the words by which files were read
+MOST_FILES = 200
 Choices = Mapping[str, Any]  # by the names of the options
 
 
@@ -37,7 +40,8 @@ class Talk:
 
     def __init__(self) -> None:
         self.notes: list[LeftOut] = []
-        self.progress = 0.0  # the part that is done, where that is known
+        self.done = 0  # of the work
+        self.total = 0  # of it, where that is known
         self.is_stopped = False
         self.looks = 0  # that were taken at the work
 
@@ -53,7 +57,8 @@ class Talk:
         """Keeps how far the work is; raises `Cancelled` where it is stopped."""
         if self.is_stopped:
             raise Cancelled(Text("stopped"))
-        self.progress = done / total if total else 0.0
+        self.done = done
+        self.total = total
 
 
 class Table:
@@ -63,7 +68,7 @@ class Table:
 
     words: Sequence[str] = ()
     lines: Lines
-    all_lines: Lines  # those too that are as before
+    rows: Set[int]  # of the labels that can be printed
     said: Sequence[LeftOut]
     command: str
     notes: Sequence[LeftOut]
@@ -75,10 +80,17 @@ class Table:
         """
         _, self.data = read_input(str(path))
         self.path = path
-        self.read(text or "", header, talk)
+        before = words_of_files().get(path.name, "") if text is None else ""
+        try:
+            self.read(before or text or "", header, talk)
+        except ToolError:
+            if not before:
+                raise
+            self.read("", header, talk)  # it has another encoding now, or other sheets
         kept = self.kept.get("for-table", "")
-        if text is None and kept and isinstance(kept, str):
-            self.read(kept, header, talk)
+        if text is None and kept and kept != self.text and isinstance(kept, str):
+            with suppress(ToolError):
+                self.read(kept, header, talk)
         self.paper = {name: value for name, value in last().items() if name in PAPER}
 
     def read(self, text: str, header: int | None, talk: Talk) -> None:
@@ -86,8 +98,8 @@ class Table:
         head = words_of({"header-row": header, "no-header": header == 0})
         arguments = table_command.understood(["--code", "1", *head, *option_words(text)])
         options = table_command.options_of(arguments)
-        self.text = text
         self.guess = guess_of(self.data, self.path.name, options, talk)
+        self.text = text
         self.key = "\n".join(self.guess.names) if any(self.guess.names) else ""
         self.kept = remembered().get(self.key, {}) if self.key else {}
 
@@ -103,12 +115,10 @@ class Table:
         to_print = print_words(choices)
         options = print_command.options_of(print_command.command_line().parse_args(to_print))
         job = planned(options)
-        all_words = table_words(choices)
         since = {"new-since": str(self.printed) if choices["new-only"] else ""}
-        words = [*words_of(since), *all_words]
+        words = [*words_of(since), *table_words(choices)]
         if words != self.words:  # other paper needs no other lines
             self.lines = self.lines_by(words, talk)
-            self.all_lines = self.lines_by(all_words, Talk()) if since["new-since"] else self.lines
             self.said = tuple(talk.notes)
             self.words = words
         found = labels_of(options, job, self.path.name, self.lines.output, talk)
@@ -117,6 +127,7 @@ class Table:
         remarks = [LeftOut(remark.first, "", remark.text) for remark in found.remarks]
         self.notes = [*self.said, *more, *remarks]
         self.left_out = len(rows) + len(more)
+        self.rows = {item.label.record.label.row for item in found.labels}
         commands = ["label-table", *words, "--", str(self.path)], ["label-print", *to_print]
         self.command = " | ".join(map(shlex.join, commands)) + f" > labels.{job.form.name}"
         return found
@@ -138,26 +149,50 @@ class Table:
             return time.strftime("%x", time.localtime(self.printed.stat().st_mtime))
         return ""
 
-    def keep_printed(self, choices: Choices) -> None:
-        """Keeps the lines of labels that went out, with those that are as before, for the next
-        `--new-since`; not where a part of them was asked for.
+    def keep_printed(self) -> None:
+        """Keeps the lines of the labels that went out, for the next `--new-since`, and those that
+        went out before, but for the same codes.
         """
-        if self.key and "--only" not in choices["for-print"]:
-            with suppress(OSError):
-                self.printed.write_bytes(self.all_lines.output)
+        if not self.key:
+            return
+        new = read_lines(self.lines.output, self.path.name).records
+        new = tuple(record for record in new if record.label.row in self.rows)
+        codes = {(record.symbology, record.data) for record in new}
+        before = self.printed_records()
+        old = (record for record in before if (record.symbology, record.data) not in codes)
+        with suppress(OSError):
+            self.printed.parent.mkdir(parents=True, exist_ok=True)
+            self.printed.write_bytes(file_of([*old, *new]))
+
+    def printed_records(self) -> tuple[LineRecord, ...]:
+        """Returns the lines that went out before; none where they cannot be read."""
+        with suppress(OSError, ToolError):
+            return read_lines(self.printed.read_bytes(), self.printed.name).records
+        return ()
 
     def keep(self, choices: Choices) -> None:
         """Keeps choices by which labels went out; those of columns only where columns have names,
-        since two tables without names have nothing in common.
+        since two tables without names have nothing in common. The words by which the file was read
+        are kept for its name, too: without its sheet or encoding it would not open.
         """
         remember(self.key, choices)
+        others = {name: words for name, words in words_of_files().items() if name != self.path.name}
+        kept = {**others, self.path.name: choices["for-table"]} if choices["for-table"] else others
+        write(MEMORY.with_name(FILES), dict(list(kept.items())[-MOST_FILES:]))
+
+
+def file_of(records: Sequence[LineRecord]) -> bytes:
+    """Returns a file of lines."""
+    lines = (label_lines(one.label, one.line.decode(), True) for one in records)
+    return "".join([first_remark(""), *lines, last_remark(len(records), ())]).encode()
 
 
 def table_words(choices: Choices) -> list[str]:
     """Returns the words of label-table, but for the file; raises `ToolError`."""
     options = {name: choices[name] for name in (*COLUMNS, "symbology", "header-row")}
     options["no-header"] = not choices["header-row"]
-    return [*words_of(options), *option_words(choices["for-table"])]
+    second = words_of({"text": options.pop("text-2")})
+    return [*words_of(options), *second, *option_words(choices["for-table"])]
 
 
 def print_words(choices: Choices) -> list[str]:
@@ -169,13 +204,20 @@ def print_words(choices: Choices) -> list[str]:
     return [*words_of(options), *option_words(choices["for-print"])]
 
 
-def read_back(labels: Prepared, talk: Talk) -> Press:
-    """Reads each label as it is drawn, and returns what writes them; raises `ToolError` where one
-    is not what it has to be.
+def compare(labels: Prepared, talk: Talk) -> None:
+    """Draws each label once as it is printed, and compares it with its line; raises `ToolError`
+    where it is another one.
     """
-    for record, fault in faults(labels.labels, labels.laid_out, labels.job, labels.letters, talk):
-        raise ToolError(Text("nothing is printed: {}: {}", record.place.text, fault))
-    return labels.press(talk)
+    for drawn in labels.press(talk).documents(once(labels.labels)):
+        drawn.close()
+
+
+def words_of_files() -> dict[str, str]:
+    """Returns the words by which tables were read, by the names of their files."""
+    with suppress(OSError, ValueError, AttributeError):
+        found = json.loads(MEMORY.with_name(FILES).read_text(encoding="utf-8")).items()
+        return {name: words for name, words in found if isinstance(words, str)}
+    return {}
 
 
 def remembered() -> dict[str, Choices]:
@@ -192,9 +234,14 @@ def last() -> Choices:
 
 
 def remember(names: str, choices: Choices) -> None:
-    """Keeps what was chosen; a folder that takes no file is no reason to stop."""
+    """Keeps what was chosen."""
     others = {other: kept for other, kept in remembered().items() if other != names}
     kept = {**others, names: choices}  # the last one at the end
+    write(MEMORY, kept)
+
+
+def write(path: Path, kept: Mapping[str, Any]) -> None:
+    """Writes what is kept; a folder that takes no file is no reason to stop."""
     with suppress(OSError):
-        MEMORY.parent.mkdir(parents=True, exist_ok=True)
-        MEMORY.write_text(json.dumps(kept, indent=1), encoding="utf-8")
+        path.parent.mkdir(parents=True, exist_ok=True)
+        path.write_text(json.dumps(kept, indent=1), encoding="utf-8")

@@ -13,6 +13,7 @@ from labeltools.csv_table import csv_table
 from labeltools.drafts import RowReader
 from labeltools.line_writer import LineWriter, contents_of
 from labeltools.messages import BAD_ARGUMENTS, Place, RowError, Talk, ToolError, quoted
+from labeltools.prices import is_of_cents
 from labeltools.names import listed, said_of_empty, unlike
 from labeltools.number_format import Formatter, local_date, local_signs
 from labeltools.ods import rows_of_ods
@@ -252,6 +253,17 @@ class Work:
                 *first,
             )
             self.talk.say(text)
+        for found in self.reader.noticed.rounded.values():
+            text = counted(
+                "row {1} shows the price {2}, and its value is {3} ({0} price)",
+                "row {1} shows the price {2}, and its value is {3} ({0} prices)",
+                found.rows,
+                found.row,
+                found.text,
+                found.more,
+            )
+            self.talk.say(text)
+        self.say_of_cents()
         if low := self.reader.noticed.low:
             self.talk.say(
                 Text(
@@ -261,6 +273,14 @@ class Work:
                     low.more,
                 )
             )
+
+    def say_of_cents(self) -> None:
+        """Says which columns have cents by their names, and whole numbers."""
+        columns = (self.columns.price, self.columns.unit_price, self.columns.old_price)
+        for column, prices in zip(columns, self.writer.columns):
+            if column and is_of_cents(column.name) and prices.are_bare:
+                text = Text("{} has cents by its name, and is printed as it is", column.title)
+                self.talk.say(text, Text("make a column of prices of it"))
 
     def say_of_texts(self) -> None:
         """Says what is odd in titles and texts, and in the values that rows are chosen by."""

@@ -12,7 +12,7 @@ from labeltools.text import NOTHING, Text
 from labeltools.codes import AUTO, NAMES, CodeRules
 from labeltools.columns import column_word
 from labeltools.command_line import CommandTalk, Parser, main_of, read_input, standard_output
-from labeltools.command_line import words_of
+from labeltools.command_line import words_of, wrong_argument
 from labeltools.guess import guess_of
 from labeltools.lines_file import LinesFile, read_lines
 from labeltools.messages import BadArguments, Place, Silence, ToolError
@@ -203,11 +203,11 @@ def add_file(parser: argparse.ArgumentParser) -> None:
 
 
 def checked(make: Callable[[str], Made], text: str) -> Made:
-    """Returns what a function makes of an argument; its ValueError is a message of argparse."""
+    """Returns what a function makes of an argument; its ValueError has a `Text`."""
     try:
         return make(text)
     except ValueError as error:
-        raise argparse.ArgumentTypeError(str(error)) from None
+        raise wrong_argument(error.args[0]) from None
 
 
 def pattern(text: str) -> PricePattern:
@@ -225,14 +225,14 @@ def condition(text: str) -> tuple[str, str]:
     """Returns the column and the value of an argument."""
     column, sign, value = text.partition("=")
     if not sign or not column:
-        raise argparse.ArgumentTypeError(f"{quoted(text)} is not as COLUMN=VALUE")
+        raise wrong_argument(Text("{} is not as COLUMN=VALUE", quoted(text)))
     return column, value
 
 
 def row_number(text: str) -> int:
     """Returns the number of a row that an argument is."""
     if not re.fullmatch("[1-9][0-9]{0,6}", text, re.ASCII):
-        raise argparse.ArgumentTypeError(f"{quoted(text)} is no number of a row")
+        raise wrong_argument(Text("{} is no number of a row", quoted(text)))
     return int(text)
 
 
@@ -298,19 +298,25 @@ def check(parser: Parser, arguments: argparse.Namespace) -> None:
         raise BadArguments(what, parser.format_usage(), proposed(arguments))
     settings = arguments.settings
     if settings is not None and not SETTINGS.fullmatch(settings):
-        parser.error(f"--settings {quoted(settings)} is not as height=30 or level=Q,mask=2")
+        parser.error(Text("--settings {} is not as height=30 or level=Q,mask=2", quoted(settings)))
     delimiter = arguments.delimiter
     if delimiter is not None and not DELIMITER.fullmatch(delimiter):
         parser.error(
-            f"--delimiter {quoted(delimiter)} is not tab, none or a character that may cut cells"
+            Text(
+                "--delimiter {} is not tab, none or a character that may cut cells",
+                quoted(delimiter),
+            )
         )
     is_free = CodeRules(arguments.symbology).is_free and arguments.symbology_column is None
     if arguments.fill_zeros + arguments.without_check_digit + is_free > 1:
         parser.error(
-            "--fill-zeros, --without-check-digit and --symbology code128 or qr do not go together"
+            Text(
+                "--fill-zeros, --without-check-digit and --symbology code128 or qr do not go"
+                " together"
+            )
         )
     if arguments.price_text and arguments.price_as:
-        parser.error("--price-text and --price-as do not go together")
+        parser.error(Text("--price-text and --price-as do not go together"))
 
 
 def proposed(arguments: argparse.Namespace) -> Text:

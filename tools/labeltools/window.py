@@ -12,25 +12,21 @@ from pathlib import Path
 from typing import Any
 
 from labeltools.text import Text, counted, translated
-from labeltools.area import MILLIMETRES
-from labeltools.command_line import Parser
+from labeltools.area import ARTICLE, MILLIMETRES
 from labeltools.forms import PBM, SVG
 from labeltools.forms.pdf import POINTS
 from labeltools.messages import Offers, ToolError, of_system
-from labeltools.pango import library
+from labeltools import setups
+from labeltools.gtk import Gdk, Gio, GLib, Gtk
+from labeltools.menu import Menu, add_recent
+from labeltools.own_design import is_file
 from labeltools.preview import Preview
-from labeltools.press import Press
 from labeltools.print_command import check_count, print_on
 from labeltools.print_job import Prepared
 from labeltools.printer import check_queue, media_of, queues
-from labeltools.shop import COLUMNS, Choices, Table, Talk, read_back
+from labeltools.shop import COLUMNS, Choices, Table, Talk, compare
 from labeltools.stock import list_stock
 from labeltools.words import _
-
-Gdk = library("Gdk", "3.0")
-Gio = library("Gio", "2.0")
-GLib = library("GLib", "2.0")
-Gtk = library("Gtk", "3.0")
 
 FILE = Path(__file__).with_name("window.ui")
 # the controls by the names of options, and the property of each that has what is chosen
@@ -40,57 +36,114 @@ CONTROLS = {
     **dict.fromkeys(("header-row", "first", "width", "height"), "value"),
     **dict.fromkeys(("sheet", "roll", "new-only"), "active"),
 }
+A_FILE = "file"  # the choice of a design of one's own
 MANY = 1000  # labels above it are asked for before they are printed
 MOST_NOTES = 2000
 DOT = 2  # pixels of a dot, where dots are looked at
 SCREEN = 96 / MILLIMETRES  # pixels of a millimetre of a monitor that does not say its size
 LOOK = 50  # milliseconds between two looks at the work
 PATIENCE = 10  # looks after which work is shown
+USUAL_DPI = {"zpl": "203", "escpos": "203"}  # of the printers of these languages
+LEAST_WRAP = 150  # pixels in which reasons are wrapped
+WRAP_MARGIN = 20  # pixels of the list beside the reasons
 
 
-class Window:
+def child(name: str = "") -> Any:
+    """Returns a widget of window.ui, by its id, or else by the name of the attribute."""
+    return Gtk.Template.Child(name or None)
+
+
+@Gtk.Template(filename=str(FILE))
+class Window(Gtk.ApplicationWindow):
     """A window for one table. Work is done in a thread of its own, since pens belong to one; new
     work ends the old one, whose result is dropped.
     """
 
+    __gtype_name__ = "LabelsWindow"
+    # the choices of the table
+    code, symbology, title, text, text_2, more = (child() for _ in range(6))
+    price, unit_price, old_price, copies, header_row, new_only = (child() for _ in range(6))
+    # those of the labels
+    sheet, stock, first, roll, width, height, design = (child() for _ in range(7))
+    to, dpi, for_table, for_print = (child() for _ in range(4))
+    # their lists
+    columns, sheets, designs, notes, completion = (child() for _ in range(5))
+    # what is shown
+    head, stack, result, guessed, below = (child() for _ in range(5))
+    paper, desk, view, number, of, count, left_out, left_out_list = (child() for _ in range(8))
+    why, reason, line, command = (child() for _ in range(4))
+    # what is said
+    info, problem, offers, done, said, working, progress = (child() for _ in range(7))
+    # dialogs and menus
+    opener, design_opener, saver, many, naming, setup_name = (child() for _ in range(6))
+    menu_button = child()
+    open_button, save_button, print_button = map(child, ("open", "save", "print"))
+
     labels: Prepared  # that were made last
     shown: Preview
-    redraw = staticmethod(Gtk.Widget.queue_draw)
 
-    def __init__(self) -> None:
-        builder = Gtk.Builder.new_from_file(str(FILE))
-        self.widget = builder.get_object
-        self.window = self.widget("window")
+    def __init__(self, **properties: Any) -> None:
+        super().__init__(**properties)
+        self.init_template()
+        self.actions = {
+            name: self.add_window_action(name, called)
+            for name, called in (
+                ("open", self.ask_table),
+                ("save", self.ask_file),
+                ("print", self.ask_printer),
+                ("command", self.show_command),
+                ("keep-setup", self.ask_setup),
+            )
+        }
+        self.menu = Menu(self)
+        self.menu_button.set_menu_model(self.menu.model)
+        self.menu_button.connect("toggled", lambda _button: self.menu.fill())
         self.thread = ThreadPoolExecutor(1)
         self.talk = Talk()
         self.path: Path | None = None  # None too while controls are filled
         self.chosen: tuple[Path | None, Sequence[str], Choices] = None, (), {}  # for which names
         self.words = ""  # by which the table is read
+        self.last_design = ARTICLE.name
         self.table: Table | None = None
         self.has_labels = False  # that are chosen
+        self.let_out(False)
         self.offer_sheets()
-        builder.connect_signals(self)
-        self.window.drag_dest_set(Gtk.DestDefaults.ALL, [], Gdk.DragAction.COPY)
-        self.window.drag_dest_add_uri_targets()
+        self.drag_dest_set(Gtk.DestDefaults.ALL, [], Gdk.DragAction.COPY)
+        self.drag_dest_add_uri_targets()
+
+    def add_window_action(self, name: str, called: Callable[[], object]) -> Any:
+        """Returns a new action of the window."""
+        action = Gio.SimpleAction.new(name, None)
+        action.connect("activate", lambda _action, _parameter: called())
+        self.add_action(action)
+        return action
+
+    def let_out(self, is_ready: bool) -> None:
+        """Lets labels go out, or not."""
+        for name in ("save", "print", "command"):
+            self.actions[name].set_enabled(is_ready)
+
+    def control(self, name: str) -> Any:
+        """Returns the control of an option by its name."""
+        return getattr(self, name.replace("-", "_"))
 
     def offer_sheets(self) -> None:
         """Offers the sheets that label-print lists for what is typed."""
-        store = self.widget("sheets")
         with suppress(ToolError):  # glabels, which has the sheets, is not there
             for line in list_stock(""):
-                store.append([line.partition(": ")[0], line])
+                self.sheets.append([line.partition(": ")[0], line])
         listed = lru_cache(1)(lambda typed: set(list_stock(typed)))
-        self.widget("completion").set_match_func(
-            lambda _self, typed, row: store[row][1] in listed(typed)
+        self.completion.set_match_func(
+            lambda _self, typed, row: self.sheets[row][1] in listed(typed)
         )
 
     def start(self, work: Callable[[Talk], Any], then: Callable[[Any], object] = bool) -> None:
         """Does work; nothing goes out until it is done."""
         self.on_stop()
         self.talk = Talk()
-        self.widget("info").hide()
-        self.widget("done").hide()
-        self.widget("out").set_sensitive(False)
+        self.info.hide()
+        self.done.hide()
+        self.let_out(False)
         GLib.timeout_add(LOOK, self.look, self.talk, self.thread.submit(work, self.talk), then)
 
     def look(self, talk: Talk, future: "Future[Any]", then: Callable[[Any], object]) -> bool:
@@ -101,61 +154,77 @@ class Window:
                 with suppress(SystemExit):  # --help was typed
                     then(future.result())
             except (ToolError, OSError) as error:
-                problem = of_system(error) if isinstance(error, OSError) else error
-                self.widget("problem").set_text(said(problem.what, problem.hint))
-                self.offer(problem.offers)
-                self.widget("info").show()
+                self.show_problem(of_system(error) if isinstance(error, OSError) else error)
         elif not talk.is_stopped:
             talk.looks += 1
-            self.widget("working").set_visible(talk.looks > PATIENCE)
-            self.widget("progress").set_fraction(talk.progress)
+            self.working.set_visible(talk.looks > PATIENCE)
+            self.progress.set_fraction(talk.done / talk.total if talk.total else 0.0)
+            self.progress.set_text(progress_text(talk))
         return not talk.is_stopped
+
+    def show_problem(self, problem: ToolError) -> None:
+        """Says why something cannot be done, and offers what helps."""
+        self.problem.set_text(said(problem.what, problem.hint))
+        self.offer(problem.offers)
+        self.info.show()
 
     def offer(self, offers: Offers) -> None:
         """Offers choices that help, a button for each."""
-        for old in self.widget("offers").get_children():
+        for old in self.offers.get_children():
             old.destroy()
         for shown, words in offers:
             button = Gtk.Button(label=shown, visible=True)
             button.connect("clicked", self.on_offer, shlex.join(words))
-            self.widget("offers").add(button)
+            self.offers.add(button)
 
     def on_offer(self, _button: Any, words: str) -> None:
         """Reads the table by the choice."""
-        self.widget("for-table").set_text(words)
+        self.for_table.set_text(words)
 
-    def on_stop(self, _button: Any = None) -> None:
+    @Gtk.Template.Callback()
+    def on_stop(self, _window: Any = None) -> None:
         """Ends work, and lets labels go out where there are some."""
         self.talk.is_stopped = True
-        self.widget("working").hide()
-        self.widget("out").set_sensitive(self.has_labels)
+        self.working.hide()
+        self.let_out(self.has_labels)
+
+    @Gtk.Template.Callback()
+    def on_stop_button(self, _button: Any) -> None:
+        """Ends work; where a table was being read, another one can be opened."""
+        self.on_stop()
+        if self.table is None:
+            self.path = None
+            self.head.set_subtitle("")
+            self.stack.set_visible_child_name("empty")
+        self.said.set_text(_("Stopped: nothing went out"))
+        self.done.show()
 
     def open(self, path: Path, header: int | None = None, is_again: bool = False) -> None:
         """Reads a table, guesses its columns or takes those of the last time, and makes labels."""
         if not is_again:
             self.chosen = None, (), {}
-        text = self.widget("for-table").get_text() if path == self.path else None
+        text = self.for_table.get_text() if path == self.path else None
         self.words = text or ""
         self.take({"for-table": self.words})
         self.path = path
         self.table = None
         self.has_labels = False
-        self.widget("columns").clear()
-        self.widget("guessed").hide()
-        self.widget("result").hide()
-        self.widget("head").set_subtitle(path.name)
-        self.widget("stack").set_visible_child_name("work")
+        self.columns.clear()
+        self.guessed.hide()
+        self.result.hide()
+        self.head.set_subtitle(path.name)
+        self.stack.set_visible_child_name("work")
         self.start(partial(Table, path, text, header), self.fill)
 
     def fill(self, table: Table) -> None:
         """Fills the choices of columns for a table."""
         self.path = None
         guess = table.guess
-        store = self.widget("columns")
-        store.append([_("none"), ""])
+        self.columns.append([_("none"), ""])
         for number, (name, example) in enumerate(zip(guess.names, guess.examples), 1):
             name = name or _("column {number}").format(number=number)
-            store.append([f"{name}  \u2013  {example}" if example else name, str(number)])
+            shown = f"{name}  \u2013  {example}" if example else name
+            self.columns.append([shown, str(number)])
         columns = {option: str(place + 1) for option, place in guess.columns.items()}
         self.take({**dict.fromkeys(COLUMNS, ""), "code": "1", **columns})
         self.take(dict.fromkeys(guess.doubts))  # only the keeper knows
@@ -163,18 +232,20 @@ class Window:
         is_same = (table.path, guess.names) == self.chosen[:2]
         others = {**table.paper, "for-print": "", **table.kept, "first": 1}
         self.take({"symbology": guess.symbology, **(self.chosen[2] if is_same else others)})
+        self.text_2.set_visible(self.choices()["text-2"])
         self.words = table.text
         self.take({"for-table": self.words})
         self.take({"header-row": guess.header})
-        self.widget("guessed").set_visible(not table.kept)
+        self.guessed.set_visible(not table.kept)
         since = table.printed_on()
         text = _("Only what is _new or changed since {date}").format(date=since)
-        self.widget("new-only").set_label(text)
-        self.widget("new-only").set_visible(since)
+        self.new_only.set_label(text)
+        self.new_only.set_visible(since)
         if not since:
             self.take({"new-only": False})
         self.path = table.path
         self.table = table
+        add_recent(table.path)
         self.make()
 
     def take(self, choices: Choices) -> None:
@@ -182,12 +253,15 @@ class Window:
         for name, value in choices.items():
             with suppress(KeyError, TypeError):
                 kind = CONTROLS[name]
-                self.widget(name).set_property(kind, value)
+                if name == "design":
+                    self.offer_design(value)
+                self.control(name).set_property(kind, value)
 
     def choices(self) -> Choices:
         """Returns what is chosen."""
-        return {name: self.widget(name).get_property(kind) for name, kind in CONTROLS.items()}
+        return {name: self.control(name).get_property(kind) for name, kind in CONTROLS.items()}
 
+    @Gtk.Template.Callback()
     def make(self, _control: Any = None) -> None:
         """Makes the labels that are chosen."""
         if self.table is not None:
@@ -196,82 +270,151 @@ class Window:
             work = partial(self.table.labels, self.choices())
             self.start(work, partial(self.show_labels, self.table))
 
+    @Gtk.Template.Callback()
+    def on_more(self, _button: Any) -> None:
+        """Asks for a second text, or for none any more."""
+        is_asked = not self.text_2.get_visible()
+        self.text_2.set_visible(is_asked)
+        if not is_asked:
+            self.take({"text-2": ""})
+
+    @Gtk.Template.Callback()
+    def on_printer(self, printer: Any) -> None:
+        """Makes the labels for another kind of printer, with the dots that it usually has."""
+        if self.path is not None:
+            path, self.path = self.path, None
+            self.take({"dpi": USUAL_DPI.get(printer.get_active_id(), "600")})
+            self.path = path
+            self.make()
+
+    def offer_design(self, name: str) -> None:
+        """Offers a design of a file, before the choice of another one."""
+        known = [row[1] for row in self.designs]
+        if name not in known and is_file(name):
+            self.designs.insert(len(known) - 1, [Path(name).name, name])
+
+    @Gtk.Template.Callback()
+    def on_design(self, design: Any) -> None:
+        """Makes the labels in another design; asks for its file where that is chosen."""
+        name = design.get_active_id()
+        if name == A_FILE:
+            is_found = self.design_opener.run() == Gtk.ResponseType.ACCEPT
+            self.take(
+                {"design": self.design_opener.get_filename() if is_found else self.last_design}
+            )
+        elif name:
+            self.last_design = name
+            self.make()
+
+    @Gtk.Template.Callback()
+    def on_sheet(self, entry: Any) -> None:
+        """Makes the labels once a sheet is named as it is listed; else they are made when the name
+        is left, or Enter is typed.
+        """
+        if not entry.has_focus() or is_sheet(entry.get_text()):
+            self.make()
+
+    @Gtk.Template.Callback()
+    def on_left(self, _entry: Any, _event: Any) -> bool:
+        """Makes the labels for the sheet whose name was typed, where that has changed."""
+        if self.chosen[2] and self.chosen[2] != self.choices():
+            self.make()
+        return False
+
+    @Gtk.Template.Callback()
+    def on_list_size(self, _list: Any, area: Any) -> None:
+        """Wraps the reasons at the right edge of the list."""
+        width = max(LEAST_WRAP, area.width - self.why.get_x_offset() - WRAP_MARGIN)
+        if width != self.reason.get_property("wrap-width"):
+            self.reason.set_property("wrap-width", width)
+            GLib.idle_add(self.why.queue_resize)
+
     def show_labels(self, table: Table, labels: Prepared) -> None:
         """Shows the labels that were made, and what there is to say about them."""
         self.labels = labels
-        self.widget("command").set_text(table.command)
-        self.widget("count").set_text(translated(table.lines.summary))
-        store = self.widget("notes")
-        store.clear()
+        self.command.set_text(table.command)
+        self.count.set_text(translated(table.lines.summary))
+        self.notes.clear()
         for note in table.notes[:MOST_NOTES]:
             row = str(note.place.number) if note.place else ""
-            store.append([row, note.data, said(note.reason, note.hint)])
+            self.notes.append([row, note.data, said(note.reason, note.hint)])
         text = translated(counted("{} row is left out", "{} rows are left out", table.left_out))
-        self.widget("left-out").set_text(text if table.left_out else _("Please look at this"))
-        self.widget("below").set_visible(table.notes)
+        self.left_out.set_text(text if table.left_out else _("Please look at this"))
+        self.below.set_visible(table.notes)
         self.show_view()
-        self.widget("result").show()
+        self.result.show()
         check_count(labels.job, labels.prints, False)
         self.has_labels = True
         self.on_stop()
 
+    @Gtk.Template.Callback()
+    def redraw(self, _number: Any) -> None:
+        """Draws the view again."""
+        self.paper.queue_draw()
+
+    @Gtk.Template.Callback()
     def show_view(self, _control: Any = None) -> None:
         """Shows the page or the label, and how many there are."""
-        kind = self.widget("view").get_active_id()
+        kind = self.view.get_active_id()
         form = SVG if self.labels.job.form.is_drawn and kind != "dots" else PBM
         self.shown = Preview(self.labels, form, kind != "page")
-        self.widget("number").set_range(1, self.shown.count)
-        self.widget("of").set_text(_("of {all}").format(all=self.shown.count))
+        self.number.set_range(1, self.shown.count)
+        self.of.set_text(_("of {all}").format(all=self.shown.count))
         dots = DOT / self.labels.job.plan.dot
         scale = {"dots": dots, "true": self.true_scale()}.get(kind, 0.0)
         width, height = self.shown.size
-        paper = self.widget("paper")
+        paper = self.paper
         paper.set_size_request(math.ceil(width * scale), math.ceil(height * scale))
         paper.set_halign(Gtk.Align.CENTER if scale else Gtk.Align.FILL)
-        self.widget("desk").set_property("ratio", width / height)
+        self.desk.set_property("ratio", width / height)
         paper.queue_draw()
 
     def true_scale(self) -> float:
         """Returns the pixels of a millimetre of the monitor, as far as it says its size."""
-        monitor = self.window.get_display().get_monitor_at_window(self.window.get_window())
+        monitor = self.get_display().get_monitor_at_window(self.get_window())
         width = monitor.get_width_mm()
         return float(monitor.get_geometry().width / width if width else SCREEN)
 
+    @Gtk.Template.Callback()
     def on_draw(self, paper: Any, canvas: Any) -> None:
         """Draws the view."""
         scale = paper.get_allocated_width() / self.shown.size[0]
         canvas.scale(scale, scale)
-        self.shown.draw(canvas, self.widget("number").get_value_as_int())
+        self.shown.draw(canvas, self.number.get_value_as_int())
 
+    @Gtk.Template.Callback()
     def on_click(self, paper: Any, event: Any) -> None:
         """Begins at the cell of the first page that was clicked: those before it are used."""
         scale = paper.get_allocated_width() / self.shown.size[0]
         cell = self.shown.cell_at(event.x / scale, event.y / scale)
-        is_first = self.widget("number").get_value_as_int() == 1
-        if cell and is_first and self.widget("view").get_active_id() == "page":
-            self.widget("first").set_value(cell)
+        is_first = self.number.get_value_as_int() == 1
+        if cell and is_first and self.view.get_active_id() == "page":
+            self.first.set_value(cell)
 
+    @Gtk.Template.Callback()
     def on_note(self, selection: Any) -> None:
         """Shows the label of the row that was chosen, where there is one."""
         model, row = selection.get_selected()
         page = self.shown.page_of(model[row][0]) if row else 0
         if page:
-            self.widget("number").set_value(page)
+            self.number.set_value(page)
 
-    def on_open(self, _button: Any) -> None:
+    def ask_table(self) -> None:
         """Asks for a table."""
-        if self.widget("opener").run() == Gtk.ResponseType.ACCEPT:
-            self.open(Path(self.widget("opener").get_filename()))
+        if self.opener.run() == Gtk.ResponseType.ACCEPT:
+            self.open(Path(self.opener.get_filename()))
 
+    @Gtk.Template.Callback()
     def on_drop(self, _widget: Any, *event: Any) -> None:
         """Opens a table that was dropped."""
         for uri in event[3].get_uris()[:1]:
             self.open(Path(Gio.File.new_for_uri(uri).get_path() or uri))
 
+    @Gtk.Template.Callback()
     def reopen(self, control: Any) -> None:
         """Reads the table by other words, such as its encoding, or with names in another row."""
         if self.path is not None:
-            is_header = control is self.widget("header-row")
+            is_header = control is self.header_row
             if not is_header and control.get_text() == self.words:
                 return
             header = control.get_value_as_int() if is_header else None
@@ -281,13 +424,13 @@ class Window:
         """Returns whether labels are meant, which is asked for where they are many."""
         if len(self.labels.prints) <= MANY:
             return True
-        answer = self.widget("many").run()
-        self.widget("many").hide()
+        answer = self.many.run()
+        self.many.hide()
         return bool(answer == Gtk.ResponseType.OK)
 
-    def on_save(self, _button: Any) -> None:
+    def ask_file(self) -> None:
         """Asks for a file, and writes it."""
-        chooser = self.widget("saver")
+        chooser = self.saver
         path = self.table.path if self.table else Path()
         chooser.set_current_folder(str(path.absolute().parent))
         chooser.set_current_name(f"{path.stem}-labels.{self.labels.job.form.name}")
@@ -295,37 +438,40 @@ class Window:
             self.save(Path(chooser.get_filename()))
 
     def save(self, path: Path) -> None:
-        """Reads each label back, and writes what label-print writes."""
+        """Writes what label-print writes: each label is compared before."""
         labels = self.labels
         self.keep()
         done = _("{file} is written").format(file=path.name)
-        work = partial(read_back, labels)
-        self.start(lambda talk: work(talk).save(labels.prints, path), lambda _none: self.say(done))
+
+        def work(talk: Talk) -> None:
+            labels.press(talk).save(labels.prints, path)
+
+        self.start(work, lambda _none: self.say(done))
 
     def say(self, text: str) -> None:
         """Says that labels went out, and keeps which."""
         self.keep_printed()
-        self.widget("said").set_text(text)
-        self.widget("done").show()
+        self.said.set_text(text)
+        self.done.show()
 
-    def print(self, _press: Press) -> None:
+    def print(self, _none: None) -> None:
         """Prints by the dialog of the desktop."""
         action = Gtk.PrintOperationAction.PRINT_DIALOG
-        result = self.operation().run(action, self.window)
+        result = self.operation().run(action, self)
         if result in (Gtk.PrintOperationResult.APPLY, Gtk.PrintOperationResult.IN_PROGRESS):
             self.keep_printed()
 
     def keep_printed(self) -> None:
         """Keeps which labels went out."""
         if self.table is not None:
-            self.table.keep_printed(self.choices())
+            self.table.keep_printed()
 
     def keep(self) -> None:
         """Keeps what is chosen for the next table like this: labels go out by it."""
         if self.table is not None:
             self.table.keep(self.choices())
 
-    def on_print(self, _button: Any) -> None:
+    def ask_printer(self) -> None:
         """Prints: by the dialog of the desktop, or for ZPL and ESC/POS the file at a queue."""
         labels = self.labels
         if not self.is_meant():
@@ -334,7 +480,7 @@ class Window:
         if labels.job.form.is_roll:
             self.start(lambda _talk: queues(), self.ask_queue)
         else:
-            self.start(partial(read_back, labels), self.print)
+            self.start(partial(compare, labels), self.print)
 
     def ask_queue(self, names: list[str]) -> None:
         """Asks for a queue for the file of a printer's own language."""
@@ -344,15 +490,15 @@ class Window:
             item.connect("activate", self.send, name)
             menu.append(item)
         south = Gdk.Gravity.SOUTH_WEST
-        menu.popup_at_widget(self.widget("print"), south, Gdk.Gravity.NORTH_WEST, None)
+        menu.popup_at_widget(self.print_button, south, Gdk.Gravity.NORTH_WEST, None)
 
     def send(self, _item: Any, queue: str) -> None:
-        """Reads each label back, and sends what label-print writes to a queue."""
+        """Sends what label-print writes to a queue: each label is compared before."""
         labels = self.labels
 
         def work(talk: Talk) -> str:
             check_queue(labels.job, queue)
-            return print_on(read_back(labels, talk), labels.prints, queue)
+            return print_on(labels.press(talk), labels.prints, queue)
 
         self.start(work, self.say)
 
@@ -378,12 +524,46 @@ class Window:
             use_full_page=True,
             unit=Gtk.Unit.POINTS,
             n_pages=pages.count,
-            job_name=self.widget("head").get_subtitle(),
+            job_name=self.head.get_subtitle(),
             allow_async=True,
             show_progress=True,
         )
+        operation.connect("begin-print", self.check_printer)
         operation.connect("draw-page", draw)
         return operation
+
+    def check_printer(self, operation: Any, _context: Any) -> None:
+        """Prints nothing where the printer that was chosen has other dots than the labels; a file
+        has any.
+        """
+        settings = operation.get_print_settings()
+        queue = settings.get_printer()
+        if not queue or settings.get("output-uri"):
+            return
+        try:
+            check_queue(self.labels.job, queue)
+        except ToolError as error:
+            operation.cancel()
+            self.show_problem(error)
+
+    def show_command(self) -> None:
+        """Shows the line that does the same in a shell."""
+        self.line.popup()
+
+    def ask_setup(self) -> None:
+        """Asks for a name for the paper and the printer, and keeps them by it."""
+        answer = self.naming.run()
+        self.naming.hide()
+        name = self.setup_name.get_text().strip()
+        if answer == Gtk.ResponseType.OK and name:
+            setups.keep(name, self.choices())
+
+    def use_setup(self, name: str) -> None:
+        """Takes the paper and the printer of a setup."""
+        path, self.path = self.path, None
+        self.take(setups.kept().get(name, {}))
+        self.path = path
+        self.make()
 
 
 def said(what: Text, hint: Text) -> str:
@@ -391,21 +571,16 @@ def said(what: Text, hint: Text) -> str:
     return "\n".join(translated(text) for text in (what, hint) if text)
 
 
-def run() -> int:
-    """Runs label-window and returns its status."""
-    about = "Prints labels from a table by a window over label-table and label-print."
-    parser = Parser("label-window", None, about, allow_abbrev=False)
-    parser.add_argument("table", metavar="TABLE", nargs="?", help="a table to open")
-    table = parser.parse_args().table
-    if not Gtk.init_check()[0]:
-        raise ToolError(
-            Text("there is no screen"), Text("on a terminal type label-table and label-print")
-        )
-    GLib.set_prgname("org.labels.Window")
-    window = Window()
-    window.window.connect("destroy", Gtk.main_quit)
-    window.window.present()
-    if table is not None:
-        window.open(Path(table))
-    Gtk.main()
-    return 0
+def progress_text(talk: Talk) -> str:
+    """Returns how much of the work is done; empty where that is not known."""
+    if not talk.total:
+        return ""
+    done, total = (f"{number:n}" for number in (talk.done, talk.total))
+    return _("{done} of {all}").format(done=done, all=total)
+
+
+def is_sheet(name: str) -> bool:
+    """Returns whether a name is one of the sheets that are listed, or empty."""
+    with suppress(ToolError):
+        return any(line.partition(": ")[0] == name for line in list_stock(name))
+    return False

@@ -17,6 +17,8 @@ def folder() -> str | None:
 
 
 locale.bindtextdomain(DOMAIN, folder())  # for the texts of window.ui, which GTK translates
+gettext.bindtextdomain(DOMAIN, folder())
+gettext.textdomain(DOMAIN)  # where argparse looks for its messages
 _translation = gettext.translation(DOMAIN, folder(), fallback=True)
 _ = _translation.gettext
 ngettext = _translation.ngettext

@@ -2,7 +2,7 @@
 
 import posixpath
 import re
-from dataclasses import dataclass
+from dataclasses import dataclass, field
 from decimal import Decimal
 from functools import lru_cache, reduce
 from typing import Iterator, Mapping, NamedTuple
@@ -13,8 +13,8 @@ from labeltools import number_format
 from labeltools.text import Text
 from labeltools.messages import RowError, ToolError, quoted
 from labeltools.number_format import BUILT_IN, BUILT_IN_DATES, LANGUAGE, Formatter
-from labeltools.cells import STRUCK, STRUCK_HINT, Cell, Fault, Kind, Run, Special, Truth
-from labeltools.cells import text_of_runs
+from labeltools.cells import RAISED, STRUCK, STRUCK_HINT, SUBSCRIPT, SUPERSCRIPT, Cell, Fault
+from labeltools.cells import Kind, Run, Special, Truth, text_of_runs
 from labeltools.rows import Merge, Row
 from labeltools.workbook import LARGEST_TEXTS, MOST_COLUMNS, NOT_SAVED, NOT_SAVED_HINT
 from labeltools.workbook import (
@@ -34,10 +34,12 @@ REFERENCE = re.compile("([A-Z]{1,3})([0-9]{1,7})")
 # an address and a text, as a formula has them
 HYPERLINK = re.compile(r'\s*HYPERLINK\("([^"]+)"[,)].*', re.DOTALL | re.IGNORECASE)
 ROW = "/worksheet/sheetData/row"
+COLUMN = "/worksheet/cols/col"
 CONDITION = "/worksheet/conditionalFormatting"
 LATER_CONDITION = "/worksheet/extLst/ext/conditionalFormattings/conditionalFormatting"
 CONDITIONAL = Text("has a number format that depends on a condition")
 NO_VALUE = Fault(NOT_SAVED, NOT_SAVED_HINT)
+PLAIN = Run("")  # the form of most letters
 
 
 class Target(NamedTuple):
@@ -49,14 +51,34 @@ class Target(NamedTuple):
 
 @dataclass(frozen=True)
 class Styles:
-    """The styles of a file by their numbers: their number formats, and which of them strike their
-    letters through. `conditional` are the numbers of the formats that a condition gives to cells,
-    where these have a number format.
+    """The styles of a file by their numbers: their number formats, and the form of their letters
+    where that changes what these mean. `conditional` are the numbers of the formats that a
+    condition gives to cells, where these have a number format.
     """
 
     formats: list[str]
-    struck: frozenset[int]
+    letters: Mapping[int, Run]
     conditional: frozenset[int]
+
+
+@dataclass
+class Around:
+    """The styles of a row, and of columns, for cells without one: a reader may show them by these,
+    or by the first style of the file.
+    """
+
+    columns: list[tuple[int, int, int]] = field(default_factory=list)  # first and last place, style
+    row: int = 0
+
+    def add(self, column: Element) -> None:
+        """Adds the style of some columns."""
+        first, last = (whole(column.get(name, "0"), 1) for name in ("min", "max"))
+        self.columns.append((first - 1, last - 1, whole(column.get("style", "0"))))
+
+    def style(self, place: int) -> int:
+        """Returns the style of a cell that has none."""
+        of_columns = (style for first, last, style in self.columns if first <= place <= last)
+        return self.row or next(of_columns, 0)
 
 
 @dataclass(frozen=True)
@@ -203,16 +225,18 @@ def styles_of(archive: ZipFile, part: str) -> Styles:
     by_number = {**BUILT_IN, **BUILT_IN_DATES}
     for element in elements(archive, part, "/styleSheet/numFmts/numFmt"):
         by_number[element.attrib["numFmtId"]] = element.attrib["formatCode"]
-    fonts = list(map(is_struck, elements(archive, part, "/styleSheet/fonts/font")))
+    fonts = list(map(form_of, elements(archive, part, "/styleSheet/fonts/font")))
+    is_plain = fonts.count(PLAIN) == len(fonts)
     formats: list[str] = []
-    struck: set[int] = set()
+    letters: dict[int, Run] = {}
     for number, style in enumerate(elements(archive, part, "/styleSheet/cellXfs/xf")):
         formats.append(by_number.get(style.get("numFmtId", "0"), LANGUAGE))
-        if any(fonts) and fonts[whole(style.get("fontId", "0"))]:
-            struck.add(number)
+        form = PLAIN if is_plain else fonts[whole(style.get("fontId", "0"))]
+        if form != PLAIN:
+            letters[number] = form
     dxfs = enumerate(elements(archive, part, "/styleSheet/dxfs/dxf"))
     conditional = frozenset(number for number, dxf in dxfs if dxf.find("numFmt") is not None)
-    return Styles(formats or ["General"], frozenset(struck), conditional)
+    return Styles(formats or ["General"], letters, conditional)
 
 
 def relations(archive: ZipFile, path: str) -> dict[str, Target]:
@@ -240,13 +264,20 @@ def sheet_rows(archive: ZipFile, path: str, book: Book) -> Iterator[Row]:
     conditions = conditions_of(archive, path, book.styles.conditional)
     merges: list[Merge] = []
     number = 0
-    for element in elements(archive, path, ROW):
+    around = Around()
+    for element in elements(archive, path, ROW, [COLUMN]):
+        if element.tag == "col":
+            around.add(element)
+            continue
         before = number
         number = whole(element.get("r", str(before + 1)), 1)
         if number <= before:
             raise out_of_order(number)
         row_links = dict(links.get(number, {}))
+        around.row = whole(element.get("s", "0"))
         cells = cells_of(element, number, book, row_links)
+        if book.styles.letters:
+            take_letters(element, cells, around, book)
         for area in conditions:
             if area.row <= number <= area.last_row:
                 refuse_condition(cells, area)
@@ -276,6 +307,28 @@ def cells_of(row: Element, number: int, book: Book, links: dict[int, str]) -> li
         if formula and (found := HYPERLINK.fullmatch(formula)):
             links[place] = found[1]
     return cells
+
+
+def take_letters(row: Element, cells: list[Cell], around: Around, book: Book) -> None:
+    """Puts the form of letters into the cells of a row whose style has one."""
+    place = -1
+    for element in row.iterfind("c"):
+        reference = element.get("r")
+        place = place_of(reference.rstrip("0123456789")) if reference else place + 1
+        style = element.get("s")
+        form = book.styles.letters.get(whole(style) if style else around.style(place))
+        if form is not None and cells[place]:
+            cells[place] = formed(cells[place], form)
+
+
+def formed(cell: Cell, form: Run) -> Cell:
+    """Returns a cell whose letters have a form."""
+    text = cell if isinstance(cell, str) else cell.value
+    if form.is_struck:
+        return Fault(STRUCK, STRUCK_HINT, text)
+    if isinstance(cell, str):
+        return text_of_runs([form._replace(text=cell)])
+    return Fault(RAISED, TYPED, text) if isinstance(cell, (Number, Framed)) else cell
 
 
 def merges_of(archive: ZipFile, path: str) -> dict[int, list[Merge]]:
@@ -370,8 +423,6 @@ def cell_of(cell: Element, book: Book) -> Cell:
     value = cell.findtext("v")
     number = whole(cell.get("s", "0"))
     style = book.styles.formats[number]
-    if number in book.styles.struck and value:
-        return Fault(STRUCK, STRUCK_HINT, value)
     if cell.find("f") is not None:
         if book.is_stale or not value and not (kind == "str" and value is not None):
             return NO_VALUE
@@ -403,20 +454,20 @@ def text_of(text: str | Fault, style: str) -> Cell:
     return Framed(text, style)
 
 
-def is_struck(properties: Element) -> bool:
-    """Returns whether a font, or the properties of a run, strike letters through."""
+def form_of(properties: Element) -> Run:
+    """Returns the form of letters that a font, or the properties of a run, give."""
     strike = properties.find("strike")
-    return strike is not None and strike.get("val", "1") in TRUE
+    is_struck = strike is not None and strike.get("val", "1") in TRUE
+    align = properties.find("vertAlign")
+    place = "" if align is None else align.get("val", "")
+    return Run("", is_struck, place if place in (SUPERSCRIPT, SUBSCRIPT) else "")
 
 
 def run_of(element: Element) -> Run:
     """Returns a run of letters."""
     text = element.findtext("t", "") or element.findtext("v", "")
     properties = element.find("rPr")
-    if properties is None:
-        return Run(text)
-    place = properties.find("vertAlign")
-    return Run(text, is_struck(properties), "" if place is None else place.get("val", ""))
+    return Run(text) if properties is None else form_of(properties)._replace(text=text)
 
 
 def string_of(element: Element) -> str | Fault:

@@ -90,7 +90,7 @@ def data_of_run_lengths(text: bytes, size: int) -> bytes:
     return bytes.fromhex("".join(rows))
 
 
-PAPER = 4000  # dots: wider than any label of a test
+PAPER = 5000  # dots: wider than any label of a test
 
 
 def dots_of_escpos(job: bytes, cut: bytes = CUT) -> List[numpy.ndarray]:

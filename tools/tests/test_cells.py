@@ -10,7 +10,7 @@ from typing import List, Optional, Sequence, Tuple
 
 import support
 from test_table import BOOK, PENCIL, SMALL, SOAP, parts_of
-from test_table_workbooks import WorkbookTest, cell, ods, ods_cell, rows, table, xlsx
+from test_table_workbooks import ODS_SPACES, WorkbookTest, cell, ods, ods_cell, rows, table, xlsx
 
 HEAD = ["EAN", "Name", "Price"]
 PRICED = ["--code", "EAN", "--title", "Name", "--price", "Price", "--decimal", "."]
@@ -52,7 +52,7 @@ class Runs(CellTest):
         ):
             data = xlsx(rows(HEAD, [PENCIL, "Tea", SHARED]), strings=shared(*runs))
             self.check_price(data, price, said)
-        style = '<style:style style:name="T1"><style:text-properties style:text-position='
+        style = '<style:style style:name="T1" style:family="text"><style:text-properties style:text-position='
         span = '12<text:span text:style-name="T1">49</text:span>'
         for place, price in (("super 58%", None), ("33% 58%", None), ("0% 100%", "1249")):
             styles = f'{style}"{place}"/></style:style>'
@@ -72,10 +72,121 @@ class Runs(CellTest):
         data = xlsx(rows(HEAD, [PENCIL, "Tea", cell(14.99, style=1)]), styles=styles)
         self.check_price(data, None, "has letters that are struck through")
         line = 'style:text-line-through-style="solid"'
-        styles = f'<style:style style:name="ce1"><style:text-properties {line}/></style:style>'
+        styles = f'<style:style style:name="ce1" style:family="table-cell"><style:text-properties {line}/></style:style>'
         struck = ods_cell("14.99", "float", 'office:value="14.99" table:style-name="ce1"')
         data = ods(table(HEAD, [PENCIL, "Tea", struck]), styles=styles)
         self.check_price(data, None, "has letters that are struck through")
+
+
+def ods_style(name: str, family: str, properties: str, more: str = "") -> str:
+    """A style of .ods with properties of its letters."""
+    named = f'style:name="{name}" ' if name else ""
+    tag = "style" if name else "default-style"
+    letters = f"<style:text-properties {properties}/>" if properties else ""
+    return f'<style:{tag} {named}style:family="{family}" {more}>{letters}</style:{tag}>'
+
+
+STRIKES = 'style:text-line-through-style="solid" style:text-line-through-type="single"'
+STRIKES_NOT = 'style:text-line-through-style="none" style:text-line-through-type="none"'
+RAISES = 'style:text-position="super 58%"'
+IS_STRUCK = "has letters that are struck through"
+IS_RAISED = "is a number that is raised or lowered"
+
+
+class Styles(CellTest):
+    """What a style says of letters holds wherever the style is named."""
+
+    def columns_of_ods(self, price: str, *styles: str, own: str = "", common: str = "") -> bytes:
+        """An .ods whose third column has the style ce9, and a row with a price."""
+        columns = '<table:table-column table:number-columns-repeated="2"/>'
+        columns += '<table:table-column table:default-cell-style-name="ce9"/>'
+        sheet = table(HEAD, [PENCIL, "Tea", price])
+        sheet = sheet.replace("<table:table-row>", f"{columns}<table:table-row>", 1)
+        if own:
+            before, _, after = sheet.rpartition("<table:table-row>")
+            sheet = f"{before}<table:table-row {own}>{after}"
+        spaces = ODS_SPACES
+        whole = f"<office:document-styles {spaces}><office:styles>{common}</office:styles>"
+        extra = {"styles.xml": f"{whole}</office:document-styles>"}
+        return ods(sheet, styles="".join(styles), extra=extra)
+
+    def test_a_column_or_a_row_of_ods_strikes_its_cells(self) -> None:
+        number = ods_cell("14.99", "float", 'office:value="14.99"')
+        plain = ods_style("ce9", "table-cell", STRIKES_NOT)
+        struck = ods_style("ce9", "table-cell", STRIKES)
+        other = ods_style("ce1", "table-cell", STRIKES)
+        for styles, row, said in (
+            ([struck], "", IS_STRUCK),
+            ([plain], "", ""),
+            ([plain, other], 'table:default-cell-style-name="ce1"', IS_STRUCK),
+            ([struck, ods_style("ce1", "table-cell", STRIKES_NOT)], "", IS_STRUCK),
+        ):
+            data = self.columns_of_ods(number, *styles, own=row)
+            self.check_price(data, None if said else "14.99", said)
+        data = self.columns_of_ods(number, ods_style("ce9", "table-cell", RAISES))
+        self.check_price(data, None, IS_RAISED)
+        data = self.columns_of_ods(ods_cell("2,99"), ods_style("ce9", "table-cell", RAISES))
+        self.check_price(data, None, "is no price")
+
+    def test_equal_cells_of_ods_have_the_styles_of_their_columns(self) -> None:
+        """LibreOffice writes two equal cells as one that is repeated."""
+        both = ods_cell("4.50", "float", 'office:value="4.5" table:number-columns-repeated="2"')
+        sheet = table(["EAN", "Was", "Price"], [PENCIL, both])
+        columns = '<table:table-column/><table:table-column table:default-cell-style-name="ce9"/>'
+        columns += '<table:table-column table:number-columns-repeated="9"/>'
+        sheet = sheet.replace("<table:table-row>", f"{columns}<table:table-row>", 1)
+        data = ods(sheet, styles=ods_style("ce9", "table-cell", STRIKES))
+        self.assertEqual(self.ran(data, "--code", "EAN", "--price", "Price"), (["4.50"], []))
+        prices, said = self.ran(data, "--code", "EAN", "--price", "Was")
+        self.assertEqual((prices, IS_STRUCK in said[0]), ([], True))
+
+    def test_a_style_of_ods_has_what_its_parents_say(self) -> None:
+        number = ods_cell("14.99", "float", 'office:value="14.99" table:style-name="ce1"')
+        gone = 'style:parent-style-name="Gone"'
+        child = ods_style("ce1", "table-cell", "", gone)
+        again = ods_style("ce1", "table-cell", STRIKES_NOT, gone)
+        for styles, common, said in (
+            (child, ods_style("Gone", "table-cell", STRIKES), IS_STRUCK),
+            (child, ods_style("Gone", "table-cell", RAISES), IS_RAISED),
+            (again, ods_style("Gone", "table-cell", STRIKES), ""),
+            (child, ods_style("Gone", "text", STRIKES), ""),
+            (child, ods_style("", "table-cell", STRIKES), IS_STRUCK),
+            (child, ods_style("Gone", "table-cell", "", gone), ""),
+        ):
+            data = self.columns_of_ods(number, styles, common=common)
+            self.check_price(data, None if said else "14.99", said)
+
+    def test_letters_in_a_named_style_of_ods_are_struck(self) -> None:
+        span = '19.99<text:span text:style-name="Weg"> 14.99</text:span>'
+        common = ods_style("Weg", "text", STRIKES)
+        data = self.columns_of_ods(ods_cell(span), common=common)
+        self.check_price(data, None, IS_STRUCK)
+
+    def test_a_font_of_xlsx_raises_numbers_and_texts(self) -> None:
+        fonts = '<fonts><font/><font><vertAlign val="superscript"/></font></fonts>'
+        styles = f'{fonts}<cellXfs><xf numFmtId="2" fontId="1"/></cellXfs>'
+        data = xlsx(rows(HEAD, [PENCIL, "Tea", cell(14.99, style=1)]), styles=styles)
+        self.check_price(data, None, IS_RAISED)
+        text = cell("2").replace("<c ", '<c s="1" ')
+        data = xlsx(rows(HEAD, [PENCIL, text, 3]), styles=styles)
+        self.assertEqual(self.ran(data, *PRICED[:4]), (["²"], []))
+        struck = f'{STRUCK_FONT}<cellXfs><xf numFmtId="2" fontId="1"/></cellXfs>'
+        text = cell("14.99").replace("<c ", '<c s="1" ')
+        self.check_price(xlsx(rows(HEAD, [PENCIL, "T", text]), styles=struck), None, IS_STRUCK)
+
+    def test_a_cell_of_xlsx_without_a_style_is_struck_by_its_column_or_row(self) -> None:
+        """Excel shows it by the first style, LibreOffice by that of the column: it is not sure."""
+        styles = f'{STRUCK_FONT}<cellXfs><xf numFmtId="2" fontId="1"/></cellXfs>'
+        lines = rows(HEAD, [PENCIL, "Tea", 14.25])
+        columns = '<cols><col min="{0}" max="{0}" style="1"/></cols>'
+        row = lines.replace('<row r="2">', '<row r="2" s="1" customFormat="1">')
+        for sheet, before, said in (
+            (lines, columns.format(3), IS_STRUCK),
+            (lines, columns.format(4), ""),
+            (row, "", IS_STRUCK),
+        ):
+            data = xlsx(sheet, styles=styles, before=before)
+            self.check_price(data, None if said else "14.25", said)
 
 
 class Kinds(CellTest):
@@ -98,6 +209,46 @@ class Kinds(CellTest):
         ):
             data = ods(table(HEAD, [PENCIL, "Tea", ods_cell(text, kind, more)]))
             self.check_price(data, None, date)
+
+    def test_a_price_is_not_shown_as_another_one(self) -> None:
+        """A number format that hides decimals makes another price of a number."""
+        more = "give it a number format of two decimals"
+        for form, value, price, said in (
+            ("0", 12.49, None, f'is shown as "12", and its value is 12.49: {more}'),
+            ("0", 2.99, "3", "row 2 shows the price 3, and its value is 2.99 (1 price)"),
+            ("0.0", 2.99, "3.0", "row 2 shows the price 3.0, and its value is 2.99 (1 price)"),
+            ("#,##0", 1249, "1,249", ""),
+            ("0.00", 2.6775, "2.68", ""),
+            ("0.000", 1.8594, "1.859", ""),
+            ("0", 3, "3", ""),
+        ):
+            data = xlsx(rows(HEAD, [PENCIL, "Tea", cell(value, style=1)]), formats=[form])
+            prices, messages = self.ran(data, *PRICED)
+            self.assertEqual(prices, [price] if price else [], form)
+            self.assertEqual(bool(said), any(said in one for one in messages if said), messages)
+        thousands = ods_cell("1.30", "float", 'office:value="1299"')
+        data = ods(table(HEAD, [PENCIL, "Tea", thousands]))
+        self.check_price(data, None, f'is shown as "1.30", and its value is 1299: {more}')
+
+    def test_the_value_says_what_a_sign_before_three_digits_is(self) -> None:
+        for value, said in (("1200.5", True), ("1201", False), ("1.201", False)):
+            shown = ods_cell("1,201 €", "float", f'office:value="{value}"')
+            _, messages = self.ran(ods(table(HEAD, [PENCIL, "Tea", shown])), *PRICED)
+            rounded = ["row 2 shows the price 1,201 €, and its value is 1200.5 (1 price)"]
+            self.assertEqual(messages, rounded if said else [])
+
+    def test_a_column_of_cents_is_said(self) -> None:
+        for name, price, is_said in (
+            ("price_cents", "199", True),
+            ("Preis (ct)", "199", True),
+            ("Preis (ct)", "199 ct", False),
+            ("Price", "199", False),
+            ("Center", "199", False),
+        ):
+            data = f"EAN;{name}\n{PENCIL};{price}\n".encode()
+            _, messages = self.ran(data, "--code", "EAN", "--price", name)
+            said = "has cents by its name, and is printed as it is"
+            self.assertEqual([said in one for one in messages], [True] * is_said, name)
 
     def test_a_date_is_no_number_of_copies(self) -> None:
         data = xlsx(rows(["EAN", "N"], [PENCIL, cell(3, style=1)]), formats=["d.m.yy"])

@@ -177,16 +177,17 @@ def placed(across: int) -> Callable[..., Any]:
     return page
 
 
-def in_rows(change: Callable[[list[str]], None]) -> Callable[..., bytes]:
-    """`run_lengths` whose texts of rows are changed."""
+def in_rows(change: Callable[[list[str], int], object]) -> Callable[..., bytes]:
+    """`run_lengths` whose texts of rows, each of some digits, are changed."""
 
     def call(rows: Any) -> bytes:
-        texts = [zpl.run_lengths_of(row) for row in rows]
+        size = 2 * len(rows[0])
+        texts = [RUN_LENGTHS((row,)).decode() for row in rows]
         whole = [
             ":" if n and rows[n - 1] == row else text
             for n, (text, row) in enumerate(zip(texts, rows))
         ]
-        change(whole)
+        change(whole, size)
         return "".join(whole).encode()
 
     return call
@@ -197,16 +198,21 @@ def first_letters(whole: list[str]) -> int:
     return next(number for number, text in enumerate(whole) if text not in (",", ":"))
 
 
-def wrong_count(whole: list[str]) -> None:
+def wrong_count(whole: list[str], size: int) -> None:
     """Makes a count of a row above all codes one more; the row keeps its length."""
     number = first_letters(whole)
-    row = decode.rows_of_field(whole[number], BYTES)[0].hex().upper()
+    row = decode.rows_of_field(whole[number], size // 2)[0].hex().upper()
     whole[number] = "0" + row[:-1]
 
 
-def wrong_repeat(whole: list[str]) -> None:
-    """Repeats the row above where letters begin."""
-    whole[first_letters(whole)] = ":"
+def wrong_repeat(whole: list[str], _: int) -> None:
+    """Repeats the row above in the middle of letters."""
+    whole[first_letters(whole) + len(whole) // 2] = ":"
+
+
+def row_lost(whole: list[str], _: int) -> None:
+    """Takes the last row away."""
+    whole.pop()
 
 
 def without_row(picture: Picture) -> Picture:
@@ -217,7 +223,7 @@ def without_row(picture: Picture) -> Picture:
     return replace(picture, rows=tuple(rows))
 
 
-BYTES = (495 + 7) // 8
+RUN_LENGTHS = zpl.run_lengths
 DRAW_MODULES = pen.Pen.draw_modules
 RUN_LABELS = engine.run_labels
 ENGINE_DRAW = engine.Engine.draw
@@ -259,18 +265,28 @@ FAULTS = {
         FORMS,
     ),
     "bits of bytes exchanged": Fault(
-        PEN + "padded", lambda row, stride: row.ljust(stride, b"\0"), ("pdf", *DOTS)
+        PEN + "padded", lambda row, stride: row.ljust(stride, b"\0"), ("pdf",)
     ),
     "guards too short": Fault(PEN + "GUARD", 4, FORMS, PAIR),
     "a dot to the right": Fault(
         PEN + "scaled",
         changed(pen.scaled, box=lambda box: box._replace(left=box.left + 1)),
-        ("pdf", *DOTS),
+        ("pdf",),
+    ),
+    "a dot to the right in dots": Fault(
+        PEN + "draw_rectangles",
+        changed(pen.draw_rectangles, box=lambda box: box._replace(left=box.left + 1)),
+        ("svg", *DOTS),
     ),
     "a row of bars short": Fault(
         PEN + "scaled",
         changed(pen.scaled, box=lambda box: box._replace(height=box.height - 1)),
-        ("pdf", *DOTS),
+        ("pdf",),
+    ),
+    "a row of bars short in dots": Fault(
+        PEN + "draw_rectangles",
+        changed(pen.draw_rectangles, box=lambda box: box._replace(height=box.height - 1)),
+        ("svg", *DOTS),
     ),
     "half a dot too wide": Fault(PEN + "INSET", -0.5, ("svg",)),
     "a code twice in its place": Fault(PEN + "Pen.draw_modules", twice, ("pdf", "svg")),
@@ -290,7 +306,7 @@ FAULTS = {
     "a row repeated where letters begin": Fault(
         "labeltools.forms.zpl.run_lengths", in_rows(wrong_repeat), ("zpl",)
     ),
-    "a row lost": Fault("labeltools.forms.zpl.run_lengths", in_rows(list.pop), ("zpl",)),
+    "a row lost": Fault("labeltools.forms.zpl.run_lengths", in_rows(row_lost), ("zpl",)),
     "a wrong byte in an image": Fault(
         "labeltools.forms.escpos.image", lambda rows: IMAGE(rows)[:-1] + b"\x01", ("escpos",)
     ),

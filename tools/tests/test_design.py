@@ -1,114 +1,545 @@
-"""Designs of a user's own: those that are shipped, and what is refused."""
+"""Designs of a user's own: how labels look in them, and what is refused."""
 
-import json
+import base64
 import os
+import struct
 import tempfile
 import unittest
+import zlib
 from pathlib import Path
 from typing import Any, Sequence
+from unittest import mock
 
+import numpy
+
+import designs
 import support
-from labeltools.messages import Silence, ToolError
+from designs import CODE, Label, dots_of, reasons_of, said_of, texts_of
+from labeltools.messages import ToolError
 from labeltools.own_layout import OwnLayout
-from labeltools.print_job import Prepared, PrintOptions, labels_of, planned
+from labeltools.print_job import Prepared, PrintOptions, planned
 
-DESIGNS = support.TOOLS.parent / "designs"
-SPACE = 'xmlns="http://www.w3.org/2000/svg"'
-CODE = '<rect id="code" x="2" y="20" width="56" height="18"/>'
-# a label for each design, by the parts and columns that it has
-EAN = "ean13 4006381333931"
-PALLET = {"From": "Kiel", "Article": "Tea", "Quantity": "9", "Batch": "7", "Best before": "1.9."}
-TICKET = {"Block": "A", "Row": "B", "Seat": "12"}
-LABELS: dict[str, tuple[str, dict[str, Any]]] = {
-    "address-88x25": ("qr a", {"title": "Zoë", "text": ["Am Hang 1", "12345 Köln"]}),
-    "jar-38x21": ("qr a", {"title": "Honig", "text": {"Filled": "1.9.2026", "Weight": "500 g"}}),
-    "pallet-105x148": ("code128 PAL-4711", {"title": "4711", "text": PALLET}),
-    "rack-100x50": ("code128 A-01-F", {"title": "A-01", "text": {"Arrow": "▲", "Check": "F"}}),
-    "receipt-72x60": ("qr T1", {"title": "Zoë", "price": "9 €", "text": {"Seat": "12"}}),
-    "shelf-60x40": (EAN, {"title": "Pen", "price": "1 €", "unit": "1 €", "was": "2 €"}),
-    "ticket-210x148": ("qr T1", {"title": "Zoë", "price": "9 €", "text": TICKET}),
-}
+TITLE = '<rect id="title" {}/>' + CODE
+WIDE = 'x="2" y="2" width="56" height="10"'
+ONE: Label = ("code128 A", {"title": "Title"})
+BOMB = "".join(
+    f'<g id="g{number}">' + f'<use href="#g{number - 1}"/>' * 10 + "</g>" for number in range(1, 9)
+)
+PICTURE = '<image x="2" y="2" width="5" height="5" href="data:image/{};base64,{}"/>' + CODE
+NOT_EMBEDDED = "is of another file, which is not read; embed it"
+NOT_PICTURE = "a picture is not PNG or JPEG, or has more than 50,000,000 pixels; embed a smaller"
+HIDDEN = "the place title is hidden, or has no size; give it a width and a height, and show its"
+FLOWS = "is not drawn; make it plain text, in Inkscape by Text, Convert to Text"
 
 
 def setUpModule() -> None:
     os.environ["LABELS"] = str(support.labels_program())
 
 
-def prepared(design: Path, size: tuple[float, float], lines: bytes) -> Prepared:
-    """The labels of lines in a design, each read as it is drawn."""
-    options = PrintOptions(paper=size, dpi=203, to="pbm", design=str(design), read_back=True)
-    return labels_of(options, planned(options), "lines", lines, Silence())
+def png_of(width: int, height: int) -> str:
+    """A white PNG in base 64; of a large one no more than 100 rows are there."""
+    rows = (b"\0" + b"\xff" * ((width + 7) // 8)) * min(height, 100)
+    parts = ((b"IHDR", struct.pack(">IIBBBBB", width, height, 1, 0, 0, 0, 0)),)
+    parts += ((b"IDAT", zlib.compress(rows, 9)), (b"IEND", b""))
+    data = b"\x89PNG\r\n\x1a\n"
+    for kind, part in parts:
+        check = struct.pack(">I", zlib.crc32(kind + part))
+        data += struct.pack(">I", len(part)) + kind + part + check
+    return base64.b64encode(data).decode()
 
 
-def lines_of(labels: Sequence[tuple[str, dict[str, Any]]]) -> bytes:
-    """A file of lines."""
-    return "".join(f"#{json.dumps(fields)}\n{line}\n" for line, fields in labels).encode()
+def svg_in_base64() -> str:
+    """A picture that is SVG itself, which may name other files."""
+    return base64.b64encode(f"<svg {designs.SPACE} width='5' height='5'/>".encode()).decode()
 
 
-class Shipped(unittest.TestCase):
-    def test_each_design_draws_its_parts_and_is_read(self) -> None:
-        names = [path.stem for path in sorted(DESIGNS.glob("*.svg"))]
-        self.assertEqual(names, sorted(LABELS))
-        for name in names:
-            wide, high = map(float, name.split("-")[-1].split("x"))
-            found = prepared(DESIGNS / f"{name}.svg", (wide, high), lines_of([LABELS[name]]))
-            self.assertEqual((len(found.labels), found.left_out, found.remarks), (1, (), ()), name)
-
-    def test_labels_are_turned_where_their_paper_is(self) -> None:
-        lines = lines_of([LABELS["address-88x25"]])
-        found = prepared(DESIGNS / "address-88x25.svg", (25.0, 88.0), lines)
-        self.assertTrue(found.laid_out.area.is_turned)
+# what is drawn on a page of 60 by 40 mm, and what it is refused with
+REFUSED = (
+    ("", "has no place for the code; draw a rectangle with the id code"),
+    (TITLE.format('x="2" y="2" width="0" height="9"'), HIDDEN),
+    (f'<g style="display:none"><rect id="title" {WIDE}/></g>{CODE}', HIDDEN),
+    (f'<defs><rect id="title" {WIDE}/></defs>{CODE}', HIDDEN),
+    (f'<clipPath><rect id="title" {WIDE}/></clipPath>{CODE}', HIDDEN),
+    (
+        TITLE.format('x="2" y="2" width="9" height="9" transform="rotate(9)"'),
+        "title is askew; turn",
+    ),
+    (TITLE.format('x="2" y="2" width="9" height="9" transform="skewX(9)"'), "title is askew; turn"),
+    (
+        TITLE.format('x="50" y="2" width="20" height="9"'),
+        "title leaves the label by 10.0 mm; the pa",
+    ),
+    (
+        TITLE.format('x="-1" y="2" width="20" height="9"'),
+        "title leaves the label by 1.0 mm; the pag",
+    ),
+    (TITLE.format('x="2" y="15" width="9" height="9"'), "title and code have room in common; move"),
+    (
+        f'<rect id="code-2" x="9" y="9" width="40" height="20"/>{CODE}',
+        "code-2 and code have room in",
+    ),
+    (f'<path d="M0 30H60" stroke="black"/>{CODE}', "is dark in the place code; a symbol needs whi"),
+    (f'{CODE}<path d="M2 20H58V38H2Z" fill="none" stroke="black"/>', "is dark in the place code"),
+    (
+        f'<path d="M0 0H30V20H0Z"/>{TITLE.format(WIDE)}',
+        "is light and dark in the place title; lett",
+    ),
+    (f'<path id="title" d="M2 2H9"/>{CODE}', "title is a path; draw a rectangle for its place"),
+    (f'<text id="price" x="2" y="9">1</text>{CODE}', "price is a text; draw a rectangle for its"),
+    (f'<image href="logo.png"/>{CODE}', f"image {NOT_EMBEDDED}"),
+    (f'<image href="/etc/logo.png"/>{CODE}', f"image {NOT_EMBEDDED}"),
+    (f'<use href="other.svg#logo"/>{CODE}', f"use {NOT_EMBEDDED}"),
+    (f'<path d="M2 2H9" fill="url(other.svg#red)"/>{CODE}', f"path {NOT_EMBEDDED}"),
+    (f'<style>@import "other.css";</style>{CODE}', f"style {NOT_EMBEDDED}"),
+    (f"<style>text{{fill:url('other.svg')}}</style>{CODE}", f"style {NOT_EMBEDDED}"),
+    (f"<flowRoot/>{CODE}", FLOWS),
+    (f"<foreignObject/>{CODE}", FLOWS),
+    (
+        f'<defs><g id="g0"><path d="M0 0h1"/></g>{BOMB}</defs><use href="#g8"/>{CODE}',
+        "cannot be drawn",
+    ),
+    ("<g>" * 201 + "</g>" * 201 + CODE, "elements are more than 200 deep in one another"),
+    ("<g>" * 100_000 + "</g>" * 100_000 + CODE, "elements are more than 200 deep in one another"),
+    (f"<!--{'x' * 8_000_000}-->{CODE}", "has more than 8 MB; make its pictures smaller"),
+    (PICTURE.format("png", png_of(30_000, 30_000)), NOT_PICTURE),
+    (PICTURE.format("png", "aGVsbG8="), NOT_PICTURE),
+    (PICTURE.format("svg+xml", svg_in_base64()), NOT_PICTURE),
+    (f'<image href="data:image/png,hello"/>{CODE}', NOT_PICTURE),
+    ('<rect data-place="code, blod"/>', '"code, blod": "blod" is not understood; behind the name'),
+    ('<rect data-place="title, level=Q"/>', '"level=Q" is not understood; behind the name is one'),
+    ('<rect data-place="title, size=0"/>', '"size=0" is not understood; behind the name is one of'),
+    ('<rect data-place="title, lines=1.5"/>', '"lines=1.5" is not understood; behind the name is'),
+    (f'<rect data-place="title, font=Nothing" {WIDE}/>{CODE}', "there is no font Nothing; fc-list"),
+    (f"<!-- a -- b -->{CODE}", "is no SVG: not well-formed"),
+)
+# the attributes of a page, options, and what it is refused with
+PAGES: tuple[tuple[str, dict[str, Any], str], ...] = (
+    (
+        "",
+        {},
+        'has no size; give it width, height and viewBox, as width="60mm" height="40mm" viewBox',
+    ),
+    ('width="0mm" height="40mm"', {}, "has no size; give it width, height and viewBox"),
+    (
+        designs.PAGE,
+        {"paper": (50.0, 30.0)},
+        "is 60 by 40 mm, and a label is 50 by 30 mm; set the si",
+    ),
+    (
+        designs.PAGE,
+        {"paper": (40.0, 60.0), "turn": False},
+        "is 60 by 40 mm, and a label is 40 by 60",
+    ),
+    (designs.PAGE, {"turn": True}, "is 60 by 40 mm, and a label is 40 by 60 mm; set the size of"),
+    (designs.PAGE, {"height": 9.0}, "--height is not for a design of one's own; the places of a"),
+    (
+        designs.PAGE,
+        {"edge": (5.0, 13.0, 5.0, 5.0)},
+        "the place title is at an edge of the paper that",
+    ),
+    (
+        'viewBox="0 0 90 40"',
+        {},
+        "is 90 by 40 without a unit, and a label is 60 by 40 mm; draw it in",
+    ),
+    ('width="60" height="40"', {"paper": None}, "has no size in millimetres; name the paper by"),
+)
+# what is in a file that is no SVG, and what it is refused with
+FILES = (
+    (b"", "is no SVG: no element found: line 1, column 0"),
+    (b"<!doctype html><html><p>a<br></html>", "is no SVG: "),
+    (f"<svg {designs.PAGE}>{CODE}</svg>".encode(), "is no SVG; it begins with <svg xmlns="),
+    (f"<svg {designs.SPACE} {designs.PAGE}>{CODE}".encode(), "is no SVG: no element found"),
+    (
+        f"<svg {designs.SPACE}/>".encode("utf-16"),
+        "has entities, or is not in UTF-8; save it as plain",
+    ),
+    (
+        b'<!DOCTYPE svg [<!ENTITY a "b">]><svg/>',
+        "has entities, or is not in UTF-8; save it as plain",
+    ),
+    (
+        b'<?xml-stylesheet href="a.css"?><svg/>',
+        "its style sheet is another file, which is not read",
+    ),
+    (b"\x1f\x8b\x08\x00" + bytes(9), "has entities, or is not in UTF-8; save it as plain SVG"),
+)
 
 
 class OwnPages(unittest.TestCase):
+    """A design that a test writes, and its labels."""
+
     def setUp(self) -> None:
         folder = tempfile.TemporaryDirectory()
         self.addCleanup(folder.cleanup)
-        self.path = Path(folder.name, "design.svg")
+        self.path = Path(folder.name, "own.svg")
 
-    def found(self, body: str, *labels: tuple[str, dict[str, Any]], unit: str = "mm") -> Prepared:
-        """The labels in a page of 60 by 40."""
-        size = f'width="60{unit}" height="40{unit}" viewBox="0 0 60 40"'
-        self.path.write_text(f"<svg {SPACE} {size}>{body}</svg>", encoding="utf-8")
-        return prepared(self.path, (60.0, 40.0), lines_of(labels or [("code128 A", {})]))
+    def found(
+        self, body: str, labels: Sequence[Label] = (ONE,), page: str = designs.PAGE, **options: Any
+    ) -> Prepared:
+        """Labels in a design; its page has 60 by 40 mm where nothing else is said."""
+        return designs.prepared(designs.written(self.path, body, page), labels, **options)
 
-    def sizes(self, found: Prepared) -> list[int]:
-        """The letters of the texts of all labels."""
-        layouts = [item.layout for item in found.labels if isinstance(item.layout, OwnLayout)]
-        return [text.size for layout in layouts for text in layout.texts]
+    def said(self, found: Prepared) -> list[str]:
+        """What is said of labels, without the name of the design."""
+        return [text.removeprefix(f"{self.path}") for text in said_of(found)]
+
+    def ink(self, found: Prepared, number: int = 0) -> tuple[float, float, float, float]:
+        """Where the ink above the code begins and ends, across and down, in millimetres."""
+        dots = dots_of(found, number)[: int(19.5 / found.laid_out.area.dot)]
+        down, across = numpy.nonzero(dots)
+        ends = (across.min(), across.max() + 1, down.min(), down.max() + 1)
+        left, right, top, bottom = (float(end * found.laid_out.area.dot) for end in ends)
+        return left, right, top, bottom
+
+
+class Refused(OwnPages):
+    """Each message names the file and what to do."""
+
+    def test_what_is_drawn(self) -> None:
+        for body, why in REFUSED:
+            with self.subTest(why=why), self.assertRaises(ToolError) as caught:
+                self.found(body)
+            self.assertTrue(designs.is_refused(caught.exception, why), caught.exception)
+
+    def test_pages(self) -> None:
+        for page, options, why in PAGES:
+            with self.subTest(page=page, why=why), self.assertRaises(ToolError) as caught:
+                self.found(TITLE.format(WIDE), page=page, **options)
+            self.assertTrue(designs.is_refused(caught.exception, why), caught.exception)
+
+    def test_files_that_are_no_svg(self) -> None:
+        for data, why in FILES:
+            self.path.write_bytes(data)
+            with self.subTest(why=why), self.assertRaises(ToolError) as caught:
+                planned(PrintOptions(paper=designs.PAPER, design=str(self.path)))
+            self.assertTrue(str(caught.exception).startswith(f"{self.path}"))
+            self.assertTrue(designs.is_refused(caught.exception, why), caught.exception)
+        folder = self.path.parent / "folder.svg"
+        folder.mkdir()
+        for path, why in ((Path("none.svg"), "No such file"), (folder, "Is a directory")):
+            with self.assertRaisesRegex(ToolError, f"--design {path}: {why}"):
+                planned(PrintOptions(paper=designs.PAPER, design=str(path)))
+
+
+class Names(OwnPages):
+    """Which rectangles are places, and of what."""
+
+    def places(self, body: str) -> list[str]:
+        """The names of the places but that of the code."""
+        found = self.found(body + CODE)
+        assert found.job.design is not None
+        return [place.title for place in found.job.design.places if place.part != "code"]
+
+    def test_a_name_is_data_place_or_the_label_or_the_id(self) -> None:
+        for name in (
+            'id="title"',
+            'id="rect9" inkscape:label="title"',
+            'data-place="title" id="x"',
+        ):
+            self.assertEqual(self.places(f"<rect {name} {WIDE}/>"), ["title"])
+
+    def test_names_that_programs_give_are_none(self) -> None:
+        for name in ("rect12-3", "Rectangle 5", "svg1", "shape_4", "id7"):
+            found = self.found(f'<rect id="{name}" x="2" y="2" width="9" height="9"/>{CODE}')
+            for end, wanted in zip(self.ink(found), (2, 11, 2, 11)):
+                self.assertAlmostEqual(end, wanted, delta=0.13)
+
+    def test_case_and_underscores_do_not_count(self) -> None:
+        for name, column in (("Seat_No", "seat no"), ("ОПИСАНИЕ", "Описание"), ("Größe", "größe")):
+            place = f'<rect id="{name}" {WIDE}/>{CODE}'
+            found = self.found(place, [("code128 A", {"text": {column: "12"}})])
+            self.assertEqual([text.text for text in texts_of(found)], ["12"])
+            self.assertEqual(self.said(found), [])
+
+    def test_second_places_and_the_rest(self) -> None:
+        rects = [
+            f'<rect id="{name}" x="2" y="{2 + 4 * number}" width="56" height="4"/>'
+            for number, name in enumerate(("Seat", "Seat-2", "text"))
+        ]
+        fields = {"text": {"Row": "3", "Seat": "12", "Block": "A"}}
+        found = self.found("".join(rects) + CODE, [("code128 A", fields)], note="Door 2")
+        self.assertEqual([text.text for text in texts_of(found)], ["12", "12", "3\nA\nDoor 2"])
+        listed = self.found("".join(rects) + CODE, [("code128 A", {"text": ["3", "12"]})])
+        self.assertEqual([text.text for text in texts_of(listed)], ["3\n12"])
+
+    def test_a_column_is_never_taken_for_a_part(self) -> None:
+        place = f'<rect id="price" {WIDE}/>{CODE}'
+        found = self.found(place, [("code128 A", {"text": {"Price": "cheap"}})])
+        self.assertEqual(texts_of(found), [])
+        self.assertIn(" has no place for Price: not on the labels", self.said(found))
+
+    def test_what_has_no_place_and_places_that_have_nothing_are_said_once(self) -> None:
+        labels = [("code128 A", {"title": "a", "text": {"Seat": "1"}})] * 3
+        found = self.found(f'<rect id="Saet" {WIDE}/>{CODE}', labels)
+        hint = 'name a column so, by label-table --text "Saet", or take the name away'
+        lost = " has no place for title, Seat: not on the labels"
+        self.assertEqual(self.said(found), [lost, f": no label has anything for Saet: {hint}"])
+
+
+class Texts(OwnPages):
+    """How texts fit their places."""
+
+    def test_the_page_says_the_paper(self) -> None:
+        for page in (designs.PAGE, 'width="6cm" height="4cm" viewBox="0 0 60 40"'):
+            found = self.found(TITLE.format(WIDE), page=page, paper=None)
+            self.assertEqual(found.job.plan.sheet.page, designs.PAPER)
+
+    def test_pages_of_other_units_and_sizes(self) -> None:
+        usual = self.ink(self.found(TITLE.format(WIDE)))
+        scaled = f'<g transform="scale(10)">{TITLE.format(WIDE)}</g>'
+        for body, page in (
+            (TITLE.format(WIDE), 'width="600" height="400" viewBox="0 0 60 40"'),
+            (TITLE.format(WIDE), 'viewBox="0 0 60 40"'),
+            (scaled, 'viewBox="0 0 600 400"'),
+            (scaled, 'width="600" height="400"'),
+        ):
+            self.assertEqual(self.ink(self.found(body, page=page)), usual)
+        larger = 'width="61mm" height="40mm" viewBox="0 0 61 40"'  # it is put in the middle
+        self.assertAlmostEqual(
+            self.ink(self.found(TITLE.format(WIDE), page=larger))[0], usual[0] - 0.5, delta=0.13
+        )
 
     def test_letters_are_alike(self) -> None:
-        body = f'<rect id="title" x="2" y="2" width="56" height="10"/>{CODE}'
         some = [("code128 A", {"title": title}) for title in ("A", "A long title of a label")]
-        sizes = self.sizes(self.found(body, *some))
-        self.assertEqual(len(set(sizes)), 1)
-        self.assertEqual(self.sizes(self.found(body, *some, unit="")), sizes)
+        sizes = {text.size for text in texts_of(self.found(TITLE.format(WIDE), some))}
+        self.assertEqual(len(sizes), 1)
+
+    def test_one_line_fills_its_place_by_its_ink(self) -> None:
+        place = '<rect id="title" x="2" y="1" width="56" height="16"/>' + CODE
+        _, _, top, bottom = self.ink(self.found(place, [("code128 A", {"title": "A1"})]))
+        self.assertTrue(15 <= bottom - top <= 16, bottom - top)
+
+    def test_where_a_text_is_in_its_place(self) -> None:
+        box = 'x="10" y="4" width="40" height="12"'
+        found = {
+            words: self.ink(self.found(f'<rect data-place="title, size=3{words}" {box}/>{CODE}'))
+            for words in ("", ", middle", ", right", ", top", ", bottom")
+        }
+        left, right, top, bottom = found[""]
+        self.assertAlmostEqual(left, 10, delta=0.3)
+        self.assertAlmostEqual(top + bottom, 20, delta=0.6)
+        self.assertAlmostEqual(sum(found[", middle"][:2]), 60, delta=0.6)
+        self.assertAlmostEqual(found[", right"][1], 50, delta=0.3)
+        self.assertAlmostEqual(found[", top"][2], 4, delta=0.3)
+        self.assertAlmostEqual(found[", bottom"][3], 16, delta=0.3)
+
+    def test_turned_places(self) -> None:
+        for turn, quarters in ((0, 0), (90, 1), (180, 2), (270, 3)):
+            box = (
+                f'width="12" height="12" x="-6" y="-6" transform="translate(30 10) rotate({turn})"'
+            )
+            found = self.found(f'<rect data-place="title, top, size=3" {box}/>{CODE}')
+            (text,) = texts_of(found)
+            self.assertEqual(text.place.quarters, quarters)
+            left, right, top, bottom = self.ink(found)
+            edges = (top - 4, 36 - right, 16 - bottom, left - 24)
+            self.assertAlmostEqual(edges[quarters], 0, delta=0.3)
+
+    def test_a_long_text_wraps_then_shrinks_then_is_cut(self) -> None:
+        place = '<rect data-place="title{}" x="2" y="2" width="20" height="9"/>' + CODE
+        words = "A long title that has many words"
+        found = self.found(place.format(""), [("code128 A", {"title": words})])
+        (text,) = texts_of(found)
+        self.assertGreater(text.lines, 1)
+        self.assertEqual(self.said(found), [])
+        found = self.found(place.format(", lines=1"), [("code128 A", {"title": words})])
+        self.assertEqual(self.said(found), ["line 2: shortened to fit, with an ellipsis"])
+        self.assertAlmostEqual(texts_of(found)[0].size * found.laid_out.area.dot, 1.8, delta=0.13)
+
+    def test_labels_that_are_the_same_once_shortened_are_said(self) -> None:
+        place = '<rect data-place="title, lines=1" x="2" y="2" width="20" height="9"/>' + CODE
+        titles = [f"A long title that has many words and ends in {end}" for end in ("red", "blue")]
+        found = self.found(place, [("code128 A", {"title": title}) for title in titles])
+        (shortened, same) = self.said(found)
+        self.assertEqual(shortened, "lines 2, 4: shortened to fit, with an ellipsis")
+        self.assertRegex(
+            same, "^lines 2, 4: the same once shortened, .*: put what differs in front"
+        )
+
+    def test_scripts_without_spaces_wrap(self) -> None:
+        place = '<rect id="title" x="2" y="2" width="30" height="12"/>' + CODE
+        for title in ("明治ブルガリアヨーグルト低糖四百五十グラム", "สวัสดีชาวโลกทุกคนที่นี่และที่นั่น"):
+            found = self.found(place, [("code128 A", {"title": title})])
+            if not found.labels:
+                continue  # no font has these letters
+            (text,) = texts_of(found)
+            self.assertGreater(text.lines, 1)
+            self.assertEqual(self.said(found), [])
 
     def test_a_price_is_never_cut(self) -> None:
-        body = f'<rect id="price" x="2" y="2" width="8" height="3"/>{CODE}'
-        found = self.found(body, ("code128 A", {"price": "123.456.789,00 €"}))
-        self.assertEqual(len(found.labels), 0)
-        self.assertRegex(found.left_out[0].reason, "has no room in the place price")
+        for part in ("price", "unit", "was"):
+            body = f'<rect id="{part}" x="2" y="2" width="8" height="3"/>{CODE}'
+            found = self.found(body, [("code128 A", {part: "123.456.789,00 €"})])
+            self.assertEqual(len(found.labels), 0)
+            why = f'"123.456.789,00 €" has no room in the place {part}: enlarge it'
+            self.assertEqual(reasons_of(found), [why])
 
-    def test_what_has_no_place_is_said(self) -> None:
-        found = self.found(CODE, ("code128 A", {"title": "a", "text": {"Seat": "1"}}))
-        said = [remark.text.removeprefix(str(self.path)) for remark in found.remarks]
-        self.assertEqual(said, [" has no place for title, Seat: not on the labels"])
+    def test_an_empty_text_leaves_its_place_empty(self) -> None:
+        labels = [("code128 A", {"text": {"Seat": "1"}}), ("code128 B", {"text": {"Seat": ""}})]
+        found = self.found(f'<rect id="Seat" {WIDE}/>{CODE}', labels)
+        self.assertEqual((len(found.labels), len(texts_of(found))), (2, 1))
 
-    def test_pages_that_are_refused(self) -> None:
-        title = '<rect id="title" {}/>' + CODE
-        for body, why in (
-            ("", "has no place for the code"),
-            (title.format('x="2" y="2" width="0" height="9"'), "hidden, or has no size"),
-            (title.format('x="50" y="2" width="20" height="9"'), "leaves the label by 10.0 mm"),
-            (title.format('x="2" y="15" width="9" height="9"'), "have room in common"),
-            (title.format('x="2" y="2" width="9" height="9" transform="rotate(9)"'), "askew"),
-            (f'<path d="M0 30H60" stroke="black"/>{CODE}', "is dark in the place code"),
-            (f'<image href="logo.png"/>{CODE}', "of another file"),
-            ('<rect data-place="code, blod"/>', '"blod" is not understood'),
+
+class Drawings(OwnPages):
+    """What is on all labels, and the colours of letters on it."""
+
+    BAND = '<path d="M0 0H60V14H0Z" fill="{}"/>' + TITLE.format(WIDE)
+
+    def test_letters_are_white_on_dark(self) -> None:
+        dark, light, grey = (
+            dots_of(self.found(self.BAND.format(fill)))[:100, :479]
+            for fill in ("black", "none", "#909090")  # which is white in dots
+        )
+        self.assertTrue(numpy.array_equal(dark, 1 - light))
+        self.assertTrue(numpy.array_equal(grey, light))
+
+    def test_letters_have_the_colour_of_their_place_where_it_is_read(self) -> None:
+        for fill, behind, colour in (
+            ('fill="red"', "none", (1, 0, 0)),
+            ('style="fill:#f00"', "none", (1, 0, 0)),
+            ('fill="yellow"', "black", (1, 1, 0)),
+            ('fill="yellow"', "none", (0, 0, 0)),
+            ('fill="#d9d9d9"', "none", (0, 0, 0)),
+            ('fill="red" fill-opacity="0.2"', "none", (0, 0, 0)),
+            ('fill="none"', "none", (0, 0, 0)),
+            ('fill="red"', "#000", (1, 1, 1)),
         ):
-            with self.assertRaisesRegex(ToolError, why):
-                self.found(body)
+            found = self.found(self.BAND.format(behind).replace('id="title"', f'id="title" {fill}'))
+            (text,) = texts_of(found)
+            self.assertEqual(text.place.colour, colour, (fill, behind))
+
+    def test_a_group_goes_with_its_field(self) -> None:
+        word = '<g id="Best before"><path d="M2 2H9V9H2Z"/></g>'
+        place = '<rect id="Best_before" x="20" y="2" width="30" height="8"/>'
+        labels = [("code128 A", {"text": {"Best before": day}}) for day in ("1.9.", "")]
+        found = self.found(word + place + CODE, labels)
+        self.assertAlmostEqual(self.ink(found)[0], 2, delta=0.13)
+        self.assertFalse(dots_of(found, 1)[:150].any())
+        for group in ('<g id="other">', '<g inkscape:groupmode="layer" id="Best before">'):
+            found = self.found(word.replace('<g id="Best before">', group) + place + CODE, labels)
+            self.assertTrue(dots_of(found, 1)[:150].any())
+
+    def test_a_font_that_is_not_there_is_said(self) -> None:
+        for style in ('font-family="Nothing, serif"', "style=\"font-family:'Nothing'\""):
+            word = f'<text x="2" y="9" font-size="4" {style}>a</text>{CODE}'
+            (said, _) = self.said(self.found(word))
+            self.assertRegex(said, "^: there is no font Nothing: its words are in .+")
+        for family in ("DejaVu Sans", "sans-serif"):
+            word = f'<text x="2" y="9" font-size="4" font-family="{family}">a</text>{CODE}'
+            self.assertEqual(len(self.said(self.found(word))), 1)
+
+    def test_a_picture_is_drawn(self) -> None:
+        found = self.found(PICTURE.format("png", png_of(8, 8)).replace("<image", "<path/><image"))
+        self.assertEqual(len(found.labels), 1)
+
+    def test_edges_that_take_no_ink(self) -> None:
+        found = self.found(TITLE.format(WIDE), edge=(5.0, 2.0, 2.0, 2.0))
+        why = "an edge of the page takes no ink there (--edge)"
+        self.assertEqual(self.said(found), [f": smaller than drawn: title, code: {why}"])
+        self.assertGreaterEqual(self.ink(found)[0], 5)
+
+
+class Symbols(OwnPages):
+    """Codes in their places."""
+
+    def test_the_size_that_a_message_proposes_is_enough(self) -> None:
+        body = '<rect id="code" x="1" y="1" width="{}" height="{}"/>'
+        for line in ("code128 ABCDEF", "ean13 400638133393", "ean8 7351353", "qr hello"):
+            (why,) = reasons_of(self.found(body.format(15, 3), [(line, {})]))
+            self.assertRegex(
+                why, "^(Code 128|EAN-13|EAN-8|QR Code) needs [0-9.]+ by [0-9.]+ mm, and"
+            )
+            wide, high = map(float, why.split(" needs ")[1].split(" mm, and")[0].split(" by "))
+            self.assertEqual(len(self.found(body.format(wide, high), [(line, {})]).labels), 1, why)
+            for less in ((wide - 0.3, high), (wide, high - 0.3)):
+                self.assertEqual(len(self.found(body.format(*less), [(line, {})]).labels), 0, why)
+
+    def test_modules_are_as_large_as_the_place_takes(self) -> None:
+        page = 'width="200mm" height="100mm" viewBox="0 0 200 100"'
+        body = '<rect data-place="code{}" x="1" y="1" width="198" height="98"/>'
+        for line, words, module in (
+            ("ean13 400638133393", "", 0.66),
+            ("qr a", "", 98 / 29),
+            ("qr a", ", module=1", 1),
+        ):
+            found = self.found(body.format(words), [(line, {})], page, paper=(200.0, 100.0))
+            (item,) = found.labels
+            dot = found.laid_out.area.dot
+            self.assertTrue(module - dot <= item.layout.module * dot <= module + dot / 2, line)
+
+    def test_second_symbols(self) -> None:
+        body = f'<rect data-place="Url, qr, level=Q" x="2" y="2" width="16" height="16"/>{CODE}'
+        found = self.found(body, [("code128 A", {"text": {"Url": "a\\b\nc"}})])
+        layout = found.labels[0].layout
+        assert isinstance(layout, OwnLayout)
+        self.assertEqual([one.data for one in layout.symbols], [b"a\\b\nc", b"A"])
+
+    def test_a_second_symbol_that_is_refused_leaves_its_label_out(self) -> None:
+        body = f'<rect data-place="Ean, ean13" x="2" y="2" width="45" height="16"/>{CODE}'
+        labels = [
+            ("code128 A", {"text": {"Ean": ean}}) for ean in ("4006381333932", "400638133393")
+        ]
+        found = self.found(body, labels)
+        self.assertEqual(len(found.labels), 1)
+        self.assertRegex(reasons_of(found)[0], "^place Ean: .*check digit")
+
+    def test_read_back_reads_each_symbol(self) -> None:
+        body = '<rect data-place="code-2, qr" x="2" y="2" width="16" height="16"/>' + CODE
+
+        def wrong(pen: Any, canvas: Any, modules: Any, symbol: Any) -> None:
+            if not symbol.symbology.nominal:
+                canvas.rectangle(symbol.boxes["bars"].left + 40, 20, 30, 30)
+                canvas.fill()
+            draw(pen, canvas, modules, symbol)
+
+        from labeltools.pen import Pen
+
+        draw = Pen.draw_modules
+        with mock.patch.object(Pen, "draw_modules", wrong):
+            found = self.found(body)
+        self.assertRegex(reasons_of(found)[0], "^place code-2: ")
+        self.assertEqual(reasons_of(self.found(body)), [])
+
+    def test_labels_are_turned_where_their_paper_is(self) -> None:
+        labels = [designs.SHIPPED["address-88x25"]]
+        path = designs.FOLDER / "address-88x25.svg"
+        found = designs.prepared(path, labels, paper=(25.0, 88.0))
+        self.assertTrue(found.laid_out.area.is_turned)
+        self.assertEqual(dots_of(found).shape, (703, 200))
+
+
+class Frames(OwnPages):
+    """Built-in designs that are written as SVG."""
+
+    def test_the_same_label_is_printed(self) -> None:
+        from labeltools.own_frame import svg_of
+
+        fields = {"title": "Bleistift, weich", "price": "12,80 €", "unit": "1 kg = 5,98 €"}
+        for line in ("ean13 400638133393", "code128 ABC-1", "qr hello"):
+            for size, is_turned in (
+                ((60.0, 40.0), False),
+                ((50.0, 25.0), False),
+                ((25.0, 70.0), None),
+            ):
+                built = designs.prepared(Path("article"), [(line, fields)], paper=size)
+                self.path.write_text(svg_of(built.laid_out, built.job.plan), encoding="utf-8")
+                own = designs.prepared(self.path, [(line, fields)], paper=size)
+                self.assertEqual(reasons_of(own), [])
+                self.assertEqual(len(built.labels), 1)
+                one, other = built.labels[0].layout, own.labels[0].layout
+                self.assertEqual(other.module, one.module)
+                assert isinstance(other, OwnLayout)
+                sizes = {text.place.part: text.size for text in other.texts}
+                for part in ("title", "price"):
+                    self.assertAlmostEqual(sizes[part], one.frame.sizes[part], delta=1)
+                (symbol,) = other.symbols
+                bars = symbol.boxes["bars"]
+                place = built.job.plan.places[0]
+                if is_turned is not None:
+                    left = symbol.box.left + bars.left - place[0]
+                    top = symbol.box.top + bars.top - place[1]
+                    self.assertEqual((left, top), one.boxes["bars"][:2])
 
 
 if __name__ == "__main__":

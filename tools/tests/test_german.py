@@ -14,6 +14,7 @@ from unittest import mock
 
 import support
 from labeltools.messages import quoted
+from labeltools.reasons import REASONS, WITH_FIELDS, reason_of
 from labeltools.text import Text, counted, joined, translated
 
 GERMAN = support.TOOLS / "po/de.po"
@@ -98,7 +99,7 @@ def in_capitals(text):
 def german(folder):
     """The environment of a German, with the translation in a folder."""
     path = Path(folder, "de/LC_MESSAGES")
-    path.mkdir(parents=True)
+    path.mkdir(parents=True, exist_ok=True)
     words = ["msgfmt", "--check-format", "-o", path / "label-tools.mo", GERMAN]
     subprocess.run(words, check=True)
     return {**os.environ, "LANGUAGE": "de", "LC_ALL": "C.UTF-8", "LABELS_LOCALE": folder}
@@ -222,6 +223,65 @@ class German(unittest.TestCase):
         )
         self.assertNotIn("row", ran.stderr)
         self.assertIn('"row":4', ran.stdout)
+
+    def test_bad_arguments_are_said_in_german(self):
+        """argparse says them, and what it says is looked for in the texts of the tools."""
+        support.needs("msgfmt")
+        with tempfile.TemporaryDirectory() as folder:
+            for tool, words, said in (
+                ("label-table", ["--cod", "EAN"], "unbekannte Argumente: --cod"),
+                ("label-table", ["--code"], "Argument --code: ein Wert fehlt"),
+                (
+                    "label-table",
+                    ["--code", "1", "--symbology", "aztec"],
+                    "Argument --symbology: 'aztec' gibt es nicht (es gibt ",
+                ),
+                (
+                    "label-table",
+                    ["--code", "1", "--price-as", "x"],
+                    "Argument --price-as: 'x' ist kein Muster wie '0,00 €'",
+                ),
+                (
+                    "label-table",
+                    ["--code", "1", "--price-as", "0", "--price-text"],
+                    "--price-text und --price-as gehen nicht zusammen",
+                ),
+                (
+                    "label-print",
+                    ["--design", "x"],
+                    "Argument --design: 'x' ist weder eines von article, shelf",
+                ),
+                (
+                    "label-print",
+                    ["--columns", "x"],
+                    "Argument --columns: 'x' ist nicht wie 3",
+                ),
+            ):
+                ran = subprocess.run(
+                    [support.TOOLS / tool, *words],
+                    env=german(folder),
+                    capture_output=True,
+                    text=True,
+                )
+                self.assertEqual(ran.returncode, 2)
+                last = ran.stderr.splitlines()[-1]
+                self.assertTrue(last.startswith(f"{tool}: Fehler: {said}"), last)
+
+    def test_what_the_library_refuses_is_said_in_german(self):
+        """Its reasons are those of labels(1), which stay English."""
+        source = (support.TOP / "crates/labelcore/src/message.rt").read_text()
+        cases = source.partition("fn first_words")[2].partition("\n}")[0]
+        texts = [one.template for one in (*REASONS, *WITH_FIELDS)]
+        for first in re.findall(r'=> "([^"]+)"', cases):
+            self.assertEqual(len([one for one in texts if one.startswith(first)]), 1, first)
+        for message, template, fields in (
+            ("check digit is 2, should be 1", "check digit is {}, should be {}", ("2", "1")),
+            ("data does not fit version 10-H", "data does not fit version 10-{}", ("H",)),
+            ("no data", "no data", ()),
+            ("something new", "{}", ("something new",)),
+        ):
+            text = reason_of(message)
+            self.assertEqual((text, text.template, text.fields), (message, template, fields))
 
     def test_who_has_no_translation_reads_english(self):
         ran = support.run("label-table", "--code", "1", "/not/there.csv")

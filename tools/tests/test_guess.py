@@ -5,7 +5,7 @@ import unittest
 from pathlib import Path
 
 import support
-from labeltools.guess import guess_of
+from labeltools.guess import guess, guess_of
 from labeltools.messages import Silence
 from labeltools.table_options import FileOptions, TableOptions
 
@@ -158,6 +158,59 @@ class Guesses(unittest.TestCase):
             self.assertNotIn("try", support.messages(support.run("label-table", path))[-1])
             done = support.run("label-table", Path(folder, "none.csv"))
             self.assertIn("No such file", support.messages(done)[-1])
+
+
+# names of columns, and the number of the one that is the price; 0 where only the keeper knows it
+PRICES = (
+    ("Artikel;EAN-code;Inkoopprijs;Verkoopprijs", 4),
+    ("Réf;Code-barres;PA HT;PV TTC", 4),
+    ("Descrizione;Barcode;Prezzo acquisto;Prezzo vendita", 4),
+    ("Descripción;EAN13;PVP;PVD", 3),
+    ("Název;EAN;Nákupní cena;Prodejní cena", 4),
+    ("Benämning;EAN;Inköpspris;Utpris", 4),
+    ("Varenavn;EAN;Kostpris;Salgspris", 4),
+    ("Tuote;EAN;Ostohinta;Myyntihinta", 4),
+    ("Produto;EAN;Preço de custo;Preço de venda", 4),
+    ("Товар;Штрихкод;Закупочная цена;Розничная цена", 4),
+    ("Termék;EAN;Beszerzési ár;Eladási ár", 4),
+    ("Προϊόν;Barcode;Τιμή αγοράς;Τιμή πώλησης", 4),
+    ("商品名;JANコード;原価;売価", 4),
+    ("品名;条码;进价;零售价", 4),
+    ("Title;Variant Barcode;Variant Price;Variant Compare At Price", 3),
+    ("Item;UPC;MSRP;Price", 0),
+    ("Name;GTIN;Std. VK Brutto;UVP", 3),
+    ("Bezeichnung;EAN;Preis;Pfand", 3),
+    ("Bezeichnung;EAN;Preis alt;Preis neu", 4),
+    ("Wein;EAN;Kartonpreis;Flaschenpreis", 4),
+    ("Item;UPC;Wholesale;MSRP", 4),
+    ("Name;EAN;Gewicht;Preis", 4),
+    ("Name;EAN;Preis exkl. MwSt;Preis inkl. MwSt", 4),
+    ("Name;EAN;Price inc VAT;Price ex VAT", 3),
+    ("Name;EAN;Sale price;Regular price", 0),
+    ("Nom;EAN;Prix;Prix promo", 0),
+    ("Name;EAN;Price;Member price", 0),
+    ("Name;EAN;Händlerpreis;Endkundenpreis", 4),
+    ("Désignation;Gencod;Prix de gros;Prix public", 4),
+    ("Name;EAN;Preis;Versandkosten", 3),
+    ("Name;EAN;Preis 1;Preis 2", 0),
+    ("Name;EAN;Margin;Price", 4),
+    ("Name;EAN;A;B", 0),
+)
+CODES = ("4006381333931", "9780306406157", "5901234123457")
+LOW, HIGH = ("1,20", "8,40", "2,05"), ("1,99", "12,49", "3,10")
+
+
+class Prices(unittest.TestCase):
+    def test_the_price_is_the_one_that_customers_pay_or_it_is_asked(self) -> None:
+        asked = 0
+        for names, place in PRICES:
+            texts = [("Tea, green", "A long book", "Gum"), CODES, LOW, HIGH]
+            columns = [[name, *column] for name, column in zip(names.split(";"), texts)]
+            found = guess(columns, 1)
+            self.assertEqual(found.columns.get("code"), 1, names)
+            self.assertEqual(found.columns.get("price", -1) + 1, place, names)
+            asked += place == 0
+        self.assertLessEqual(3 * asked, len(PRICES))
 
 
 if __name__ == "__main__":

@@ -422,6 +422,19 @@ class Words(unittest.TestCase):
             ["rows 3-4: shortened to fit, with an ellipsis"],
         )
 
+    def test_labels_that_are_the_same_once_shortened_are_said(self) -> None:
+        """What differs at the end of two titles is lost, and two articles look like one."""
+        long = "Pfefferminztee lose aus kontrolliertem Anbau im wiederverschließbaren Beutel " * 3
+        kilos, grams = {"title": f"{long}1 kg"}, {"title": f"{long}500 g"}
+        other = {"title": f"Roter {long}1 kg"}
+        laid = laid_out(filed(kilos, grams, other, other), (60.0, 40.0), 300)
+        first, second = [remark.text for remark in laid.prepared.remarks]
+        self.assertEqual(first, "rows 2-5: shortened to fit, with an ellipsis")
+        self.assertRegex(second, '^rows 2-3: the same once shortened, "Pfefferminztee lose')
+        (shown,) = {laid.pen.shown_texts(item) for item in laid.labels[:2]}
+        self.assertTrue(f"{long}1 kg".startswith(shown[0].removesuffix("…")), shown)
+        self.assertTrue(shown[0].endswith("…"))
+
     def test_quick_and_slow_answers_agree(self) -> None:
         """Whether a title is shortened is mostly seen by widths; Pango has the last word."""
         words = "Bleistift Heft Umschlag kariert Rand weich Übergröße 32 Blatt und mit".split()

@@ -186,9 +186,9 @@ class Encodings(TableTest):
         )
 
     def test_bytes_that_do_not_decode(self) -> None:
-        problem = f'standard input is not UTF-8, as line 3 shows: {self.FIX}cp1252 reads "Käse"'
+        problem = f'standard input is not UTF-8, as line 3 shows: {self.FIX}cp1252 reads "Füße"'
         self.check(
-            f"code;name\r\n{PENCIL};a\r\n{SMALL};K".encode() + b"\xe4se",
+            f"code;name\r\n{PENCIL};a\r\n{SMALL};F".encode() + b"\xfc\xdfe",
             ["--code", "1"],
             [],
             [problem],
@@ -200,6 +200,7 @@ class Encodings(TableTest):
         )
         self.check(b"\xff\xfea", ["--code", "1"], [], [problem], 1)
         problem = f'standard input is not CP1252, as line 2 shows: {self.FIX}cp1251 reads "Ѓ"'
+        problem += ', cp850 reads "ü", cp866 reads "Б", mac_roman reads "Å"'
         self.check(b"code\n\x81\n", ["--code", "1", "--encoding", "windows-1252"], [], [problem], 1)
 
     def test_encodings_that_are_none(self) -> None:
@@ -225,7 +226,7 @@ class Encodings(TableTest):
             self.check("\ufeffcode\nabc\n", arguments, [], [problem], 2)
         problem = (
             f'standard input is not ISO8859-1, as line 2 shows: {self.FIX}cp1252 reads "€", cp1251'
-            ' reads "Ђ"'
+            ' reads "Ђ", cp850 reads "Ç", cp866 reads "А"'
         )
         self.check(
             "code\n5 €\n".encode("cp1252"),

@@ -7,6 +7,7 @@ through once.
 
 import csv
 import io
+import re
 import unittest
 
 import support
@@ -753,8 +754,9 @@ class Encodings(RulesTest):
     def test_a_message_shows_how_a_word_would_be_read(self) -> None:
         fix = "save it as UTF-8, or give the --encoding that reads it right: "
         cases = {
-            ("Zażółć", "cp1250"): 'cp1252 reads "Za¿ó³æ", cp1250 reads "Zażółć"',
-            ("Käse", "cp1252"): 'cp1252 reads "Käse"',
+            ("Zażółć", "cp1250"): 'cp1250 reads "Zażółć"',
+            ("Füller", "cp1252"): 'cp1252 reads "Füller"',
+            ("Füller", "cp850"): 'cp850 reads "Füller"',
         }
         for (word, codec), wanted in cases.items():
             data = f"EAN;Name\n{SMALL};{word}\n".encode(codec)
@@ -763,6 +765,34 @@ class Encodings(RulesTest):
         data = f"EAN;Name\n{SMALL};Мыло\n".encode("cp1251")
         _, messages, _ = self.said(data, "--code", "EAN")
         self.assertIn('cp1251 reads "Мыло"', messages[0])
+
+    def test_the_encoding_of_a_till_is_among_those_that_are_shown(self) -> None:
+        german = "Käse, Füller, Größe, Äpfel"
+        for text, codecs in (
+            (german, "cp1252 cp850 cp437 mac_roman iso8859-15"),
+            (f"{german}, 2,99 €", "cp1252 iso8859-15"),
+            ("Bœuf pâté crème", "cp1252 iso8859-15 mac_roman"),
+            ("pão, avó, coração", "cp1252 cp850 mac_roman"),
+            ("Smør, blåbær", "cp1252 cp850 iso8859-15"),
+            ("Zażółć gęślą jaźń", "cp1250 iso8859-2 cp852"),
+            ("Čaj žlutý, přírodní", "cp1250 iso8859-2 cp852"),
+            ("Şeker, çay, ığdır", "cp1254"),
+            ("Мыло душистое", "cp1251 cp866 koi8-r"),
+            ("Μελάνι", "cp1253"),
+            ("税込価格 お茶 りんごジュース", "cp932 euc_jp"),
+            ("苹果 绿茶", "gb18030"),
+            ("蘋果 綠茶", "big5"),
+            ("사과 녹차", "cp949"),
+        ):
+            for codec in codecs.split():
+                data = f"EAN;Name\n{SMALL};{text}\n".encode(codec)
+                _, messages, _ = self.said(data, "--code", "EAN", "--title", "Name")
+                read = dict(re.findall(r'([\w-]+) reads "([^"]*)"', messages[0]))
+                self.assertLessEqual(len(read), 4)
+                words = text.replace(",", " ").split()
+                right = [one for one, word in read.items() if set(word.split()) <= set(words)]
+                decoded = [one for one in right if data.decode(one).endswith(f"{text}\n")]
+                self.assertTrue(decoded, (codec, messages))
 
     def test_a_wrong_encoding_is_seen(self) -> None:
         data = f"EAN;Name\n{SMALL};Zażółć\n".encode("cp1250")

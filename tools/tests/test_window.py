@@ -36,7 +36,7 @@ def setUpModule():
     """Starts a screen; GTK is loaded when there is one."""
     support.labels_program()
     support.needs(*PROGRAMS)
-    global screen, folder, window, Gio, GLib, Gtk
+    global screen, folder, application, menu, window, Gio, GLib, Gtk
     folder = tempfile.TemporaryDirectory()
     reading, writing = os.pipe()
     words = ["Xvfb", "-displayfd", str(writing), "-screen", "0", "1280x900x24", "-nolisten", "tcp"]
@@ -45,12 +45,13 @@ def setUpModule():
     with os.fdopen(reading) as file:
         number = file.readline().strip()
     os.environ.update(DISPLAY=f":{number}", NO_AT_BRIDGE="1", XDG_CONFIG_HOME=folder.name)
+    os.environ["XDG_DATA_HOME"] = folder.name  # of the tables that were opened
     os.environ.update(GDK_BACKEND="x11", LANGUAGE="en")
     # a bus that GLib starts for this screen ends with it, and then ends this process
     os.environ["DBUS_SESSION_BUS_ADDRESS"] = "disabled:"
     sys.path.insert(0, str(TOOLS))
-    from labeltools import window
-    from labeltools.window import Gio, GLib, Gtk
+    from labeltools import application, menu, window
+    from labeltools.gtk import Gio, GLib, Gtk
 
     Gtk.init([])
 
@@ -115,6 +116,12 @@ def settle(seconds):
         time.sleep(BEAT / 1000)
 
 
+def settle_until(is_done):
+    """Waits in a thread of its own."""
+    while not is_done():
+        time.sleep(BEAT / 1000)
+
+
 def command(*words, data=None):
     """What a command of the tools writes."""
     ran = subprocess.run([TOOLS / words[0], *words[1:]], input=data, capture_output=True)
@@ -136,6 +143,15 @@ def named(widget):
             yield from named(child)
 
 
+def read_aloud(widget):
+    """Yields the values of combo boxes at and below a widget, as a screen reader reads them."""
+    if isinstance(widget, Gtk.ComboBox) and widget.get_visible():
+        yield widget.get_accessible().get_name() or ""
+    if isinstance(widget, Gtk.Container):
+        for child in widget.get_children():
+            yield from read_aloud(child)
+
+
 class WindowTest(unittest.TestCase):
     def setUp(self):
         self.raised = []
@@ -149,10 +165,10 @@ class WindowTest(unittest.TestCase):
         self.table = self.folder / "articles.csv"
         self.table.write_text(TABLE)
         self.window = window.Window()
-        self.window.window.present()
+        self.window.present()
 
     def tearDown(self):
-        self.window.window.destroy()
+        self.window.destroy()
         settle(0.05)
         self.assertEqual(self.raised, [])
 
@@ -164,7 +180,7 @@ class WindowTest(unittest.TestCase):
         surface = cairo.ImageSurface(cairo.FORMAT_RGB24, *sides)
         canvas = cairo.Context(surface)
         canvas.scale(SCALE, SCALE)
-        shown.draw(canvas, self.window.widget("number").get_value_as_int())
+        shown.draw(canvas, self.window.number.get_value_as_int())
         surface.flush()
         data = bytes(surface.get_data())
         return data, data.count(bytes(3))
@@ -183,7 +199,7 @@ class WindowTest(unittest.TestCase):
     def change(self, **choices):
         """Changes choices, and waits for the labels."""
         before = getattr(self.window, "labels", None)
-        self.window.widget("info").hide()
+        self.window.info.hide()
         for name, value in choices.items():
             self.window.take({name.replace("_", "-"): value})
         self.until(lambda: self.is_made(before) or self.problem())
@@ -193,8 +209,8 @@ class WindowTest(unittest.TestCase):
         return self.window.has_labels and self.window.labels is not before
 
     def problem(self):
-        info = self.window.widget("info")
-        return self.window.widget("problem").get_text() if info.get_visible() else ""
+        info = self.window.info
+        return self.window.problem.get_text() if info.get_visible() else ""
 
     def saved(self, name):
         """What the window saves."""
@@ -211,11 +227,11 @@ class WindowTest(unittest.TestCase):
         return command("label-print", *words, data=lines)
 
     def rows(self):
-        return [tuple(row) for row in self.window.widget("notes")]
+        return [tuple(row) for row in self.window.notes]
 
     def test_saves_what_the_commands_print(self):
         self.open()
-        self.assertEqual(self.window.widget("of").get_text(), "of 1")
+        self.assertEqual(self.window.of.get_text(), "of 1")
         self.change(first=9)
         page = ("--stock", "Avery L7160", "--dpi", "600", "--first", "9")
         self.assertEqual(self.saved("labels.pdf"), self.by_commands(*page))
@@ -229,7 +245,7 @@ class WindowTest(unittest.TestCase):
         operation = self.window.operation()
         operation.set_export_filename(str(path))
         operation.set_allow_async(False)
-        operation.run(Gtk.PrintOperationAction.EXPORT, self.window.window)
+        operation.run(Gtk.PrintOperationAction.EXPORT, self.window)
         settings = operation.get_print_settings()
         self.assertEqual(settings.get("cups-Resolution"), "600dpi")
         self.assertEqual(settings.get("cups-print-scaling"), "none")
@@ -244,17 +260,17 @@ class WindowTest(unittest.TestCase):
 
     def test_says_what_is_left_out_and_what_there_is(self):
         self.open()
-        self.assertEqual(self.window.widget("left-out").get_text(), "1 row is left out")
+        self.assertEqual(self.window.left_out.get_text(), "1 row is left out")
         row, cell, why = self.rows()[0]
         self.assertEqual((row, cell), ("4", "4006381333932"))
         self.assertIn("check digit", why)
-        self.assertIn("6 labels of 3 rows", self.window.widget("count").get_text())
-        self.assertTrue(self.window.widget("guessed").get_visible())
+        self.assertIn("6 labels of 3 rows", self.window.count.get_text())
+        self.assertTrue(self.window.guessed.get_visible())
 
     def look(self, kind, number=1):
         """Looks at a page, or at a label."""
-        self.window.widget("view").set_active_id(kind)
-        self.window.widget("number").set_value(number)
+        self.window.view.set_active_id(kind)
+        self.window.number.set_value(number)
         return self.shown()
 
     def test_shows_pages_and_labels_in_their_size_and_in_dots(self):
@@ -276,12 +292,12 @@ class WindowTest(unittest.TestCase):
     def paper_width(self):
         """The pixels of what is looked at, from left to right."""
         settle(0.2)
-        return self.window.widget("paper").get_allocated_width()
+        return self.window.paper.get_allocated_width()
 
     def test_a_click_begins_at_a_cell(self):
         self.open()
         settle(0.2)
-        paper = self.window.widget("paper")
+        paper = self.window.paper
         scale = paper.get_allocated_width() / 210
         before = self.window.labels
         self.window.on_click(paper, mock.Mock(x=100 * scale, y=70 * scale))
@@ -296,34 +312,48 @@ class WindowTest(unittest.TestCase):
         self.table.write_text(TABLE.replace("Soap", long))
         self.open()
         self.look("label")
-        notes = self.window.widget("notes")
+        notes = self.window.notes
         (place,) = [number for number, note in enumerate(notes) if "shortened to fit" in note[2]]
         self.assertEqual(notes[place][0], "3")
-        self.window.widget("list").get_selection().select_path(Gtk.TreePath(place))
+        self.window.left_out_list.get_selection().select_path(Gtk.TreePath(place))
         settle(0.1)
-        self.assertEqual(self.window.widget("number").get_value_as_int(), 2)
+        self.assertEqual(self.window.number.get_value_as_int(), 2)
 
     def test_a_table_is_an_argument(self):
         words = [TOOLS / "label-window", self.table]
+        opened = []
+
+        def open_and_end(one, path):
+            opened.append((path, one.get_application()))
+            GLib.idle_add(one.get_application().lookup_action("quit").activate, None)
+
         with (
             mock.patch.object(sys, "argv", list(map(str, words))),
-            mock.patch.multiple(window.Gtk, main=mock.DEFAULT, main_quit=mock.DEFAULT),
-            mock.patch.object(window.Window, "open") as opened,
+            mock.patch.object(window.Window, "open", open_and_end),
         ):
-            self.assertEqual(window.run(), 0)
-        opened.assert_called_once_with(self.table)
+            self.assertEqual(application.run(), 0)  # Ctrl+Q ends it
+        ((path, program),) = opened
+        self.assertEqual(path, self.table)
+        keys = {action: program.get_accels_for_action(action) for action in application.KEYS}
+        for action, key in (
+            ("win.open", "<Primary>o"),
+            ("win.save", "<Primary>s"),
+            ("win.print", "<Primary>p"),
+            ("app.help", "F1"),
+            ("app.quit", "<Primary>q"),
+        ):
+            self.assertEqual(keys[action], [key])
         without = {name: value for name, value in os.environ.items() if name != "DISPLAY"}
         ran = subprocess.run(words, env=without, capture_output=True, text=True)
         self.assertEqual(ran.returncode, 1)
         self.assertIn("label-window: there is no screen", ran.stderr)
 
     def test_a_table_is_opened_by_the_button(self):
-        widget = self.window.widget
         opener = mock.Mock()
         opener.run.return_value = Gtk.ResponseType.ACCEPT
         opener.get_filename.return_value = str(self.table)
-        self.window.widget = lambda name: opener if name == "opener" else widget(name)
-        self.window.widget("open").clicked()
+        self.window.opener = opener
+        self.window.open_button.clicked()
         self.until(lambda: self.window.has_labels)
 
     def test_a_table_is_dropped(self):
@@ -340,28 +370,27 @@ class WindowTest(unittest.TestCase):
         self.table.write_text("Prices of May;;;;;\n;;;;;\n" + TABLE)
         self.open()
         self.assertEqual(self.window.choices()["header-row"], 3)
-        self.assertIn("6 labels of 3 rows", self.window.widget("count").get_text())
+        self.assertIn("6 labels of 3 rows", self.window.count.get_text())
         self.table.write_text("4006381333931;Pencil;0,80 €\n96385074;Gum;1,20 €\n")
         self.open()
         self.assertEqual(self.window.choices()["header-row"], 0)
-        self.assertIn("2 labels of 2 rows", self.window.widget("count").get_text())
-        self.window.widget("header-row").set_value(1)
+        self.assertIn("2 labels of 2 rows", self.window.count.get_text())
+        self.window.header_row.set_value(1)
         self.until(lambda: not self.window.has_labels)
         self.until(lambda: self.window.has_labels)
-        self.assertIn("1 label of 1 row", self.window.widget("count").get_text())
+        self.assertIn("1 label of 1 row", self.window.count.get_text())
 
     def test_many_labels_are_asked_for(self):
         self.open()
         self.assertTrue(self.window.is_meant())
         self.table.write_text(TABLE.replace("5000;3", "5000;998"))
         self.open()
-        widget = self.window.widget
-        many = mock.Mock()
-        self.window.widget = lambda name: many if name == "many" else widget(name)
+        dialog = self.window.many
+        many = self.window.many = mock.Mock()
         for answer, is_meant in ((Gtk.ResponseType.CANCEL, False), (Gtk.ResponseType.OK, True)):
             many.run.return_value = answer
             self.assertEqual(self.window.is_meant(), is_meant)
-        summary = widget("many").get_property("secondary-text")
+        summary = dialog.get_property("secondary-text")
         self.assertIn("1001 labels of 3 rows", summary)
 
     def test_a_queue_gets_the_file_as_it_is(self):
@@ -378,7 +407,7 @@ class WindowTest(unittest.TestCase):
         with mock.patch.dict(os.environ, {"PATH": path}):
             asked = []
             self.window.ask_queue = lambda *values: asked.append(values)
-            self.window.on_print(None)
+            self.window.ask_printer()
             self.until(lambda: asked)
             (names,) = asked[0]
             self.assertEqual(names, ["office", "zebra"])
@@ -411,12 +440,12 @@ class WindowTest(unittest.TestCase):
         self.open(later)
         chosen = self.window.choices()
         self.assertEqual((chosen["price"], chosen["roll"], chosen["sheet"]), ("", True, False))
-        self.assertFalse(self.window.widget("guessed").get_visible())
+        self.assertFalse(self.window.guessed.get_visible())
         for written in ('{"Nr": [1], "EAN": 3}', "[]", "{", '{"Nr\\nEAN": {"price": 7}}'):
             (self.folder / "labels/window.json").write_text(written)
             self.open(later)
             self.assertEqual(self.window.choices()["price"], "4")
-            self.assertTrue(self.window.widget("guessed").get_visible())
+            self.assertTrue(self.window.guessed.get_visible())
         names = "Nr\\nEAN\\nName\\nPrice\\nStock\\nLabels"
         wrong = f'{{"{names}": {{"price": 7, "title": "9", "widget": 1, "copies": ""}}}}'
         (self.folder / "labels/window.json").write_text(wrong)
@@ -428,12 +457,12 @@ class WindowTest(unittest.TestCase):
         self.table.write_text("EAN;Name;Preis A;Preis B\n96385074;Gum, red;1,20;0,80\n")
         self.open()
         self.assertIn("may be in", self.problem())
-        self.assertFalse(self.window.widget("out").get_sensitive())
+        self.assertFalse(self.window.save_button.is_sensitive())
         self.change(price="4")
-        self.assertIn("price 0,80", self.window.widget("count").get_text())
+        self.assertIn("price 0,80", self.window.count.get_text())
         for prices in ("0,80;1,20", "1,20;0,80"):
             self.table.write_text(f"96385074;Gum, red;{prices}\n")
-            self.window.widget("info").hide()
+            self.window.info.hide()
             self.window.has_labels = False
             self.open()
             self.assertIn("may be in", self.problem())
@@ -443,47 +472,268 @@ class WindowTest(unittest.TestCase):
     def test_prints_only_what_is_new(self):
         """What went out is kept, and asked for once there is such a list."""
         self.open()
-        self.assertFalse(self.window.widget("new-only").get_visible())
+        self.assertFalse(self.window.new_only.get_visible())
         self.saved("labels.pdf")
-        self.until(self.window.widget("done").get_visible)
+        self.until(self.window.done.get_visible)
         self.table.write_text(TABLE.replace("Soap", "Soap, blue"))
         self.open()
-        self.assertTrue(self.window.widget("new-only").get_visible())
+        self.assertTrue(self.window.new_only.get_visible())
         everything = self.window.table.lines.count
         self.change(new_only=True)
         self.assertEqual(self.window.table.lines.count, 1)
-        self.assertIn("--new-since", self.window.widget("command").get_text())
+        self.assertIn("--new-since", self.window.command.get_text())
         self.saved("changed.pdf")
-        self.until(self.window.widget("done").get_visible)
+        self.until(self.window.done.get_visible)
         self.open()
         self.change(new_only=False)
         self.assertEqual(self.window.table.lines.count, everything)
         self.change(new_only=True)
         self.assertIn("no label", self.problem())  # all went out
 
-    def test_keys_open_save_and_print(self):
-        group = window.Gtk.accel_groups_from_object(self.window.window)[0]
-        control = window.Gdk.ModifierType.CONTROL_MASK
-        for letter in "osp":
-            self.assertEqual(len(group.query(window.Gdk.keyval_from_name(letter), control)), 1)
+    def test_only_labels_that_went_out_are_kept(self):
+        """On a roll of 30x20 an EAN-13 does not fit: next time it is new all the same. So is what
+        was not asked for.
+        """
+        self.open()
+        self.change(roll=True, to="zpl", dpi="203", width=30, height=20)
+        self.saved("small.zpl")
+        self.until(self.window.done.get_visible)
+        self.assertEqual(self.printed(), [b"96385074"])
+        self.change(width=60, height=40, for_print="--only 3")
+        settle(0.5)  # what is typed is read when nothing is typed any more
+        self.saved("one.zpl")
+        self.until(self.window.done.get_visible)
+        self.assertEqual(self.printed(), [b"96385074", b"036000291452"])
+        self.open()
+        self.change(new_only=True)
+        self.assertEqual(self.window.table.lines.count, 1)
+        self.assertIn("0,80", self.window.table.lines.summary)
+
+    def printed(self):
+        """The codes that went out, as they are kept."""
+        return [record.data for record in self.window.table.printed_records()]
+
+    def ids(self):
+        """The ids of what is chosen, which nobody should hear."""
+        return {str(value) for value in self.window.choices().values() if value not in ("", None)}
+
+    def test_a_second_text_is_below_the_first(self):
+        self.open()
+        self.assertFalse(self.window.text_2.get_visible())
+        self.window.more.clicked()
+        self.assertTrue(self.window.text_2.get_visible())
+        self.change(text="3", text_2="5")
+        self.saved("labels.pdf")
+        texts = [item.label.text for item in self.window.labels.labels]
+        self.assertEqual(texts[0], "Pencil, red\n5000")
+        self.open()  # it is kept
+        self.assertTrue(self.window.text_2.get_visible())
+        self.window.more.clicked()
+        self.until(lambda: self.window.has_labels)
+        self.assertEqual(self.window.choices()["text-2"], "")
+
+    def test_a_printer_of_a_language_of_its_own_has_its_usual_dots(self):
+        self.open()
+        self.change(roll=True, to="zpl")
+        self.assertEqual(self.window.choices()["dpi"], "203")
+        self.assertEqual(self.window.labels.job.plan.dpi, 203)
+        self.change(dpi="300")
+        self.assertEqual(self.window.labels.job.plan.dpi, 300)
+        self.change(to="pdf")
+        self.assertEqual(self.window.choices()["dpi"], "600")
+        self.change(to="zpl", dpi="300")
+        self.saved("kept.zpl")
+        self.open()  # what is kept is not changed
+        self.assertEqual(self.window.choices()["dpi"], "300")
+
+    def test_a_design_is_a_file(self):
+        """It is drawn at once, what is said of it is in the list, and it is chosen the next time."""
+        path = self.folder / "own.svg"
+        code = '<rect id="code" x="1" y="12" width="52" height="20"/>'
+        title = '<rect id="title" x="1" y="1" width="{}" height="10"/>'
+        size = 'width="60mm" height="40mm" viewBox="0 0 60 40"'
+        whole = f'<svg xmlns="http://www.w3.org/2000/svg" {size}>{title}{code}</svg>'
+        path.write_text(whole.format(58))
+        self.open()
+        self.change(roll=True, width=60, height=40)
+        built_in, _ = self.shown()
+        with mock.patch.object(self.window, "design_opener") as opener:
+            opener.run.return_value = Gtk.ResponseType.ACCEPT
+            opener.get_filename.return_value = str(path)
+            self.change(design="file")
+            self.assertEqual(self.window.design.get_active_id(), str(path))
+            self.assertNotEqual(self.shown()[0], built_in)
+            said = [row[2] for row in self.window.notes]
+            self.assertIn("own.svg has no place for price", " ".join(said))
+            self.assertIn(f"--design {path}", self.window.command.get_text())
+            path.write_text(whole.format(70))
+            self.change(design="file")
+            self.assertIn("the place title leaves the label by 11.0 mm", self.problem())
+            opener.run.return_value = Gtk.ResponseType.CANCEL
+            self.change(design="file")
+            self.assertEqual(self.window.design.get_active_id(), str(path))
+        self.change(design="article")
+        self.assertEqual(self.shown()[0], built_in)
+
+    def test_setups_are_named_and_picked_again(self):
+        self.open()
+        self.change(roll=True, width=50, height=25, to="zpl")
+        naming = self.window.naming = mock.Mock()
+        naming.run.return_value = Gtk.ResponseType.OK
+        self.window.setup_name.set_text("shelf roll")
+        self.window.lookup_action("keep-setup").activate(None)
+        self.change(sheet=True, to="pdf", width=60)
+        self.window.menu.fill()
+        self.assertEqual(self.in_menu()[0], "shelf roll")
+        before = self.window.labels
+        self.window.lookup_action("setup").activate(GLib.Variant("s", "shelf roll"))
+        self.until(lambda: self.is_made(before))
+        chosen = self.window.choices()
+        self.assertEqual((chosen["roll"], chosen["width"], chosen["to"]), (True, 50, "zpl"))
+        self.assertEqual(self.window.labels.job.plan.sheet.page, (50, 25))
+        self.window.lookup_action("forget-setup").activate(GLib.Variant("s", "shelf roll"))
+        self.window.menu.fill()
+        self.assertNotIn("shelf roll", self.in_menu())
+
+    def in_menu(self, model=None):
+        """The texts of the menu, and of its parts."""
+        model = model or self.window.menu.model
+        found = []
+        for place in range(model.get_n_items()):
+            text = model.get_item_attribute_value(place, "label", None)
+            found += [text.get_string()] if text and model is not self.window.menu.model else []
+            for link in ("section", "submenu"):
+                inner = model.get_item_link(place, link)
+                found += self.in_menu(inner) if inner else []
+        return found
+
+    def test_tables_that_were_opened_are_in_the_menu(self):
+        self.open()
+        settle(1.0)  # GTK writes the list a little later
+        self.assertIn(str(self.table), menu.recent_tables())
+        self.window.menu.fill()
+        self.assertIn("articles.csv", self.in_menu())
+        self.table.unlink()
+        self.assertNotIn(str(self.table), menu.recent_tables())
+
+    def test_a_printer_of_other_dots_is_refused(self):
+        self.open()
+        options = self.folder / "lpoptions"
+        options.write_text("#!/bin/sh\necho 'Resolution/Resolution: *300dpi'\n")
+        options.chmod(0o755)
+        operation = mock.Mock()
+        path = f"{self.folder}{os.pathsep}{os.environ['PATH']}"
+        with mock.patch.dict(os.environ, {"PATH": path}):
+            for printer, file, is_refused in (
+                ("office", None, True),
+                ("office", "file:///labels.pdf", False),
+                (None, None, False),
+            ):
+                operation.reset_mock()
+                settings = operation.get_print_settings.return_value
+                settings.get_printer.return_value = printer
+                settings.get.return_value = file
+                self.window.info.hide()
+                self.window.check_printer(operation, None)
+                self.assertEqual(operation.cancel.called, is_refused)
+                self.assertEqual("prints at 300dpi" in self.problem(), is_refused)
+            options.write_text("#!/bin/sh\necho 'Resolution/Resolution: 300dpi *600dpi'\n")
+            settings.get_printer.return_value = "office"
+            self.window.info.hide()
+            self.window.check_printer(operation, None)
+            self.assertEqual(self.problem(), "")
+
+    def test_a_file_is_read_next_week_as_this_week(self):
+        """Its encoding is kept for its name: without it the names cannot be read."""
+        self.table.write_bytes("EAN;Name\n96385074;Füller, blau\n".encode("cp1252"))
+        self.open()
+        self.change(for_table="--encoding cp1252")
+        self.saved("labels.pdf")
+        self.window.open(self.folder / "none.csv")  # another file is between
+        self.until(self.problem)
+        self.window.info.hide()
+        self.open()
+        self.assertEqual(self.problem(), "")
+        self.assertEqual(self.window.choices()["for-table"], "--encoding cp1252")
+        self.table.write_text("EAN;Name\n96385074;Füller, rot\n")  # now it is UTF-8
+        self.window.open(self.folder / "none.csv")
+        self.until(self.problem)
+        self.window.info.hide()
+        self.open()
+        self.assertEqual(self.problem(), "")
+        self.assertEqual(self.window.labels.labels[0].label.title, "Füller, rot")
+
+    def test_progress_has_numbers(self):
+        talk = self.window.talk
+        talk.is_stopped = False
+        talk.go_on(1200, 20000)
+        self.assertEqual(window.progress_text(talk), "1200 of 20000")  # as the locale has them
+        talk.go_on(0, 0)
+        self.assertEqual(window.progress_text(talk), "")
+
+    def test_stop_while_a_table_is_read_says_so(self):
+        self.window.start(lambda talk: settle_until(lambda: talk.is_stopped), bool)
+        self.window.stack.set_visible_child_name("work")
+        self.window.on_stop_button(None)
+        self.assertEqual(self.window.stack.get_visible_child_name(), "empty")
+        self.assertTrue(self.window.done.get_visible())
+
+    def test_a_sheet_is_looked_for_when_its_name_is_whole(self):
+        self.open()
+        before = self.window.labels
+        entry = mock.Mock()
+        entry.has_focus.return_value = True
+        entry.get_text.return_value = "Avery L71"
+        with mock.patch.object(self.window, "make") as make:
+            self.window.on_sheet(entry)
+            self.assertFalse(make.called)
+            entry.get_text.return_value = next(iter(window.list_stock("L7160"))).partition(": ")[0]
+            self.window.on_sheet(entry)
+            self.assertTrue(make.called)
+        self.assertIs(self.window.labels, before)
+
+    def test_reasons_wrap_at_the_edge_of_the_list(self):
+        self.open()
+        widths = []
+        for width in (800, 1180):
+            self.window.resize(width, 800)
+            settle(0.5)
+            widths.append(self.window.reason.get_property("wrap-width"))
+        self.assertLess(widths[0], widths[1])
+
+    def test_many_labels_are_compared_quickly(self):
+        """What is compared dot for dot is not read by a second scanner, which took 19 ms each."""
+        numbers = range(401_234_500_000, 401_234_500_400)
+        rows = "".join(f"{support.ean13(one)};Title {one};1,00 €\n" for one in numbers)
+        self.table.write_text("EAN;Name;Price\n" + rows)
+        self.open()
+        before = time.process_time()
+        self.saved("labels.pdf")
+        self.assertLess(time.process_time() - before, 0.005 * len(numbers))
+
+    def test_a_child_that_is_not_there_is_seen_at_the_start(self):
+        """All widgets that the window names are in window.ui."""
+        for name, child in vars(window.Window).items():
+            if isinstance(child, Gtk.Template.Child):
+                self.assertIsNotNone(getattr(self.window, name))
 
     def test_saves_beside_the_table(self):
         self.open()
-        chooser = self.window.widget("saver")
+        chooser = self.window.saver
         with (
             mock.patch.object(type(chooser), "run", return_value=0),
             mock.patch.object(type(chooser), "set_current_folder") as folder_of,
             mock.patch.object(type(chooser), "set_current_name") as name_of,
         ):
-            self.window.on_save(None)
+            self.window.ask_file()
         folder_of.assert_called_once_with(str(self.table.parent))
         name_of.assert_called_once_with(f"{self.table.stem}-labels.pdf")
 
     def test_offers_sheets_and_encodings(self):
         self.table.write_bytes("EAN;Name\n96385074;Füller, blau\n".encode("cp1252"))
         self.open()
-        (offer,) = self.window.widget("offers").get_children()
-        self.window.widget("info").hide()
+        (offer,) = self.window.offers.get_children()
+        self.window.info.hide()
         offer.clicked()
         self.until(lambda: self.window.has_labels or self.problem())
         self.assertEqual(self.problem(), "")
@@ -498,7 +748,7 @@ class WindowTest(unittest.TestCase):
         self.open(later)
         self.until(lambda: self.window.has_labels)
         self.assertEqual(self.window.choices()["for-table"], "--where Name=Soap")
-        self.assertIn("2 labels of 1 row:", self.window.widget("count").get_text())
+        self.assertIn("2 labels of 1 row:", self.window.count.get_text())
 
     def test_a_file_that_is_no_table_is_said(self):
         for name, data in (
@@ -510,7 +760,7 @@ class WindowTest(unittest.TestCase):
             path.write_bytes(data)
             self.open(path)
             self.assertIn(name, self.problem())
-            self.assertFalse(self.window.widget("print").is_sensitive())
+            self.assertFalse(self.window.print_button.is_sensitive())
         self.open(self.folder / "none.csv")
         self.assertIn("none.csv", self.problem())
         self.open()
@@ -522,19 +772,19 @@ class WindowTest(unittest.TestCase):
         for words, said in (("--no-such-option", "--no-such-option"), ("'open", "quotation")):
             self.change(for_print=words)
             self.assertIn(said, self.problem())
-            self.assertFalse(self.window.widget("print").is_sensitive())
+            self.assertFalse(self.window.print_button.is_sensitive())
             self.assertIs(self.window.shown, before)
         self.change(for_print="", price="")
         self.assertEqual(self.problem(), "")
         self.change(for_table="--no-such-option")
         self.assertIn("--no-such-option", self.problem())
         self.change(for_table="--where Name=Soap")
-        self.assertIn("2 labels of 1 row:", self.window.widget("count").get_text())
+        self.assertIn("2 labels of 1 row:", self.window.count.get_text())
         self.change(for_table="")
-        self.assertIn("6 labels of 3 rows:", self.window.widget("count").get_text())
+        self.assertIn("6 labels of 3 rows:", self.window.count.get_text())
         self.change(for_table="--where Name=Soap")
         settle(0.5)
-        self.assertIn("2 labels of 1 row:", self.window.widget("count").get_text())
+        self.assertIn("2 labels of 1 row:", self.window.count.get_text())
         self.assertEqual(self.window.choices()["price"], "")
         with redirect_stdout(StringIO()):
             self.window.take({"for-table": "--help"})
@@ -546,7 +796,7 @@ class WindowTest(unittest.TestCase):
         self.assertIn("--encoding", self.problem())
         self.change(for_table="--encoding cp1252")
         self.assertEqual(self.problem(), "")
-        self.assertIn("6 labels of 3 rows", self.window.widget("count").get_text())
+        self.assertIn("6 labels of 3 rows", self.window.count.get_text())
 
     def test_a_wrong_picture_stops_the_print(self):
         self.open()
@@ -600,10 +850,10 @@ class WindowTest(unittest.TestCase):
         self.window.on_stop(None)
         settle(0.5)
         self.assertEqual(list(self.folder.glob("*.pdf")), [])
-        self.assertTrue(self.window.widget("print").is_sensitive())
+        self.assertTrue(self.window.print_button.is_sensitive())
         self.window.take({"price": ""})
         self.window.on_stop(None)  # the labels that are there are not those that are chosen
-        self.assertFalse(self.window.widget("print").is_sensitive())
+        self.assertFalse(self.window.print_button.is_sensitive())
 
     def test_the_desktop_finds_the_window(self):
         support.needs("desktop-file-validate", "appstreamcli")
@@ -627,7 +877,11 @@ class WindowTest(unittest.TestCase):
             "from labeltools import window\n"
             "from labeltools.window import _, Gtk\n"
             "print(_('of {all}').format(all=1))\n"
-            "builder = Gtk.Builder.new_from_file(str(window.FILE))\n"
+            "text = window.FILE.read_text()\n"
+            "text = text.replace('<template class=', '<object id=').replace('template>', 'object>')\n"
+            "text = text.replace('parent=', 'class=')\n"
+            "builder = Gtk.Builder()\n"
+            "builder.add_from_string(text)\n"
             "for one in builder.get_objects():\n"
             "    for name in ('label', 'text', 'title', 'placeholder-text', 'tooltip-text'):\n"
             "        if one.find_property(name): print(one.get_property(name))\n"
@@ -648,9 +902,10 @@ class WindowTest(unittest.TestCase):
 
     def test_each_control_has_a_name_and_fits_a_small_screen(self):
         self.open()
-        controls = list(named(self.window.window))
+        controls = list(named(self.window))
         self.assertGreater(len(controls), 20)
         self.assertEqual([str(one) for one, name in controls if not name], [])
-        width, _ = self.window.window.get_preferred_width()
-        height, _ = self.window.window.get_preferred_height()
+        self.assertEqual([one for one in read_aloud(self.window) if one in self.ids()], [])
+        width, _ = self.window.get_preferred_width()
+        height, _ = self.window.get_preferred_height()
         self.assertLessEqual((width <= 800, height <= 560), (True, True))

@@ -1,29 +1,44 @@
 """ZPL II of label printers."""
 
 import re
-from functools import cache, lru_cache
+from functools import cache, lru_cache, reduce
 from itertools import chain
+from operator import or_
+from typing import Iterator, NamedTuple, Sequence
 
-from labeltools.engine import bytes_a_row
 from labeltools.forms.dots import Picture
 
 MOST_BYTES = 99_999  # of a graphic field
+# white that parts two fields: fewer rows or bytes of it take less than the head of a field
+WHITE_ROWS = 8
+INKED = re.compile(rb"[^\0]+(?:\0{1,2}[^\0]+)*")
 # run lengths: counts of one are a letter from G on, counts of twenty a letter from g on
 MOST_COUNT = 400
 TWENTY = 20
 BEFORE_ONE = ord("F")
 BEFORE_TWENTY = ord("f")
-OFTEN = re.compile(r"(([0F])\2{4,})")  # a count of fewer digits saves next to nothing
-KNOWN = 4096  # rows that are kept as they were written: most labels share some
+OFTEN = re.compile("(000000*|FFFFFF*)")  # five or more: a count of fewer saves next to nothing
+KNOWN = 256  # blocks that are kept as they were written: what is alike on all labels
 RESTS = {"0": ",", "F": "!"}  # the rest of a row is light or dark
+
+
+class Block(NamedTuple):
+    """A part of a label with white around it: the byte and the row where it begins, and its rows
+    of whole bytes.
+    """
+
+    left: int
+    top: int
+    rows: Sequence[bytes]
 
 
 def zpl(picture: Picture, copies: int) -> bytes:
     """Returns a label, which is printed `copies` times.
 
     It is not turned (^PON), and begins at the left upper corner (^LH, ^LS), whatever the job before
-    has set. Its dots are graphic fields one below the other, in run lengths, which each printer and
-    clone reads.
+    has set. Its dots are a graphic field for each block between white rows and columns, so that a
+    row of bars is that above it once more, whatever is beside them. They are in run lengths, which
+    each printer and clone reads.
     """
     head = b"^XA^PON^LH0,0^LS0^PW%d^LL%d\n" % (picture.width, picture.height)
     fields = b"".join(graphic_fields(picture))
@@ -33,41 +48,71 @@ def zpl(picture: Picture, copies: int) -> bytes:
 
 def graphic_fields(picture: Picture) -> list[bytes]:
     """Returns the graphic fields of a label."""
-    size = bytes_a_row(picture.width)
-    rows_a_field = MOST_BYTES // size
     fields = []
-    for top in range(0, picture.height, rows_a_field):
-        rows = picture.rows[top : top + rows_a_field]
-        data = run_lengths(rows)
-        length = len(rows) * size
-        fields.append(b"^FO0,%d^GFA,%d,%d,%d,%b^FS\n" % (top, length, length, size, data))
+    for block in blocks(Block(0, 0, picture.rows)):
+        size = len(block.rows[0])
+        rows_a_field = MOST_BYTES // size
+        for start in range(0, len(block.rows), rows_a_field):
+            rows = block.rows[start : start + rows_a_field]
+            data = run_lengths(tuple(rows))
+            place = (8 * block.left, block.top + start)
+            length = len(rows) * size
+            fields.append(b"^FO%d,%d^GFA,%d,%d,%d,%b^FS\n" % (*place, length, length, size, data))
     return fields
 
 
+def blocks(whole: Block) -> Iterator[Block]:
+    """Yields the blocks of a label from top to bottom, and from left to right."""
+    for band in bands(whole):
+        mask = reduce(or_, (int.from_bytes(row, "big") for row in set(band.rows)))
+        inked = mask.to_bytes(len(band.rows[0]), "big")
+        spans = [found.span() for found in INKED.finditer(inked)]
+        for first, last in spans:
+            rows = [row[first:last] for row in band.rows]
+            block = Block(band.left + first, band.top, rows)
+            if len(spans) > 1:
+                yield from blocks(block)
+            else:
+                yield block
+
+
+def bands(block: Block) -> Iterator[Block]:
+    """Yields parts of a block with white rows between them, and none at their ends."""
+    blank = bytes(len(block.rows[0])) if block.rows else b""
+    start = last = -1
+    for number, row in enumerate(block.rows):
+        if row == blank:
+            continue
+        if number - last > WHITE_ROWS and start >= 0:
+            yield Block(block.left, block.top + start, block.rows[start : last + 1])
+            start = -1
+        last = number
+        start = number if start < 0 else start
+    if start >= 0:
+        yield Block(block.left, block.top + start, block.rows[start : last + 1])
+
+
+@lru_cache(KNOWN)
 def run_lengths(rows: tuple[bytes, ...]) -> bytes:
-    """Returns rows in hexadecimal: a count before a digit that comes often, `,` and `!` for a rest
-    of 0 and F, `:` for the row above once more.
+    """Returns rows in hexadecimal: a count before 0 and F that come often, `,` and `!` for a rest
+    of them, `:` for the row above once more.
 
     >>> run_lengths((bytes.fromhex("FF00AB"), bytes.fromhex("FF00AB"), bytes(3)))
     b'FF00AB:,'
     """
-    texts = []
-    for above, row in zip(chain([b""], rows), rows):
-        texts.append(":" if row == above else run_lengths_of(row))
-    return "".join(texts).encode()
+    texts = [
+        ":" if row == above else without_rest(row.hex().upper())
+        for above, row in zip(chain([b""], rows), rows)
+    ]
+    pieces = OFTEN.split("".join(texts))  # no run goes on from a row to the next
+    pieces[1::2] = map(run_length_of, pieces[1::2])
+    return "".join(pieces).encode()
 
 
-@lru_cache(KNOWN)
-def run_lengths_of(row: bytes) -> str:
-    """Returns one row in hexadecimal with run lengths."""
-    text = row.hex().upper()
-    rest = RESTS.get(text[-1:], "")
-    if rest:
-        text = text.rstrip(text[-1])
-    pieces = OFTEN.split(text)  # what is between runs, a run, its digit, ..
-    pieces[1::3] = map(run_length_of, pieces[1::3])
-    del pieces[2::3]
-    return "".join(pieces) + rest
+def without_rest(row: str) -> str:
+    """Returns a row with a sign for its rest, where that is 0 or F."""
+    rest = RESTS.get(row[-1])
+    return row.rstrip(row[-1]) + rest if rest else row
 
 
 @cache

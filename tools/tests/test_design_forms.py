@@ -1,0 +1,101 @@
+"""The designs that are shipped, in every form and at the dots an inch of usual printers: each symbol
+is read by zbar and by zxing, and has its modules.
+"""
+
+import os
+import tempfile
+import unittest
+from pathlib import Path
+
+import numpy
+
+import designs
+import jobs
+import support
+from labeltools.own_layout import OwnLayout
+from labeltools.read_back import own_fault_in
+from test_forms import dots_of_svg, rendered
+
+DPIS = (203, 300, 600)
+DOTS = ("png", "zpl", "escpos")  # the same dots as those of PBM
+
+
+def setUpModule() -> None:
+    os.environ["LABELS"] = str(support.labels_program())
+    support.needs("pdftoppm", "rsvg-convert", "pngtopnm", "zbarimg")
+
+
+def printed(name: str, form: str, dpi: int) -> numpy.ndarray:
+    """The dots of the label of a design, as a program reads them in a form."""
+    design = ("--design", str(designs.FOLDER / f"{name}.svg"))
+    words = ("--dpi", str(dpi), "--to", form, "--dots", "9999")
+    done = support.printed(*design, *words, input=designs.lines_of([designs.SHIPPED[name]]))
+    if done.returncode or done.stderr:
+        raise AssertionError(done.stderr.decode())
+    if form == "pdf":
+        return rendered(["pdftoppm", "-r", str(dpi), "-mono", "FILE", "out"], done.stdout)
+    if form == "svg":
+        return dots_of_svg(done.stdout, dpi)
+    if form == "png":
+        return rendered(["pngtopnm", "FILE"], done.stdout)
+    if form == "zpl":
+        return jobs.dots_of_zpl(done.stdout)[0]
+    if form == "escpos":
+        return jobs.dots_of_escpos(done.stdout)[0]
+    return jobs.pictures_of_pbm(done.stdout)[0]
+
+
+def is_same(one: numpy.ndarray, other: numpy.ndarray) -> bool:
+    """Whether dots are the same; paper that is wider than them is white."""
+    wide = other.shape[1]
+    return numpy.array_equal(one[:, :wide], other) and not one[:, wide:].any()
+
+
+class Shipped(unittest.TestCase):
+    def test_each_design_has_a_label(self) -> None:
+        names = [path.stem for path in sorted(designs.FOLDER.glob("*.svg"))]
+        self.assertEqual(names, sorted(designs.SHIPPED))
+        for name in names:
+            found = designs.prepared(
+                designs.FOLDER / f"{name}.svg", [designs.SHIPPED[name]], paper=None
+            )
+            for side, wanted in zip(found.job.plan.sheet.page, designs.size_of(name)):
+                self.assertAlmostEqual(side, wanted, delta=0.5)
+            self.assertEqual((len(found.labels), found.left_out, found.remarks), (1, (), ()), name)
+
+    @support.slow
+    def test_each_symbol_is_read_in_each_form(self) -> None:
+        read = 0
+        for name, label in designs.SHIPPED.items():
+            for dpi in DPIS:
+                found = designs.prepared(
+                    designs.FOLDER / f"{name}.svg", [label], paper=None, dpi=dpi, read_back=False
+                )
+                layout = found.labels[0].layout
+                assert isinstance(layout, OwnLayout)
+                dots = {form: printed(name, form, dpi) for form in ("pbm", "pdf", "svg", *DOTS)}
+                for form in DOTS:
+                    self.assertTrue(is_same(dots[form], dots["pbm"]), (name, dpi, form))
+                for form in ("pbm", "pdf", "svg"):
+                    rows = ["".join(map(str, row)) for row in dots[form].tolist()]
+                    self.assertIsNone(own_fault_in(rows, layout), (name, dpi, form))
+                    self.assertEqual(
+                        self.by_zbar(dots[form]), self.codes(layout), (name, dpi, form)
+                    )
+                    read += len(layout.symbols)
+        self.assertEqual(read, 81)
+
+    def codes(self, layout: OwnLayout) -> list[str]:
+        """The data of the symbols of a label, in their order."""
+        return sorted(symbol.data.decode() for symbol in layout.symbols)
+
+    def by_zbar(self, dots: numpy.ndarray) -> list[str]:
+        """What zbar reads on a label, with white around it."""
+        with tempfile.TemporaryDirectory() as folder:
+            path = Path(folder, "label.pbm")
+            path.write_bytes(jobs.pbm_of(numpy.pad(dots, 40)))
+            return sorted(code.partition(":")[2] for code in support.read_codes(path))
+
+
+if __name__ == "__main__":
+    unittest.main()
