@@ -148,6 +148,8 @@ def font_of(
     shapes = TrueType(stream(int(file[1]))) if file else None
     letters = {}
     for code, width in widths.items():
+        if not width and not below:  # of no letter that is shown
+            continue
         if shapes is None:
             letters[code] = Reach(width, 0.0, 0.0, *FILLED)
         else:
@@ -173,11 +175,15 @@ class TrueType:
         places.byteswap()
         self.places = [place * (1 if is_long else 2) for place in places]
         self.shapes = tables[b"glyf"]
-        self.glyphs = glyphs_of(tables[b"cmap"]) if b"cmap" in tables else {}
+        self.spans = spans_of(tables[b"cmap"]) if b"cmap" in tables else []
 
     def glyph(self, letter: str) -> int:
         """Returns the glyph of a letter; 0 for the one of letters that are not there."""
-        return self.glyphs.get(ord(letter), 0)
+        code = ord(letter)
+        for span in self.spans:
+            if span.first <= code <= span.last:
+                return span.glyph(code)
+        return 0
 
     def reach(self, glyph: int, width: float) -> Reach:
         """Returns how far a glyph goes."""
@@ -188,26 +194,37 @@ class TrueType:
         return Reach(width, left, width - right, bottom, top)
 
 
-def glyphs_of(table: bytes) -> dict[int, int]:
-    """Returns the glyphs of letters by a table of format 4."""
+class Span(NamedTuple):
+    """Letters that follow one another in a table of format 4: the first and the last one, what is
+    added to a letter or its entry, and where the entries begin, if there are any.
+    """
+
+    first: int
+    last: int
+    delta: int
+    start: int
+    table: bytes
+
+    def glyph(self, letter: int) -> int:
+        """Returns the glyph of a letter; 0 for the one of letters that are not there."""
+        glyph = letter
+        if self.start:
+            (glyph,) = struct.unpack_from(">H", self.table, self.start + 2 * (letter - self.first))
+        return (glyph + self.delta) & 0xFFFF if glyph else 0
+
+
+def spans_of(table: bytes) -> list[Span]:
+    """Returns the letters of a table of format 4."""
     (start,) = struct.unpack_from(">I", table, 8)
     kind, _, _, double = struct.unpack_from(">HHHH", table, start)
     if kind != 4:
-        return {}
+        return []
     count = double // 2
     row = f">{count}H"
-    ends = struct.unpack_from(row, table, start + 14)
+    lasts = struct.unpack_from(row, table, start + 14)
     firsts = struct.unpack_from(row, table, start + 16 + double)
     deltas = struct.unpack_from(row, table, start + 16 + 2 * double)
-    offsets_at = start + 16 + 3 * double
-    offsets = struct.unpack_from(row, table, offsets_at)
-    found = {}
-    for number in range(count):
-        for letter in range(firsts[number], min(ends[number], 0xFFFE) + 1):
-            glyph = letter
-            if offsets[number]:
-                at = offsets_at + 2 * number + offsets[number] + 2 * (letter - firsts[number])
-                (glyph,) = struct.unpack_from(">H", table, at)
-            if glyph:
-                found[letter] = (glyph + deltas[number]) & 0xFFFF
-    return found
+    at = start + 16 + 3 * double
+    offsets = struct.unpack_from(row, table, at)
+    starts = [offset and at + 2 * number + offset for number, offset in enumerate(offsets)]
+    return [Span(*sides, table) for sides in zip(firsts, lasts, deltas, starts)]
