@@ -11,7 +11,7 @@ _labels() {
     case ${1##*/} in
         labels) options='--format=pbm,ascii --scale=1,2,3,4,5,6,7,8 --height= --level=L,M,Q,H --min-version=1,2,3,4,5,6,7,8,9,10 --mask=0,1,2,3,4,5,6,7 --escapes --help' ;;
         label-table) options='--help --code= --title= --text= --price= --unit-price= --old-price= --currency= --copies= --where= --new-since=FILE --symbology=auto,ean8,upca,ean13,code128,qr --symbology-column= --settings= --fill-zeros --without-check-digit --allow-zeros --links --price-as= --price-text --currency-name= --sheet= --hidden --decimal= --date-as= --delimiter= --encoding= --header --no-header --header-row= --summary' ;;
-        label-print) options='--help --stock= --list-stock= --paper= --cell= --columns= --rows= --page= --margin= --gap= --edge= --shift= --design=article,shelf --turn --no-turn --module= --height= --note= --font= --digits= --first= --only= --labels= --read-back --to=pdf,svg,png,pbm,zpl,escpos --dpi=203,300,600 --each=FILE --print= --dots= --no-cut --compress --summary' ;;
+        label-print) options='--help --stock= --list-stock= --paper= --cell= --columns= --rows= --page= --margin= --gap= --edge= --shift= --design=article,shelf,FILE --turn --no-turn --module= --height= --note= --font= --digits= --first= --only= --only-code= --unique --labels= --read-back --to=pdf,svg,png,pbm,zpl,escpos --dpi=203,300,600 --each=FILE --print= --journal=FILE --again= --stream --dots= --no-cut --compress --summary' ;;
         label-lines) options='--help --labels=' ;;
     esac
     COMPREPLY=()
@@ -19,8 +19,9 @@ _labels() {
         case $option in
             "$before=FILE") return ;;
             "$before="*)
-                compopt +o default
                 values=${option#*=}
+                [[ $values == *,FILE ]] || compopt +o default
+                values=${values%,FILE}
                 mapfile -t COMPREPLY < <(compgen -W "${values//,/ }" -- "$word")
                 return
                 ;;

@@ -20,8 +20,8 @@ PROGRAM = os.environ.get("LABELS") or HERE.parent / "crates/labels/out/labels"
 TOOLS = {"label-table": "table_command", "label-print": "print_command", "label-lines": "lines_command"}
 NAMES = " ".join(["labels", *TOOLS])
 # What takes the name of a file, and what is proposed where a parser takes any number.
-FILES = ("--new-since", "--each")
-PROPOSED = {"--dpi": ("203", "300", "600"), "--decimal": ()}
+FILES = ("--new-since", "--each", "--journal", "--design")
+PROPOSED = {"--dpi": ("203", "300", "600"), "--decimal": (), "--design": ("article", "shelf")}
 OF_HELP = re.compile(r"^ +(?:-h, )?(--[a-z-]+)(?: <(\S+)>)? +(.*)$", re.MULTILINE)
 MADE = "Completion of labels and its tools; completions/make.py makes it.\n"
 BASH = """_labels() {
@@ -41,8 +41,9 @@ CASES
         case $option in
             "$before=FILE") return ;;
             "$before="*)
-                compopt +o default
                 values=${option#*=}
+                [[ $values == *,FILE ]] || compopt +o default
+                values=${values%,FILE}
                 mapfile -t COMPREPLY < <(compgen -W "${values//,/ }" -- "$word")
                 return
                 ;;
@@ -72,6 +73,11 @@ class Option:
     def is_file(self) -> bool:
         """Whether it takes the name of a file."""
         return self.name in FILES
+
+    @property
+    def proposed(self) -> tuple[str, ...]:
+        """What bash proposes: the values, and the names of files."""
+        return (*self.values, "FILE") if self.is_file else self.values
 
 
 def about(text: str) -> str:
@@ -133,9 +139,7 @@ def bash(commands: dict[str, list[Option]]) -> str:
     """Returns the completion for bash."""
     cases = []
     for command, options in commands.items():
-        words = [
-            one.name + (f"={','.join(one.values) or 'FILE' * one.is_file}" if one.takes else "") for one in options
-        ]
+        words = [one.name + (f"={','.join(one.proposed)}" if one.takes else "") for one in options]
         cases.append(f"        {command}) options='{' '.join(words)}' ;;")
     return f"# {MADE}" + BASH.replace("CASES", "\n".join(cases)).replace("NAMES", NAMES)
 
@@ -153,14 +157,23 @@ def fish(commands: dict[str, list[Option]]) -> str:
     return f"# {MADE}" + "".join(lines)
 
 
+def what_of_zsh(option: Option) -> str:
+    """Returns what zsh proposes for an option: its values, files, or both."""
+    values = f"({' '.join(option.values)})"
+    if option.is_file and option.values:
+        return rf'_alternative "names\:name\:{values}" "files\:file\:_files"'
+    if option.is_file:
+        return "_files"
+    return values if option.values else " "
+
+
 def zsh(commands: dict[str, list[Option]]) -> str:
     """Returns the completion for zsh."""
     lines = [f"#compdef {NAMES}\n# {MADE}case $service in\n"]
     for command, options in commands.items():
         lines.append(f"    {command})\n        _arguments \\\n")
         for one in options:
-            what = "_files" if one.is_file else f"({' '.join(one.values)})" if one.values else " "
-            taken = f":{one.name[2:]}:{what}" if one.takes else ""
+            taken = f":{one.name[2:]}:{what_of_zsh(one)}" if one.takes else ""
             lines.append(f"            '{'*' * one.repeats}{one.name}{'=' * one.takes}[{one.about}]{taken}' \\\n")
         lines.append("            '-h[print help]' '*:file:_files'\n        ;;\n")
     return "".join([*lines, "esac\n"])

@@ -27,6 +27,7 @@ VALUES: Dict[str, Optional[str]] = {
     "label-print --each": None,
     "label-print --journal": None,
 }
+ALSO_FILES = ("label-print --design",)  # it takes a name or a file
 NUMBERS = "1 2 3 4 5 6 7 8 9 10"
 OF_LABELS = {
     "--format": "pbm ascii",
@@ -153,12 +154,12 @@ class Completion(unittest.TestCase):
     def test_values(self) -> None:
         """Each value of an option is proposed, and no file; of one that takes any text nothing."""
         for name, values in {**VALUES, "label-table --code": "", "label-print --stock": ""}.items():
-            wanted = ["my label.txt"] if values is None else sorted(values.split())
+            files = ["my label.txt"] if values is None or name in ALSO_FILES else []
             for shell in SHELLS:
+                # in bash readline proposes the files
+                wanted = sorted([*(values or "").split(), *files[: shell != "bash"]])
                 with self.subTest(name=name, shell=shell):
-                    found = proposed(shell, f"{name} ", self.folder)
-                    # in bash readline proposes the files
-                    self.assertEqual(found, [] if values is None and shell == "bash" else wanted)
+                    self.assertEqual(proposed(shell, f"{name} ", self.folder), wanted)
 
     def test_values_of_labels_are_those_of_its_help(self) -> None:
         shown_values = {
