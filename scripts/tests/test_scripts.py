@@ -263,6 +263,29 @@ class Outcomes(InFolder):
             with self.subTest(head):
                 self.assertEqual(edits.call_of(item, is_method), wanted)
 
+    def test_refused_for_its_form_alone(self) -> None:
+        """Such a body is named: all errors of its proof are of places that it does not have."""
+        at = "./proofs/one/Answers.antt:1:2: error: "
+        no_field = "`returns`: record `One` has no field `cut`"
+        no_name = "module `Goals` has no `cut` that can be named"
+        follows = "2 declarations that depend on `cut`, which was rejected, were not checked: whole"
+        differs = "`returns`: as printed, the two types differ only where one has `1`"
+        self.edit(EDIT.format("2"))
+        for errors, is_of_form in (
+            ([no_field], True),
+            (["`returns`: record `One`", no_name, follows], True),
+            ([no_field, differs], False),
+            ([follows], False),
+            (list[str](), False),
+        ):
+            said = "".join(f"{at}{error}\n" for error in errors)
+            for errors_of, wanted in ((said, is_of_form), (said.replace("/one/", "/one_more/"), False)):
+                with self.subTest(errors_of):
+                    with mock.patch.object(wrong_bodies, "check", return_value=errors_of + SAID.format("not proved")):
+                        with contextlib.redirect_stdout(io.StringIO()):
+                            tried = wrong_bodies.try_all(None, self.crate)
+                    self.assertEqual((tried.refused, tried.of_form), (["one"], ["one"] if wanted else []))
+
     def test_texts_that_are_not_tried(self) -> None:
         self.whole("2", "first")
         for text, said in (
@@ -287,16 +310,24 @@ class Outcomes(InFolder):
 
     def test_status(self) -> None:
         """What is wrong with a body is printed and makes the status 1; so does a run without a right body."""
-        one = wrong_bodies.Tried
+        one, none = wrong_bodies.Tried, "0 refused for their form alone\n"
         for results, are_all, wanted in (
-            ([one("a", ["b", "c"], 1)], True, (0, "3 passed, 0 failed\n")),
-            ([one("a", ["b", "c"], 0)], False, (0, "2 passed, 0 failed\n")),
-            ([one("a", ["c"], 1, lines=["b: NOT REFUSED"])], True, (1, "a/b: NOT REFUSED\n2 passed, 1 failed\n")),
+            ([one("a", ["b", "c"], [], 1)], True, (0, f"{none}3 passed, 0 failed\n")),
+            (
+                [one("a", ["b", "c"], ["c"], 0)],
+                False,
+                (0, "1 refused for their form alone\n  a/c\n2 passed, 0 failed\n"),
+            ),
+            (
+                [one("a", ["c"], [], 1, 0, ["b: NOT REFUSED"])],
+                True,
+                (1, f"a/b: NOT REFUSED\n{none}2 passed, 1 failed\n"),
+            ),
         ):
             with contextlib.redirect_stdout(io.StringIO()) as said:
                 self.assertEqual((wrong_bodies.judged(results, are_all), said.getvalue()), wanted)
         with contextlib.redirect_stdout(io.StringIO()) as said:
-            self.assertEqual(wrong_bodies.judged([one("a", ["b"], 0)], True), 1)
+            self.assertEqual(wrong_bodies.judged([one("a", ["b"])], True), 1)
         self.assertIn("no right body was accepted", said.getvalue())
 
     def test_no_copies(self) -> None:
