@@ -289,9 +289,51 @@ def as_it_is(copy: Copy, folder: str) -> Copy | None:
     return copy_of(body, "as_it_is", folder)
 
 
+def parameters_of(words: Sequence[str]) -> list[str]:
+    """Returns the names of parameters, of types or of values: words begin with their bracket."""
+    names = []
+    depth = 0
+    is_first = False
+    for word in words:
+        if is_first and word.isidentifier() and word not in ("mut", "const"):
+            names.append(word)
+            is_first = False
+        depth += (word in {*reader.OPENING, "<"}) - (word in {*reader.CLOSING, ">"})
+        is_first = is_first or depth == 1 and word in ("(", "<", ",")
+        if depth == 0:
+            break
+    return names
+
+
+def call_of(item: reader.Declaration, is_method: bool) -> str:
+    """Returns a call of a function by itself, with its own parameters."""
+    words = [token.text for token in item.stated if token.kind == "Code"]
+    words = words[words.index(item.name) + 1 :]
+    types = parameters_of(words) if words[0] == "<" else []
+    values = parameters_of(words[words.index("(") :])
+    name = f"{item.name}::<{', '.join(types)}>" if types else item.name
+    if values[:1] == ["self"]:
+        return f"self.{name}({', '.join(values[1:])})"
+    return f"{'Self::' if is_method else ''}{name}({', '.join(values)})"
+
+
+def calling_itself(copy: Copy, folder: str) -> Copy | None:
+    """Returns a copy of the same function whose body calls it and does no more, a control: that
+    nothing more is proved of a copy without the function's proof refuses no right body.
+    """
+    found = found_in(copy.function, copy.file, folder)
+    if not found:
+        return None
+    *_, holder, _ = ["", *copy.function.split("::")]
+    text = f" {call_of(found.item, holder[:1].isupper())} "
+    name = f"{copy.function} calling itself"
+    body = Body(name, (copy.function,), text, is_right=True)
+    return copy_of(body, "calling_itself", folder)
+
+
 def copies_of(bodies: Sequence[Body], folder: str) -> Iterator[Copy]:
     """Yields copies of the functions that several bodies change, or one that is a text, and one
-    of each as it is.
+    of each as it is; of one that has a text also one that calls the function.
     """
     groups: dict[str, list[Copy]] = {}
     for number, body in enumerate(bodies):
@@ -300,8 +342,10 @@ def copies_of(bodies: Sequence[Body], folder: str) -> Iterator[Copy]:
             groups.setdefault(copy.function, []).append(copy)
     for copies in groups.values():
         if len(copies) > 1 or copies[0].body.text:
-            control = as_it_is(copies[0], folder)
-            yield from (*copies, *([control] if control else []))
+            controls = [as_it_is(copies[0], folder)]
+            if any(copy.body.text for copy in copies):
+                controls.append(calling_itself(copies[0], folder))
+            yield from (*copies, *filter(None, controls))
 
 
 def with_copies(copies: Sequence[Copy], folder: str) -> dict[str, str]:

@@ -16,6 +16,10 @@ or are of a trait. A proof reads of other functions their contracts alone, so on
 several functions, copies too. What fails only because it calls another is not judged, and is tried
 again without it.
 
+A wrong body should be refused for what it says. Where all that is wrong with its proof is that it
+names places which the changed body does not have, a right body would be refused too. Such bodies
+are counted and named: they want another form, one that keeps the places, or a `body:`.
+
 The status is 0 where each wrong body is refused, 1 where one is not or there is none, and 2 where
 an argument names no crate or there is no kit. For each crate a line `refused in CRATE:` has the
 names of those that were, which `.ci/run` compares with the files. The last line is `N passed, M
@@ -40,18 +44,36 @@ from edits import Body, Copy
 
 # The line of a function that was not proved for what is written in it, and not for what it calls.
 REFUSED = re.compile(r"not proved|no proof: expected answers|.*did not prove")
+# An error in a given proof that names a place which the body does not have. Such a proof refuses a
+# right body too.
+OF_FORM = re.compile(
+    r"(`[^`]*`: )*(record `[^`]*`($| has no field| \(nearest)|module `[^`]*` has no `)"
+)
+# What follows from another error, and says nothing of its own.
+FOLLOWS = re.compile(r"\d+ declarations? that depends? on `.*`, which was (not admitted|rejected),")
 # What the prover says of a function where some goals wait for what it calls.
 NOT_TRIED = "`search` has not tried the goals of `{}::{}`,"
 LAST = re.compile(r"^(only|logic)=", re.M)
 
 
 class Outcome(Enum):
-    """What a check says of all functions of a body; `UNKNOWN`: one fails by what it calls."""
+    """What a check says of all functions of a body; `OF_FORM`: it is refused for its form alone;
+    `UNKNOWN`: one fails by what it calls.
+    """
 
     PROVED = auto()
     REFUSED = auto()
+    OF_FORM = auto()
     UNKNOWN = auto()
     NEITHER = auto()
+
+
+def is_of_form(function: str, said: str) -> bool:
+    """Whether a given proof fails for places alone that the function does not have."""
+    path = re.escape(function.replace("::", "/"))
+    errors = re.findall(rf"^\./proofs/{path}/[^/\n]*:\d+:\d+: error: (.*)", said, re.M)
+    own = [error for error in errors if not FOLLOWS.match(error)]
+    return bool(own) and all(OF_FORM.match(error) for error in own)
 
 
 def outcome(crate: str, body: Body, said: str) -> Outcome:
@@ -68,19 +90,21 @@ def outcome(crate: str, body: Body, said: str) -> Outcome:
     if any(are_proved) or not all(lines):
         return Outcome.NEITHER
     if all(REFUSED.match(line) for line in lines):
-        return Outcome.REFUSED
+        is_alone = any(is_of_form(it, said) for it in body.functions)
+        return Outcome.OF_FORM if is_alone else Outcome.REFUSED
     are_tried = not any(NOT_TRIED.format(crate, it) in said for it in body.functions)
     return Outcome.PROVED if body.is_control and are_tried else Outcome.UNKNOWN
 
 
 @dataclass
 class Tried:
-    """What was tried in a crate: which wrong bodies were refused, how many right ones accepted,
-    and a line on each other.
+    """What was tried in a crate: which wrong bodies were refused, which of them for their form
+    alone, how many right ones were accepted, and a line on each other.
     """
 
     crate: str
     refused: list[str] = field(default_factory=list)
+    of_form: list[str] = field(default_factory=list)
     accepted: int = 0
     checks: int = 0
     lines: list[str] = field(default_factory=list)
@@ -100,8 +124,9 @@ class Tried:
         """Counts a body that was judged."""
         if body.is_right and found is Outcome.PROVED:
             self.accepted += 1
-        elif not body.is_right and found is Outcome.REFUSED:
+        elif not body.is_right and found in (Outcome.REFUSED, Outcome.OF_FORM):
             self.refused.append(body.name)
+            self.of_form += [body.name] if found is Outcome.OF_FORM else []
         elif body.is_right:
             self.lines.append(f"{body.name}: it is right, and not reported as not refused")
         else:
@@ -214,6 +239,8 @@ def judged(results: Sequence[Tried], are_all: bool) -> int:
             "no right body was accepted: nothing shows that others are refused for what they are"
         )
     print(*failed, sep="\n", end="\n" if failed else "")
+    of_form = [f"{tried.crate}/{name}" for tried in results for name in tried.of_form]
+    print(f"{len(of_form)} refused for their form alone", *of_form, sep="\n  ")
     passed = sum(len(tried.refused) + tried.accepted for tried in results)
     print(f"{passed} passed, {len(failed)} failed")
     return 1 if failed else 0

@@ -225,6 +225,21 @@ class TakenAway(InCopy):
                 self.assertFalse(run_tests.sees_wrong_tests())
         self.assertTrue(run_tests.sees_wrong_tests())
 
+    def test_wrong_cases_that_pass_are_heeded(self) -> None:
+        """A runner and a lint that do not see what they are shown say so."""
+        self.move("lib/tests", "lib/tests-away")
+        self.addCleanup(shutil.rmtree, self.path("lib/tests"))
+        write(self.path("lib/tests/test_one.py"), SKIPPED.replace('raise unittest.SkipTest("{}")', "pass"))
+        with mock.patch.object(module("run_tests"), "sees_wrong_tests", return_value=False):
+            status, said = self.judged("run_tests.py", "lib/tests")
+        self.assertEqual((status, said), (1, "a test that did not pass is counted as one that did\n"))
+        lints = module("lints")
+        for name in ("silenced", "too_long"):
+            with mock.patch.object(lints, name, return_value=[]), mock.patch.object(
+                lints, "all_lints", return_value=()
+            ):
+                self.assertIn("a look into files finds nothing in: ", self.judged("lints.py")[1])
+
     def test_step_that_did_nothing(self) -> None:
         self.replace("scripts/refuse_each_growth.py", "print('0 passed, 0 failed')\n")
         self.assert_fails("refuse_each_growth.py", "status 0\nFAILED: ")

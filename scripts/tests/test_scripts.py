@@ -9,8 +9,9 @@ import io
 import os
 import re
 import shutil
-import types
 import sys
+import tempfile
+import types
 import unittest
 from typing import Any, Sequence
 from unittest import mock
@@ -222,18 +223,68 @@ class Outcomes(InFolder):
         self.edit(f"refused: one\nbody: {text}\n", name=name)
 
     def test_a_body_as_a_text(self) -> None:
-        """It is always a copy, beside the function that it can call, and a control."""
+        """It is always a copy, beside the function that it can call, and two controls."""
         self.whole("one() + 1")
-        (copy, control) = edits.copies_of(edits.bodies_of(self.folder), self.folder)
+        (copy, control, calling) = edits.copies_of(edits.bodies_of(self.folder), self.folder)
         self.assertEqual(
             copy.text, ONE.partition("\n")[2].partition("{\n")[0].replace("one(", "one_0(") + "{ one() + 1 }"
         )
         # The proof of the function would refuse it for its form.
-        self.assertEqual((copy.has_proof, control.has_proof), (False, True))
+        self.assertEqual((copy.has_proof, control.has_proof, calling.has_proof), (False, True, False))
+        self.assertEqual(
+            calling.text, copy.text.replace("one_0(", "one_calling_itself(").replace("one() + 1", "one()")
+        )
         self.assertEqual(edits.code_of(control.text), edits.code_of(ONE.replace("one(", "one_as_it_is(")))
-        said = "fn small::one_0: {}\nfn small::one_as_it_is: proved\nonly=2 proved=1\n"
-        self.assertEqual(self.tried(said.format("not proved")), (1, 1, []))
-        self.assertEqual(self.tried(said.format("proved")), (0, 1, ["one: NOT REFUSED"]))
+        control_says = "one calling itself: it is right, and not reported as not refused"
+        said = (
+            "fn small::one_0: {}\nfn small::one_as_it_is: proved\nfn small::one_calling_itself: {}\nonly=3 proved=2\n"
+        )
+        self.assertEqual(self.tried(said.format("not proved", "proved")), (1, 2, []))
+        self.assertEqual(self.tried(said.format("proved", "proved")), (0, 2, ["one: NOT REFUSED"]))
+        self.assertEqual(self.tried(said.format("not proved", "not proved")), (1, 1, [control_says]))
+
+    def test_calls_of_a_function_by_itself(self) -> None:
+        for number, (head, is_method, wanted) in enumerate(
+            (
+                ("fn one() -> u8", False, "one()"),
+                ("fn one() -> u8", True, "Self::one()"),
+                (
+                    "pub fn one<'a, T: Sink, const N: usize>(mut a: &mut [T; N], b: (u8, u8))",
+                    False,
+                    "one::<T, N>(a, b)",
+                ),
+                ("fn one<'a>(&'a mut self, a: Option<(u8, T)>, b: &'a u8)", True, "self.one(a, b)"),
+                ("fn one(self)", True, "self.one()"),
+            )
+        ):
+            name = f"src/call_{number}.rt"
+            write(self.path(name), f"{head} {{\n}}\n")
+            (item,) = edits.file_at(self.folder, name).declarations
+            with self.subTest(head):
+                self.assertEqual(edits.call_of(item, is_method), wanted)
+
+    def test_refused_for_its_form_alone(self) -> None:
+        """Such a body is named: all errors of its proof are of places that it does not have."""
+        at = "./proofs/one/Answers.antt:1:2: error: "
+        no_field = "`returns`: record `One` has no field `cut`"
+        no_name = "module `Goals` has no `cut` that can be named"
+        follows = "2 declarations that depend on `cut`, which was rejected, were not checked: whole"
+        differs = "`returns`: as printed, the two types differ only where one has `1`"
+        self.edit(EDIT.format("2"))
+        for errors, is_of_form in (
+            ([no_field], True),
+            (["`returns`: record `One`", no_name, follows], True),
+            ([no_field, differs], False),
+            ([follows], False),
+            (list[str](), False),
+        ):
+            said = "".join(f"{at}{error}\n" for error in errors)
+            for errors_of, wanted in ((said, is_of_form), (said.replace("/one/", "/one_more/"), False)):
+                with self.subTest(errors_of):
+                    with mock.patch.object(wrong_bodies, "check", return_value=errors_of + SAID.format("not proved")):
+                        with contextlib.redirect_stdout(io.StringIO()):
+                            tried = wrong_bodies.try_all(None, self.crate)
+                    self.assertEqual((tried.refused, tried.of_form), (["one"], ["one"] if wanted else []))
 
     def test_texts_that_are_not_tried(self) -> None:
         self.whole("2", "first")
@@ -245,10 +296,9 @@ class Outcomes(InFolder):
         ):
             with self.subTest(text):
                 self.whole(text, "second")
-                tried = self.tried(
-                    SAID.format("not proved") + "fn small::one_0: not proved\nfn small::one_as_it_is: proved\n"
-                )
-                self.assertEqual(tried, (1, 1, [f"second: {said}"]))
+                controls = "fn small::one_as_it_is: proved\nfn small::one_calling_itself: proved\n"
+                tried = self.tried(SAID.format("not proved") + f"fn small::one_0: not proved\n{controls}")
+                self.assertEqual(tried, (1, 2, [f"second: {said}"]))
         self.edit("refused: other\nbody: 2\n", name="second")
         self.assertIn(
             "second: other is no function that can be there twice: write old: and new:", self.tried("only=1\n")[2]
@@ -260,16 +310,24 @@ class Outcomes(InFolder):
 
     def test_status(self) -> None:
         """What is wrong with a body is printed and makes the status 1; so does a run without a right body."""
-        one = wrong_bodies.Tried
+        one, none = wrong_bodies.Tried, "0 refused for their form alone\n"
         for results, are_all, wanted in (
-            ([one("a", ["b", "c"], 1)], True, (0, "3 passed, 0 failed\n")),
-            ([one("a", ["b", "c"], 0)], False, (0, "2 passed, 0 failed\n")),
-            ([one("a", ["c"], 1, lines=["b: NOT REFUSED"])], True, (1, "a/b: NOT REFUSED\n2 passed, 1 failed\n")),
+            ([one("a", ["b", "c"], [], 1)], True, (0, f"{none}3 passed, 0 failed\n")),
+            (
+                [one("a", ["b", "c"], ["c"], 0)],
+                False,
+                (0, "1 refused for their form alone\n  a/c\n2 passed, 0 failed\n"),
+            ),
+            (
+                [one("a", ["c"], [], 1, 0, ["b: NOT REFUSED"])],
+                True,
+                (1, f"a/b: NOT REFUSED\n{none}2 passed, 1 failed\n"),
+            ),
         ):
             with contextlib.redirect_stdout(io.StringIO()) as said:
                 self.assertEqual((wrong_bodies.judged(results, are_all), said.getvalue()), wanted)
         with contextlib.redirect_stdout(io.StringIO()) as said:
-            self.assertEqual(wrong_bodies.judged([one("a", ["b"], 0)], True), 1)
+            self.assertEqual(wrong_bodies.judged([one("a", ["b"])], True), 1)
         self.assertIn("no right body was accepted", said.getvalue())
 
     def test_no_copies(self) -> None:
@@ -390,6 +448,49 @@ class Judges(unittest.TestCase):
             with self.subTest(dump), mock.patch.object(compare_symbols.subprocess, "run", return_value=ran):
                 self.assertEqual(compare_symbols.is_as_zint(label, self.picture()), wanted)
 
+    def status(self, name: str, *arguments: str, **bent: Any) -> tuple[int, str]:
+        """The status of a script with some of its functions bent, and what it prints."""
+        script = module(name)
+        with contextlib.ExitStack() as stack:
+            for function, does in bent.items():
+                stack.enter_context(mock.patch.object(script, function, does))
+            stack.enter_context(mock.patch.object(sys, "argv", [f"{name}.py", *arguments]))
+            said = stack.enter_context(contextlib.redirect_stdout(io.StringIO()))
+            status = script.main()
+        return status, said.getvalue()
+
+    def assert_heeds(self, name: str, arguments: Sequence[str], shown: str, **bent: Any) -> None:
+        """All is right but for the wrong cases: a script ends with 0 where none passes, else with 1, and says it."""
+        self.assertEqual(self.status(name, *arguments, **{shown: lambda *_: iter(())}, **bent)[0], 0, name)
+        status, said = self.status(name, *arguments, **{shown: lambda *_: iter(["a wrong case"])}, **bent)
+        self.assertEqual((status, "a wrong case" in said), (1, True), said)
+
+    def test_wrong_cases_that_pass_are_heeded(self) -> None:
+        label = compare_symbols.SHOWN[0]
+        self.assert_heeds(
+            "compare_symbols",
+            ["/bin/true"],
+            "not_seen",
+            all_labels=lambda: [label],
+            pictures_of=lambda *_: [self.picture()],
+            is_as_zint=lambda *_: True,
+            readings=lambda *_: [(label, label.full)],
+        )
+        self.assert_heeds("run_recipes", ["/bin/true"], "unseen", faults_of=lambda *_: [""], examples_of=lambda *_: [])
+        scan_damaged = module("scan_damaged")
+        scanners = mock.Mock()
+        scanners.return_value.scan.return_value = ["read", "read"]
+        for passed, status in ([], 0), (["a wrong case"], 1):
+            scanners.return_value.passed_as_others.return_value = passed
+            shown = [scan_damaged.Picture(label, self.picture().repeat(9, 0).repeat(9, 1))]
+            found = self.status("scan_damaged", "/bin/true", Scanners=scanners, pictures=lambda *_: iter(shown))
+            self.assertEqual((found[0], found[1].startswith("a wrong case")), (status, bool(passed)), found)
+        growth = module("refuse_each_growth")
+        whole = (0, (growth.CRATE / "stdout").read_bytes(), b"")
+        fine = {"build": lambda *_: None, "refuse_each": lambda *_: (growth.Counter({"no memory": 1}), whole)}
+        status, said = self.status("refuse_each_growth", "/bin/true", **fine)
+        self.assertEqual((status, said.endswith("with status 0, is not reported\n")), (1, True), said)
+
     def test_kinds(self) -> None:
         heads = ("ean13,height=9", "qr,level=L,min-version=2,mask=3", "qr,level=L", "ean13")
         labels = [pictures.Label(head, b"", b"", 1) for head in heads]
@@ -405,6 +506,52 @@ class Judges(unittest.TestCase):
         ):
             with mock.patch.object(where, name, bent):
                 self.assertEqual(len([*run_recipes.unseen()]), count)
+
+
+# What stands in for the programs that debian/tests calls, as they are and as they must not be.
+RIGHT_PROGRAMS = {
+    "labels": "read line; case $line in *8) echo 'line 1: check digit is 8, should be 7' >&2 ;; *) echo P1 ;; esac",
+    "label-table": "printf 'ean13 4006381333931\\nean13 4006381333948\\n'",
+    "label-print": "[ $1 = --stock ] && echo %PDF-1.5 || printf '^XA\\n^XA\\n'",
+    "label-lines": "echo 4006381333948",
+    "man": "echo SYNOPSIS",
+}
+WRONG_PROGRAMS = (
+    ("program", "labels", "echo P1"),
+    ("program", "labels", "read line; case $line in *8) echo 'line 1: check digit is 8, should be 7' >&2 ;; esac"),
+    ("tools", "label-table", "echo ean13 4006381333931"),
+    ("tools", "label-print", "echo %PDF-1.5"),
+    ("tools", "label-print", "printf '^XA\\n^XA\\n'"),
+    ("tools", "label-lines", "echo 4006381333931"),
+    ("tools", "man", "echo NAME"),
+)
+
+
+class PackageTests(InFolder):
+    """The tests of the packages fail for a program that is wrong: they run in a fresh Debian, by hand."""
+
+    def passes(self, name: str, pages: str, **programs: str) -> bool:
+        folder = tempfile.mkdtemp(dir=self.folder)
+        for program, text in programs.items():
+            write(os.path.join(folder, "bin", program), f"#!/bin/sh\n{text}\n", is_program=True)
+        where = {"PATH": f"{folder}/bin:/usr/bin:/bin", "AUTOPKGTEST_TMP": folder, "PAGES": pages}
+        return run_command([f"{TOP}/debian/tests/{name}"], **where)[0] == 0
+
+    def test_right_programs_pass(self) -> None:
+        for name in ("program", "tools"):
+            self.assertTrue(self.passes(name, TOP, **RIGHT_PROGRAMS), name)
+
+    def test_wrong_programs_fail(self) -> None:
+        for name, program, text in WRONG_PROGRAMS:
+            with self.subTest(program=program, text=text):
+                self.assertFalse(self.passes(name, TOP, **{**RIGHT_PROGRAMS, program: text}))
+        self.assertFalse(self.passes("program", self.folder, **RIGHT_PROGRAMS))
+
+    def test_nothing_installed(self) -> None:
+        """Completions and the library are looked for where packages put them alone."""
+        for name in ("library", "shells"):
+            with self.subTest(name):
+                self.assertFalse(self.passes(name, TOP, **{"pkg-config": "exit 1", "fish": "exit 1", "zsh": "exit 1"}))
 
 
 PAGE = """Text.
