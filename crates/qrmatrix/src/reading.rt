@@ -1,13 +1,13 @@
 //! The reading of a symbol's modules, with no correction (ISO/IEC 18004, 12).
-ghost use Rattle.std.specs.Prelude.{◌≡◌, ℕ, ◌+◌, ◌≤◌, ◌<◌, ◌==◌, ◌&&◌, length, slice_index};
-ghost use Rattle.std.specs.Bool.{beq, xor};
+ghost use Rattle.std.specs.Prelude.{◌≡◌, ℕ, ◌≤◌, ◌<◌, ◌==◌, ◌&&◌, length, slice_index};
+ghost use Rattle.std.specs.Bool.{xor};
 ghost use Rattle.std.specs.List.{find, list_all, range_with_len};
 ghost use Rattle.qrdata.specs.Bits.{codewords_of};
 ghost use Rattle.qrdata.specs.Versions.{side_of, total_codewords};
 ghost use Rattle.qrmatrix.specs.Bits.{bit};
 ghost use Rattle.qrmatrix.specs.Masks.{is_flipped};
 ghost use Rattle.qrmatrix.specs.Reading;
-ghost use Rattle.qrmatrix.specs.Reading.{read_bits, read_matrix, shows_functions};
+ghost use Rattle.qrmatrix.specs.Reading.{read_bits, read_matrix};
 ghost use Rattle.qrmatrix.specs.Square.{value_at};
 ghost use Rattle.qrmatrix.specs.Private.Drawing.{MarksFree};
 ghost use Rattle.qrmatrix.specs.Private.Walking.{DrawsPatterns, format_named, shows_row};

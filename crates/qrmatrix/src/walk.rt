@@ -1,11 +1,10 @@
 //! The codewords of a symbol, read strip by strip (ISO/IEC 18004, 7.7.3 and 12).
-ghost use Rattle.std.specs.Prelude.{◌≡◌, ◌≤◌, ◌<◌, ◌+◌, ◌-◌, ◌*◌, ◌/◌, ◌%◌, ◌++◌, length};
+ghost use Rattle.std.specs.Prelude.{◌≡◌, ◌≤◌, ◌<◌, ◌+◌, ◌++◌, length};
 ghost use Rattle.qrdata.specs.Versions.{side_of};
-ghost use Rattle.qrmatrix.specs.Bits.{bit};
 ghost use Rattle.qrmatrix.specs.Square.{value_at};
 ghost use Rattle.qrmatrix.specs.Private.BitsInCodewords.{bits_in};
 ghost use Rattle.qrmatrix.specs.Private.Placing.{right_column};
-ghost use Rattle.qrmatrix.specs.Private.Walking.{pair_bits, row_bits, strip_bits, walk_bits};
+ghost use Rattle.qrmatrix.specs.Private.Walking.{strip_bits, walk_bits};
 
 use crate::codeword_bits::{CodewordBits, MAX_BITS};
 use crate::placement::{Strip, pair_at};
