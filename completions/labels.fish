@@ -74,5 +74,3 @@ complete -c label-print -l stream -d 'print each label as soon as its line has c
 complete -c label-print -l dots -x -d 'escpos'
 complete -c label-print -l no-cut -d 'escpos'
 complete -c label-print -l summary -d 'say what was written and how it is printed'
-complete -c label-lines -s h -l help -d 'show this help message and exit'
-complete -c label-lines -l labels -x -d 'options of labels, such as --level H'
