@@ -5,5 +5,6 @@ pub mod Line
 pub mod Modules
 pub mod Numbers
 pub mod Private
+pub mod Read
 pub mod Room
 pub mod Slice

@@ -1,5 +1,6 @@
 -- Numbers in the bits of codewords: bits are taken a codeword at a time, and a number is the highest of them.
-use Rattle.std.proofs.Common.{◌≡◌, ℕ, ◌+◌, ◌*◌, ◌/◌, ◌%◌, ◌^◌, ◌<◌, ◌≤◌, List, [], ◌∷◌, ◌++◌, Bool, true, false, take, drop}
+use Rattle.std.proofs.Common.{◌≡◌, ℕ, ◌+◌, ◌*◌, ◌/◌, ◌%◌, ◌^◌, ◌<◌, ◌≤◌, List, [], ◌∷◌, ◌++◌, Bool, true, false, take}
+use Rattle.std.proofs.Common.{drop}
 use Rattle.std.proofs.Common.{length, refl, subst, sym, ap, ◌∙◌, arith, append_assoc, length-append, inl, inr}
 use Rattle.std.proofs.Math.Nat.{div-lt_iff_lt-mul, mod-eq_of_lt}
 use Rattle.std.proofs.lemmas.Bool.{cases_lt, le-leb, lt-leb, lt-ltb, ltb-true}
@@ -11,7 +12,8 @@ use Rattle.std.specs.Prelude.{None, Some, nat_le, nat_lt, if◌then◌else◌, �
 use Rattle.qrdata.specs.Bits.{bits_of, number_of}
 use Rattle.qrdata.specs.Reading.{is_end, number_at}
 use Rattle.qrdata.specs.Segments.{byte_bits}
-use Rattle.qrdata.proofs.BitStringLaws.{bits_of-joined, bits_of-low, bits_of-parts, joined-lt, length-bits_of, number_at-bits_of}
+use Rattle.qrdata.proofs.BitStringLaws.{bits_of-joined, bits_of-low, bits_of-parts, joined-lt, length-bits_of}
+use Rattle.qrdata.proofs.BitStringLaws.{number_at-bits_of}
 use Rattle.qrdata.proofs.BitStringLaws.{number_of-bits_of, number_of-lt, take_front}
 
 -- one codeword more is taken

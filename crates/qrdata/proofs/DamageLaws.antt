@@ -30,18 +30,18 @@ use Rattle.qrdata.proofs.VersionLaws.{IsSound-of}
 -- ---- blocks by their index
 
 module _ (lengths : List ℕ) (words : List ℕ) where
-  pub dealt : ℕ → List ℕ
+  dealt : ℕ → List ℕ
   dealt b = map (λ i. slice_index words (interleaving_place lengths b i)) (range_with_len 0 (slice_index lengths b))
 
-  pub length-deinterleaving : length (deinterleaving lengths words) ≡ length lengths
+  length-deinterleaving : length (deinterleaving lengths words) ≡ length lengths
   unfolding deinterleaving dealt
   length-deinterleaving = length-map-range_with_len dealt 0 (length lengths)
 
-  pub deinterleaving-at : (b : ℕ) → b < length lengths → get_or (deinterleaving lengths words) b [] ≡ dealt b
+  deinterleaving-at : (b : ℕ) → b < length lengths → get_or (deinterleaving lengths words) b [] ≡ dealt b
   unfolding deinterleaving dealt
   deinterleaving-at b h = get_or-map-range_with_len dealt 0 (length lengths) b b [] h (omega arith)
 
-  pub length-dealt : (b : ℕ) → length (dealt b) ≡ slice_index lengths b
+  length-dealt : (b : ℕ) → length (dealt b) ≡ slice_index lengths b
   unfolding dealt
   length-dealt b = length-map-range_with_len _ 0 (slice_index lengths b)
 

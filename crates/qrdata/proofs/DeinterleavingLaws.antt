@@ -1,27 +1,26 @@
 -- Blocks are taken back out of interleaved codewords one after another, and each is tested by its remainder.
 use Rattle.std.proofs.Common.{◌≡◌, ℕ, zero, suc, ◌+◌, ◌-◌, ◌<◌, ◌≤◌, List, [], ◌∷◌, ◌++◌, map, take, drop, get_or, All}
-use Rattle.std.proofs.Common.{length, replicate, refl, sym, ap, ◌∙◌, length-append, arith, Bool, true, false, min, sum}
+use Rattle.std.proofs.Common.{length, refl, sym, ap, ◌∙◌, append_assoc, length-append, arith, Bool, true, false, min}
+use Rattle.std.proofs.Common.{sum}
 use Rattle.std.proofs.Common.{cond, inl, inr}
-use Rattle.std.specs.Prelude.{bytes_eq, nat_lt, slice_index, ◌&&◌}
-use Rattle.std.specs.List.{concat, flat_map, list_all, range_with_len, sum_by, zip}
+use Rattle.std.specs.Bool.{then_some}
+use Rattle.std.specs.Prelude.{None, Option, bytes_eq, nat_lt, slice_index}
+use Rattle.std.specs.List.{concat, list_all, range_with_len, sum_by, zip}
 use Rattle.std.proofs.lemmas.Bool.{cases_lt, le-ltb, lt-ltb}
 use Rattle.std.proofs.lemmas.Bool.Decides.{nat_tests}
-use Rattle.std.proofs.lemmas.List.{drop-drop, drop_more, ext_get_or, get_or-map, length-map}
+use Rattle.std.proofs.lemmas.List.{take_all}
 use Rattle.std.proofs.lemmas.List.Elements.{All-append}
-use Rattle.std.proofs.lemmas.List.Folds.{flat_map-map}
 use Rattle.std.proofs.lemmas.List.FromFn.{length-map-range_with_len}
 use Rattle.std.proofs.lemmas.List.Sums.{sum_by-cons}
 use Rattle.std.proofs.lemmas.Slice.Eq.{bytes_eq-Decides}
 use Rattle.gf256.specs.Field.{IsElement}
 use Rattle.gf256.specs.ErrorCorrection.{AreEcCodewords, wrong_codewords}
 use Rattle.gf256.proofs.DistanceLaws.{close_codewords}
-use Rattle.qrdata.specs.Codewords.{split_by}
-use Rattle.qrdata.specs.Private.Blocks.{block_at}
+use Rattle.qrdata.specs.Private.Blocks.{block_at, sound_blocks}
 use Rattle.qrdata.specs.Reading.{deinterleaving, has_roots, interleaving_place}
-use Rattle.qrdata.proofs.BitStringLaws.{drop_front, take_front}
-use Rattle.qrdata.proofs.DamageLaws.{HasRoots-has_roots, deinterleaving-at, length-dealt, length-deinterleaving}
+use Rattle.qrdata.proofs.BitStringLaws.{drop_front}
+use Rattle.qrdata.proofs.DamageLaws.{HasRoots-has_roots}
 use Rattle.qrdata.proofs.DataReadingLaws.{roots_pass}
-use Rattle.qrdata.proofs.InterleavingLaws.{Blocks}
 
 -- ---- the place of a codeword
 
@@ -50,42 +49,16 @@ pub place_next : {A : Type 0} (f : ℕ → A) (place n : ℕ) → place < n
     → map f (range_with_len place (n - place)) ≡ f place ∷ map f (range_with_len (place + 1) (n - (place + 1)))
 place_next f place n h = let more : n - place ≡ suc (n - (place + 1)) = omega arith in rw more refl
 
--- ---- the blocks, one after another
-
-pub blocks_joined : (lengths codewords : List ℕ)
-    → flat_map (block_at lengths codewords) (range_with_len 0 (length lengths)) ≡ concat (deinterleaving lengths codewords)
-unfolding deinterleaving
-blocks_joined lengths codewords =
-    sym (flat_map-map (λ (block : List ℕ). block) (block_at lengths codewords) (range_with_len 0 (length lengths)))
-
-split_concat : (blocks : Blocks) → split_by (map length blocks) (concat blocks) ≡ blocks
-unfolding split_by
-split_concat [] = refl
-split_concat (block ∷ blocks) = rw (
-  take_front (length block) block (concat blocks) refl,
-  drop_front (length block) block (concat blocks) refl,
-  split_concat blocks,
-) refl
-
-shapes : (lengths codewords : List ℕ) → map length (deinterleaving lengths codewords) ≡ lengths
-shapes lengths codewords =
-    let blocks = deinterleaving lengths codewords in
-    let count = length-map blocks length ∙ length-deinterleaving lengths codewords in
-    ext_get_or 0 (map length blocks) lengths count (λ b h.
-    let inside : b < length blocks = omega (arith, h, length-map blocks length) in
-    get_or-map length blocks b [] 0 inside
-    ∙ ap length (deinterleaving-at lengths codewords b (omega (arith, h, count)))
-    ∙ length-dealt lengths codewords b)
-
--- the blocks are cut apart again
-pub split_by-deinterleaving : (lengths codewords : List ℕ)
-    → split_by lengths (concat (deinterleaving lengths codewords)) ≡ deinterleaving lengths codewords
-split_by-deinterleaving lengths codewords =
-    ap (λ ns. split_by ns (concat (deinterleaving lengths codewords))) (sym (shapes lengths codewords))
-    ∙ split_concat (deinterleaving lengths codewords)
-
-pub length-block_at : (lengths codewords : List ℕ) (b : ℕ) → length (block_at lengths codewords b) ≡ slice_index lengths b
+pub length-block_at : (lengths codewords : List ℕ) (b : ℕ)
+    → length (block_at lengths codewords b) ≡ slice_index lengths b
 length-block_at lengths codewords b = length-map-range_with_len _ 0 (slice_index lengths b)
+
+-- the last of several blocks that are joined
+pub last_block : (message block all : List ℕ) (start : ℕ) → all ≡ message ++ block → start ≡ length message
+    → take (length all - start) (drop start all) ≡ block
+last_block message block all start joined is =
+    let size : length (message ++ block) - length message ≡ length block = omega (arith, length-append message block) in
+    rw (joined, is, size, drop_front (length message) message block refl) (take_all (length block) block (omega arith))
 
 -- ---- the test of a block
 
@@ -142,20 +115,32 @@ remainder_tests k block ec_codewords remainder are long short elements ec_elemen
     (λ roots. (bytes_eq-Decides ec_codewords remainder).1
     (remainder_of-roots k block ec_codewords remainder are long short elements ec_elements roots))
 
--- the blocks that are left are the next one and those after it
-pub multiple_next : (count : ℕ) (lengths codewords ec_codewords : List ℕ) (i start ec_start : ℕ) → i < length lengths
-    → list_all (has_roots count) (zip (split_by (drop i lengths) (drop start codewords))
-    (split_by (replicate (length lengths - i) count) (drop ec_start ec_codewords)))
-    ≡ (has_roots count (take (get_or lengths i 0) (drop start codewords), take count (drop ec_start ec_codewords))
-    && list_all (has_roots count)
-    (zip (split_by (drop (i + 1) lengths) (drop (start + get_or lengths i 0) codewords))
-    (split_by (replicate (length lengths - (i + 1)) count) (drop (ec_start + count) ec_codewords))))
-unfolding split_by
-multiple_next count lengths codewords ec_codewords i start ec_start h =
-    let more : length lengths - i ≡ suc (length lengths - (i + 1)) = omega arith in
-    rw (
-      drop_more lengths i 0 h,
-      more,
-      ← drop-drop (get_or lengths i 0) start codewords,
-      ← drop-drop count ec_start ec_codewords,
-    ) refl
+-- ---- the blocks, one after another
+
+module _ (k : ℕ) (lengths ec_lengths codewords ec_codewords : List ℕ) where
+  -- the blocks so far, joined, and those from b on, if each of these is a multiple of its generator
+  abbrev pub with_blocks : List ℕ → (b n : ℕ) → Option (List ℕ)
+  with_blocks message b n =
+      let blocks = map (block_at lengths codewords) (range_with_len b n) in
+      then_some (list_all (has_roots k) (zip blocks (map (block_at ec_lengths ec_codewords) (range_with_len b n))))
+      (message ++ concat blocks)
+
+  pub all_blocks : (message : List ℕ) (n : ℕ) → message ≡ [] → n ≡ length lengths → n ≡ length ec_lengths
+      → with_blocks message 0 n ≡ sound_blocks k lengths ec_lengths codewords ec_codewords
+  unfolding sound_blocks deinterleaving
+  all_blocks message n empty count ec_count = rw (empty, ← count, ← ec_count) refl
+
+  -- a block that passes, and those after it
+  pub one_block : (message : List ℕ) (b n : ℕ) → b < n
+      → has_roots k (block_at lengths codewords b, block_at ec_lengths ec_codewords b) ≡ true
+      → with_blocks (message ++ block_at lengths codewords b) (b + 1) (n - (b + 1)) ≡ with_blocks message b (n - b)
+  one_block message b n inside passes =
+      let more : n - b ≡ suc (n - (b + 1)) = omega arith in
+      rw (more, passes, append_assoc message) refl
+
+  -- where a block fails
+  pub no_block : (message : List ℕ) (b n : ℕ) → b < n
+      → has_roots k (block_at lengths codewords b, block_at ec_lengths ec_codewords b) ≡ false
+      → None ≡ with_blocks message b (n - b)
+  no_block message b n inside fails =
+      let more : n - b ≡ suc (n - (b + 1)) = omega arith in rw (more, fails) refl

@@ -1,9 +1,9 @@
 -- Definitions that only the contracts of private functions cite: nothing here has to be believed.
 pub mod BitsInCodewords
-pub mod BlockData
 pub mod Blocks
 pub mod ChoiceView
 pub mod Firsts
+pub mod Groups
 pub mod ReadSoFar
 pub mod SmallestPlan
 pub mod Table

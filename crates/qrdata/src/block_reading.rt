@@ -1,12 +1,11 @@
 //! Blocks taken back out of interleaved codewords, and the test of each (ISO/IEC 18004, 7.5, 7.6 and 12).
 ghost use Rattle.arrayvec.specs.ArrayVec.{array_vec_len};
 ghost use Rattle.gf256.specs.ErrorCorrection.{IsEcCodewordCount};
-ghost use Rattle.qrdata.specs.Codewords.{split_by};
-ghost use Rattle.qrdata.specs.Reading.{deinterleaving, has_roots, interleaving_place};
-ghost use Rattle.qrdata.specs.Private.Blocks.{block_at};
-ghost use Rattle.std.specs.List.{concat, count_by, list_all, range_with_len, sum_by, zip};
-ghost use Rattle.std.specs.Prelude.{◌≡◌, ◌+◌, ◌*◌, ◌<◌, ◌≤◌, ◌++◌, All, length, map, min, nat_lt, replicate, slice_index};
-ghost use Rattle.std.specs.Prelude.{sum, take};
+ghost use Rattle.qrdata.specs.Reading.{has_roots};
+ghost use Rattle.qrdata.specs.Private.Blocks.{block_at, sound_blocks};
+ghost use Rattle.std.specs.List.{count_by, sum_by};
+ghost use Rattle.std.specs.Prelude.{◌≡◌, ◌+◌, ◌<◌, ◌≤◌, ◌++◌, All, IfSome, length, min, nat_lt, option_map};
+ghost use Rattle.std.specs.Prelude.{replicate, slice_index, sum};
 
 use crate::bits::are_bytes;
 use crate::blocks::{Codewords, MAX_CODEWORDS};
@@ -51,20 +50,6 @@ fn push_block(lengths: &[usize], codewords: &[u8], block: usize, out: &mut Codew
     }
 }
 
-/// Returns the codewords of blocks whose codewords are interleaved, block by block.
-pub(crate) fn deinterleave(lengths: &[usize], codewords: &[u8]) -> Codewords
-    requires whole { sum lengths.now ≡ length codewords.now }
-    requires few { length codewords.now ≤ MAX_CODEWORDS }
-    ensures value { result.items ≡ concat (deinterleaving lengths.now codewords.now) }
-    ensures len { array_vec_len result ≡ length codewords.now }
-{
-    let mut out = Codewords::new();
-    for block in 0..lengths.len() {
-        push_block(lengths, codewords, block, &mut out);
-    }
-    out
-}
-
 /// Returns whether a block is a multiple of the generator with its error correction codewords: whether these are the
 /// remainder of the block.
 fn is_multiple(generator: &Generator, count: usize, block: &[u8], ec_codewords: &[u8]) -> bool
@@ -80,38 +65,39 @@ fn is_multiple(generator: &Generator, count: usize, block: &[u8], ec_codewords: 
     ec_codewords == &remainder[..count]
 }
 
-/// Returns whether each block is a multiple of the generator with its error correction codewords. `lengths` are those
-/// of the blocks, one after another.
-pub(crate) fn are_multiples(
+/// Returns the codewords of the blocks of interleaved ones, block by block. `None`: a block is no multiple of the
+/// generator with its error correction codewords.
+pub(crate) fn sound_blocks(
     count: usize,
     lengths: &[usize],
+    ec_lengths: &[usize],
     codewords: &[u8],
     ec_codewords: &[u8],
-) -> bool
+) -> Option<Codewords>
     requires count { IsEcCodewordCount count }
-    requires blocks { sum lengths.now ≡ length codewords.now }
-    requires ec_blocks { length lengths.now * count ≡ length ec_codewords.now }
+    requires equal { ec_lengths.now ≡ replicate (length lengths.now) count }
+    requires whole { (sum lengths.now ≡ length codewords.now) × (sum ec_lengths.now ≡ length ec_codewords.now) }
     requires short { All (λ n. n + count ≤ 255) lengths.now }
     requires few { length codewords.now + length ec_codewords.now ≤ MAX_CODEWORDS }
-    ensures { result ≡ list_all (has_roots count) (zip (split_by lengths.now codewords.now)
-        (split_by (replicate (length lengths.now) count) ec_codewords.now)) }
+    ensures value { option_map (λ message. message.items) result
+        ≡ sound_blocks count lengths.now ec_lengths.now codewords.now ec_codewords.now }
+    ensures len { IfSome result (λ message. array_vec_len message ≡ length codewords.now) }
 {
     let generator = Generator::new(count);
-    let mut start = 0;
-    let mut ec_start = 0;
-    for size in lengths {
-        let end = start + *size;
-        let ec_end = ec_start + count;
+    let mut message = Codewords::new();
+    for block in 0..lengths.len() {
+        let start = message.len();
+        push_block(lengths, codewords, block, &mut message);
+        let mut remainder = Codewords::new();
+        push_block(ec_lengths, ec_codewords, block, &mut remainder);
         if !is_multiple(
             &generator,
             count,
-            &codewords[start..end],
-            &ec_codewords[ec_start..ec_end],
+            &message.as_slice()[start..],
+            remainder.as_slice(),
         ) {
-            return false;
+            return None;
         }
-        start = end;
-        ec_start = ec_end;
     }
-    true
+    Some(message)
 }

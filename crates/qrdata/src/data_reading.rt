@@ -1,43 +1,12 @@
 //! The data that the codewords of a symbol hold (ISO/IEC 18004, 12).
-ghost use Rattle.qrdata.specs.Private.BlockData.{block_data};
-ghost use Rattle.qrdata.specs.Private.Blocks.{block_count};
 ghost use Rattle.qrdata.specs.Reading.{data_in};
-ghost use Rattle.qrdata.specs.Versions.{data_codewords, ec_codewords_per_block};
-ghost use Rattle.std.specs.Prelude.{◌≡◌, ◌*◌, length, option_map};
+ghost use Rattle.std.specs.Prelude.{◌≡◌, option_map};
 
-use crate::block_reading::{are_multiples, deinterleave};
+use crate::block_reading::sound_blocks;
 use crate::blocks::{Lengths, push_lengths};
 use crate::level::Level;
 use crate::segment_reading::{SymbolData, read_segments};
 use crate::version::Version;
-
-/// Reads the data of interleaved data codewords and interleaved error correction codewords.
-fn read_blocks(
-    version: Version,
-    level: Level,
-    codewords: &[u8],
-    ec_codewords: &[u8],
-) -> Option<SymbolData>
-    requires whole { length codewords.now ≡ data_codewords version level }
-    requires ec_whole { length ec_codewords.now
-        ≡ block_count version level * ec_codewords_per_block version level }
-    ensures { option_map (λ bytes. bytes.items) result
-        ≡ block_data version level codewords.now ec_codewords.now }
-{
-    version.prove_range();
-    let count = version.ec_codewords_per_block(level);
-    let blocks = version.lengths(level);
-    let lengths = blocks.as_slice();
-    let mut ec_lengths = Lengths::new();
-    push_lengths(&mut ec_lengths, lengths.len(), count);
-    let message = deinterleave(lengths, codewords);
-    let remainders = deinterleave(ec_lengths.as_slice(), ec_codewords);
-    if are_multiples(count, lengths, message.as_slice(), remainders.as_slice()) {
-        read_segments(version, message.as_slice())
-    } else {
-        None
-    }
-}
 
 /// Reads the data that the codewords of a symbol hold, with no correction (ISO/IEC 18004, 12). They are in the order in
 /// which they are placed. `None`: they are not as many as the version has, a block is no multiple of its generator, or
@@ -49,6 +18,18 @@ pub fn read_data(version: Version, level: Level, codewords: &[u8]) -> Option<Sym
         return None;
     }
     version.prove_range();
+    let count = version.ec_codewords_per_block(level);
+    let blocks = version.lengths(level);
+    let lengths = blocks.as_slice();
+    let mut ec_lengths = Lengths::new();
+    push_lengths(&mut ec_lengths, lengths.len(), count);
     let (codewords, ec_codewords) = codewords.split_at(version.data_codewords(level));
-    read_blocks(version, level, codewords, ec_codewords)
+    let message = sound_blocks(
+        count,
+        lengths,
+        ec_lengths.as_slice(),
+        codewords,
+        ec_codewords,
+    )?;
+    read_segments(version, message.as_slice())
 }

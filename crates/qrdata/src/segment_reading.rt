@@ -1,8 +1,8 @@
 //! Segments read from the bits of data codewords (ISO/IEC 18004, 7.4 and 12).
 ghost use Rattle.arrayvec.specs.ArrayVec.{array_vec_len};
+ghost use Rattle.qrdata.specs.Private.Groups.{group_bytes, next_group};
 ghost use Rattle.qrdata.specs.Private.ReadSoFar.{HasRoom, Leaves, after, bits_at};
-ghost use Rattle.qrdata.specs.Reading.{alphanumeric_character, bytes_at, characters_at, digits_at, payload_at};
-ghost use Rattle.qrdata.specs.Reading.{segment_at, segments_at};
+ghost use Rattle.qrdata.specs.Reading.{alphanumeric_character, payload_at, segment_at, segments_at};
 ghost use Rattle.qrdata.specs.Segments.{byte_bits, mode_indicator, modes};
 ghost use Rattle.std.specs.List.{find};
 ghost use Rattle.std.specs.Prelude.{◌≡◌, ◌++◌, ◌+◌, ◌*◌, ◌≤◌, ◌<◌, ◌==◌, IfSome, length, option_map};
@@ -49,96 +49,72 @@ fn append(out: &mut SymbolData, bytes: &[u8])
     let _ = out.try_extend_from_slice(bytes);
 }
 
-/// Reads digits, appends them to the data, and returns the place after them.
-fn read_digits(
-    codewords: &[u8],
-    start: Cursor,
-    count: usize,
-    out: &mut SymbolData,
-) -> Option<Cursor>
-    requires { HasRoom out.old.items (bits_at codewords.now start) }
-    ensures read { option_map (λ end. (out.new.items, bits_at codewords.now end)) result
-        ≡ after out.old.items (digits_at count (bits_at codewords.now start)) }
-    ensures left { IfSome result (λ end.
-        Leaves out.new.items (bits_at codewords.now start) (bits_at codewords.now end)) }
+/// Characters of a payload that one number stands for.
+#[derive(Clone, Copy)]
+struct Group {
+    /// How many characters there are.
+    size: usize,
+    /// The least number that stands for none.
+    limit: u32,
+    /// The width of the number in bits.
+    width: usize,
+}
+
+/// Returns the next group, where `left` characters are left.
+fn next_group(mode: Mode, left: usize) -> Group
+    requires { 0 < left }
+    ensures value { result ≡ next_group mode left }
+    ensures inside { result.size ≤ left }
+    ensures room { 10 * result.size ≤ 3 * result.width }
+    ensures narrow { result.width ≤ 16 }
 {
-    let mut cursor = start;
-    let mut left = count;
-    while left >= 3 {
-        let (number, end) = cursor.number(codewords, 1000, 10)?;
-        let digits = [
-            digit_of(number / 100),
-            digit_of(number / 10 % 10),
-            digit_of(number % 10),
-        ];
-        append(out, &digits);
-        cursor = end;
-        left -= 3;
-    }
-    match left {
-        2 => {
-            let (number, end) = cursor.number(codewords, 100, 7)?;
-            append(out, &[digit_of(number / 10), digit_of(number % 10)]);
-            Some(end)
-        }
-        1 => {
-            let (number, end) = cursor.number(codewords, 10, 4)?;
+    let (size, limit, width) = match mode {
+        Mode::Numeric => if left < 2 {
+            (1, 10, 4)
+        } else if left < 3 {
+            (2, 100, 7)
+        } else {
+            (3, 1000, 10)
+        },
+        Mode::Alphanumeric => if left < 2 { (1, 45, 6) } else { (2, 2025, 11) },
+        Mode::Byte => (1, 256, 8),
+    };
+    Group { size, limit, width }
+}
+
+/// Appends the characters of a group to the data.
+fn append_group(mode: Mode, left: usize, number: u32, out: &mut SymbolData)
+    requires below { number < (next_group mode left).limit }
+    requires room { array_vec_len out.old + (next_group mode left).size ≤ MAX_DATA }
+    ensures bytes { out.new.items ≡ out.old.items ++ group_bytes mode left number }
+    ensures len { array_vec_len out.new ≡ array_vec_len out.old + (next_group mode left).size }
+{
+    match mode {
+        Mode::Numeric => if left < 2 {
             out.push(digit_of(number));
-            Some(end)
-        }
-        _ => Some(cursor),
+        } else if left < 3 {
+            append(out, &[digit_of(number / 10), digit_of(number % 10)]);
+        } else {
+            let tens = number / 10;
+            append(
+                out,
+                &[
+                    digit_of(tens / 10),
+                    digit_of(tens % 10),
+                    digit_of(number % 10),
+                ],
+            );
+        },
+        Mode::Alphanumeric => if left < 2 {
+            out.push(character_of(number));
+        } else {
+            append(out, &[character_of(number / 45), character_of(number % 45)]);
+        },
+        Mode::Byte => out.push(number as u8),
     }
 }
 
-/// Reads alphanumeric characters, appends them to the data, and returns the place after them.
-fn read_characters(
-    codewords: &[u8],
-    start: Cursor,
-    count: usize,
-    out: &mut SymbolData,
-) -> Option<Cursor>
-    requires { HasRoom out.old.items (bits_at codewords.now start) }
-    ensures read { option_map (λ end. (out.new.items, bits_at codewords.now end)) result
-        ≡ after out.old.items (characters_at count (bits_at codewords.now start)) }
-    ensures left { IfSome result (λ end.
-        Leaves out.new.items (bits_at codewords.now start) (bits_at codewords.now end)) }
-{
-    let mut cursor = start;
-    let mut left = count;
-    while left >= 2 {
-        let (number, end) = cursor.number(codewords, 2025, 11)?;
-        append(out, &[character_of(number / 45), character_of(number % 45)]);
-        cursor = end;
-        left -= 2;
-    }
-    if left == 1 {
-        let (number, end) = cursor.number(codewords, 45, 6)?;
-        out.push(character_of(number));
-        cursor = end;
-    }
-    Some(cursor)
-}
-
-/// Reads bytes, appends them to the data, and returns the place after them.
-fn read_bytes(codewords: &[u8], start: Cursor, count: usize, out: &mut SymbolData) -> Option<Cursor>
-    requires { HasRoom out.old.items (bits_at codewords.now start) }
-    ensures read { option_map (λ end. (out.new.items, bits_at codewords.now end)) result
-        ≡ after out.old.items (bytes_at count (bits_at codewords.now start)) }
-    ensures left { IfSome result (λ end.
-        Leaves out.new.items (bits_at codewords.now start) (bits_at codewords.now end)) }
-{
-    let mut cursor = start;
-    let mut left = count;
-    while left > 0 {
-        let (number, end) = cursor.number(codewords, 256, 8)?;
-        out.push(number as u8);
-        cursor = end;
-        left -= 1;
-    }
-    Some(cursor)
-}
-
-/// Reads a payload in its mode, appends its bytes to the data, and returns the place after it.
+/// Reads the payload of characters of a mode, appends these to the data, and returns the place after it.
 fn read_payload(
     codewords: &[u8],
     start: Cursor,
@@ -152,11 +128,16 @@ fn read_payload(
     ensures left { IfSome result (λ end.
         Leaves out.new.items (bits_at codewords.now start) (bits_at codewords.now end)) }
 {
-    match mode {
-        Mode::Numeric => read_digits(codewords, start, count, out),
-        Mode::Alphanumeric => read_characters(codewords, start, count, out),
-        Mode::Byte => read_bytes(codewords, start, count, out),
+    let mut cursor = start;
+    let mut left = count;
+    while left > 0 {
+        let group = next_group(mode, left);
+        let (number, end) = cursor.number(codewords, group.limit, group.width)?;
+        append_group(mode, left, number, out);
+        cursor = end;
+        left -= group.size;
     }
+    Some(cursor)
 }
 
 /// Returns the mode that an indicator names.

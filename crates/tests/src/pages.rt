@@ -1,5 +1,5 @@
 //! The examples of the crates' pages (`crates/*/README.md`). `scripts/pages.py` compares them with the pages.
-use capi::{CallOptions, draw_into};
+use capi::{CallOptions, draw_into, read_into};
 use command::{ArgumentsFault, options_of};
 use device::{Buffered, Sink, write_whole};
 use filter::{Status, run};
@@ -7,7 +7,7 @@ use gf256::{Generator, mul, pow_alpha};
 use labelcore::{Fault, Format, Item, LineBuf, Options, Scratch, Symbology, parse};
 use linear::{Ean8, Linear, Refusal, Row, read_any};
 use picture::{Bars, Dots, Framed, QuietZone, Scaled, write_pbm};
-use qrdata::{Codewords, Level, Version, choose, codewords};
+use qrdata::{Codewords, Level, Version, choose, codewords, read_data};
 use qrmatrix::Matrix;
 use reading::{
     bars_are_read, labels_are_read, read, read_at_any_scale, read_bars, symbols_are_read,
@@ -77,6 +77,8 @@ fn page_of_qrdata(rt: HostRuntime) {
     let mut symbol = Codewords::new();
     codewords(&plan, &mut symbol);
     assert!(rt; symbol.len() == 26 && symbol[0] == 32 && symbol[1] == 91);
+    let read = read_data(plan.version(), plan.level(), symbol.as_slice());
+    assert!(rt; read.is_some_and(|data| data.as_slice() == b"HELLO WORLD".as_slice()));
 }
 
 #[test]
@@ -172,4 +174,5 @@ fn page_of_capi(rt: HostRuntime) {
     let mut message = [0; 103];
     let answer = draw_into(&options, 1, b"7351353", &mut out, &mut message);
     assert!(rt; answer.code == 0 && answer.length == 164 && out[163] == b'\n' && out[164] == 7);
+    assert!(rt; read_into(1, 1, 81, 1, &[b'0'; 81], &mut out).code == 17);
 }

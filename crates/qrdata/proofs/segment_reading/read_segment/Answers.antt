@@ -15,14 +15,15 @@ returns-in_err-mode-clause-read c =
 pub returns-in_err-count-clause-read : goal.returns-in_err-count-clause-read
 returns-in_err-count-clause-read c =
     let read = rw (c.power_of_two.ensures, c.count_width-width.ensures) at c.in_err-count.ensures.read in
-    rw c.from_residual-in_err-count.ensures (no_count c.args.version c.args.out.now.items _ c.in_ok-indicator.indicator _
-    c.in_ok-mode.mode c.in_ok-indicator.ensures.read c.in_ok-mode.ensures read)
+    rw c.from_residual-in_err-count.ensures (no_count c.args.version c.args.out.now.items _
+    c.in_ok-indicator.indicator _ c.in_ok-mode.mode c.in_ok-indicator.ensures.read c.in_ok-mode.ensures read)
 
 pub returns-clause-read : goal.returns-clause-read
 returns-clause-read c =
     let read = rw (c.power_of_two.ensures, c.count_width-width.ensures) at c.in_ok-count.ensures.read in
     c.read_payload.ensures.read
-    ∙ one_payload c.args.version c.args.out.now.items _ c.in_ok-indicator.indicator _ c.in_ok-mode.mode c.in_ok-count.count _
+    ∙ one_payload c.args.version c.args.out.now.items _ c.in_ok-indicator.indicator _ c.in_ok-mode.mode
+    c.in_ok-count.count _
     c.in_ok-indicator.ensures.read c.in_ok-mode.ensures read
 
 pub returns-clause-room : goal.returns-clause-room

@@ -23,11 +23,14 @@ loop-version-preserved c = record {
   most = c.loop-version.invariant.most - 1;
   enough = omega (arith, c.in_ok-cursor.ensures.less, c.loop-version.invariant.enough);
   all = one_segment c.args.version c.loop-version.out.items _ c.loop-version.invariant.most _ _
-      (omega (arith, c.in_ok-cursor.ensures.less, c.loop-version.invariant.enough)) (sym c.loop-version-test.ensures) c.in_ok-cursor.ensures.read
+      (omega (arith, c.in_ok-cursor.ensures.less, c.loop-version.invariant.enough))
+      (sym c.loop-version-test.ensures) c.in_ok-cursor.ensures.read
       ∙ c.loop-version.invariant.all;
   room = c.in_ok-cursor.ensures.room;
 }
 
 pub returns : goal.returns
-returns c = all_segments c.args.version c.loop-version.out.items _ c.loop-version.invariant.most (sym c.loop-version-test.ensures)
+returns c =
+    all_segments c.args.version c.loop-version.out.items _ c.loop-version.invariant.most
+    (sym c.loop-version-test.ensures)
     ∙ c.loop-version.invariant.all

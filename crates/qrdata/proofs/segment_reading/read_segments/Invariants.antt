@@ -4,8 +4,8 @@ use Rattle.qrdata.specs.Reading.{segments_at}
 use Rattle.qrdata.specs.Segments.{byte_bits}
 use Rattle.qrdata.proofs.segment_reading.read_segments.Given as goal
 
--- what was read and what is still to be read are all of it, and there is room for it; each segment has a bit at least, so
--- that no more segments follow than there are bits
+-- What was read and what is still to be read are all of it, and there is room for it. Each segment has a bit at least,
+-- so that no more segments follow than there are bits.
 abbrev pub invariant-loop-version : goal.invariant-loop-version
 invariant-loop-version l = record {
   most : ℕ;

@@ -1,0 +1,286 @@
+#!/usr/bin/python3
+"""Reads symbols that third-party programs drew by the proved reading rules, and compares each with what was asked for.
+
+zint, segno, qrencode, ZXing and GNU barcode draw the symbols: EAN-13, EAN-8, UPC-A and Code 128, and QR symbols of
+each version from 1 to 10, level, mask and mode. They are the same in every run. The crate `reading` reads each of them
+in its quiet zone, at 1, 2 or 3 dots a module. It corrects nothing: every module has to be as the rules want it.
+
+A few hundred are damaged too: one to seven modules are turned, in a linear symbol one. These have to be read as the
+data or not at all. In each run the comparison is shown three wrong cases, which it has to report: a symbol of other
+data, a damaged one that is read as other data, and one that is not read.
+
+READER is the program that reads (scripts/foreign_reader.txt). Where none is named it is made, by `rt run` in a copy of
+the crates, which begins with what the checks of this machine kept. The last line is `N symbols: R read as asked; M
+damaged: D data or nothing`. Any other symbol is printed, and the status is then 1. Status 2: bad arguments, no kit, a
+program missing."""
+
+import json
+import os
+import random
+import re
+import shutil
+import subprocess
+import sys
+import tempfile
+from dataclasses import dataclass
+from typing import Callable, Iterator
+
+import numpy
+import numpy.typing
+import segno
+import zxingcpp
+
+import sources
+from compare_symbols import ALPHANUMERIC, LETTERS, capacity
+from pictures import DIGITS, with_check_digit
+
+# The crates that the reader needs, and its line in crates.txt.
+CRATES = ("gf256", "linear", "device", "qrdata", "qrmatrix", "picture", "labelcore", "filter", "reading")
+READER = "foreign: device labelcore picture qrdata reading"
+TEXT = os.path.join(sources.TOP, "scripts", "foreign_reader.txt")
+# The letter of each symbology in a record, and its quiet zones left, right, above and below, in modules.
+SYMBOLOGIES = {
+    "ean13": (b"e", (11, 7, 0, 0)),
+    "ean8": (b"8", (7, 7, 0, 0)),
+    "upca": (b"u", (9, 9, 0, 0)),
+    "code128": (b"c", (10, 10, 0, 0)),
+    "qr": (b"q", (4, 4, 4, 4)),
+}
+# The digits of a symbol without its check digit, and what zint, ZXing and GNU barcode call it.
+NUMBERS = {
+    "ean13": (12, "EANX", zxingcpp.BarcodeFormat.EAN13, "ean13"),
+    "ean8": (7, "EANX", zxingcpp.BarcodeFormat.EAN8, "ean8"),
+    "upca": (11, "UPCA", zxingcpp.BarcodeFormat.UPCA, "upc"),
+}
+PRINTABLE = "".join(map(chr, range(0x20, 0x7F)))
+MODES = (("numeric", DIGITS), ("alphanumeric", ALPHANUMERIC), ("byte", f"{LETTERS.lower()}!#&()<=>?@[]_{{|}}~"))
+LEVELS = "LMQH"
+WIDTHS = re.compile(r"widths \(space first\): (\S+) -->")
+
+
+Modules = numpy.typing.NDArray[numpy.uint8]
+
+
+@dataclass(frozen=True)
+class Symbol:
+    """A symbol: who drew it, its symbology, the data that were asked for, and its rows of modules, 1 where dark."""
+
+    drawer: str
+    symbology: str
+    data: bytes
+    modules: Modules
+
+    def record(self, scale: int) -> bytes:
+        """The symbol in its quiet zone as the reader takes it: a letter, three numbers of two bytes, and the dots."""
+        letter, (left, right, above, below) = SYMBOLOGIES[self.symbology]
+        framed = numpy.pad(self.modules, ((above, below), (left, right)))
+        dots = framed.repeat(scale, axis=0).repeat(scale, axis=1)
+        numbers = (scale, dots.shape[1], dots.shape[0])
+        return (
+            letter + b"".join(n.to_bytes(2, "big") for n in numbers) + (dots + ord("0")).astype(numpy.uint8).tobytes()
+        )
+
+    def told(self, found: bytes | None) -> str:
+        read = "not read" if found is None else f"read as {found!r}"
+        return f"{self.symbology} of {self.drawer}, {self.data!r}: {read}"
+
+
+def printed(*command: str) -> str:
+    """What a program prints. Stops where it fails or is not there."""
+    try:
+        return subprocess.run(command, capture_output=True, encoding="utf-8", check=True).stdout
+    except (OSError, subprocess.CalledProcessError) as fault:
+        print(f"{' '.join(command)}: {fault}", file=sys.stderr)
+        sys.exit(2)
+
+
+def row_of(bits: str) -> Modules:
+    return numpy.array([[int(bit) for bit in bits]], numpy.uint8)
+
+
+def of_zint(symbology: str, data: str, width: int, *options: str) -> Symbol:
+    """A symbol of zint, which prints each row in hexadecimal digits, with zeros after it."""
+    rows = printed("zint", "--dump", *options, "-d", data).splitlines()
+    bits = [bin(int("1" + row.replace(" ", ""), 16))[3:] for row in rows]
+    side = width or len(bits)
+    if symbology == "code128":
+        side = len(bits[0].rstrip("0"))
+    return Symbol("zint", symbology, data.encode(), numpy.concatenate([row_of(row[:side]) for row in bits]))
+
+
+def of_barcode(symbology: str, data: str, kind: str) -> Symbol:
+    """A symbol of GNU barcode, which prints the widths of spaces and bars in turn, the margin first."""
+    found = WIDTHS.search(printed("barcode", "-S", "-n", "-e", kind, "-b", data))
+    if not found:
+        sys.exit(f"GNU barcode printed no widths of {data!r}")
+    widths = [int(width) for width in found[1]][1:]
+    bits = "".join("10"[place % 2] * width for place, width in enumerate(widths))
+    return Symbol("GNU barcode", symbology, data.encode(), row_of(bits))
+
+
+def of_zxing(symbology: str, data: str, kind: zxingcpp.BarcodeFormat, level: int = -1) -> Symbol:
+    """A symbol of ZXing, one dot a module."""
+    dots = numpy.array(zxingcpp.write_barcode(kind, data, 0, 0, 0, level))
+    modules = (dots == 0).astype(numpy.uint8)
+    return Symbol("ZXing", symbology, data.encode(), modules if symbology == "qr" else modules[:1])
+
+
+def of_qrencode(data: str, version: int, level: str) -> Symbol:
+    """A symbol of qrencode, which prints two characters a module."""
+    options = ("-t", "ASCII", "-m", "0", "-v", str(version), "-l", level, "-o", "-")
+    rows = [row[::2] for row in printed("qrencode", *options, "--", data).splitlines()]
+    modules = numpy.array([[int(letter == "#") for letter in row] for row in rows], numpy.uint8)
+    return Symbol("qrencode", "qr", data.encode(), modules)
+
+
+def numbers(draw: random.Random) -> Iterator[Symbol]:
+    """EAN and UPC symbols with every first digit, of three programs."""
+    for symbology, (length, of_kind, kind, name) in NUMBERS.items():
+        for number in range(120):
+            digits = str(number % 10) + "".join(draw.choices(DIGITS, k=length - 1))
+            full = with_check_digit(digits)
+            width = 67 if symbology == "ean8" else 95
+            for drawn in (
+                of_zint(symbology, digits, width, "-b", of_kind),
+                of_barcode(symbology, digits, name),
+                of_zxing(symbology, full, kind),
+            ):
+                yield Symbol(drawn.drawer, symbology, full.encode(), drawn.modules)
+
+
+def code128(draw: random.Random) -> Iterator[Symbol]:
+    """Code 128 symbols of digits, letters and mixtures, of three programs."""
+    alphabets = (DIGITS, PRINTABLE, DIGITS * 4 + PRINTABLE, LETTERS)
+    for number in range(160):
+        data = "".join(draw.choices(alphabets[number % 4], k=1 + number % 40)).strip() or "7"
+        yield of_zint("code128", data, 0, "-b", "CODE128")
+        yield of_barcode("code128", data, "code128")
+        yield of_zxing("code128", data, zxingcpp.BarcodeFormat.Code128)
+
+
+def qr_of_one_mode(draw: random.Random) -> Iterator[Symbol]:
+    """QR symbols of each version, level, mask and mode, of two programs."""
+    for version in range(1, 11):
+        for number, level in enumerate(LEVELS):
+            for mask in range(8):
+                for mode, (name, letters) in enumerate(MODES):
+                    data = "".join(draw.choices(letters, k=1 + draw.randrange(capacity(version, level, mode))))
+                    made = segno.make_qr(data, level, version, name, mask, boost_error=False)
+                    modules = numpy.array([[*row] for row in made.matrix], numpy.uint8)
+                    yield Symbol("segno", "qr", data.encode(), modules)
+                    if mode == mask % 3:
+                        options = ("-b", "QRCODE", f"--secure={number + 1}", f"--vers={version}", f"--mask={mask}")
+                        yield of_zint("qr", data, 0, *options)
+
+
+def qr_of_mixed_modes(draw: random.Random) -> Iterator[Symbol]:
+    """QR symbols of digits, letters and bytes in turn, whose segments the programs choose."""
+    for version in range(1, 11):
+        for number, level in enumerate(LEVELS):
+            for _ in range(3):
+                parts = ["".join(draw.choices(letters, k=draw.randrange(1, 4 + 5 * version))) for _, letters in MODES]
+                draw.shuffle(parts)
+                data = "".join(parts)[: capacity(version, level, 2)]
+                yield of_qrencode(data, version, level)
+                yield of_zxing("qr", data, zxingcpp.BarcodeFormat.QRCode, 2 * number + 1)
+
+
+def qr_of_bytes(draw: random.Random) -> Iterator[Symbol]:
+    """QR symbols of any bytes."""
+    for version in range(1, 11):
+        for level in LEVELS:
+            data = bytes(draw.choices(range(256), k=capacity(version, level, 2)))
+            made = segno.make_qr(data, level, version, "byte", boost_error=False)
+            yield Symbol("segno", "qr", data, numpy.array([[*row] for row in made.matrix], numpy.uint8))
+
+
+def all_symbols() -> list[Symbol]:
+    draw = random.Random(15417)
+    parts: tuple[Callable[[random.Random], Iterator[Symbol]], ...]
+    parts = (numbers, code128, qr_of_one_mode, qr_of_mixed_modes, qr_of_bytes)
+    return [symbol for part in parts for symbol in part(draw)]
+
+
+def damaged(symbols: list[Symbol], count: int) -> list[Symbol]:
+    """Some of the symbols with modules turned: up to seven of a QR symbol, one of a linear one."""
+    draw = random.Random(15420)
+    turned = []
+    for symbol in draw.sample(symbols, count):
+        modules = symbol.modules.copy()
+        places = draw.sample(range(modules.size), draw.randrange(1, 8) if symbol.symbology == "qr" else 1)
+        for place in places:
+            modules.flat[place] ^= 1
+        turned.append(Symbol(symbol.drawer, symbol.symbology, symbol.data, modules))
+    return turned
+
+
+def readings(reader: str, symbols: list[Symbol]) -> list[bytes | None]:
+    """What each of the symbols is read as, at 1, 2 or 3 dots a module."""
+    records = b"".join(symbol.record(1 + place % 3) for place, symbol in enumerate(symbols))
+    ran = subprocess.run([reader], input=records, capture_output=True, check=True)
+    lines = ran.stdout.decode().splitlines()
+    if len(lines) != len(symbols):
+        sys.exit(f"{reader} printed {len(lines)} lines of {len(symbols)} symbols: {lines[-1:]}")
+    return [None if line == "none" else bytes(json.loads(line)) for line in lines]
+
+
+def faults(reader: str, symbols: list[Symbol], are_damaged: bool) -> list[str]:
+    """The symbols that are read otherwise than they should be."""
+    found = zip(symbols, readings(reader, symbols))
+    return [symbol.told(read) for symbol, read in found if read != symbol.data and not (are_damaged and read is None)]
+
+
+def not_seen(reader: str, symbol: Symbol) -> Iterator[str]:
+    """The wrong cases that the comparison does not report."""
+    other = Symbol(symbol.drawer, symbol.symbology, symbol.data[:-1] + b"\n", symbol.modules)
+    light = Symbol(symbol.drawer, symbol.symbology, symbol.data, numpy.zeros_like(symbol.modules))
+    if not faults(reader, [other], False):
+        yield "a symbol of other data passes"
+    if not faults(reader, [other], True):
+        yield "a damaged symbol that is read as other data passes"
+    if not faults(reader, [light], False):
+        yield "a symbol that is not read passes"
+
+
+def reader_made(folder: str) -> str:
+    """The reader, made in a copy of the crates."""
+    for crate in CRATES:
+        source = os.path.join(sources.TOP, "crates", crate)
+        shutil.copytree(source, os.path.join(folder, "crates", crate), ignore=shutil.ignore_patterns("out"))
+    own = os.path.join(folder, "crates", "foreign")
+    os.makedirs(os.path.join(own, "src"))
+    shutil.copy(TEXT, os.path.join(own, "src", "main.rt"))
+    shutil.copy(os.path.join(sources.TOP, "HANDLES"), folder)
+    lines = sources.read(os.path.join(sources.TOP, "crates.txt")).splitlines()
+    kept = [line for line in lines if line.split(":")[0].split(" ")[0] in CRATES]
+    with open(os.path.join(folder, "crates.txt"), "w", encoding="utf-8") as file:
+        file.write("\n".join([*kept, READER, ""]))
+    status, said = sources.run(["rt", "run"], own)
+    if status:
+        print(said, file=sys.stderr)
+        sys.exit(2)
+    return os.path.join(own, "out", "foreign")
+
+
+def main() -> int:
+    parser = sources.parser_of(__doc__, has_top=False)
+    parser.add_argument(
+        "reader", nargs="?", metavar="READER", help="the program that reads (made where none is named)"
+    )
+    given = parser.parse_args().reader
+    if given and not os.access(given, os.X_OK):
+        parser.error(f"{given} is no program")
+    with tempfile.TemporaryDirectory() as folder:
+        reader = os.path.abspath(given) if given else reader_made(folder)
+        symbols = all_symbols()
+        turned = damaged(symbols, 450)
+        wrong, torn = faults(reader, symbols, False), faults(reader, turned, True)
+        unseen = [*not_seen(reader, symbols[0])]
+    read, kept = len(symbols) - len(wrong), len(turned) - len(torn)
+    last = f"{len(symbols)} symbols: {read} read as asked; {len(turned)} damaged: {kept} data or nothing"
+    print(*wrong, *torn, *unseen, last, sep="\n")
+    return 1 if wrong or torn or unseen else 0
+
+
+if __name__ == "__main__":
+    sys.exit(main())
