@@ -2,3 +2,4 @@ mod WidthLaws
 mod SquareLaws
 mod LabelLaws
 mod ScaleLaws
+mod Examples
