@@ -332,10 +332,10 @@ module _ (options : Options) (range : AreInRange options.run options.label) wher
   outcome_is_readable (Err fault) h = tt
 
   -- the modules of data are of some size, and are read as its full data
-  pub data_is_readable : (symbology : Symbology) (bytes : List ℕ) → ((i : ℕ) → Fits w8 (get_or bytes i 0))
+  pub data_is_readable : (symbology : Symbology) (bytes : List ℕ) → bytes ≢ [] → ((i : ℕ) → Fits w8 (get_or bytes i 0))
       → IfOk (symbol_of options.label symbology bytes) IsReadable
-  data_is_readable symbology bytes fits = outcome_is_readable _
-      (symbol_readable options.run options.label range symbology bytes (recursion_from_All (λ b. b < 256) bytes
+  data_is_readable symbology bytes some fits = outcome_is_readable _
+      (symbol_readable options.run options.label range symbology bytes some (recursion_from_All (λ b. b < 256) bytes
       (are_bytes bytes fits)))
 
   modules_of_outcome_read : (found : Result Symbol Fault) → HasReadable (outcome_of found) → IfOk found IsReadInModules

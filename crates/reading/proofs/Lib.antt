@@ -3,3 +3,4 @@ mod WidthLaws
 mod SquareLaws
 mod LabelLaws
 mod ScaleLaws
+mod Examples

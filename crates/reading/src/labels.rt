@@ -69,8 +69,9 @@ pub fn read_at_any_scale(symbology: Symbology, dots: Dots) -> Option<SymbolData>
 }
 
 /// What is drawn is read: the picture of each symbol that is drawn, in its quiet zone and at any scale, is read as the
-/// symbol's full data. It does nothing when it runs.
+/// symbol's full data. The data is not empty, as that of a line. It does nothing when it runs.
 pub fn labels_are_read(options: &Options, symbology: Symbology, bytes: &[u8])
+    requires { bytes.now ≢ [] }
     ensures { (scale : ℕ) → 0 < scale → IfOk (symbol_of options.now.label symbology bytes.now) (λ symbol.
         read_dots symbol.symbology scale
         (raster (enlargement (with_quiet_zone symbol.modules (quiet_zone symbol.symbology)) scale)) ≡ Some symbol.full) }

@@ -48,9 +48,11 @@ fn page_of_linear(rt: HostRuntime) {
 fn page_of_reading(rt: HostRuntime) {
     let digits = [b'0'; 81];
     assert!(rt; Dots::new(81, 1, &digits).is_some_and(|dots| read_bars::<Ean8>(dots, 1).is_none()));
-    assert!(rt;
-        Dots::new(9, 9, &digits).is_some_and(|dots| read(Symbology::Qr, dots, 1).is_none())
-    );
+    let Some(dots) = Dots::new(9, 9, &digits) else {
+        panic!(rt; "they are digits");
+    };
+    assert!(rt; read(Symbology::Qr, dots, 1).is_none());
+    assert!(rt; read_at_any_scale(Symbology::Qr, dots).is_none());
     bars_are_read();
     symbols_are_read();
     labels_are_read(&Options::default(), Symbology::Qr, b"1");
