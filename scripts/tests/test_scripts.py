@@ -17,6 +17,7 @@ from unittest import mock
 from support import SCRIPTS, TOP, InCopy, InFolder, in_copy, module, read, run, write
 
 compare_symbols = module("compare_symbols")
+read_foreign = module("read_foreign")
 edits = module("edits")
 instructions = module("instructions")
 run_recipes = module("run_recipes")
@@ -310,6 +311,19 @@ class Judges(unittest.TestCase):
                 bent = {"is_as_zint": lambda *given: is_same, "not_read_back": lambda *given: unread}
                 with mock.patch.multiple(compare_symbols, **bent):
                     self.assertEqual(len([*compare_symbols.not_seen(None)]), count)
+
+    def test_foreign_symbols(self):
+        data = b"73513537"
+        symbol = read_foreign.Symbol("nobody", "ean8", data, read_foreign.row_of("101" + "0" * 64))
+        for found, count in (
+            (lambda one: data if one.modules.any() else None, 0),
+            (lambda one: data, 1),
+            (lambda one: None, 1),
+            (lambda one: one.data, 3),
+        ):
+            bent = {"readings": lambda reader, symbols: [found(one) for one in symbols]}
+            with mock.patch.multiple(read_foreign, **bent):
+                self.assertEqual(len([*read_foreign.not_seen("reader", symbol)]), count)
 
     def test_recipes(self):
         self.assertEqual([*run_recipes.unseen()], [])
