@@ -19,6 +19,7 @@ from unittest import mock
 from support import SCRIPTS, TOP, InCopy, InFolder, in_copy, module, read, run, run_command, write
 
 compare_symbols = module("compare_symbols")
+read_foreign = module("read_foreign")
 edits = module("edits")
 instructions = module("instructions")
 run_recipes = module("run_recipes")
@@ -403,6 +404,20 @@ class Judges(unittest.TestCase):
         picture[2:7, 1:8] = 1
         return picture
 
+    def test_foreign_symbols(self) -> None:
+        data = b"73513537"
+        symbol = read_foreign.Symbol("nobody", "ean8", data, read_foreign.row_of("101" + "0" * 64))
+        for found, count in (
+            (lambda one: data if one.modules.any() else None, 0),
+            (lambda one: data, 1),
+            (lambda one: None, 1),
+            (lambda one: one.data, 3),
+        ):
+            bent = {"readings": lambda reader, symbols: [found(one) for one in symbols]}
+            with mock.patch.multiple(read_foreign, **bent):
+                self.assertEqual(len([*read_foreign.not_seen("reader", symbol)]), count)
+
+    def test_recipes(self):
     def test_turned_modules(self) -> None:
         """At both ends and in the middle: of a QR symbol one module, of a bar code one in all rows."""
         bars, symbol = self.picture(), self.picture()

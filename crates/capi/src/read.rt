@@ -53,8 +53,8 @@ fn read_picture(
 }
 
 /// Reads the dots of a picture as a symbol of a symbology in its quiet zone, each module `scale` dots wide, and puts
-/// its full data into `out`. `dots` has `width` times `height` bytes, row by row: the digit 1 where dark and 0 where light.
-/// Of data that are too long it puts what there is room for, and answers with the length of the whole.
+/// its full data into `out`. `dots` has `width` times `height` bytes, row by row: the digit 1 where dark, else 0. Of data
+/// that are too long it puts what there is room for, and answers with the length of the whole.
 #[tactic(auto, unfolding(crate::specs::Read::read_asked))]
 pub fn read_into(
     symbology: u32,

@@ -3,4 +3,3 @@ mod WidthLaws
 mod SquareLaws
 mod LabelLaws
 mod ScaleLaws
-mod Examples
