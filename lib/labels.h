@@ -6,8 +6,8 @@
  * No call takes memory from the heap, keeps state, prints or aborts. All are reentrant: any number of threads may call
  * at once. A call uses at most 40 KB of stack.
  *
- * errno and the floating-point environment are left alone, and no locale matters. A call is safe in a signal handler,
- * and after fork() in a process with threads.
+ * errno is left alone, and no locale matters. A call is safe in a signal handler, and after fork() in a process with
+ * threads.
  *
  * A pointer may be NULL only where a call says so. It has to point to as many bytes as the size or room after it says;
  * one to a struct is aligned as the struct is. Memory that a call writes must not overlap anything else that the call

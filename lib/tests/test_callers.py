@@ -74,6 +74,14 @@ for thread in threads:
     thread.join()
 assert statuses == [0] * 20, statuses
 """
+# A usual QR code is drawn once, at each scale.
+ROOMS = """
+import liblabels
+from liblabels._binding import first_room, options_of
+for scale in range(1, 9):
+    picture = liblabels.draw("qr", "https://example.com/article/000123", scale=scale)
+    assert len(picture) <= first_room(options_of("pbm", scale, 50, "M", 1, None, False)), scale
+"""
 
 
 class Callers(WithLibrary):
@@ -83,6 +91,13 @@ class Callers(WithLibrary):
         for right, wrong in (("bytes(memoryview(data))", "data"), ("str.encode(data)", "data.encode()")):
             module = self.library.changed(("python/liblabels/_binding.py", right, wrong)) / "python"
             self.assert_fails(*self.with_module(module), "-c", BYTES)
+
+    def test_first_room(self) -> None:
+        self.run_ok(PYTHON, "-c", ROOMS)
+        module = (
+            self.library.changed(("python/liblabels/_binding.py", "2048 * scale * scale", "2048 * scale")) / "python"
+        )
+        self.assert_fails(*self.with_module(module), "-c", ROOMS)
 
     def test_a_refusal_is_pickled(self) -> None:
         self.run_ok(PYTHON, "-c", PICKLED)
