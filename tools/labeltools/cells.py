@@ -27,7 +27,6 @@ ODD_STARTS = f"{SPECIAL_STARTS} \t\n\r\v\f"  # of cells that are looked at close
 # what a program writes where it has no text, maybe in brackets; `True` may be a title
 NO_TEXTS = frozenset(r"nan nat null none undefined na n/a #n/a \n".split())
 NAMES = ("Na", "na")  # which may be words; `NA` is of R and pandas
-SIGN_OF_ERROR = re.compile("[+:]")  # which all longer ones have
 LONGEST_NO_TEXT = max(map(len, NO_TEXTS)) + 2
 BRACKETS = "()[]<>{}"
 # what nobody sees, or reorders letters, by the class and name of a character in Unicode
@@ -222,8 +221,8 @@ def refuse_no_value(text: str) -> None:
     """Raises `RowError` for what a program writes in place of a text or a number."""
     bare = text.strip()
     length = len(bare)
-    if length > LONGEST_ERROR or length > LONGEST_NO_TEXT and not SIGN_OF_ERROR.search(bare):
-        return
+    if length > LONGEST_ERROR or length > LONGEST_NO_TEXT and ":" not in bare and "+" not in bare:
+        return  # all longer errors have one of these
     if "+" in bare and IS_ROUNDED_DATA.fullmatch(bare):
         raise RowError(Text("has {}: {}", quoted(text), ROUNDED), ROUNDED_HINT)
     if not bare[:1].isdigit() and is_error(bare):

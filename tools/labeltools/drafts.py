@@ -9,7 +9,7 @@ from labeltools.text import NOTHING, Text
 from labeltools.cells import Cell, Kind
 from labeltools.codes import Code, CodeRules, code_of
 from labeltools.columns import Column, Columns, symbology_in
-from labeltools.leftovers import left_in, twice_encoded
+from labeltools.leftovers import LEFT, TWICE, left_in, twice_encoded
 from labeltools.messages import RowError, quoted
 from labeltools.money import MOST_DECIMALS, Money, NotMoney, currency_of, parse
 from labeltools.money import parse_unit_price, plain, text_price
@@ -22,7 +22,7 @@ DATE = re.compile(r"(?<![0-9.,])[0-9]{1,4}[./-][0-9]{1,2}(?:[./-](?:[0-9]{2,4})?
 MARK = re.compile("[0-9][./-]")  # a text without one is like no date
 ZERO_HINT = Text("it is a zero, which its number format shows so")
 # a text without one of these has nothing that is looked at
-LOOKED_AT = re.compile(r"[<&%\\\"']|[0-9][./-]|[\u00c2-\u00f4]")
+LOOKED_AT = re.compile("|".join([LEFT.pattern, TWICE.pattern, MARK.pattern]))
 SHOWN_DECIMALS = 6  # of the number of a cell, in a message
 PROGRAM_DECIMALS = 17  # of a number that a program has calculated
 

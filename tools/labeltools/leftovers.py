@@ -14,7 +14,7 @@ GUARDED = re.compile("'[-=+@]")
 # how cp1252 reads the first byte of a letter of UTF-8, and one behind it
 BEHIND = bytes(range(0x80, 0xC0)).decode("cp1252", "ignore")
 TWICE = re.compile(f"[\u00c2-\u00f4][{re.escape(BEHIND)}]")
-MARK = re.compile(r"[<&%\\\"']")  # a text without one has nothing that is looked for
+LEFT = re.compile(r"[<&%\\\"']")  # a text without one has nothing that is looked for
 
 
 def left_in(text: str) -> Text | None:
@@ -25,7 +25,7 @@ def left_in(text: str) -> Text | None:
     >>> left_in("K%C3%A4se")
     'an escape, for "Käse"'
     """
-    if not MARK.search(text):
+    if not LEFT.search(text):
         return None
     if HTML.search(text):
         return Text("HTML")
