@@ -208,6 +208,13 @@ class Refused(OwnPages):
                 self.found(TITLE.format(WIDE), page=page, **options)
             self.assertTrue(designs.is_refused(caught.exception, why), caught.exception)
 
+    def test_a_shape_with_the_name_of_a_column(self) -> None:
+        """It would be drawn as it is on each label: the same seat on each ticket."""
+        body = f'<text id="Seat" x="2" y="9" font-size="4">12</text>{CODE}'
+        self.assertEqual(len(self.found(body).labels), 1)
+        with self.assertRaisesRegex(ToolError, "seat is a text"):
+            self.found(body, [("code128 A", {"text": {"Seat": "7"}})])
+
     def test_files_that_are_no_svg(self) -> None:
         for data, why in FILES:
             self.path.write_bytes(data)
