@@ -15,6 +15,7 @@ ZPL_HEAD = re.compile(rb"\^XA\^PON\^LH0,0\^LS0\^PW([0-9]+)\^LL([0-9]+)\n")
 ZPL_FIELD = re.compile(rb"\^FO([0-9]+),([0-9]+)\^GFA,([0-9]+),([0-9]+),([0-9]+),([^^]*)\^FS\n")
 ZPL_END = re.compile(rb"(?:\^PQ([0-9]+)\n)?\^XZ\n")
 COUNTED = re.compile(r"([G-Yg-z]+[0-9A-F])")
+UNSIGNED = re.compile(r"(?<=[0-9A-F]):")  # a row comes again that has no sign at its end
 MOST_KNOWN = 4096  # texts of rows of ZPL that are kept as they were read: most labels share some
 KNOWN = 256  # fields that are kept as they were read: what is alike on all labels
 RESTS = {",": "0", "!": "F"}
@@ -150,21 +151,22 @@ def together(rows: list[bytes], field: list[bytes], left: int, blank: bytes) -> 
 @lru_cache(KNOWN)
 def rows_of_field(text: str, size: int) -> list[bytes]:
     """Returns the rows of a graphic field in run lengths; raises `NotDecoded`."""
-    # each piece ends with a sign that fills its row; what has none is together with the next one
-    pieces = text.replace(",", ",\n").replace("!", "!\n").replace(":", "\n:").split("\n")
+    # each piece has signs of rows that come again, and a row that ends with the sign that fills it;
+    # rows without one are together with the next row
+    signed = UNSIGNED.sub("\n:", text).replace(",", ",\n").replace("!", "!\n")
+    pieces = signed.split("\n")
+    texts = [piece.lstrip(":") for piece in pieces]
     known = known_rows(size)
     if len(known) > MOST_KNOWN:
         known.clear()
         known[""] = []
-    new = [piece for piece in dict.fromkeys(pieces) if piece.lstrip(":") not in known]
+    new = [one for one in dict.fromkeys(texts) if one not in known]
     if new:
-        learn(known, [piece.lstrip(":") for piece in new], 2 * size)
+        learn(known, new, 2 * size)
     rows: list[bytes] = []
-    for piece in pieces:
-        if piece.startswith(":"):
-            rows += rows[-1:]
-            piece = piece[1:]
-        rows += known[piece]
+    for piece, one in zip(pieces, texts):
+        rows += rows[-1:] * (len(piece) - len(one))
+        rows += known[one]
     return rows
 
 

@@ -22,10 +22,10 @@ class Ink(NamedTuple):
 
     def meets(self, other: "Box | Ink") -> bool:
         """Returns whether it has more than its rounding in common with another one."""
-        is_across = self.left < other.right - TOUCHING and self.right > other.left + TOUCHING
-        return (
-            is_across and self.top < other.bottom - TOUCHING and self.bottom > other.top + TOUCHING
-        )
+        left, top, right, bottom = self
+        if top > other.bottom - TOUCHING or bottom < other.top + TOUCHING:
+            return False
+        return left < other.right - TOUCHING and right > other.left + TOUCHING
 
 
 class Matrix(NamedTuple):
@@ -55,8 +55,10 @@ class Matrix(NamedTuple):
 
     def ink(self, left: float, top: float, right: float, bottom: float) -> Ink:
         """Returns the rectangle in which another one is when it was moved."""
-        if not (self.b or self.c) or not (self.a or self.d):  # it has its corners still
-            return ink_of((self.of(left, top), self.of(right, bottom)))
+        if not (self.b or self.c) or not (self.a or self.d):  # two corners say it
+            x0, y0 = self.of(left, top)
+            x1, y1 = self.of(right, bottom)
+            return Ink(min(x0, x1), min(y0, y1), max(x0, x1), max(y0, y1))
         points = (self.of(left, top), self.of(right, top), self.of(left, bottom))
         corners = (*points, self.of(right, bottom))
         return ink_of(corners)

@@ -8,6 +8,7 @@ import math
 import re
 import struct
 from array import array
+from functools import lru_cache
 from typing import Callable, Mapping, NamedTuple, Sequence
 
 STRING = re.compile(rb"\(((?:[^\\()]|\\.)*)\)|<([0-9A-Fa-f]*)>|(-?[0-9.]+)", re.DOTALL)
@@ -18,6 +19,7 @@ W_ARRAY = re.compile(rb"/W \[([0-9]+) \[([^\]]*)\]")
 DESCRIPTOR = re.compile(rb"/FontDescriptor ([0-9]+) 0 R")
 DESCENDANT = re.compile(rb"/DescendantFonts \[ ?([0-9]+) 0 R")
 TRUETYPE = re.compile(rb"/FontFile2 ([0-9]+) 0 R")
+KNOWN = 4096  # strings whose reach is kept: many numbers begin alike
 EM = 1000.0  # in which widths are
 APART = 0.2  # of the size of letters: more than kerning, as between the digits of an EAN
 FILLED = (0.0, 0.45)  # the part of any letter above its base line that is taken for its ink
@@ -64,12 +66,26 @@ class Font:
         self.advances = [letter.advance for letter in self.letters]
         self.bottoms = [letter.bottom for letter in self.letters]
         self.tops = [letter.top for letter in self.letters]
+        self.word = lru_cache(KNOWN)(self.new_word)
 
     def codes(self, text: bytes) -> Sequence[int]:
         """Returns the codes of a text."""
         if self.size == 1:
             return text
         return [code for (code,) in struct.iter_unpack(">H", text)]
+
+    def new_word(self, plain: bytes, coded: bytes) -> Reach:
+        """Returns how far the letters of a string go, as if they were one letter."""
+        codes = self.codes(bytes.fromhex(coded.decode()) if coded else unescaped(plain))
+        if not codes:
+            return NO_LETTER
+        return Reach(
+            sum(map(self.advances.__getitem__, codes)),
+            self.letters[codes[0]].left,
+            self.letters[codes[-1]].right,
+            min(map(self.bottoms.__getitem__, codes)),
+            max(map(self.tops.__getitem__, codes)),
+        )
 
     def extents(self, shown: bytes) -> tuple[list[Extent], float]:
         """Returns where the letters of `Tj` or `TJ` have ink, words that are far from one another
@@ -84,15 +100,12 @@ class Font:
                 at -= by
                 is_apart = is_apart or abs(by) > APART
                 continue
-            codes = self.codes(bytes.fromhex(coded.decode()) if coded else unescaped(plain))
+            word = self.word(plain, coded)
             start = at
-            at += sum(map(self.advances.__getitem__, codes))
-            top = max(map(self.tops.__getitem__, codes), default=-math.inf)
-            if top == -math.inf:
+            at += word.advance
+            if word.top == -math.inf:
                 continue
-            bottom = min(map(self.bottoms.__getitem__, codes))
-            left = start + self.letters[codes[0]].left
-            ink = Extent(left, bottom, at - self.letters[codes[-1]].right, top)
+            ink = Extent(start + word.left, word.bottom, at - word.right, word.top)
             if is_apart:
                 found.append(ink)
             else:
@@ -135,6 +148,8 @@ def font_of(
     shapes = TrueType(stream(int(file[1]))) if file else None
     letters = {}
     for code, width in widths.items():
+        if not width and not below:  # of no letter that is shown
+            continue
         if shapes is None:
             letters[code] = Reach(width, 0.0, 0.0, *FILLED)
         else:
@@ -160,41 +175,57 @@ class TrueType:
         places.byteswap()
         self.places = [place * (1 if is_long else 2) for place in places]
         self.shapes = tables[b"glyf"]
-        self.glyphs = glyphs_of(tables[b"cmap"]) if b"cmap" in tables else {}
+        self.spans = spans_of(tables[b"cmap"]) if b"cmap" in tables else []
 
     def glyph(self, letter: str) -> int:
         """Returns the glyph of a letter; 0 for the one of letters that are not there."""
-        return self.glyphs.get(ord(letter), 0)
+        code = ord(letter)
+        for span in self.spans:
+            if span.first <= code <= span.last:
+                return span.glyph(code)
+        return 0
 
     def reach(self, glyph: int, width: float) -> Reach:
         """Returns how far a glyph goes."""
-        if glyph + 1 >= len(self.places) or self.places[glyph] == self.places[glyph + 1]:
+        is_there = 0 < glyph < len(self.places) - 1  # glyph 0 is shown for what a font has not
+        if not is_there or self.places[glyph] == self.places[glyph + 1]:
             return Reach(width, *NO_INK)
         sides = struct.unpack_from(">4h", self.shapes, self.places[glyph] + 2)
         left, bottom, right, top = (side / self.em for side in sides)
         return Reach(width, left, width - right, bottom, top)
 
 
-def glyphs_of(table: bytes) -> dict[int, int]:
-    """Returns the glyphs of letters by a table of format 4."""
+class Span(NamedTuple):
+    """Letters that follow one another in a table of format 4: the first and the last one, what is
+    added to a letter or its entry, and where the entries begin, if there are any.
+    """
+
+    first: int
+    last: int
+    delta: int
+    start: int
+    table: bytes
+
+    def glyph(self, letter: int) -> int:
+        """Returns the glyph of a letter; 0 for the one of letters that are not there."""
+        glyph = letter
+        if self.start:
+            (glyph,) = struct.unpack_from(">H", self.table, self.start + 2 * (letter - self.first))
+        return (glyph + self.delta) & 0xFFFF if glyph else 0
+
+
+def spans_of(table: bytes) -> list[Span]:
+    """Returns the letters of a table of format 4."""
     (start,) = struct.unpack_from(">I", table, 8)
     kind, _, _, double = struct.unpack_from(">HHHH", table, start)
     if kind != 4:
-        return {}
+        return []
     count = double // 2
     row = f">{count}H"
-    ends = struct.unpack_from(row, table, start + 14)
+    lasts = struct.unpack_from(row, table, start + 14)
     firsts = struct.unpack_from(row, table, start + 16 + double)
     deltas = struct.unpack_from(row, table, start + 16 + 2 * double)
-    offsets_at = start + 16 + 3 * double
-    offsets = struct.unpack_from(row, table, offsets_at)
-    found = {}
-    for number in range(count):
-        for letter in range(firsts[number], min(ends[number], 0xFFFE) + 1):
-            glyph = letter
-            if offsets[number]:
-                at = offsets_at + 2 * number + offsets[number] + 2 * (letter - firsts[number])
-                (glyph,) = struct.unpack_from(">H", table, at)
-            if glyph:
-                found[letter] = (glyph + deltas[number]) & 0xFFFF
-    return found
+    at = start + 16 + 3 * double
+    offsets = struct.unpack_from(row, table, at)
+    starts = [offset and at + 2 * number + offset for number, offset in enumerate(offsets)]
+    return [Span(*sides, table) for sides in zip(firsts, lasts, deltas, starts)]

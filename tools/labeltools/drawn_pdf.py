@@ -10,7 +10,7 @@ from labeltools.drawn_codes import PLAIN, POINTS, DrawnCode, DrawnPage, Ink, Mat
 from labeltools.drawn_letters import Extent, Font, font_of
 from labeltools.text import Text
 
-N = rb"-?[0-9]*\.?[0-9]+"
+N = rb"[-0-9.]++"
 TEXT = rb"\((?:[^\\()]|\\.)*\)|<[0-9A-Fa-f]*>"
 # what a page does: keeps and brings back its matrix, moves, draws an object, begins a line of
 # text, names its font, shows letters, fills or strokes a path

@@ -242,9 +242,10 @@ def prepared(
     found: DrawnLines,
     talk: Talk,
     letters: Optional[Letters] = None,
+    is_remarked: bool = True,
 ) -> Prepared:
     """Returns the labels of lines that labels(1) has drawn, laid out; `letters` may be those of an
-    earlier call.
+    earlier call. Nobody hears of texts that are shortened, and the like, unless `is_remarked`.
     """
     lines = found.lines
     drawn = found.drawn
@@ -271,10 +272,11 @@ def prepared(
     left_out = list(without_line(lines, options.only))
     left_out += refused_labels(lines, reasons, options.only)
     tables = frozenset(record.table for record in lines.records if record.table)
-    remarks = [
-        *several(wanted, options.only),
-        *remarks_on(wanted, laid_out, len(tables) > 1, pens_of(job, letters)[0]),
-    ]
+    remarks: list[Remark] = []
+    if is_remarked:
+        pen = pens_of(job, letters)[0]
+        remarks += several(wanted, options.only)
+        remarks += remarks_on(wanted, laid_out, len(tables) > 1, pen)
     laid_out = replace(laid_out, labels=tuple(wanted))
     return Prepared(job, laid_out, tuple(left_out), tuple(remarks), tables, letters)
 

@@ -15,6 +15,7 @@ it, as in the file of label-table; its first and last remarks are skipped.
 import os
 import stat
 import sys
+from contextlib import suppress
 from typing import BinaryIO, Iterator, NamedTuple, Optional
 
 from labeltools.engine import LABELS_FAILED, run_labels
@@ -62,6 +63,8 @@ def source_of(path: Optional[str]) -> BinaryIO:
     if path is None or path == "-":
         if sys.stdin is None:
             raise ToolError(Text("standard input is closed"))
+        with suppress(OSError):  # who gave it may have made it one that does not wait
+            os.set_blocking(sys.stdin.fileno(), True)
         return sys.stdin.buffer
     is_fifo = stat.S_ISFIFO(os.stat(path).st_mode)
     return os.fdopen(os.open(path, os.O_RDWR if is_fifo else os.O_RDONLY), "rb")
@@ -142,7 +145,7 @@ class Stream:
             lines = read_lines(data, Text("the line"), "--escapes" in self.options.words)
             drawn = run_labels(data, self.options.words, Silence())
             found = DrawnLines(lines, drawn)
-            done = prepared(self.options, self.job, found, Silence(), self.letters)
+            done = prepared(self.options, self.job, found, Silence(), self.letters, False)
         except ToolError as error:
             if error.status == LABELS_FAILED:
                 raise

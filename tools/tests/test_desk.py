@@ -7,18 +7,19 @@ import os
 import resource
 import subprocess
 import tempfile
-import time
 import unittest
 from pathlib import Path
-from typing import Any, Optional
+from typing import Optional
 from unittest import mock
 
 import support
 from labeltools.journal import Journal, code_in, escaped
 from labeltools.lines_file import read_lines
-from labeltools.messages import ToolError
+from labeltools.messages import Silence, ToolError
 from labeltools.network import NetworkPrinter
+from labeltools.print_job import PrintOptions, labels_of, planned
 from labeltools.selection import selection_of
+from labeltools.sending import Sender
 from printers import LABEL, Printer
 
 ROLL = ("--paper", "60x40", "--dpi", "203", "--to", "zpl")
@@ -308,6 +309,49 @@ class Journals(Folder):
         with self.assertRaisesRegex(ToolError, "another program has changed it"):
             journal.claim(self.records[1])
 
+    def test_a_label_is_written_down_before_it_goes_out(self) -> None:
+        """On the disk, and marked after it went: a power cut leaves one label in doubt at most."""
+        order: list[str] = []
+        path = self.path
+
+        class Recorder:
+            """Keeps what happens, and the events in the journal then."""
+
+            name = "tcp://a"
+
+            def open(self) -> None:
+                order.append("open")
+
+            def send(self, data: bytes) -> None:
+                order.append("sent after " + Path(path).read_text().split("\t")[-5])
+
+            def close(self) -> None:
+                order.append("close")
+
+        options = PrintOptions(paper=(60.0, 40.0), dpi=203, to="zpl")
+        found = labels_of(options, planned(options), "lines", TICKETS[:21], Silence())
+        sender = Sender(Recorder(), Journal(self.path, "tcp://a"))
+        with mock.patch("os.fdatasync", lambda file: order.append("synced")):
+            sender.send_all(found.press(Silence()), found.prints)
+        self.assertEqual(order, ["open", "synced", "sent after sending"] * 2 + ["close"])
+        self.assertEqual(self.events(), ["sending", "taken"] * 2)
+
+    def test_two_commands_at_once(self) -> None:
+        """Each label goes to one of two printers."""
+        lanes = Printer().start(), Printer().start()
+        script = [str(support.TOOLS / "label-print"), *ROLL, "--journal", self.path, "--print"]
+        lines = Path(self.folder, "lines")
+        lines.write_bytes(TICKETS)
+        env = support.environment()
+        quiet = subprocess.DEVNULL
+        runs = [
+            subprocess.Popen([*script, lane.name, str(lines)], env=env, stderr=quiet)
+            for lane in lanes
+        ]
+        self.assertEqual([run.wait(support.SECONDS) for run in runs], [0, 0])
+        labels = [*lanes[0].labels, *lanes[1].labels]
+        self.assertEqual(sorted(labels), sorted(labels_in(printed())))
+
     def test_each_byte_comes_back(self) -> None:
         data = bytes(range(256))
         self.assertEqual(code_in(b"qr " + escaped(data)), ("qr", data))
@@ -433,6 +477,25 @@ class Streams(Folder):
         self.assertRegex(said[0], "^unsent 1 tcp://.*refused; is it on")
         self.assertEqual(said[1], "known 2 qr T1")
         self.assertNotIn("NEW", Path(self.path).read_text())
+
+    def test_an_input_that_does_not_wait(self) -> None:
+        """A supervisor may hand on a pipe that it does not wait for itself."""
+        source, target = os.pipe()
+        os.set_blocking(source, False)
+        pipe = subprocess.PIPE
+        command = [str(support.TOOLS / "label-print"), *ROLL, "--stream"]
+        env = support.environment()
+        with subprocess.Popen(command, stdin=source, stdout=pipe, stderr=pipe, env=env) as stream:
+            assert stream.stdout and stream.stderr
+            for code in (b"A", b"B"):
+                os.write(target, b"qr " + code + b"\n")
+                answer = stream.stderr.readline().split()
+                self.assertEqual(answer[3:], [b"qr", code])
+                stream.stdout.read(int(answer[2]))
+            os.close(target)
+            self.assertEqual(stream.stderr.read(), b"")
+        os.close(source)
+        self.assertEqual(stream.returncode, 0)
 
     def test_nobody_reads_the_labels(self) -> None:
         stream = self.start()

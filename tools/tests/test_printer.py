@@ -6,6 +6,7 @@ import tempfile
 import unittest
 from pathlib import Path
 from typing import Any, Optional
+from unittest import mock
 
 import jobs
 import support
@@ -263,9 +264,20 @@ class Hostile(unittest.TestCase):
             self.assertIn(f"the library liblabels is not there: {named}".encode(), done.stderr)
 
     def test_another_version_of_the_library(self) -> None:
+        """Later ones of the same major version are taken."""
         from labeltools import engine
+        from labeltools.messages import ToolError
 
-        self.assertEqual(engine.library().version(), engine.VERSION)
+        module = engine.library()
+        for version, is_taken in (("1.0.0", True), ("1.9.3", True), ("2.0.0", False)):
+            engine.library.cache_clear()
+            with mock.patch.object(module, "version", return_value=version):
+                if is_taken:
+                    self.assertIs(engine.library(), module)
+                else:
+                    with self.assertRaisesRegex(ToolError, "liblabels 2.0.0 is another than"):
+                        engine.library()
+        engine.library.cache_clear()
 
     def test_options_are_those_of_the_program(self) -> None:
         """Each that the program takes or refuses."""
