@@ -22,7 +22,7 @@ KEYS = {
 }
 # the page about the window: beside the sources, and where it is installed
 TOP = Path(__file__).resolve().parents[2]
-PAGES = (TOP / "docs/WINDOW.md", TOP.parent / "doc/labels/docs/WINDOW.md")
+PAGES = (TOP / "docs/WINDOW.md", TOP / "doc/labels/docs/WINDOW.md")
 
 
 class Application(Gtk.Application):

@@ -23,9 +23,11 @@ LONGEST_ERROR = 30  # letters of what a program writes in place of a text
 FORMULA_OF_TEXT = re.compile('="((?:[^"]|"")*)"')
 ERROR = re.compile(r"#(?:##+|N/A|N/D|NV|Н/Д|GETTING_DATA|[^\s#]{1,15} ?[!?])|Err:[0-9]{3}")
 SPECIAL_STARTS = "=#E"  # of formulas, and of the names of errors
+ODD_STARTS = f"{SPECIAL_STARTS} \t\n\r\v\f"  # of cells that are looked at closely
 # what a program writes where it has no text, maybe in brackets; `True` may be a title
 NO_TEXTS = frozenset(r"nan nat null none undefined na n/a #n/a \n".split())
 NAMES = ("Na", "na")  # which may be words; `NA` is of R and pandas
+SIGN_OF_ERROR = re.compile("[+:]")  # which all longer ones have
 LONGEST_NO_TEXT = max(map(len, NO_TEXTS)) + 2
 BRACKETS = "()[]<>{}"
 # what nobody sees, or reorders letters, by the class and name of a character in Unicode
@@ -218,11 +220,13 @@ def seen(cell: Cell) -> str:
 
 def refuse_no_value(text: str) -> None:
     """Raises `RowError` for what a program writes in place of a text or a number."""
-    if len(text) > LONGEST_ERROR:
+    bare = text.strip()
+    length = len(bare)
+    if length > LONGEST_ERROR or length > LONGEST_NO_TEXT and not SIGN_OF_ERROR.search(bare):
         return
-    if "+" in text and IS_ROUNDED_DATA.fullmatch(text.strip()):
+    if "+" in bare and IS_ROUNDED_DATA.fullmatch(bare):
         raise RowError(Text("has {}: {}", quoted(text), ROUNDED), ROUNDED_HINT)
-    if not text[:1].isdigit() and is_error(text.strip()):
+    if not bare[:1].isdigit() and is_error(bare):
         raise RowError(Text("has {}, which a program writes where it has no value", quoted(text)))
 
 
@@ -250,6 +254,8 @@ def plain_text(cell: str) -> str:
     """Returns a cell that is a text; raises `RowError` for what a spreadsheet writes in place of a
     value.
     """
+    if cell[:1] not in ODD_STARTS and cell.isascii() and len(cell) <= LONGEST_CELL:
+        return cell  # most cells, at once
     start = cell.lstrip()[:1]
     if start in SPECIAL_STARTS and start:
         refuse_special(cell)

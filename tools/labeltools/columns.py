@@ -119,6 +119,12 @@ class Columns:
     symbology: Column | None = None
     where: tuple[tuple[Column, str], ...] = ()
 
+    @property
+    def shown(self) -> tuple[Column, ...]:
+        """The columns whose cells are seen on a label."""
+        prices = (one for one in (self.price, self.unit_price, self.old_price) if one is not None)
+        return (self.code, *self.title, *self.text, *prices)
+
 
 @dataclass(frozen=True)
 class Head:

@@ -21,6 +21,8 @@ from labeltools.table_options import TableOptions
 DATE = re.compile(r"(?<![0-9.,])[0-9]{1,4}[./-][0-9]{1,2}(?:[./-](?:[0-9]{2,4})?)?(?![0-9,])")
 MARK = re.compile("[0-9][./-]")  # a text without one is like no date
 ZERO_HINT = Text("it is a zero, which its number format shows so")
+# a text without one of these has nothing that is looked at
+LOOKED_AT = re.compile(r"[<&%\\\"']|[0-9][./-]|[\u00c2-\u00f4]")
 SHOWN_DECIMALS = 6  # of the number of a cell, in a message
 PROGRAM_DECIMALS = 17  # of a number that a program has calculated
 
@@ -86,12 +88,14 @@ class Noticed:
 
     def text(self, column: Column, row: Row, text: str) -> None:
         """Looks at a title or text; raises `RowError` for one that was encoded twice."""
+        cell = row.cells[column.place]
+        if isinstance(cell, str) and not LOOKED_AT.search(text):  # most texts, at once
+            return
         if before := twice_encoded(text):
             what = Text("has {}, which was encoded twice, for {}", quoted(text), quoted(before))
             raise column.error(RowError(what, Text("export the table again")))
         if found := left_in(text):
             self.left.setdefault(found.template, Found(row.number, text, found))
-        cell = row.cells[column.place]
         kind = Kind.TEXT if isinstance(cell, str) else cell.kind
         if kind is Kind.MOMENT:
             self.dates.setdefault(column.place, row.number)
@@ -108,13 +112,12 @@ class Noticed:
             before = self.like_values.get(key, Found(row.number, value, rows=0))
             self.like_values[key] = before._replace(rows=before.rows + 1)
 
-    def shown(self, price: Price, row: Row) -> None:
+    def shown(self, price: Price, row: int, number: Decimal) -> None:
         """Looks at a price that is the number of a cell; raises `RowError` where it is shown as
         another one. Rounded to two decimals or more it is the same price.
         """
-        number = number_of(row.cell(price.column.place))
         money = price.money
-        if number is None or money is None or money.currency == "cent":
+        if money is None or money.currency == "cent":
             return
         lost = abs(money.value - number)
         value = format(round(number, SHOWN_DECIMALS).normalize(), "f")
@@ -125,7 +128,7 @@ class Noticed:
             )
         if money.decimals < 2 and lost > ARITHMETIC:
             place = price.column.place
-            before = self.rounded.get(place, Found(row.number, price.text, Text("{}", value), 0))
+            before = self.rounded.get(place, Found(row, price.text, Text("{}", value), 0))
             self.rounded[place] = before._replace(rows=before.rows + 1)
 
     def prices(self, row: int, price: Price | None, was: Price | None) -> None:
@@ -164,9 +167,10 @@ class RowReader:
         currency = self.currency(row)
         copies = columns.copies.copies(row) if columns.copies else 1
         price = self.price(columns.price, row, currency)
-        unit = self.price(columns.unit_price, row, currency)
-        was = self.price(columns.old_price, row, currency)
-        self.noticed.prices(row.number, price, was)
+        unit = self.price(columns.unit_price, row, currency) if columns.unit_price else None
+        was = self.price(columns.old_price, row, currency) if columns.old_price else None
+        if was:
+            self.noticed.prices(row.number, price, was)
         return Draft(row.number, code, title, text, tuple(texts), copies, price, unit, was)
 
     def is_names(self, row: Row) -> bool:
@@ -266,11 +270,12 @@ class RowReader:
             what = Text("has {}, which is no price: it {}", quoted(text), problem.what)
             hint = ZERO_HINT if is_zero(row.cell(column.place)) else problem.hint
             raise column.error(RowError(what, hint)) from None
-        number = number_of(row.cell(column.place))
-        if money and number is not None:
-            money = nearest(money, number)
-        found = Price(column, text, money, currency)
-        self.noticed.shown(found, row)
+        cell = row.cells[column.place]
+        number = None if isinstance(cell, str) else cell.number()
+        if money is None or number is None:
+            return Price(column, text, money, currency)
+        found = Price(column, text, nearest(money, number), currency)
+        self.noticed.shown(found, row.number, number)
         return found
 
     def money(self, text: str, is_unit: bool, currency: str) -> Money | None:
@@ -281,11 +286,6 @@ class RowReader:
             return None
         most = PROGRAM_DECIMALS if rules.pattern else MOST_DECIMALS
         return parse_unit_price(text, currency, most) if is_unit else parse(text, currency, most)
-
-
-def number_of(cell: Cell) -> Decimal | None:
-    """Returns the number of a cell; None where it has none."""
-    return None if isinstance(cell, str) else cell.number()
 
 
 def is_zero(cell: Cell) -> bool:

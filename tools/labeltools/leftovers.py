@@ -11,6 +11,9 @@ ESCAPES = re.compile(r'(?:%[0-9A-Fa-f]{2})+|\\u[0-9A-Fa-f]{4}|\\[nrt"\'](?![A-Za
 SIMPLE = {"\\n": "\n", "\\r": "\r", "\\t": "\t", '\\"': '"', "\\'": "'"}
 QUOTED = re.compile(r"\s*(?:\".*\"|'.*')\s*", re.DOTALL)
 GUARDED = re.compile("'[-=+@]")
+# how cp1252 reads the first byte of a letter of UTF-8, and one behind it
+BEHIND = bytes(range(0x80, 0xC0)).decode("cp1252", "ignore")
+TWICE = re.compile(f"[\u00c2-\u00f4][{re.escape(BEHIND)}]")
 MARK = re.compile(r"[<&%\\\"']")  # a text without one has nothing that is looked for
 
 
@@ -60,7 +63,7 @@ def twice_encoded(text: str) -> str:
     >>> twice_encoded("K\\xc3\\xa4se"), twice_encoded("K\\xe4se")
     ('Käse', '')
     """
-    if text.isascii():
+    if text.isascii() or not TWICE.search(text):  # most texts, at once
         return ""
     try:
         return text.encode("cp1252").decode("utf-8")

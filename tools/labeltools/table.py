@@ -339,8 +339,18 @@ class Work:
             self.talk.say(text, Text("give --links to draw the address"))
 
     def say_of_numbers(self) -> None:
-        """Shows how numbers and dates of .xlsx are printed, where the file does not say it."""
+        """Shows how numbers and dates of .xlsx are printed, where the file does not say it, and in
+        which columns a condition may strike letters through.
+        """
         formatter = self.start.formatter
+        for column in self.columns.shown:
+            if row := formatter.may_strike.get(column.place):
+                text = Text(
+                    "{} has a condition from row {} on that strikes letters through",
+                    column.title,
+                    row,
+                )
+                self.talk.say(text, Text("are these rows to be printed? --where chooses rows"))
         is_given = self.options.file.decimal is not None or self.options.prices.pattern
         if formatter.first_number and not is_given:
             self.talk.say(

@@ -85,6 +85,8 @@ class Window(Gtk.ApplicationWindow):
     def __init__(self, **properties: Any) -> None:
         super().__init__(**properties)
         self.init_template()
+        if lacking(self):
+            raise LookupError(f"window.ui has no widgets {', '.join(lacking(self))}")
         self.actions = {
             name: self.add_window_action(name, called)
             for name, called in (
@@ -569,6 +571,12 @@ class Window(Gtk.ApplicationWindow):
 def said(what: Text, hint: Text) -> str:
     """Returns a reason, and below it what to do."""
     return "\n".join(translated(text) for text in (what, hint) if text)
+
+
+def lacking(window: Any) -> list[str]:
+    """Returns the names of the widgets that a window names and window.ui does not have."""
+    names = (name for name, one in vars(Window).items() if isinstance(one, Gtk.Template.Child))
+    return [name for name in names if getattr(window, name) is None]
 
 
 def progress_text(talk: Talk) -> str:

@@ -53,12 +53,23 @@ class Target(NamedTuple):
 class Styles:
     """The styles of a file by their numbers: their number formats, and the form of their letters
     where that changes what these mean. `conditional` are the numbers of the formats that a
-    condition gives to cells, where these have a number format.
+    condition gives to cells, where these have a number format; `striking` are those that strike
+    letters through.
     """
 
     formats: list[str]
     letters: Mapping[int, Run]
     conditional: frozenset[int]
+    striking: frozenset[int]
+
+
+class Conditions(NamedTuple):
+    """Areas of cells that a condition may show otherwise than their own number formats say, and
+    those whose letters it may strike through.
+    """
+
+    formats: list[Merge]
+    strikes: list[Merge]
 
 
 @dataclass
@@ -234,9 +245,16 @@ def styles_of(archive: ZipFile, part: str) -> Styles:
         form = PLAIN if is_plain else fonts[whole(style.get("fontId", "0"))]
         if form != PLAIN:
             letters[number] = form
-    dxfs = enumerate(elements(archive, part, "/styleSheet/dxfs/dxf"))
-    conditional = frozenset(number for number, dxf in dxfs if dxf.find("numFmt") is not None)
-    return Styles(formats or ["General"], letters, conditional)
+    dxfs = list(elements(archive, part, "/styleSheet/dxfs/dxf"))
+    conditional = frozenset(at for at, dxf in enumerate(dxfs) if dxf.find("numFmt") is not None)
+    striking = frozenset(at for at, dxf in enumerate(dxfs) if strikes(dxf))
+    return Styles(formats or ["General"], letters, conditional, striking)
+
+
+def strikes(form: Element | None) -> bool:
+    """Returns whether the format of a condition strikes letters through."""
+    font = None if form is None else form.find("font")
+    return font is not None and form_of(font).is_struck
 
 
 def relations(archive: ZipFile, path: str) -> dict[str, Target]:
@@ -261,7 +279,7 @@ def sheet_rows(archive: ZipFile, path: str, book: Book) -> Iterator[Row]:
     """
     beginning = merges_of(archive, path)
     links = links_of(archive, path)
-    conditions = conditions_of(archive, path, book.styles.conditional)
+    conditions = conditions_of(archive, path, book.styles)
     merges: list[Merge] = []
     number = 0
     around = Around()
@@ -278,9 +296,12 @@ def sheet_rows(archive: ZipFile, path: str, book: Book) -> Iterator[Row]:
         cells = cells_of(element, number, book, row_links)
         if book.styles.letters:
             take_letters(element, cells, around, book)
-        for area in conditions:
+        for area in conditions.formats:
             if area.row <= number <= area.last_row:
                 refuse_condition(cells, area)
+        for area in conditions.strikes:
+            if area.row <= number <= area.last_row:
+                see_strikes(cells, area, number, book.formatter)
         merges = merges_at(merges, number) + beginning.get(number, [])
         is_hidden = element.get("hidden") in TRUE
         yield from rows_from(Row(number, cells, None, is_hidden, merges, row_links), 1)
@@ -343,23 +364,22 @@ def merges_of(archive: ZipFile, path: str) -> dict[int, list[Merge]]:
     return merges
 
 
-def conditions_of(archive: ZipFile, path: str, formats: frozenset[int]) -> list[Merge]:
-    """Returns the areas whose cells may be shown otherwise than their own number formats say, by a
-    condition.
-    """
-    areas: list[Merge] = []
+def conditions_of(archive: ZipFile, path: str, styles: Styles) -> Conditions:
+    """Returns the areas of a sheet that conditions may change."""
+    found = Conditions([], [])
     if not has_word(archive, path, b"conditionalFormatting"):
-        return areas
+        return found
     for element in elements(archive, path, CONDITION, passed=ROW):
-        numbers = (
-            whole(rule.get("dxfId", "")) for rule in element.iter("cfRule") if rule.get("dxfId")
-        )
-        if formats.intersection(numbers):
-            areas += areas_of(element.get("sqref", ""))
+        rules = element.iter("cfRule")
+        numbers = {whole(rule.get("dxfId", "")) for rule in rules if rule.get("dxfId")}
+        areas = areas_of(element.get("sqref", ""))
+        found.formats.extend(areas if styles.conditional & numbers else ())
+        found.strikes.extend(areas if styles.striking & numbers else ())
     for element in elements(archive, path, LATER_CONDITION, passed=ROW):
-        if element.find("cfRule/dxf/numFmt") is not None:
-            areas += areas_of(element.findtext("sqref", ""))
-    return areas
+        areas = areas_of(element.findtext("sqref", ""))
+        found.formats.extend(areas if element.find("cfRule/dxf/numFmt") is not None else ())
+        found.strikes.extend(areas if any(map(strikes, element.iterfind("cfRule/dxf"))) else ())
+    return found
 
 
 def areas_of(references: str) -> list[Merge]:
@@ -374,6 +394,13 @@ def refuse_condition(cells: list[Cell], area: Merge) -> None:
         cell = cells[place]
         if isinstance(cell, Number):
             cells[place] = Fault(CONDITIONAL, TYPED, cell.value)
+
+
+def see_strikes(cells: list[Cell], area: Merge, number: int, formatter: Formatter) -> None:
+    """Keeps the first row in which a condition may strike the letters of a column through."""
+    for place in range(area.place, min(area.last_place + 1, len(cells))):
+        if cells[place]:
+            formatter.may_strike.setdefault(place, number)
 
 
 def links_of(archive: ZipFile, path: str) -> dict[int, dict[int, str]]:

@@ -1,5 +1,5 @@
-"""Tests of what a cell is: its kind, its value, its runs and its text have to agree, and each column
-takes some kinds alone.
+"""Tests of what a cell is: its kind, its value, its runs and its text have to agree, and each
+column takes some kinds alone.
 
 What spreadsheets write for raised, struck, dated and conditional cells was seen in files of
 LibreOffice 7.4 and XlsxWriter, and is what ISO/IEC 29500-1 and 26300 say.
@@ -52,7 +52,8 @@ class Runs(CellTest):
         ):
             data = xlsx(rows(HEAD, [PENCIL, "Tea", SHARED]), strings=shared(*runs))
             self.check_price(data, price, said)
-        style = '<style:style style:name="T1" style:family="text"><style:text-properties style:text-position='
+        style = '<style:style style:name="T1" style:family="text">'
+        style += "<style:text-properties style:text-position="
         span = '12<text:span text:style-name="T1">49</text:span>'
         for place, price in (("super 58%", None), ("33% 58%", None), ("0% 100%", "1249")):
             styles = f'{style}"{place}"/></style:style>'
@@ -72,7 +73,7 @@ class Runs(CellTest):
         data = xlsx(rows(HEAD, [PENCIL, "Tea", cell(14.99, style=1)]), styles=styles)
         self.check_price(data, None, "has letters that are struck through")
         line = 'style:text-line-through-style="solid"'
-        styles = f'<style:style style:name="ce1" style:family="table-cell"><style:text-properties {line}/></style:style>'
+        styles = ods_style("ce1", "table-cell", line)
         struck = ods_cell("14.99", "float", 'office:value="14.99" table:style-name="ce1"')
         data = ods(table(HEAD, [PENCIL, "Tea", struck]), styles=styles)
         self.check_price(data, None, "has letters that are struck through")
@@ -187,6 +188,22 @@ class Styles(CellTest):
         ):
             data = xlsx(sheet, styles=styles, before=before)
             self.check_price(data, None if said else "14.25", said)
+
+    def test_a_condition_that_strikes_letters_is_said(self) -> None:
+        styles = "<dxfs><dxf><font><b/></font></dxf><dxf><font><strike/></font></dxf></dxfs>"
+        rule = '<conditionalFormatting sqref="{}"><cfRule type="expression" dxfId="{}">'
+        rule += "<formula>$D2=0</formula></cfRule></conditionalFormatting>"
+        said = 'column 3 ("Price") has a condition from row 2 on that strikes letters through: are'
+        said += " these rows to be printed? --where chooses rows"
+        for area, number, is_said in (
+            ("C2:C9", 1, True),
+            ("C2:C9", 0, False),
+            ("C7:C9", 1, False),
+            ("D2:D9", 1, False),
+        ):
+            sheet = rows(HEAD, [PENCIL, "Tea", 14.25])
+            data = xlsx(sheet, styles=styles, after=rule.format(area, number))
+            self.assertEqual(self.ran(data, *PRICED), (["14.25"], [said] * is_said))
 
 
 class Kinds(CellTest):

@@ -1,4 +1,6 @@
-"""The messages of the tools in German: every message has a text, and the tools write it."""
+"""The messages of the tools in German and French: every message has a text, and the tools write
+it. A language is one file, tools/po/LANGUAGE.po; what it lacks, the test of its texts lists.
+"""
 
 import ast
 import os
@@ -7,22 +9,18 @@ import string
 import subprocess
 import sys
 import tempfile
-import time
 import unittest
 from pathlib import Path
 from unittest import mock
 
 import support
-from labeltools.messages import quoted
 from labeltools.reasons import REASONS, WITH_FIELDS, reason_of
-from labeltools.text import Text, counted, joined, translated
 
-GERMAN = support.TOOLS / "po/de.po"
+LANGUAGES = sorted(path.stem for path in (support.TOOLS / "po").glob("*.po"))
+NAMES = [f'Spalte "{number}"' for number in range(40)]
 KEYWORDS = ("Text", "counted:1,2", "_", "ngettext:1,2")
 ENTRY = re.compile(r'^msgid "(.+)"(?:\nmsgid_plural "(.+)")?', re.MULTILINE)
-GERMAN_OF = re.compile(
-    r'^msgid "(.+)"(?:\nmsgid_plural ".+")?((?:\nmsgstr.* ".+")+)$', re.MULTILINE
-)
+OTHER_OF = re.compile(r'^msgid "(.+)"(?:\nmsgid_plural ".+")?((?:\nmsgstr.* ".+")+)$', re.MULTILINE)
 PRICED = ["--code", "EAN", "--title", "N", "--price", "P"]
 WRONG_CODES = [
     *("4006381333932", "7", "40063813339311", "9780306406157123", "4,00638E+12", "0000000000"),
@@ -96,13 +94,40 @@ def in_capitals(text):
     return re.sub(r"(\{.*?\})|[^{]+", lambda found: found[1] or found[0].upper(), text)
 
 
+def speaking(language, folder):
+    """The environment of who speaks a language, with its translation in a folder."""
+    path = Path(folder, language, "LC_MESSAGES")
+    path.mkdir(parents=True, exist_ok=True)
+    source = support.TOOLS / f"po/{language}.po"
+    words = ["msgfmt", "--check-format", "-o", path / "label-tools.mo", source]
+    subprocess.run(words, check=True)
+    return {**os.environ, "LANGUAGE": language, "LC_ALL": "C.UTF-8", "LABELS_LOCALE": folder}
+
+
 def german(folder):
     """The environment of a German, with the translation in a folder."""
-    path = Path(folder, "de/LC_MESSAGES")
-    path.mkdir(parents=True, exist_ok=True)
-    words = ["msgfmt", "--check-format", "-o", path / "label-tools.mo", GERMAN]
-    subprocess.run(words, check=True)
-    return {**os.environ, "LANGUAGE": "de", "LC_ALL": "C.UTF-8", "LABELS_LOCALE": folder}
+    return speaking("de", folder)
+
+
+# the seconds of a message with 40 quoted names, and of 2,000 notes, the least of some tries
+TIMES = """
+import time
+from labeltools.messages import quoted
+from labeltools.text import Text, joined, translated
+names = joined(", ", (quoted(f'Spalte "{number}"') for number in range(40)))
+message = Text("no column {}; row {} has {}", quoted("EAN"), 1, names)
+note = Text("{}: the check digit is {}, should be {}", "4006381333932", 2, 1)
+hint = Text("if the column has no check digits, give --without-check-digit")
+def least(work):
+    found = []
+    for _ in range(5):
+        before = time.process_time()
+        work()
+        found.append(time.process_time() - before)
+    return min(found)
+print(least(lambda: translated(message)))
+print(least(lambda: [translated(one) for one in (note, hint) for _ in range(2000)]))
+"""
 
 
 class German(unittest.TestCase):
@@ -115,19 +140,24 @@ class German(unittest.TestCase):
                 is_text = is_literal(one) and has_words(one.value)
                 self.assertFalse(is_text or isinstance(one, ast.JoinedStr), shown)
 
-    def test_each_text_is_in_german_with_its_fields(self):
+    def test_each_text_is_in_each_language_with_its_fields(self):
         support.needs("xgettext", "msgcat")
+        self.maxDiff = None  # the list is what a translator needs
         texts = texts_of_tools()
-        found = entries(GERMAN.read_bytes())
-        german = dict(GERMAN_OF.findall(found))
-        plurals = dict(ENTRY.findall(found))
         self.assertGreater(len(texts), 200)
-        self.assertEqual([one for one in texts if has_words(one) and not german.get(one)], [])
-        self.assertEqual(sorted({*german} - {*texts}), [], "texts that no tool has")
-        for text in german:
-            self.assertEqual(plurals[text], texts[text])
-            for one in re.findall('"(.+)"', german[text]):
-                self.assertEqual(fields_of(one), fields_of(text), text)
+        self.assertGreater(len(LANGUAGES), 1)
+        for language in LANGUAGES:
+            with self.subTest(language):
+                found = entries(Path(support.TOOLS, f"po/{language}.po").read_bytes())
+                others = dict(OTHER_OF.findall(found))
+                plurals = dict(ENTRY.findall(found))
+                lacking = [one for one in texts if has_words(one) and not others.get(one)]
+                self.assertEqual(lacking, [])
+                self.assertEqual(sorted({*others} - {*texts}), [], "texts that no tool has")
+                for text in others:
+                    self.assertEqual(plurals[text], texts[text])
+                    for one in re.findall('"(.+)"', others[text]):
+                        self.assertEqual(fields_of(one), fields_of(text), text)
 
     def test_no_message_is_half_translated(self):
         """Read in a language of capitals, messages have no other letters: names and numbers in
@@ -169,15 +199,24 @@ class German(unittest.TestCase):
         self.assertGreater(lines, 60)
 
     def test_a_message_of_many_names_takes_no_time(self):
-        names = [f'Spalte "{number}"' for number in range(40)]
-        text = counted("{1} {0}", "{1} {0}", 40, joined(", ", map(quoted, names)))
-        before = time.process_time()
-        for _ in range(1000):
-            translated(Text("no column {}; row {} has {}", quoted("EAN"), 1, text))
-        self.assertLess(time.process_time() - before, 1.0)
+        """40 quoted names: less than 0.1 s more than in English; 2,000 notes: less than 0.05 s."""
+        support.needs("msgfmt")
         with tempfile.TemporaryDirectory() as folder:
+            times = {}
+            for language in ("en", *LANGUAGES):
+                known = language in LANGUAGES
+                environment = speaking(language, folder) if known else {**os.environ}
+                environment["PYTHONPATH"] = str(support.TOOLS)
+                words = [sys.executable, "-c", TIMES]
+                ran = subprocess.run(
+                    words, env=environment, capture_output=True, text=True, check=True
+                )
+                times[language] = [float(one) for one in ran.stdout.split()]
+            for language in LANGUAGES:
+                self.assertLess(times[language][0] - times["en"][0], 0.1, times)
+                self.assertLess(times[language][1] / 2, 0.05, times)
             table = Path(folder, "wide.csv")
-            table.write_text(";".join(f"Spalte {number}" for number in range(40)) + "\n1\n")
+            table.write_text(";".join(NAMES).replace('"', "") + "\n1\n")
             words = [support.TOOLS / "label-table", "--code", "EAN", table]
             ran = subprocess.run(
                 words, env=german(folder), capture_output=True, text=True, timeout=60
@@ -187,18 +226,20 @@ class German(unittest.TestCase):
 
     def test_counts_have_their_plurals(self):
         support.needs("msgfmt")
-        with tempfile.TemporaryDirectory() as folder:
-            code = (
-                "from labeltools.summary import rows_text; from labeltools.text import translated;"
-            )
-            code += " print(translated(rows_text(1)), translated(rows_text(3)))"
-            ran = subprocess.run(
-                [sys.executable, "-c", code],
-                env={**german(folder), "PYTHONPATH": str(support.TOOLS)},
-                capture_output=True,
-                text=True,
-            )
-        self.assertEqual(ran.stdout, "1 Zeile 3 Zeilen\n", ran.stderr)
+        code = "from labeltools.summary import rows_text; from labeltools.text import translated;"
+        code += " print(*(translated(rows_text(count)) for count in (0, 1, 3)), sep=', ')"
+        for language, said in (
+            ("de", "0 Zeilen, 1 Zeile, 3 Zeilen"),
+            ("fr", "0 ligne, 1 ligne, 3 lignes"),
+        ):
+            with tempfile.TemporaryDirectory() as folder:
+                ran = subprocess.run(
+                    [sys.executable, "-c", code],
+                    env={**speaking(language, folder), "PYTHONPATH": str(support.TOOLS)},
+                    capture_output=True,
+                    text=True,
+                )
+            self.assertEqual(ran.stdout, f"{said}\n", ran.stderr)
 
     def test_a_german_reads_german(self):
         support.needs("msgfmt")
@@ -223,6 +264,23 @@ class German(unittest.TestCase):
         )
         self.assertNotIn("row", ran.stderr)
         self.assertIn('"row":4', ran.stdout)
+
+    def test_who_speaks_french_reads_french(self):
+        support.needs("msgfmt")
+        with tempfile.TemporaryDirectory() as folder:
+            table = Path(folder, "articles.csv")
+            table.write_text(TABLE)
+            options = ["--code", "EAN", "--title", "Name", "--price", "Preis", "--summary"]
+            words = [support.TOOLS / "label-table", *options, table]
+            environment = speaking("fr", folder)
+            ran = subprocess.run(words, env=environment, capture_output=True, text=True)
+        said = ran.stderr.replace("\u00a0", " ").splitlines()
+        wrong = "4006381333932 : le chiffre de contrôle est 2, devrait être 1"
+        self.assertEqual(said[0], f"label-table: ligne 2: {wrong}")
+        self.assertIn('colonne 3 ("Preis") a "1E3", qui n\'est pas un prix', said[1])
+        self.assertTrue(said[-1].startswith("label-table: 1 étiquette de 1 ligne: 1 EAN-13"))
+        self.assertTrue(said[-1].endswith("2 lignes laissées de côté"))
+        self.assertNotIn("row", ran.stderr)
 
     def test_bad_arguments_are_said_in_german(self):
         """argparse says them, and what it says is looked for in the texts of the tools."""

@@ -348,6 +348,15 @@ class WindowTest(unittest.TestCase):
         self.assertEqual(ran.returncode, 1)
         self.assertIn("label-window: there is no screen", ran.stderr)
 
+    def test_help_opens_the_page_about_the_window(self):
+        with mock.patch.object(application.Gtk, "show_uri_on_window") as shown:
+            application.Application().help()
+        path = Gio.File.new_for_uri(shown.call_args[0][1]).get_path()
+        self.assertTrue(Path(path).read_text().startswith("# Printing from a window"))
+        installed = Path("/usr/share/label-tools/labeltools/application.py")
+        there = installed.parents[2] / application.PAGES[1].relative_to(application.TOP)
+        self.assertEqual(there, Path("/usr/share/doc/labels/docs/WINDOW.md"))
+
     def test_a_table_is_opened_by_the_button(self):
         opener = mock.Mock()
         opener.run.return_value = Gtk.ResponseType.ACCEPT
@@ -712,10 +721,10 @@ class WindowTest(unittest.TestCase):
         self.assertLess(time.process_time() - before, 0.005 * len(numbers))
 
     def test_a_child_that_is_not_there_is_seen_at_the_start(self):
-        """All widgets that the window names are in window.ui."""
-        for name, child in vars(window.Window).items():
-            if isinstance(child, Gtk.Template.Child):
-                self.assertIsNotNone(getattr(self.window, name))
+        self.assertEqual(window.lacking(self.window), [])
+        count, self.window.count = self.window.count, None
+        self.assertEqual(window.lacking(self.window), ["count"])
+        self.window.count = count
 
     def test_saves_beside_the_table(self):
         self.open()
@@ -878,7 +887,8 @@ class WindowTest(unittest.TestCase):
             "from labeltools.window import _, Gtk\n"
             "print(_('of {all}').format(all=1))\n"
             "text = window.FILE.read_text()\n"
-            "text = text.replace('<template class=', '<object id=').replace('template>', 'object>')\n"
+            "text = text.replace('<template class=', '<object id=')\n"
+            "text = text.replace('template>', 'object>')\n"
             "text = text.replace('parent=', 'class=')\n"
             "builder = Gtk.Builder()\n"
             "builder.add_from_string(text)\n"
@@ -905,7 +915,9 @@ class WindowTest(unittest.TestCase):
         controls = list(named(self.window))
         self.assertGreater(len(controls), 20)
         self.assertEqual([str(one) for one, name in controls if not name], [])
-        self.assertEqual([one for one in read_aloud(self.window) if one in self.ids()], [])
+        aloud = list(read_aloud(self.window))
+        self.assertIn("any printer", aloud)
+        self.assertEqual([one for one in aloud if one in self.ids()], [])
         width, _ = self.window.get_preferred_width()
         height, _ = self.window.get_preferred_height()
         self.assertLessEqual((width <= 800, height <= 560), (True, True))
