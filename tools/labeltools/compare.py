@@ -88,8 +88,8 @@ class Part(NamedTuple):
 
 class Geometry(NamedTuple):
     """Where a symbol has to be on a page: its bars, its longer guards with their first and last
-    modules, and the picture of both; the quarters by which it is turned; the dots of a module, and
-    those of its bars from top to bottom as they are read.
+    modules, and the picture of both; the quarters by which it is turned; the dots of a module; as
+    it is read its modules from left to right, and the dots of its bars from top to bottom.
     """
 
     bars: Box
@@ -97,6 +97,7 @@ class Geometry(NamedTuple):
     picture: Box
     quarters: int
     scale: int
+    wide: int
     high: int
 
 
@@ -232,7 +233,8 @@ class Comparison:
         """Returns where a symbol has to be on a page; raises `Different` where it cannot be."""
         left, right, above = ZONES[symbol.symbology]
         bars = spot.bars
-        scale, rest = divmod(bars.width, left + symbol.width + right)
+        wide = left + symbol.width + right
+        scale, rest = divmod(bars.width, wide)
         is_linear = symbol.rows == 1
         high = bars.height if is_linear else scale * (symbol.rows + 2 * above)
         if rest or not scale or high != bars.height or scale != spot.module:
@@ -246,7 +248,7 @@ class Comparison:
         picture = bars._replace(height=bars.height + longer * bool(guards))
         boxes = self.on_page(spot, bars, at), guards, self.on_page(spot, picture, at)
         self.check_cell(at, boxes[2])
-        return Geometry(*boxes, (spot.quarters + self.is_turned) % 4, scale, high)
+        return Geometry(*boxes, (spot.quarters + self.is_turned) % 4, scale, wide, high)
 
     def on_page(self, spot: Spot, box: Box, at: tuple[int, int]) -> Box:
         """Returns where a box in the room of a spot is on the page."""
@@ -323,8 +325,9 @@ class CodesOfPage:
         box = wanted.place.picture
         code = self.taken(box, wanted.place.quarters)
         modules = modules_of(wanted)
-        size = code.height * bytes_a_row(code.width) if code else 0
-        if code is None or code.modules != modules or size != len(modules):
+        wide = wanted.place.wide
+        size = (wide, len(modules) // bytes_a_row(wide))
+        if code is None or code.modules != modules or (code.width, code.height) != size:
             raise Different(said(box.left * self.dot, box.top * self.dot))
 
     def taken(self, box: Box, quarters: int) -> Optional[DrawnCode]:
@@ -411,7 +414,7 @@ def own_text(place: Place, record: LineRecord) -> Optional[str]:
     label = record.label
     texts = {
         "code": record.data.decode("utf-8", "surrogateescape"),
-        "title": label.title,
+        "title": short(label.title),
         "price": label.price,
         "unit": label.unit,
         "was": label.was,

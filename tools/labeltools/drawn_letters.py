@@ -187,7 +187,8 @@ class TrueType:
 
     def reach(self, glyph: int, width: float) -> Reach:
         """Returns how far a glyph goes."""
-        if glyph + 1 >= len(self.places) or self.places[glyph] == self.places[glyph + 1]:
+        is_there = 0 < glyph < len(self.places) - 1  # glyph 0 is shown for what a font has not
+        if not is_there or self.places[glyph] == self.places[glyph + 1]:
             return Reach(width, *NO_INK)
         sides = struct.unpack_from(">4h", self.shapes, self.places[glyph] + 2)
         left, bottom, right, top = (side / self.em for side in sides)

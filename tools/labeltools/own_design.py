@@ -19,7 +19,7 @@ from copy import deepcopy
 from dataclasses import dataclass, replace
 from functools import lru_cache
 from pathlib import Path
-from typing import Any, Iterator, NamedTuple, Optional
+from typing import Any, Iterable, Iterator, Mapping, NamedTuple, Optional
 from xml.etree import ElementTree
 from xml.etree.ElementTree import Element
 
@@ -123,7 +123,8 @@ class OwnDesign:
     """A design that suits a label: its file, the sides of a label as it is read, whether labels are
     turned to the right, its places, what is drawn, which begins at `corner` and has a size, the
     parts of labels whose groups are drawn only with them, the places that are smaller than they are
-    drawn, since an edge of the paper takes no ink, and the fonts of its words.
+    drawn, since an edge of the paper takes no ink, the fonts of its words, and what other shapes
+    with a name are, by its key.
     """
 
     file: str
@@ -136,6 +137,7 @@ class OwnDesign:
     groups: frozenset[str]
     smaller: tuple[str, ...]
     fonts: tuple[str, ...]
+    shapes: Mapping[str, str]
 
     def draw(self, canvas: Any, scale: float, absent: frozenset[str] = frozenset()) -> None:
         """Draws what is alike on all labels without some parts, in so many units a millimetre;
@@ -190,7 +192,7 @@ def read_design(name: str, cell: Size, white: Edges, turn: Optional[bool]) -> Ow
         parent.remove(rect)
     keys = frozenset(key for place in placed for key in (key_of(place.name), place.part))
     groups = frozenset(key for _, _, key in groups_of(root) if key in keys)
-    how = (root, corner, size, groups, tuple(smaller), fonts_of(root))
+    how = (root, corner, size, groups, tuple(smaller), fonts_of(root), shapes_of(root))
     return OwnDesign(name, label, is_turned, cut, *how)
 
 
@@ -388,16 +390,34 @@ def taken_places(name: str, root: Element) -> list[Taken]:
     for parent, element, _ in walked(root):
         written = written_name(element)
         title = written.split(",")[0].strip()
-        tag = str(element.tag).removeprefix(SPACE)
-        if tag == "rect" and not UNNAMED.fullmatch(title):
+        if element.tag == f"{SPACE}rect" and not UNNAMED.fullmatch(title):
             found.append((parent, element, place_of(name, written)))
-        elif tag in SHAPES and key_of(title) in PARTS:
-            hint = Text("draw a rectangle for its place")
-            raise ToolError(Text("{}: {} is a {}", name, title, tag), hint)
+    check_shapes(name, shapes_of(root), PARTS)
     if not any(place.part == "code" for _, _, place in found):
         hint = Text("draw a rectangle with the id code")
         raise ToolError(Text("{} has no place for the code", name), hint)
     return found
+
+
+def shapes_of(root: Element) -> dict[str, str]:
+    """Returns what shapes that have a name and are no rectangle are, by the keys of their names."""
+    shapes: dict[str, str] = {}
+    for _, element, _ in walked(root):
+        title = written_name(element).split(",")[0].strip()
+        tag = str(element.tag).removeprefix(SPACE)
+        if tag in SHAPES and title:
+            shapes[key_of(title)] = tag
+    return shapes
+
+
+def check_shapes(name: str, shapes: Mapping[str, str], keys: Iterable[str]) -> None:
+    """Raises `ToolError` where a shape has the name of one of some parts: it would be drawn as it
+    is on each label.
+    """
+    for key in keys:
+        if key in shapes:
+            hint = Text("draw a rectangle for its place")
+            raise ToolError(Text("{}: {} is a {}", name, key, shapes[key]), hint)
 
 
 def place_of(name: str, written: str) -> Place:

@@ -17,7 +17,7 @@ from labeltools.letters import BLANK, Fonts, Letters, Sign, font_for
 from labeltools.lines_file import symbology_and_data
 from labeltools.messages import Place as LinePlace
 from labeltools.messages import Talk, quoted
-from labeltools.own_design import PARTS, OwnDesign, Place, key_of
+from labeltools.own_design import PARTS, OwnDesign, Place, check_shapes, key_of
 from labeltools.stock import size_text
 from labeltools.symbologies import SYMBOLOGIES, Symbology
 from labeltools.text import Text
@@ -468,7 +468,8 @@ class OwnLayouts:
         self, labels: Sequence[PrintLabel], values: Sequence[Values]
     ) -> Iterator[tuple[LinePlace, Text]]:
         """Yields what is said of places that are smaller than drawn, of parts without a place, and
-        of places for which no label has anything.
+        of places for which no label has anything. Raises `ToolError` where a shape that is no
+        rectangle has the name of a column.
         """
         if not labels:
             return
@@ -488,6 +489,8 @@ class OwnLayouts:
         for value in values:
             for key in value.texts:
                 names.setdefault(key, value.names[key])
+        columns = {key_of(name) for label in labels for name in label.record.label.names}
+        check_shapes(file, self.design.shapes, sorted(columns))
         lost = [name for key, name in names.items() if key not in self.own]
         if lost:
             named = ", ".join(lost)

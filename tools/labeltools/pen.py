@@ -12,7 +12,6 @@ from typing import (
     Iterator,
     Mapping,
     NamedTuple,
-    Optional,
     Protocol,
     Sequence,
 )
@@ -23,7 +22,7 @@ from labeltools.area import Dots
 from labeltools.engine import Modules
 from labeltools.frames import LINE, Box, Frame
 from labeltools.layout import LaidOut, Layout, PrintLabel
-from labeltools.letters import Fonts, Letters, Sign, pango_context, plain_options
+from labeltools.letters import Fonts, Letters, pango_context, plain_options
 from labeltools.pango import Pango, PangoCairo
 from labeltools.symbologies import SYMBOLOGIES, Span, Symbology
 
@@ -244,9 +243,6 @@ class Pen:
 
     def fitted(self, text: str, style: Style, width: int, height: int) -> Fitted:
         """Returns a text as it fits a box: smaller where its ink would leave it."""
-        quick = self.quickly(text, style, width, height)
-        if quick is not None:
-            return quick
         size = style.size
         while True:
             layout = self.laid_out(text, style, width, size)
@@ -260,36 +256,6 @@ class Pen:
         y = int((height - high) * style.down)
         x = max(-ink.left, min(x, width - ink.width - ink.left))
         return Fitted(layout, x, max(-ink.top, min(y, height - ink.height - ink.top)))
-
-    def quickly(self, text: str, style: Style, width: int, height: int) -> Optional[Fitted]:
-        """Returns a text whose ink is known to fit a box by its letters, without asking Pango for
-        it, which takes long; else None.
-        """
-        size = style.size
-        if style.lines:
-            # Latin letters keep to their lines, and the room at the sides takes what sticks out
-            lines = (text.count("\n") + 1) * style.lines
-            if lines * LINE * size > height or NOT_LATIN.search(text):
-                return None
-            return Fitted(self.laid_out(text, style, width, size), size // SIDE, 0)
-        line = None if self.medium.is_dots or style.struck else self.line(text, style)
-        if line is None:
-            return None
-        high = (line.bottom - line.top) * size
-        if high > height or (line.advance - line.left - line.right) * size > width:
-            return None
-        layout = self.laid_out(text, style, width, size)
-        top = layout.get_baseline() / Pango.SCALE + line.top * size
-        x = (width - line.advance * size) * (style.across + 1) / 2
-        x = max(-line.left * size, min(x, width - (line.advance - line.right) * size))
-        y = (height - self.letters.heights[style.is_bold] * size) * style.down
-        return Fitted(layout, round(x), round(max(-top, min(y, height - high - top))))
-
-    def line(self, text: str, style: Style) -> Optional[Sign]:
-        """Returns what a line in the font of texts takes, where that is known by its letters."""
-        if style.family != self.fonts.texts or "\n" in text:
-            return None
-        return self.letters.line(text, style.is_bold)
 
     def found(self, text: str, style: Style, width: int, height: int) -> Fitted:
         """Returns what fitted() does. A text that comes again is kept as it is laid out."""

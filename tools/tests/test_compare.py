@@ -11,8 +11,9 @@ from typing import Any, Callable, Iterator, Optional, Sequence
 from unittest import mock
 
 import support
-from labeltools import decode, engine, own_layout, pen, press
+from labeltools import compare, decode, engine, own_layout, pen, press
 from labeltools.drawn_letters import Font, Reach
+from labeltools.drawn_pdf import pages_of_pdf
 from labeltools.forms import dots, escpos, zpl
 from labeltools.forms.dots import Picture
 from labeltools.messages import Silence, ToolError
@@ -415,6 +416,25 @@ class Read(unittest.TestCase):
         for text in ("F0F", "12345678F", "GZ"):
             with self.assertRaises(decode.NotDecoded):
                 decode.rows_of_field(text, 4)
+
+    def test_a_picture_that_is_another_one(self) -> None:
+        found = found_of(options_of("pdf"), PAIR[:1])
+        comparison = found.press(Silence()).comparison
+        (page,) = pages_of_pdf(write(found)[0], 203, 1)
+        (code,) = page.codes
+        (spot,) = compare.spots_of(found.labels[0], comparison.area)
+        wanted = comparison.wanted(spot, found.job.plan.places[0])
+        for change in (
+            {"width": code.width - 1},
+            {"height": code.height - 1},
+            {"modules": code.modules[:-1]},
+            {"corners": [(x + 0.5, y) for x, y in code.corners]},
+        ):
+            page.codes = [replace(code, **change)]
+            with self.subTest(change=change), self.assertRaises(compare.Different):
+                compare.CodesOfPage(page, 0.125).check(wanted)
+        page.codes = [code]
+        compare.CodesOfPage(page, 0.125).check(wanted)
 
     def test_more_rows_than_are_kept(self) -> None:
         """Labels that have a blank row in common, and more different ones than are kept."""

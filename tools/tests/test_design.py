@@ -15,7 +15,7 @@ import numpy
 import designs
 import support
 from designs import CODE, Label, dots_of, reasons_of, said_of, texts_of
-from labeltools.messages import ToolError
+from labeltools.messages import Silence, ToolError
 from labeltools.own_layout import OwnLayout
 from labeltools.print_job import Prepared, PrintOptions, planned
 
@@ -207,6 +207,13 @@ class Refused(OwnPages):
             with self.subTest(page=page, why=why), self.assertRaises(ToolError) as caught:
                 self.found(TITLE.format(WIDE), page=page, **options)
             self.assertTrue(designs.is_refused(caught.exception, why), caught.exception)
+
+    def test_a_shape_with_the_name_of_a_column(self) -> None:
+        """It would be drawn as it is on each label: the same seat on each ticket."""
+        body = f'<text id="Seat" x="2" y="9" font-size="4">12</text>{CODE}'
+        self.assertEqual(len(self.found(body).labels), 1)
+        with self.assertRaisesRegex(ToolError, "seat is a text"):
+            self.found(body, [("code128 A", {"text": {"Seat": "7"}})])
 
     def test_files_that_are_no_svg(self) -> None:
         for data, why in FILES:
@@ -509,8 +516,51 @@ class Symbols(OwnPages):
         self.assertEqual(dots_of(found).shape, (703, 200))
 
 
+class Papers(OwnPages):
+    """Each form is compared with its labels before it goes out."""
+
+    def test_sheets_rolls_and_turned_labels_in_each_form(self) -> None:
+        body = (
+            '<path d="M1 1H59V12H1Z" fill="none" stroke="black" stroke-width="0.5"/>'
+            '<rect id="title" x="2" y="2" width="30" height="9"/>'
+            '<rect data-place="code-2, qr" x="-36" y="47.5" width="12" height="12"'
+            ' transform="rotate(-90)"/>'
+            '<rect id="code" x="1" y="20" width="46" height="18"/>'
+        )
+        sheet = {"columns": 2, "rows": 3, "edge": (0.0, 0.0, 0.0, 0.0)}
+        pages = ("pdf", "svg", "png", "pbm")
+        for form, paper in (
+            *((form, {"paper": (60.0, 40.0)}) for form in (*pages, "zpl", "escpos")),
+            *((form, {"paper": (40.0, 60.0)}) for form in (*pages, "zpl", "escpos")),
+            *((form, {"paper": None, "cell": (60.0, 40.0), **sheet}) for form in pages),
+            *((form, {"paper": None, "cell": (40.0, 60.0), **sheet}) for form in pages),
+        ):
+            found = self.found(body, [ONE, ("code128 B", {"title": "b"})], to=form, **paper)
+            self.assertEqual(reasons_of(found), [], (form, paper))
+            documents = list(found.press(Silence()).documents(found.prints))
+            self.assertEqual(len(documents), 2 if "cell" not in paper and form != "pdf" else 1)
+            for document in documents:
+                document.close()
+
+
 class Frames(OwnPages):
     """Built-in designs that are written as SVG."""
+
+    def test_the_command(self) -> None:
+        paper = ("--paper", "60x40", "--dpi", "203", "--to", "design")
+        done = support.printed(*paper, input=b"ean13 400638133393\n")
+        self.assertEqual((done.returncode, done.stderr), (0, b""))
+        self.path.write_bytes(done.stdout)
+        again = support.printed(
+            *paper[2:4], "--to", "zpl", "--design", self.path, input=b"ean8 7351353\n"
+        )
+        self.assertEqual((again.returncode, again.stderr), (0, b""))
+        for words in (("--design", str(self.path)), ("--each", "folder/%d.svg"), ("--print", "x")):
+            refused = support.printed(*paper, *words, input=b"ean8 7351353\n")
+            self.assertEqual((refused.returncode, refused.stdout), (2, b""), words)
+            self.assertIn(b"--to design writes the places of a built-in design", refused.stderr)
+        nothing = support.printed(*paper, input=b"ean8 1\n")
+        self.assertEqual((nothing.returncode, nothing.stdout), (1, b""))
 
     def test_the_same_label_is_printed(self) -> None:
         from labeltools.own_frame import svg_of
