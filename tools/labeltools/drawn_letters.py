@@ -66,6 +66,8 @@ class Font:
         self.advances = [letter.advance for letter in self.letters]
         self.bottoms = [letter.bottom for letter in self.letters]
         self.tops = [letter.top for letter in self.letters]
+        self.bottom = min(self.bottoms)
+        self.top = max(self.tops)
         self.word = lru_cache(KNOWN)(self.new_word)
 
     def codes(self, text: bytes) -> Sequence[int]:

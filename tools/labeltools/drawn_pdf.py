@@ -51,6 +51,14 @@ class Picture(NamedTuple):
     modules: bytes
 
 
+class Shown(NamedTuple):
+    """Letters that a page shows: what takes them to dots, their font, and themselves."""
+
+    matrix: Matrix
+    font: bytes
+    letters: bytes
+
+
 class Pdf:
     """A PDF whose objects are found by its table."""
 
@@ -132,8 +140,10 @@ class Reader:
         self.matrix = upright
         self.kept: list[Matrix] = []
         self.line = PLAIN
-        self.advance = 0.0
         self.name = b""
+        self.shown: list[Shown] = []
+        self.advance = 0.0  # how far letters went on their line
+        self.is_continued = False  # whether letters follow others there
         self.found = DrawnPage()
 
     def page(self, content: bytes) -> DrawnPage:
@@ -155,6 +165,7 @@ class Reader:
                 self.draw(int(step["object"]))
             elif not step["how"].endswith(b"n"):
                 self.found.inks += self.inks_of_path(step["path"])
+        self.read_letters()
         return self.found
 
     def keep(self, step: bytes) -> None:
@@ -176,15 +187,29 @@ class Reader:
         """Begins a line of text."""
         self.line = matrix
         self.advance = 0.0
+        self.is_continued = False
 
-    def show(self, shown: bytes) -> None:
-        """Shows letters."""
-        extents, advance = self.pdf.extents(self.name, shown)
-        matrix = self.line.before(self.matrix)
-        if self.advance:
-            matrix = Matrix(1, 0, 0, 1, self.advance, 0).before(matrix)
-        self.found.inks += [matrix.ink(*extent) for extent in extents]
-        self.advance += advance
+    def show(self, letters: bytes) -> None:
+        """Shows letters. Most of them are far from all codes, so they are read at the end."""
+        if self.is_continued:
+            self.advance += self.pdf.extents(self.shown[-1].font, self.shown[-1].letters)[1]
+        start = Matrix(1, 0, 0, 1, self.advance, 0).before(self.line) if self.advance else self.line
+        self.shown.append(Shown(start.before(self.matrix), self.name, letters))
+        self.is_continued = True
+
+    def read_letters(self) -> None:
+        """Takes the ink of letters that are as high on the page as a code."""
+        spans = {(code.ink.top, code.ink.bottom) for code in self.found.codes}
+        for matrix, name, letters in self.shown:
+            font = self.pdf.font(name)
+            if not matrix.b and not matrix.c:
+                high = matrix.f + matrix.d * font.top
+                low = matrix.f + matrix.d * font.bottom
+                top, bottom = min(high, low), max(high, low)
+                if not any(top < last and bottom > first for first, last in spans):
+                    continue
+            extents, _ = self.pdf.extents(name, letters)
+            self.found.inks += [matrix.ink(*extent) for extent in extents]
 
     def draw(self, number: int) -> None:
         """Draws an object: a picture of a code, or another one, such as the drawing of a design,
