@@ -165,12 +165,13 @@ LABELS_API int labels_bitmap_line(const labels_options *options, const void *tex
  *
  * `dots` has `width` times `height` bytes, row by row from the top: the digit '1' where a dot is dark, '0' where it is
  * light, as in plain PBM without its head and its white space. They are the symbol in its quiet zone, to a dot: each
- * module is `scale` dots wide, from 1 on, and the quiet zone has the width that labels_symbol() gives in `info`. Bars
- * have any height, all rows are equal, and there is no quiet zone above and below them.
+ * module is a square of `scale` dots, from 1 on, and the quiet zone has the width that labels_symbol() gives in `info`.
+ * Bars are any number of modules high, all rows are equal, and no quiet zone is above and below them.
  *
- * Nothing is corrected or guessed: with one dot of the wrong colour they are not read. The data is what the symbol
- * says, of EAN and UPC with the check digit, which is checked. A UPC-A symbol of 12 digits has the bars of the EAN-13
- * symbol of a 0 and these digits. Their quiet zones differ: 9 and 9 modules of UPC-A, 11 and 7 of EAN-13.
+ * Nothing is corrected or guessed: with one dot of the wrong colour they are not read. Only the colour of the seven
+ * remainder modules of QR versions 2 to 6, which hold no data, does not matter (ISO/IEC 18004, table 1). The data is
+ * what the symbol says, of EAN and UPC with the check digit, which is checked. A UPC-A symbol of 12 digits has the bars
+ * of the EAN-13 symbol of a 0 and these digits. Their quiet zones differ: 9 and 9 modules of UPC-A, 11 and 7 of EAN-13.
  *
  * The code is LABELS_OK; LABELS_NO_ROOM where the data is longer than the room; LABELS_BAD_OPTION where the scale is 0;
  * LABELS_BAD_SYMBOLOGY; LABELS_NOT_READ where the dots are no such symbol, or a byte of them is another; or

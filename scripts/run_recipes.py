@@ -125,7 +125,12 @@ def prepare(folder: Path, program: Path, with_kit: bool) -> dict[str, str]:
     environment = {name: value for name, value in os.environ.items() if name != "LABELS"}
     for library in sorted((TOP / "out/lib").glob("liblabels.so.*")):  # the tools draw by it
         environment.setdefault("LABELS_LIBRARY", str(library))
-    return {**environment, "HOME": f"{folder}/home", "PATH": f"{folder}/bin:{work}/tools:{os.environ['PATH']}"}
+    return {
+        **environment,
+        "HOME": f"{folder}/home",
+        "PATH": f"{folder}/bin:{work}/tools:{os.environ['PATH']}",
+        "PYTHONPATH": f"{work}/lib/python",
+    }
 
 
 def faults_of(name: str, commands: Sequence[Commands], program: Path, with_kit: bool) -> Iterator[str]:

@@ -67,6 +67,16 @@ class Examples(WithLibrary):
     def test_python(self) -> None:
         self.assert_reads(self.run_ok(PYTHON, EXAMPLES / "draw.py"), "4006381333931")
 
+    def test_python_reads(self) -> None:
+        """A file is read as its data; one of another symbology is named, and the files after it are read."""
+        files = [Path(tempfile.mkdtemp(dir=self.library.folder)) / name for name in ("a.pbm", "b.pbm", "c.pbm")]
+        for file, line in zip(files, (LABEL, b"qr x\n", LABEL), strict=True):
+            file.write_bytes(drawn(line, "--scale", "2"))
+        self.assertEqual(self.run_ok(PYTHON, EXAMPLES / "read.py", "ean13", files[0]), b"4006381333931\n")
+        done = run(PYTHON, EXAMPLES / "read.py", "ean13", *files, environment=self.library.environment)
+        self.assertEqual((done.returncode, done.stdout), (1, 2 * b"4006381333931\n"))
+        self.assertEqual(done.stderr.decode(), f"{files[1]} is not read\n")
+
     def test_cpp(self) -> None:
         program = self.compiled("g++", "-std=c++17", *STRICT, EXAMPLES / "svg.cpp", *self.flags())
         self.assert_reads(self.run_ok(program), URL)

@@ -129,9 +129,10 @@ def read(symbology: str, image: Array | Image | bytes | bytearray, scale: int | 
     `Symbol.quiet_zones` says, above and below bars none, and the height of bars a multiple of `scale`. Without `scale`
     it is the greatest common divisor of the runs of equal dots.
 
-    Nothing is corrected or guessed: with one dot of the wrong colour it is not read. The check digit of EAN and UPC is
-    part of what is returned. The bars of a UPC-A symbol are those of the EAN-13 symbol of a 0 and its digits; their
-    quiet zones differ, and so each is read as itself alone.
+    Nothing is corrected or guessed: with one dot of the wrong colour it is not read. Only the colour of the seven
+    remainder modules of QR versions 2 to 6, which hold no data, does not matter (ISO/IEC 18004, table 1). The check
+    digit of EAN and UPC is part of what is returned. The bars of a UPC-A symbol are those of the EAN-13 symbol of a 0
+    and its digits; their quiet zones differ, and so each is read as itself alone.
 
     Raises ValueError for an unknown symbology, a scale that is not 1 or more, an image of other axes, types or modes,
     and bytes that are no PBM; TypeError for another image.

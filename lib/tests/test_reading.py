@@ -1,0 +1,138 @@
+"""Dots read back by the Python module: what is drawn in each symbology and size, images of each kind, and wrong ones."""
+
+import unittest
+
+from support import PYTHON, WithLibrary
+
+# What each symbology says of its data: EAN and UPC with the check digit, which GS1's rule gives.
+DRAWN = """
+import liblabels
+DRAWN = {
+    ("ean13", "400638133393"): b"4006381333931",
+    ("ean8", "7351353"): b"73513537",
+    ("upca", "03600029145"): b"036000291452",
+    ("code128", "LOT-1/x"): b"LOT-1/x",
+    ("code128", "0123456789" * 8): b"0123456789" * 8,
+    ("qr", "HELLO"): b"HELLO",
+    ("qr", "gr\\u00fcn"): b"gr\\xc3\\xbcn",
+    ("qr", b"\\0\\n\\xff"): b"\\0\\n\\xff",
+}
+"""
+# Each dot of the smallest pictures is turned, and some dots of the others.
+READ = (
+    DRAWN
+    + """
+def turned(picture, place):
+    head, size, dots = picture.split(b"\\n", 2)
+    dots = bytearray(dots.replace(b"\\n", b""))
+    dots[place] ^= 1
+    return b"%s\\n%s\\n%s" % (head, size, dots), len(dots)
+for (symbology, data), full in DRAWN.items():
+    for scale in (1, 2, 3, 4):
+        for height in (1, 7):
+            picture = liblabels.draw(symbology, data, scale=scale, height=height)
+            found = {other: liblabels.read(other, picture) for other in liblabels.SYMBOLOGIES}
+            assert found.pop(symbology) == full, (symbology, data, scale)
+            assert set(found.values()) == {None}, (symbology, data, scale, found)
+            assert liblabels.read(symbology, picture, scale) == full
+            assert liblabels.read(symbology, picture, scale + 1) is None
+            _, count = turned(picture, 0)
+            for place in range(0, count, 1 if scale == height == 1 else 997):
+                changed, _ = turned(picture, place)
+                assert liblabels.read(symbology, changed) is None, (symbology, scale, place)
+                assert liblabels.read(symbology, changed, scale) is None, (symbology, scale, place)
+# Version 3 has seven remainder modules, the last of the walk; ISO/IEC 18004, table 1.
+picture = liblabels.draw("qr", "https://example.com/article/000123")
+unseen = [liblabels.read("qr", turned(picture, place)[0]) for place in range(37 * 37)]
+assert [data for data in unseen if data is not None] == 7 * [b"https://example.com/article/000123"]
+for version in range(1, 11):
+    for level in liblabels.LEVELS:
+        picture = liblabels.draw("qr", "abc", scale=2, level=level, min_version=version)
+        assert liblabels.read("qr", picture) == b"abc", (version, level)
+assert liblabels.read("qr", liblabels.draw("qr", 652 * "7", level="L")) == 652 * b"7"
+"""
+)
+# The same dots as an array of truths, as one of grey, as images and as PBM of both kinds, with a margin too many, and
+# with light and dark exchanged.
+IMAGES = (
+    DRAWN
+    + """
+import io, itertools, numpy
+from PIL import Image
+for ((symbology, data), full), scale in itertools.product(DRAWN.items(), (3, 8)):
+    bitmap = liblabels.bitmap(symbology, data, scale=scale, height=9)
+    picture = Image.frombytes("1", (bitmap.width, bitmap.height), bitmap.bits, "raw", "1;I")
+    light = numpy.array(picture)
+    grey = numpy.where(light, 128, 127).astype(numpy.uint8)
+    binary = b"P4 # dots\\n%d %d\\n%s" % (bitmap.width, bitmap.height, bitmap.bits)
+    file = io.BytesIO()
+    picture.save(file, "ppm")
+    plain = liblabels.draw(symbology, data, scale=scale, height=9)
+    by_column = numpy.asfortranarray(~light)
+    for image in (~light, grey, by_column, picture, picture.convert("L"), picture.convert("RGB"), binary, file.getvalue(),
+                  plain, bytearray(plain), (~light)[::-1][::-1]):
+        assert liblabels.read(symbology, image) == full, (symbology, type(image))
+        assert liblabels.read(symbology, image, scale) == full, (symbology, type(image))
+        assert liblabels.read(symbology, image, numpy.int64(scale)) == full, (symbology, type(image))
+    for image in (light, 255 - grey, numpy.pad(~light, 3), (~light)[:, 1:], (~light)[:, :0], (~light)[:0]):
+        assert liblabels.read(symbology, image) is None, (symbology, type(image))
+"""
+)
+WRONG = """
+import liblabels, numpy
+from PIL import Image
+truths = numpy.zeros((3, 3), bool)
+for error, said, symbology, image, scale in (
+    (ValueError, "unknown symbology", "pdf417", truths, None),
+    (ValueError, "scale is 0", "qr", truths, 0),
+    (ValueError, "scale is 4294967297", "qr", truths, 2**32 + 1),
+    (ValueError, "not bool of 1", "qr", numpy.zeros(9, bool), None),
+    (ValueError, "not float64 of 2", "qr", numpy.zeros((3, 3)), None),
+    (ValueError, "not uint8 of 3", "qr", numpy.zeros((3, 3, 3), numpy.uint8), None),
+    (ValueError, "mode of an image is RGBA", "qr", Image.new("RGBA", (3, 3)), None),
+    (ValueError, "have to be PBM", "qr", b"P5\\n1 1\\n255\\n\\0", None),
+    (ValueError, "have to be PBM", "qr", b"", None),
+    (ValueError, "as many digits 0 and 1", "qr", b"P1\\n2 2\\n011\\n", None),
+    (ValueError, "as many digits 0 and 1", "qr", b"P1\\n2 2\\n0112\\n", None),
+    (ValueError, "has to have 2 bytes of them, not 3", "qr", b"P4\\n2 2\\n123", None),
+    (TypeError, "not str", "qr", "P1 1 1 0", None),
+    (TypeError, "not NoneType", "qr", None, None),
+):
+    try:
+        liblabels.read(symbology, image, scale)
+    except error as why:
+        assert said in str(why), why
+    else:
+        raise AssertionError(said)
+"""
+# Wrong texts of the module, and what takes their place.
+MUTANTS = (
+    (READ, "math.gcd(*runs)", "max(runs)"),
+    (READ, "out.raw[: answer.length]", "out.value"),
+    (READ, "scale is None else _binding", "True else _binding"),
+    (IMAGES, "_FIRST_LIGHT = 128", "_FIRST_LIGHT = 127"),
+    (IMAGES, "height, width = array.shape", "width, height = array.shape"),
+    (IMAGES, "(width + 7) // 8", "(width + 8) // 8"),
+    (WRONG, "digits.strip", "digits[:3].strip"),
+)
+
+
+class Reading(WithLibrary):
+    def test_what_is_drawn_is_read(self) -> None:
+        self.run_ok(PYTHON, "-c", READ)
+
+    def test_images(self) -> None:
+        self.run_ok(PYTHON, "-c", IMAGES)
+
+    def test_wrong_images(self) -> None:
+        self.run_ok(PYTHON, "-c", WRONG)
+
+    def test_wrong_modules_are_seen(self) -> None:
+        for test, old, new in MUTANTS:
+            with self.subTest(new):
+                module = self.library.changed(("python/liblabels/_reading.py", old, new)) / "python"
+                self.assert_fails(*self.with_module(module), "-c", test)
+
+
+if __name__ == "__main__":
+    unittest.main()
