@@ -417,7 +417,6 @@ class Judges(unittest.TestCase):
             with mock.patch.multiple(read_foreign, **bent):
                 self.assertEqual(len([*read_foreign.not_seen("reader", symbol)]), count)
 
-    def test_recipes(self):
     def test_turned_modules(self) -> None:
         """At both ends and in the middle: of a QR symbol one module, of a bar code one in all rows."""
         bars, symbol = self.picture(), self.picture()
