@@ -1,5 +1,5 @@
 //! Labels read from dots, by their symbology.
-ghost use Rattle.std.specs.Prelude.{◌≡◌, ◌<◌, ◌≤◌, ℕ, List, IfOk, IfSome, Some, length, option_map};
+ghost use Rattle.std.specs.Prelude.{◌≡◌, ◌≢◌, ◌<◌, ◌≤◌, ℕ, List, [], IfOk, IfSome, Some, length, option_map};
 ghost use Rattle.filter.specs.Symbol.{quiet_zone, symbol_of};
 ghost use Rattle.picture.specs.Dots.{raster_in};
 ghost use Rattle.picture.specs.Picture.{enlargement, with_quiet_zone};
