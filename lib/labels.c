@@ -27,6 +27,7 @@ static const char *const texts[] = {
     "an empty line or a comment",
     "the line has a line feed",
     "a pointer is NULL, a size is too large, or the room overlaps the data",
+    "the dots are no symbol of the symbology",
 };
 
 const char *labels_version(void) { return LABELS_VERSION; }
@@ -187,5 +188,19 @@ int labels_bitmap_line(const labels_options *options, const void *text, size_t s
         return refuse(answer);
     labels_proved_bitmap_line(or_defaults(options), text, size, bits, room, stride, answer->message, MESSAGE_ROOM,
                               &dots->width, &dots->height, answer);
+    return finish(answer);
+}
+
+int labels_read(int symbology, uint32_t scale, const void *dots, uint32_t width, uint32_t height, char *out,
+                size_t room, labels_answer *answer) {
+    labels_answer own;
+    uint64_t count = (uint64_t)width * height;
+    size_t size = count > PTRDIFF_MAX ? SIZE_MAX : (size_t)count;
+    answer = answer ? answer : &own;
+    dots = read_from(dots, size);
+    out = write_to(out, room);
+    if (are_bad(dots, size, out, room))
+        return refuse(answer);
+    labels_proved_read((uint32_t)symbology, scale, width, height, dots, size, out, room, answer);
     return finish(answer);
 }

@@ -1,7 +1,8 @@
-/* liblabels: bar codes and QR codes, drawn by proved code.
+/* liblabels: bar codes and QR codes, drawn and read back by proved code.
  *
  * EAN-13, EAN-8, UPC-A, Code 128 and QR versions 1 to 10, as a picture (plain PBM or text), as bits, or as modules of a
- * byte each, of data or of a line of text. The manual is labels(3); lines and options are those of labels(1).
+ * byte each, of data or of a line of text; and the data of dots. The manual is labels(3); lines and options are those
+ * of labels(1).
  *
  * No call takes memory from the heap, keeps state, prints or aborts. All are reentrant: any number of threads may call
  * at once. A call uses at most 40 KB of stack.
@@ -65,8 +66,9 @@ enum labels_code {
     LABELS_BAD_ESCAPE,             /* line: an escape is bad */
     LABELS_SKIPPED,                /* line: it is empty or a comment, and has no symbol */
     LABELS_NOT_ONE_LINE,           /* line: it has a line feed */
-    LABELS_BAD_ARGUMENT            /* a pointer is NULL where it must not be, a size is above PTRDIFF_MAX, or the room
+    LABELS_BAD_ARGUMENT,           /* a pointer is NULL where it must not be, a size is above PTRDIFF_MAX, or the room
                                       overlaps the data */
+    LABELS_NOT_READ                /* the dots are no symbol of the symbology */
 };
 
 /* How labels are drawn. A call tests all of them, also those that it does not use. */
@@ -87,7 +89,7 @@ typedef struct labels_options {
 typedef struct labels_answer {
     uint32_t code;         /* as the call returns it: enum labels_code */
     uint32_t reserved;
-    size_t length;         /* bytes of the whole picture, or modules of the symbol; 0 where there is none */
+    size_t length;         /* bytes of the whole picture or data, or modules of the symbol; 0 where there is none */
     size_t at;             /* the byte of the data that is wrong, or the setting of the line, from 1 on; 0 where none is */
     size_t message_length; /* bytes of the message */
     char message[LABELS_MESSAGE_ROOM]; /* why there is no symbol, as labels(1) prints it, ended by NUL, or "" */
@@ -157,6 +159,24 @@ LABELS_API int labels_bitmap(const labels_options *options, int symbology, const
 /* Draws a line as bits, as labels_bitmap() puts them. */
 LABELS_API int labels_bitmap_line(const labels_options *options, const void *text, size_t size, unsigned char *bits,
                                   size_t stride, size_t room, labels_dots *dots, labels_answer *answer);
+
+/* Reads the dots of one symbol, and puts its data into `out`, as many bytes as there is room for, and nothing after
+ * them: no NUL. `answer->length` is that of the whole data, at most LABELS_MAX_DATA. It has no options.
+ *
+ * `dots` has `width` times `height` bytes, row by row from the top: the digit '1' where a dot is dark, '0' where it is
+ * light, as in plain PBM without its head and its white space. They are the symbol in its quiet zone, to a dot: each
+ * module is `scale` dots wide, from 1 on, and the quiet zone has the width that labels_symbol() gives in `info`. Bars
+ * have any height, all rows are equal, and there is no quiet zone above and below them.
+ *
+ * Nothing is corrected or guessed: with one dot of the wrong colour they are not read. The data is what the symbol
+ * says, of EAN and UPC with the check digit, which is checked. A UPC-A symbol of 12 digits has the bars of the EAN-13
+ * symbol of a 0 and these digits. Their quiet zones differ: 9 and 9 modules of UPC-A, 11 and 7 of EAN-13.
+ *
+ * The code is LABELS_OK; LABELS_NO_ROOM where the data is longer than the room; LABELS_BAD_OPTION where the scale is 0;
+ * LABELS_BAD_SYMBOLOGY; LABELS_NOT_READ where the dots are no such symbol, or a byte of them is another; or
+ * LABELS_BAD_ARGUMENT. `dots` may be NULL where width or height is 0. */
+LABELS_API int labels_read(int symbology, uint32_t scale, const void *dots, uint32_t width, uint32_t height, char *out,
+                           size_t room, labels_answer *answer);
 
 #ifdef __cplusplus
 }

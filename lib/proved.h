@@ -22,5 +22,7 @@ void labels_proved_bitmap(const labels_options *options, uint32_t symbology, con
 void labels_proved_bitmap_line(const labels_options *options, const void *text, size_t size, unsigned char *bits,
                                size_t room, size_t stride, char *message, size_t message_room, uint32_t *width,
                                uint32_t *height, labels_answer *answer);
+void labels_proved_read(uint32_t symbology, uint32_t scale, uint32_t width, uint32_t height, const void *dots,
+                        size_t size, char *out, size_t room, labels_answer *answer);
 
 #endif

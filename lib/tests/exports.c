@@ -121,10 +121,40 @@ static void dots_are_put_in_rows(void) {
     SEE(answer.code == LABELS_SKIPPED && width == 0 && height == 0);
 }
 
+static void dots_are_read_back(void) {
+    unsigned char bits[11];
+    char digits[81];
+    uint32_t width, height;
+    begin();
+    labels_proved_bitmap(&options, LABELS_EAN8, "7351353", 7, bits, sizeof bits, sizeof bits, message, sizeof message,
+                         &width, &height, &answer);
+    SEE(answer.code == LABELS_OK && width == 81 && height == 1);
+    for (size_t x = 0; x < sizeof digits; x++)
+        digits[x] = (char)('0' + (bits[x / 8] >> (7 - x % 8) & 1));
+    labels_proved_read(LABELS_EAN8, 1, 81, 1, digits, sizeof digits, out, sizeof out, &answer);
+    SEE(answer.code == LABELS_OK && answer.length == 8 && answer.at == 0 && answer.message_length == 0);
+    SEE(memcmp(out, "73513537", 8) == 0 && out[8] == UNTOUCHED);
+    memset(out, UNTOUCHED, sizeof out);
+    labels_proved_read(LABELS_EAN8, 1, 81, 1, digits, sizeof digits, out, 3, &answer);
+    SEE(answer.code == LABELS_NO_ROOM && answer.length == 8);
+    SEE(memcmp(out, "735", 3) == 0 && out[3] == UNTOUCHED);
+    memset(out, UNTOUCHED, sizeof out);
+    labels_proved_read(LABELS_EAN13, 1, 81, 1, digits, sizeof digits, out, sizeof out, &answer);
+    SEE(answer.code == LABELS_NOT_READ && answer.length == 0);
+    labels_proved_read(LABELS_EAN8, 0, 81, 1, digits, sizeof digits, out, sizeof out, &answer);
+    SEE(answer.code == LABELS_BAD_OPTION);
+    labels_proved_read(LABELS_QR + 1, 1, 81, 1, digits, sizeof digits, out, sizeof out, &answer);
+    SEE(answer.code == LABELS_BAD_SYMBOLOGY);
+    digits[40] ^= 1;
+    labels_proved_read(LABELS_EAN8, 1, 81, 1, digits, sizeof digits, out, sizeof out, &answer);
+    SEE(answer.code == LABELS_NOT_READ && out[0] == UNTOUCHED);
+}
+
 int main(void) {
     a_picture_is_put_and_its_length_answered();
     modules_are_put_row_by_row();
     a_line_is_put_skipped_or_refused();
     dots_are_put_in_rows();
+    dots_are_read_back();
     return 0;
 }

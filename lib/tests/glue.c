@@ -6,7 +6,7 @@
 #include <stdio.h>
 
 enum { MESSAGE = LABELS_MESSAGE_ROOM - 1, FULL = sizeof(((labels_symbol_info *)0)->data) - 1, FEW = 37, MARK = 0x5a };
-enum { CALLS = 6, SYMBOLOGIES = LABELS_QR + 1, MANY = 5000 };
+enum { CALLS = 7, SYMBOLOGIES = LABELS_QR + 1, MANY = 5000 };
 
 #define SEE(fact) see(fact, #fact, __LINE__)
 
@@ -112,6 +112,16 @@ void labels_proved_bitmap_line(const labels_options *options, const void *text, 
     *height = 8;
 }
 
+void labels_proved_read(uint32_t symbology, uint32_t scale, uint32_t width, uint32_t height, const void *dots,
+                        size_t size, char *out, size_t room, labels_answer *answer) {
+    SEE(symbology == (uint32_t)given.symbology && scale == given.stride);
+    SEE((size_t)width * height == size);
+    see_data(given.options, dots, size);
+    see_room(out, room);
+    memset(out, MARK, room);
+    put_message(answer->message, MESSAGE, answer);
+}
+
 /* The modules that a symbol of so many bytes can have: EAN and UPC at most 95, Code 128 two characters a byte. */
 static size_t most_of(int symbology, size_t size) {
     static const size_t fixed[] = {95, 95, 95, LABELS_MAX_BARS, LABELS_MAX_MODULES};
@@ -119,6 +129,9 @@ static size_t most_of(int symbology, size_t size) {
     size_t of_bytes = (2 * size + 2) * 11 + 13;
     return symbology == LABELS_CODE128 && of_bytes < most ? of_bytes : most;
 }
+
+/* The sides of so many dots: one row, or a square that no memory has. */
+static uint32_t side_of(size_t size) { return size > MANY ? UINT32_MAX : (uint32_t)size; }
 
 /* The call of a number, as the caller makes it. */
 static int made(int call, const labels_options *options, labels_symbol_info *info, labels_dots *dots,
@@ -137,8 +150,11 @@ static int made(int call, const labels_options *options, labels_symbol_info *inf
         return labels_draw_line(options, data, size, (char *)given.to, room, answer);
     case 4:
         return labels_bitmap(options, given.symbology, data, size, given.to, given.stride, room, dots, answer);
-    default:
+    case 5:
         return labels_bitmap_line(options, data, size, given.to, given.stride, room, dots, answer);
+    default:
+        return labels_read(given.symbology, (uint32_t)given.stride, data, side_of(size), size > MANY ? UINT32_MAX : 1,
+                           (char *)given.to, room, answer);
     }
 }
 
@@ -147,7 +163,7 @@ static void see_told(int call, const labels_symbol_info *info, const labels_dots
         SEE(info->data_length == FULL + 1000 && info->data[FULL - 1] == 'd' && info->data[FULL] == 0);
         SEE(info->mask == 0x01010101);
     }
-    if (call >= 4)
+    if (call == 4 || call == 5)
         SEE(dots->width == 7 && dots->height == 8 && dots->reserved[0] == 0 && dots->reserved[1] == 0);
 }
 
@@ -200,7 +216,7 @@ static void see_overlap(int call) {
         SEE(is_apart || strcmp(answer.message, labels_code_text(LABELS_BAD_ARGUMENT)) == 0);
         SEE(is_apart || (answer.length == 0 && answer.at == 0 && answer.reserved == 0));
         SEE(is_apart || call > 1 || (info.width == 0 && info.data_length == 0 && info.data[0] == 0));
-        SEE(is_apart || call < 4 || (dots.width == 0 && dots.height == 0));
+        SEE(is_apart || call < 4 || call > 5 || (dots.width == 0 && dots.height == 0));
     }
 }
 

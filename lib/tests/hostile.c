@@ -6,7 +6,7 @@
 #include "labels_of_test.h"
 #include <stdio.h>
 
-enum { MARK = 0x5a, CODES = LABELS_BAD_ARGUMENT + 1 };
+enum { MARK = 0x5a, CODES = LABELS_NOT_READ + 1, STRIDE = 256 };
 
 static unsigned seed = 12345;
 static long codes[CODES];
@@ -209,6 +209,66 @@ static void put_bits(int is_line) {
     see_bits(is_line ? "labels_bitmap_line" : "labels_bitmap", code, (char *)bits, stride, room, sized, answer);
 }
 
+/* Puts the dots of a symbol as digits into a room. Returns how many they are, 0 where there is no symbol. */
+static size_t put_digits(const labels_options *options, int symbology, const char *text, char *digits,
+                         labels_dots *dots) {
+    static unsigned char bits[256 * STRIDE];
+    size_t count = 0;
+    labels_bitmap(options, symbology, text, strlen(text), bits, STRIDE, sizeof bits, dots, NULL);
+    for (size_t y = 0; y < dots->height; y++)
+        for (size_t x = 0; x < dots->width; x++)
+            digits[count++] = (char)('0' + (bits[y * STRIDE + x / 8] >> (7 - x % 8) & 1));
+    return count;
+}
+
+/* Dots as they are drawn are read as what they say, and with one other dot they are not read. */
+static void read_back(void) {
+    static char digits[256 * 8 * STRIDE];
+    labels_options options = LABELS_DEFAULTS;
+    labels_answer *answer = some_answer();
+    labels_symbol_info info;
+    labels_dots dots;
+    int symbology = (int)(next() % SYMBOLOGIES);
+    const char *text = data_of_labels[next() % LABELS_OF_TEST];
+    options.scale = 1 + next() % 3;
+    options.height = 1 + next() % 3;
+    size_t size = put_digits(&options, symbology, text, digits, &dots);
+    labels_symbol(&options, symbology, text, strlen(text), NULL, 0, &info, NULL);
+    char *read = memcpy(memory(DATA, size, 0), digits, size);
+    int is_changed = size && one_in(3);
+    if (is_changed)
+        read[next() % size] ^= one_in(4) ? 2 : 1;
+    size_t room = some_room(info.data_length);
+    char *out = memory(OUT, room, MARK);
+    uint32_t scale = one_in(20) ? 0 : options.scale;
+    int code = labels_read(symbology, scale, read, dots.width, dots.height, out, room, answer);
+    see_picture("labels_read", code, out, room, answer);
+    int wanted = info.data_length <= room ? LABELS_OK : LABELS_NO_ROOM;
+    if (code != (scale == 0 ? LABELS_BAD_OPTION : is_changed || size == 0 ? LABELS_NOT_READ : wanted))
+        stop("labels_read", "another code");
+    if (code <= LABELS_NO_ROOM && memcmp(out, info.data, room < info.data_length ? room : info.data_length) != 0)
+        stop("labels_read", "other data");
+    if (code <= LABELS_NO_ROOM && answer && answer->length != info.data_length)
+        stop("labels_read", "another length");
+}
+
+/* Dots of any digits, sides, scale and symbology. */
+static void read_any(void) {
+    labels_answer *answer = some_answer();
+    uint32_t width = one_in(20) ? number() : next() % 200, height = one_in(20) ? number() : next() % 20;
+    int is_large = width > 4000 || height > 4000;
+    size_t size = is_large ? 0 : (size_t)width * height, room = some_room(0);
+    if (size > GUARD_MOST)
+        return;
+    char *dots = memory(DATA, size, '0'), *out = memory(OUT, room, MARK);
+    for (size_t i = 0; i < size; i++)
+        dots[i] = (char)('0' + one_in(2));
+    int code = labels_read((int)(number() - 1), number(), is_large ? NULL : dots, width, height, out, room, answer);
+    see_picture("labels_read", code, out, room, answer);
+    if (code <= LABELS_NO_ROOM)
+        stop("labels_read", "data of any dots");
+}
+
 int main(int count, char **words) {
     long rounds = count > 1 ? atol(words[1]) : 1000;
     for (long i = 0; i < rounds; i++) {
@@ -218,6 +278,8 @@ int main(int count, char **words) {
             put_modules(is_line);
             put_bits(is_line);
         }
+        read_back();
+        read_any();
     }
     for (int code = 0; code < CODES; code++)
         printf("%ld of %d%s", codes[code], code, code + 1 < CODES ? ", " : "\n");

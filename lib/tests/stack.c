@@ -2,12 +2,15 @@
 #include "labels_of_test.h"
 #include <pthread.h>
 #include <stdio.h>
+#include <stdlib.h>
 
-enum { STACK = 1 << 20, ROOM = 8 << 20, PAINT = 0xa5 };
+enum { STACK = 1 << 20, ROOM = 8 << 20, STRIDE = 256, PAINT = 0xa5 };
 
 static unsigned char stack[STACK] __attribute__((aligned(4096)));
 static char out[ROOM];
 static unsigned char modules[LABELS_MAX_MODULES];
+static unsigned char bits[65 * STRIDE]; /* QR version 10 and its quiet zone */
+static char digits[65 * STRIDE];
 static char line[300];
 
 struct job {
@@ -15,6 +18,19 @@ struct job {
     size_t size;   /* of the data of a QR symbol */
     uint32_t format, level;
 };
+
+/* Reads what is drawn of data. */
+static void read_back(const labels_options *options, int symbology, const char *data, size_t size) {
+    labels_dots dots;
+    labels_answer answer;
+    size_t count = 0;
+    labels_bitmap(options, symbology, data, size, bits, STRIDE, sizeof bits, &dots, NULL);
+    for (size_t y = 0; y < dots.height; y++)
+        for (size_t x = 0; x < dots.width; x++)
+            digits[count++] = (char)('0' + (bits[y * STRIDE + x / 8] >> (7 - x % 8) & 1));
+    if (labels_read(symbology, 1, digits, dots.width, dots.height, out, sizeof out, &answer) != LABELS_OK)
+        abort();
+}
 
 static void *draw(void *given) {
     const struct job *job = given;
@@ -37,6 +53,9 @@ static void *draw(void *given) {
     labels_bitmap_line(&options, line, 3 + size, (unsigned char *)out, 1815, sizeof out, NULL, &answer);
     labels_line(&options, line, 3 + size, modules, sizeof modules, &info, &answer);
     labels_draw_line(&options, line, 3 + size, out, sizeof out, &answer);
+    options.scale = 1;
+    options.height = 1;
+    read_back(&options, job->symbology, data, size);
     return NULL;
 }
 

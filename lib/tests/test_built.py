@@ -18,6 +18,7 @@ FILES = {
     f"{PYTHONDIR}/liblabels/__init__.py",
     f"{PYTHONDIR}/liblabels/_binding.py",
     f"{PYTHONDIR}/liblabels/_pictures.py",
+    f"{PYTHONDIR}/liblabels/_reading.py",
     f"{PYTHONDIR}/liblabels/py.typed",
     f"{PYTHONDIR}/liblabels-1.1.0.dist-info/METADATA",
     "usr/share/man/man3/labels.3",

@@ -13,8 +13,10 @@ LINES = 1000
 TESTS = LIB / "tests"
 DOCSTRINGS = """
 import doctest, liblabels, sys
-failed, tried = doctest.testmod(liblabels)
-sys.exit(failed or not tried)
+for module in (liblabels, liblabels._reading):
+    failed, tried = doctest.testmod(module)
+    if failed or not tried:
+        sys.exit(1)
 """
 WITH_LIBRARIES = """
 import liblabels, numpy
@@ -93,6 +95,7 @@ TEXTS = {
     "LABELS_SKIPPED": "an empty line or a comment",
     "LABELS_NOT_ONE_LINE": "the line has a line feed",
     "LABELS_BAD_ARGUMENT": "a pointer is NULL, a size is too large, or the room overlaps the data",
+    "LABELS_NOT_READ": "the dots are no symbol of the symbology",
 }
 CODE_TEXTS = """
 import ctypes, json, os, sys

@@ -10,6 +10,7 @@ ghost use Rattle.capi.specs.Full.{PutsFullAsked, PutsFullLine};
 ghost use Rattle.capi.specs.Line.{AnswersDrawnLine, AnswersLine, NumbersLine, ReadsDrawnLine, ReadsLine, line_asked};
 ghost use Rattle.capi.specs.Modules.{AnswersAsked, NumbersAsked, ReadsModules, ToldAsked};
 ghost use Rattle.capi.specs.Numbers.{code_of};
+ghost use Rattle.capi.specs.Read.{AnswersRead, read_asked};
 
 use capi::{Answer, CallOptions, SymbolInfo};
 
@@ -162,4 +163,20 @@ pub extern "C" fn labels_proved_bitmap_line(
     *width = dots.width;
     *height = dots.height;
     *answer = dots.answer;
+}
+
+/// Reads the dots of a picture, a digit `0` or `1` each, as a symbol, and puts its full data into `out`.
+#[unsafe(no_mangle)]
+pub extern "C" fn labels_proved_read(
+    symbology: u32,
+    scale: u32,
+    width: u32,
+    height: u32,
+    dots: &[u8],
+    out: &mut [u8],
+    answer: &mut Answer,
+)
+    ensures { AnswersRead out.old out.new answer.new (read_asked symbology scale width height dots.now) }
+{
+    *answer = capi::read_into(symbology, scale, width, height, dots, out);
 }

@@ -1,4 +1,4 @@
-"""Bar codes and QR codes, drawn by the proved library liblabels.
+"""Bar codes and QR codes, drawn and read back by the proved library liblabels.
 
 >>> label = line("qr,level=Q HELLO")  # a line as of labels(1)
 >>> label.width, label.version, label.level, label.mask, label.data
@@ -7,6 +7,8 @@
 (b'PNG', '<svg xmlns="http://www.w3.org/2000/svg" width="14.5mm" heigh')
 >>> draw("ean8", "7351353", format="ascii", height=1)[:20]  # a picture as labels(1) prints it
 b'              ##  ##'
+>>> read("ean8", draw("ean8", "7351353", scale=2))  # what the dots of a picture say
+b'73513537'
 
 The modules as an array of numpy, without quiet zones, and a picture as an image of Pillow:
 
@@ -27,6 +29,7 @@ from dataclasses import dataclass, field
 
 from . import _binding, _pictures
 from ._binding import FORMATS, LEVELS, LIBRARY, SYMBOLOGIES, Data
+from ._reading import read
 
 __all__ = [
     "FORMATS",
@@ -40,6 +43,7 @@ __all__ = [
     "draw",
     "draw_line",
     "line",
+    "read",
     "symbol",
     "version",
 ]

@@ -15,7 +15,9 @@ LEVELS = ("L", "M", "Q", "H")
 OK = 0
 NO_ROOM = 1
 SKIPPED = 14
+NOT_READ = 17
 MAX_MODULES = 3249
+MAX_DATA = 652
 _MASK_AUTO = 8
 
 
@@ -101,12 +103,14 @@ def _load() -> ctypes.CDLL:
     bits = [ctypes.c_void_p, size, size]
     answer = [ctypes.c_void_p]
     options = [ctypes.POINTER(Options)]
+    sides = [ctypes.c_uint32, ctypes.c_uint32]
     library.labels_draw.argtypes = [*options, ctypes.c_int, *data, *room, *answer]
     library.labels_draw_line.argtypes = [*options, *data, *room, *answer]
     library.labels_symbol.argtypes = [*options, ctypes.c_int, *data, *room, *answer, *answer]
     library.labels_line.argtypes = [*options, *data, *room, *answer, *answer]
     library.labels_bitmap.argtypes = [*options, ctypes.c_int, *data, *bits, *answer, *answer]
     library.labels_bitmap_line.argtypes = [*options, *data, *bits, *answer, *answer]
+    library.labels_read.argtypes = [ctypes.c_int, ctypes.c_uint32, ctypes.c_char_p, *sides, *room, *answer]
     library.labels_version.restype = ctypes.c_char_p
     return library
 
@@ -121,7 +125,8 @@ def index_of(names: tuple[str, ...], kind: str, name: str) -> int:
     return names.index(name)
 
 
-def _within(name: str, number: int, lowest: int, highest: int) -> int:
+def within(name: str, number: int, lowest: int, highest: int) -> int:
+    """Returns a number as an int; raises ValueError, which has the name, for one that is not lowest to highest."""
     number = operator.index(number)
     if not lowest <= number <= highest:
         raise ValueError(f"{name} is {number}, and has to be {lowest} to {highest}")
@@ -135,11 +140,11 @@ def options_of(
     """Returns options as the library takes them; raises ValueError for one that is out of its range."""
     numbers = (
         index_of(FORMATS, "format", format),
-        _within("scale", scale, 1, 8),
-        _within("height", height, 1, 500),
+        within("scale", scale, 1, 8),
+        within("height", height, 1, 500),
         index_of(LEVELS, "level", level),
-        _within("min_version", min_version, 1, 10),
-        _MASK_AUTO if mask is None else _within("mask", mask, 0, 7),
+        within("min_version", min_version, 1, 10),
+        _MASK_AUTO if mask is None else within("mask", mask, 0, 7),
         bool(escapes),
     )
     return Options((ctypes.c_uint32 * 7)(*numbers))
