@@ -13,7 +13,7 @@ import sys
 import tempfile
 import types
 import unittest
-from typing import Any, Sequence
+from typing import Any, Callable, Sequence
 from unittest import mock
 
 from support import SCRIPTS, TOP, InCopy, InFolder, in_copy, module, read, run, run_command, write
@@ -407,17 +407,20 @@ class Judges(unittest.TestCase):
     def test_foreign_symbols(self) -> None:
         data = b"73513537"
         symbol = read_foreign.Symbol("nobody", "ean8", data, read_foreign.row_of("101" + "0" * 64))
-        for found, count in (
+        cases: tuple[tuple[Callable[[Any], bytes | None], int], ...] = (
             (lambda one: data if one.modules.any() else None, 0),
             (lambda one: data, 1),
             (lambda one: None, 1),
-            (lambda one: one.data, 3),
-        ):
-            bent = {"readings": lambda reader, symbols: [found(one) for one in symbols]}
-            with mock.patch.multiple(read_foreign, **bent):
+            (lambda one: bytes(one.data), 3),
+        )
+        for found, count in cases:
+
+            def bent(_reader: str, symbols: Sequence[Any]) -> list[bytes | None]:
+                return [found(one) for one in symbols]
+
+            with mock.patch.object(read_foreign, "readings", bent):
                 self.assertEqual(len([*read_foreign.not_seen("reader", symbol)]), count)
 
-    def test_recipes(self):
     def test_turned_modules(self) -> None:
         """At both ends and in the middle: of a QR symbol one module, of a bar code one in all rows."""
         bars, symbol = self.picture(), self.picture()

@@ -120,13 +120,15 @@ class Noticed:
         if money is None or money.currency == "cent":
             return
         lost = abs(money.value - number)
+        if lost <= ARITHMETIC:  # most prices, at once
+            return
         value = format(round(number, SHOWN_DECIMALS).normalize(), "f")
         if lost > abs(number) * MOST_LOST:
             what = Text("is shown as {}, and its value is {}", quoted(price.text), value)
             raise price.column.error(
                 RowError(what, Text("give it a number format of two decimals"))
             )
-        if money.decimals < 2 and lost > ARITHMETIC:
+        if money.decimals < 2:
             place = price.column.place
             before = self.rounded.get(place, Found(row, price.text, Text("{}", value), 0))
             self.rounded[place] = before._replace(rows=before.rows + 1)

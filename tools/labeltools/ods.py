@@ -5,7 +5,7 @@ from dataclasses import dataclass, field
 from datetime import date, datetime
 from decimal import Decimal
 from itertools import chain, groupby, product
-from typing import Iterator, Mapping
+from typing import Iterator, Mapping, Sequence
 from xml.etree.ElementTree import Element
 from zipfile import ZipFile
 
@@ -80,7 +80,9 @@ class Number(Special):
 
     def agree(self) -> None:
         """Raises `RowError` where the text has a number that is not the value."""
-        if self.exact is not None and not is_text_of(self.text, self.exact):
+        if self.exact is None or is_surely(self.text, self.value):
+            return
+        if not is_text_of(self.text, self.exact):
             what = Text("has the value {} and the text {}", self.value, quoted(self.text))
             raise RowError(what, SAVE_AGAIN)
 
@@ -236,17 +238,15 @@ def cells_of(row: Element, content: Content, links: dict[int, str]) -> list[Cell
 
 def cells_from(
     element: Element, content: Content, place: int, repeat: int
-) -> Iterator[tuple[int, Cell]]:
-    """Yields the cells that an element is for, each with how often it follows: columns may differ
+) -> Sequence[tuple[int, Cell]]:
+    """Returns the cells that an element is for, each with how often it follows: columns may differ
     in their styles.
     """
     most = min(repeat, MOST_COLUMNS + 1)
-    if content.styles.is_plain or most == 1:
-        yield most, cell_of(element, content, content.form(element, place))
-        return
-    forms = (content.form(element, place + number) for number in range(most))
-    for form, same in groupby(forms):
-        yield len(list(same)), cell_of(element, content, form)
+    if content.styles.is_plain:
+        return ((most, cell_of(element, content, NO_FORM)),)
+    forms = groupby(content.form(element, place + number) for number in range(most))
+    return [(len(list(same)), cell_of(element, content, form)) for form, same in forms]
 
 
 def mark_spaces(row: Element) -> int:
@@ -303,6 +303,16 @@ def cell_of(cell: Element, content: Content, form: Form) -> Cell:
     if not kind and not text and "formula" in cell.attrib and not content.is_calculated:
         return Fault(NOT_SAVED, NOT_SAVED_HINT)
     return text
+
+
+def is_surely(text: str, value: str) -> bool:
+    """Returns whether a text has the digits of a value and no others, as most have.
+
+    >>> is_surely("2,50 €", "2.5"), is_surely("2,50", "2.51"), is_surely("20", "2")
+    (True, False, False)
+    """
+    bare = text.rstrip(" €\u00a0").replace(",", ".", 1)
+    return bare == value or "." in bare and "." in value and bare.rstrip("0") == value.rstrip("0")
 
 
 def is_text_of(text: str, value: Decimal) -> bool:

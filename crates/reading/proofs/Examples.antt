@@ -1,12 +1,12 @@
 -- Worked values: the quiet zone of bars, and the dots of `ean8 7351353`, at a scale of 1 and of 2.
-use Rattle.std.proofs.Common.{◌≡◌, ℕ, List, [], ◌∷◌, ◌++◌, None, Some, codes, refl, flat_map}
-use Rattle.std.specs.Prelude.{slice_set}
+use Rattle.std.proofs.Common.{◌≡◌, ℕ, List, [], ◌∷◌, ◌++◌, None, Some, codes, refl, flat_map, map, length, false}
+use Rattle.std.specs.Prelude.{replicate, slice_set}
 use Rattle.labelcore.specs.declared.symbology.Symbology.TheVariants.{Ean8, UpcA}
 use Rattle.linear.specs.Tables.{number_set_a}
 use Rattle.picture.specs.Dots.{raster_in}
 use Rattle.picture.specs.Reading.{sample}
 use Rattle.reading.specs.Bars.{bars_zone}
-use Rattle.reading.specs.Labels.{read_dots}
+use Rattle.reading.specs.Labels.{read_dots, read_short}
 
 -- the quiet zone of an EAN-13 is 11 modules before it and 7 after it, and none above and below (ISO/IEC 15420)
 zone_of_ean13 : bars_zone (record { left = 11; right = 7 }) ≡ record { left = 11; right = 7; top = 0; bottom = 0 }
@@ -34,3 +34,8 @@ read_twice : (read_dots Ean8 2 (raster_in 162 2 twice) ≡ Some (codes "73513537
     × (read_dots Ean8 2 (raster_in 162 2 (slice_set twice 177 48)) ≡ None)
 unfolding twice sample number_set_a
 read_twice = (refl, refl, refl)
+
+-- a first row as long as that of the longest symbol is read, and no longer one
+longest_row : map (λ modules. read_short (λ rows. Some (length rows ∷ [])) (replicate modules false ∷ [])) (1795 ∷ 1796 ∷ [])
+    ≡ Some (1 ∷ []) ∷ None ∷ []
+longest_row = refl

@@ -44,7 +44,7 @@ qr_dots scale r = at (sample r scale (quiet_zone Qr))
     limited [] false e = cc
     limited (row ∷ rows) false e = rw e (wide_unread row rows (omega (arith, leb-false (length row) MAX_MODULES e)))
 
-    at : (o : Option (List (List Bool))) → option_and_then (read_modules Qr) o ≡ option_and_then (read_short Qr) o
+    at : (o : Option (List (List Bool))) → option_and_then (read_modules Qr) o ≡ option_and_then (read_short (read_modules Qr)) o
     at None = refl
     at (Some rows) = limited rows (nat_le (length (slice_index_or rows 0 [])) MAX_MODULES) refl
 
@@ -62,7 +62,7 @@ readable_read symbol scale some is =
     let p = symbol.modules in
     let short : length (slice_index_or (raster p).rows 0 []) ≤ MAX_MODULES =
     omega (arith, first_long p is.some_rows, is.columns) in
-    ap (option_and_then (read_short symbol.symbology)) (sample-raster p (quiet_zone symbol.symbology) scale some)
+    ap (option_and_then (read_short (read_modules symbol.symbology))) (sample-raster p (quiet_zone symbol.symbology) scale some)
     ∙ rw (le-leb _ MAX_MODULES short) is.read
 
 pub drawn_read : (found : Result Symbol Fault) (scale : ℕ) → 0 < scale → IfOk found IsReadable

@@ -143,11 +143,11 @@ module _ (symbology : Symbology) (r : Raster) where
   sampled_at : {P : Type 0} (scale : ℕ) (full : List ℕ) → read_dots symbology scale r ≡ Some full
       → ((rows : List (List Bool)) → sample r scale (quiet_zone symbology) ≡ Some rows → value_at rows 0 0 ≡ true → P) → P
   sampled_at scale full read use_it =
-      option_and_then_some (read_short symbology) (sample r scale (quiet_zone symbology)) full read (λ rows is after.
+      option_and_then_some (read_short (read_modules symbology)) (sample r scale (quiet_zone symbology)) full read (λ rows is after.
       use_it rows is (at rows (nat_le (length (slice_index_or rows 0 [])) MAX_MODULES) refl after))
     where
       at : (rows : List (List Bool)) (b : Bool) → nat_le (length (slice_index_or rows 0 [])) MAX_MODULES ≡ b
-          → read_short symbology rows ≡ Some full → value_at rows 0 0 ≡ true
+          → read_short (read_modules symbology) rows ≡ Some full → value_at rows 0 0 ≡ true
       at rows true e after = corner_dark symbology rows full (rw e at after)
       at rows false e after = absurd (none-some full (rw e at after))
 

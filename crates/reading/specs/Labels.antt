@@ -8,14 +8,14 @@ use Rattle.picture.specs.Reading.{Raster, sample}
 use Rattle.filter.specs.Reading.{read_modules}
 use Rattle.filter.specs.Symbol.{quiet_zone}
 
--- the full data of a symbol's modules, row by row; those whose first row is longer than that of any symbol are not read
-abbrev pub read_short : Symbology → List (List Bool) → Option (List ℕ)
-read_short symbology rows =
-    if nat_le (length (slice_index_or rows 0 [])) MAX_MODULES then read_modules symbology rows else None
+-- the full data of a symbol's modules by a rule, row by row; those whose first row is longer than that of any symbol are
+-- not read
+abbrev pub read_short : (List (List Bool) → Option (List ℕ)) → List (List Bool) → Option (List ℕ)
+read_short reading rows = if nat_le (length (slice_index_or rows 0 [])) MAX_MODULES then reading rows else None
 
 -- the full data of a raster as a symbol of a symbology, in its quiet zone
 abbrev pub read_dots : Symbology → ℕ → Raster → Option (List ℕ)
-read_dots symbology scale r = sample r scale (quiet_zone symbology) >>= read_short symbology
+read_dots symbology scale r = sample r scale (quiet_zone symbology) >>= read_short (read_modules symbology)
 
 -- a raster is read as a symbol of a symbology at some scale
 pub record IsReadAtSomeScale (symbology : Symbology) (r : Raster) (full : List ℕ) : Type 0 where
