@@ -1,4 +1,4 @@
-"""Dots read back by the Python module: what is drawn in each symbology and size, images of each kind, and wrong ones."""
+"""Dots read back by the Python module: what is drawn, in each symbology, images of each kind, and wrong ones."""
 
 import unittest
 
@@ -69,8 +69,9 @@ for ((symbology, data), full), scale in itertools.product(DRAWN.items(), (3, 8))
     picture.save(file, "ppm")
     plain = liblabels.draw(symbology, data, scale=scale, height=9)
     by_column = numpy.asfortranarray(~light)
-    for image in (~light, grey, by_column, picture, picture.convert("L"), picture.convert("RGB"), binary, file.getvalue(),
-                  plain, bytearray(plain), (~light)[::-1][::-1]):
+    arrays = (~light, grey, by_column, (~light)[::-1][::-1])
+    images = (picture, picture.convert("L"), picture.convert("RGB"))
+    for image in (*arrays, *images, binary, file.getvalue(), plain, bytearray(plain)):
         assert liblabels.read(symbology, image) == full, (symbology, type(image))
         assert liblabels.read(symbology, image, scale) == full, (symbology, type(image))
         assert liblabels.read(symbology, image, numpy.int64(scale)) == full, (symbology, type(image))
