@@ -209,21 +209,10 @@ static void put_bits(int is_line) {
     see_bits(is_line ? "labels_bitmap_line" : "labels_bitmap", code, (char *)bits, stride, room, sized, answer);
 }
 
-/* Puts the dots of a symbol as digits into a room. Returns how many they are, 0 where there is no symbol. */
-static size_t put_digits(const labels_options *options, int symbology, const char *text, char *digits,
-                         labels_dots *dots) {
-    static unsigned char bits[256 * STRIDE];
-    size_t count = 0;
-    labels_bitmap(options, symbology, text, strlen(text), bits, STRIDE, sizeof bits, dots, NULL);
-    for (size_t y = 0; y < dots->height; y++)
-        for (size_t x = 0; x < dots->width; x++)
-            digits[count++] = (char)('0' + (bits[y * STRIDE + x / 8] >> (7 - x % 8) & 1));
-    return count;
-}
-
 /* Dots as they are drawn are read as what they say, and with one other dot as that or as nothing. */
 static void read_back(void) {
-    static char digits[256 * 8 * STRIDE];
+    static unsigned char bits[256 * STRIDE];
+    static char digits[8 * sizeof bits];
     labels_options options = LABELS_DEFAULTS;
     labels_answer *answer = some_answer();
     labels_symbol_info info;
@@ -232,7 +221,8 @@ static void read_back(void) {
     const char *text = data_of_labels[next() % LABELS_OF_TEST];
     options.scale = 1 + next() % 3;
     options.height = 1 + next() % 3;
-    size_t size = put_digits(&options, symbology, text, digits, &dots);
+    labels_bitmap(&options, symbology, text, strlen(text), bits, STRIDE, sizeof bits, &dots, NULL);
+    size_t size = put_digits(bits, STRIDE, &dots, digits); /* none where there is no symbol */
     labels_symbol(&options, symbology, text, strlen(text), NULL, 0, &info, NULL);
     char *read = memcpy(memory(DATA, size, 0), digits, size);
     int is_changed = size && one_in(3);

@@ -29,4 +29,13 @@ static inline uint64_t hash_of(const void *bytes, size_t size, uint64_t hash) {
     return hash;
 }
 
+/* Puts the dots of a bitmap as digits, as labels_read() takes them. Returns how many there are. */
+static inline size_t put_digits(const unsigned char *bits, size_t stride, const labels_dots *dots, char *digits) {
+    size_t count = 0;
+    for (size_t y = 0; y < dots->height; y++)
+        for (size_t x = 0; x < dots->width; x++)
+            digits[count++] = (char)('0' + (bits[y * stride + x / 8] >> (7 - x % 8) & 1));
+    return count;
+}
+
 #endif

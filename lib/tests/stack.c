@@ -23,11 +23,8 @@ struct job {
 static void read_back(const labels_options *options, int symbology, const char *data, size_t size) {
     labels_dots dots;
     labels_answer answer;
-    size_t count = 0;
     labels_bitmap(options, symbology, data, size, bits, STRIDE, sizeof bits, &dots, NULL);
-    for (size_t y = 0; y < dots.height; y++)
-        for (size_t x = 0; x < dots.width; x++)
-            digits[count++] = (char)('0' + (bits[y * STRIDE + x / 8] >> (7 - x % 8) & 1));
+    put_digits(bits, STRIDE, &dots, digits);
     if (labels_read(symbology, 1, digits, dots.width, dots.height, out, sizeof out, &answer) != LABELS_OK)
         abort();
 }

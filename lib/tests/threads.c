@@ -1,11 +1,11 @@
-/* Eight threads draw at once, each in an order of its own, what one thread draws. Status 1 where a label differs.
+/* Eight threads draw and read at once, each in an order of its own, what one thread does. Status 1 where a sum differs.
  * Half of the calls want no answer, so that the library uses memory of its own for it. */
 #include "labels_of_test.h"
 #include <pthread.h>
 #include <stdio.h>
 #include <stdlib.h>
 
-enum { THREADS = 8, JOBS = 400, ROOM = 1 << 20 };
+enum { THREADS = 8, JOBS = 400, ROOM = 1 << 20, STRIDE = 64 };
 
 static uint64_t sums[THREADS + 1][JOBS];
 
@@ -21,6 +21,17 @@ static labels_options options_of(int job) {
     return options;
 }
 
+/* Reads what is drawn of data, by way of `out`. Returns how many bytes are read. */
+static size_t read_back(int symbology, const char *data, char *out, char *read) {
+    unsigned char bits[50 * STRIDE];
+    labels_dots dots;
+    labels_answer answer;
+    labels_bitmap(NULL, symbology, data, strlen(data), bits, STRIDE, sizeof bits, &dots, NULL);
+    put_digits(bits, STRIDE, &dots, out);
+    labels_read(symbology, 1, out, dots.width, dots.height, read, LABELS_MAX_DATA, &answer);
+    return answer.length;
+}
+
 static uint64_t sum_of(int job, char *out) {
     labels_options options = options_of(job);
     const char *data = data_of_labels[job % LABELS_OF_TEST];
@@ -28,6 +39,7 @@ static uint64_t sum_of(int job, char *out) {
     char line[128];
     int size = snprintf(line, sizeof line, "%s %s", symbologies[symbology], data);
     unsigned char modules[LABELS_MAX_MODULES];
+    char read[LABELS_MAX_DATA];
     labels_symbol_info info;
     labels_answer answer;
     uint64_t sum = UINT64_C(14695981039346656037);
@@ -39,7 +51,8 @@ static uint64_t sum_of(int job, char *out) {
     sum ^= (uint64_t)labels_line(&options, line, (size_t)size, modules, sizeof modules, NULL, &answer);
     sum = hash_of(modules, answer.length, hash_of(answer.message, answer.message_length, sum));
     sum ^= (uint64_t)labels_draw_line(&options, line, (size_t)size, out, ROOM, &answer);
-    return hash_of(out, answer.length, sum);
+    sum = hash_of(out, answer.length, sum);
+    return hash_of(read, read_back(symbology, data, out, read), sum);
 }
 
 static void *draw_all(void *number) {
