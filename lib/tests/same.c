@@ -1,9 +1,10 @@
-/* Draws the lines of standard input by all calls, each under options of its own, and prints for each line a number that
- * sums up every byte, number, code and message that the calls gave. Two processors have to print the same. */
+/* Draws the lines of standard input by all calls, each under options of its own, reads its data back, and prints for
+ * each line a number that sums up every byte, number, code and message that the calls gave. Two processors have to print
+ * the same. */
 #include "labels_of_test.h"
 #include <stdio.h>
 
-enum { ROOM = 1 << 20, LINE = 4096 };
+enum { ROOM = 1 << 20, LINE = 4096, STRIDE = 232 };
 
 static char out[ROOM];
 static unsigned char modules[LABELS_MAX_MODULES];
@@ -73,6 +74,20 @@ static uint64_t with_bits(const labels_options *options, int symbology, const ch
     return hash_of(bits, room, sum);
 }
 
+/* What is drawn of data, a dot for each module, read back. */
+static uint64_t with_reading(int symbology, const char *data, size_t size, uint64_t sum) {
+    static unsigned char bits[65 * STRIDE]; /* QR version 10 and its quiet zone */
+    static char digits[8 * sizeof bits];
+    labels_options options = LABELS_DEFAULTS;
+    labels_dots dots;
+    labels_answer answer;
+    options.height = 1;
+    labels_bitmap(&options, symbology, data, size, bits, STRIDE, sizeof bits, &dots, &answer);
+    put_digits(bits, STRIDE, &dots, digits);
+    int code = labels_read(symbology, 1, digits, dots.width, dots.height, out, ROOM, &answer);
+    return hash_of(out, put(&answer, ROOM), with_answer(code, &answer, sum));
+}
+
 /* The symbology that a line begins with, QR where it begins with none. */
 static int symbology_of(const char *line) {
     int symbology = 0;
@@ -100,6 +115,7 @@ int main(void) {
         sum = with_pictures(&options, symbology, data, size, line, length, sum);
         sum = with_modules(&options, symbology, data, size, line, length, sum);
         sum = with_bits(&options, symbology, data, size, line, length, sum);
+        sum = with_reading(symbology, data, size, sum);
         printf("%u %016llx\n", number++, (unsigned long long)sum);
         length = 0;
     }
