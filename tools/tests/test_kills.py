@@ -51,6 +51,8 @@ class Kills(unittest.TestCase):
             null = os.open(os.devnull, os.O_RDWR)
             for number in range(3):
                 os.dup2(null, number)
+            # the streams of the process, not those in which a runner keeps what tests print
+            sys.stdin, sys.stdout, sys.stderr = sys.__stdin__, sys.__stdout__, sys.__stderr__
             sys.argv = ["label-print", *self.words(printer)]
             status = support.status_of("labeltools.print_main")
         finally:
@@ -71,6 +73,7 @@ class Kills(unittest.TestCase):
         batch = doubtful = 0
         while self.kills < KILLS:
             batch += 1
+            self.assertLess(batch, KILLS, "lanes end by themselves, before they are killed")
             Path(self.journal).unlink(missing_ok=True)
             codes = [f"B{batch:02}-{number:03}" for number in range(TICKETS)]
             Path(self.lines).write_text("".join(f"qr {code}\n" for code in codes))
