@@ -531,7 +531,6 @@ RIGHT_PROGRAMS = {
     "labels": "read line; case $line in *8) echo 'line 1: check digit is 8, should be 7' >&2 ;; *) echo P1 ;; esac",
     "label-table": "printf 'ean13 4006381333931\\nean13 4006381333948\\n'",
     "label-print": "[ $1 = --stock ] && echo %PDF-1.5 || printf '^XA\\n^XA\\n'",
-    "label-lines": "echo 4006381333948",
     "man": "echo SYNOPSIS",
 }
 WRONG_PROGRAMS = (
@@ -540,7 +539,6 @@ WRONG_PROGRAMS = (
     ("tools", "label-table", "echo ean13 4006381333931"),
     ("tools", "label-print", "echo %PDF-1.5"),
     ("tools", "label-print", "printf '^XA\\n^XA\\n'"),
-    ("tools", "label-lines", "echo 4006381333931"),
     ("tools", "man", "echo NAME"),
 )
 
