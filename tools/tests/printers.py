@@ -35,6 +35,8 @@ class Printer:
         port: int = 0,
     ) -> None:
         self.server = socket.create_server(("127.0.0.1", port))
+        # of each connection from its beginning, so that the system takes little by itself
+        self.server.setsockopt(socket.SOL_SOCKET, socket.SO_RCVBUF, 4096)
         self.port = self.server.getsockname()[1]
         self.name = f"tcp://127.0.0.1:{self.port}"
         self.cut = cut
@@ -61,7 +63,6 @@ class Printer:
 
     def read(self, line: socket.socket) -> None:
         """Reads labels; a part of one is no label."""
-        line.setsockopt(socket.SOL_SOCKET, socket.SO_RCVBUF, 4096)
         buffer = b""
         with line:
             self.torn -= 1
