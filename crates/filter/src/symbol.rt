@@ -66,10 +66,10 @@ fn draw_linear<L: Linear, O: Sink>(
 {
     let mut row = Row::new();
     match L::encode(bytes, &mut row) {
-        Ok(()) => match write_bars(run, label, row.as_slice(), L::QUIET_ZONES, out) {
-            Ok(()) => Ok(Ok(())),
-            Err(fault) => Err(fault),
-        },
+        Ok(()) => {
+            write_bars(run, label, row.as_slice(), L::QUIET_ZONES, out)?;
+            Ok(Ok(()))
+        }
         Err(refusal) => Ok(Err(Fault::from(refusal))),
     }
 }
@@ -109,10 +109,10 @@ fn draw_qr<O: Sink>(
         (outcome_of (symbol_of label.now Qr bytes.now)) result }
 {
     match choose(label.min_version(), label.level(), bytes) {
-        Ok(plan) => match write_plan(run, label, &plan, out) {
-            Ok(()) => Ok(Ok(())),
-            Err(fault) => Err(fault),
-        },
+        Ok(plan) => {
+            write_plan(run, label, &plan, out)?;
+            Ok(Ok(()))
+        }
         Err(refusal) => Ok(Err(Fault::from(refusal))),
     }
 }
