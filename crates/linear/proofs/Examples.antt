@@ -11,7 +11,6 @@ use Rattle.linear.specs.Digits.{digit_value, weighted_sum, full_digits}
 use Rattle.linear.specs.Switching.{step}
 use Rattle.linear.specs.Tables.{rows, number_set_a, left_half_sets, character_widths}
 use Rattle.linear.specs.Ean.{pattern, normal_guard, centre_guard, ean8_row, ean13_row, upca_row}
-use Rattle.linear.specs.Drawing.{read_row}
 use Rattle.linear.specs.EanReading.{read_ean8, read_ean13, read_upca}
 use Rattle.linear.specs.CodeSets.{start_value, start_set, data_values}
 use Rattle.linear.specs.declared.switching.CodeSet.{CodeSet}
@@ -230,12 +229,6 @@ limits : (full_code128 (replicate 80 97) ≡ Ok (replicate 80 97))
     × (full_code128 (0 ∷ 127 ∷ []) ≡ Ok (0 ∷ 127 ∷ []))
     × (full_code128 (127 ∷ 128 ∷ []) ≡ Err (NotAscii 2))
 limits = (refl, refl, refl, refl)
-
--- eleven modules for each of 160 values, the start value and the check value, and thirteen for the stop character: a row
--- of as many is read, and no longer one
-longest_row : map (λ modules. read_row (λ row. Some (length row ∷ [])) (replicate modules false)) (1795 ∷ 1796 ∷ [])
-    ≡ Some (1795 ∷ []) ∷ None ∷ []
-longest_row = refl
 
 -- ---- code sets
 

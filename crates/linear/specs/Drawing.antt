@@ -1,5 +1,5 @@
--- What drawing promises of the row of a symbol, and reading of any row (ISO/IEC 15420 and 15417).
-use Rattle.std.specs.Prelude.{◌≡◌, ◌≤◌, ℕ, Bool, List, Option, Some, None, if◌then◌else◌, length, nat_le}
+-- What drawing promises of the row of a symbol (ISO/IEC 15420 and 15417).
+use Rattle.std.specs.Prelude.{◌≡◌, ◌≤◌, ℕ, Bool, List, Option, Some, length}
 use Rattle.linear.specs.Modules.{IsGuarded}
 use Rattle.linear.specs.Scanning.{HasNoGap, HasOneReading}
 use Rattle.linear.specs.declared.limits.TheConstants.{MAX_MODULES}
@@ -14,7 +14,3 @@ pub record IsDrawn (row_of : List ℕ → List Bool) (reading : List Bool → Op
   pub guarded : IsGuarded turned_limit reading (row_of full)
   pub alone : HasOneReading (row_of full)
   pub whole : HasNoGap (row_of full)
-
--- what a row is read as by a rule; one that is longer than any symbol drawn is not read
-abbrev pub read_row : (List Bool → Option (List ℕ)) → List Bool → Option (List ℕ)
-read_row reading row = if nat_le (length row) MAX_MODULES then reading row else None

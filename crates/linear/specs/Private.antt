@@ -1,4 +1,3 @@
 -- Definitions that only the contracts of private functions cite: nothing here has to be believed.
 pub mod Data
 pub mod Lists
-pub mod Meanings

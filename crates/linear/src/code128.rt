@@ -7,11 +7,10 @@ ghost use Rattle.linear.specs.Code128.{check_value, character_modules, full_code
 ghost use Rattle.linear.specs.Private.Data.{IsCode128Data};
 ghost use Rattle.linear.specs.Private.Lists.{Appends};
 
-use crate::limits::{MAX_BYTES, MAX_MODULES};
+use crate::limits::MAX_BYTES;
 use crate::linear::{Linear, QuietZones};
-use crate::read_code128::read_code128;
 use crate::refusal::Refusal;
-use crate::row::{FullData, Row, push_modules};
+use crate::row::{Row, push_modules};
 use crate::switching::{data_values, start_set, start_value};
 use crate::tables::{CHARACTERS, STOP};
 
@@ -138,12 +137,5 @@ impl Linear for Code128 {
         check_data(data)?;
         push_code128(row, data);
         Ok(())
-    }
-
-    fn read(row: &[bool]) -> Option<FullData> {
-        if row.len() > MAX_MODULES {
-            return None;
-        }
-        read_code128(row)
     }
 }

@@ -9,11 +9,9 @@ ghost use Rattle.linear.specs.Private.Data.{AreDigits, IsHalf};
 ghost use Rattle.linear.specs.Private.Lists.{Appends};
 
 use crate::digits::full_digits;
-use crate::limits::MAX_MODULES;
 use crate::linear::{Linear, QuietZones};
-use crate::read_ean::{read_ean8, read_ean13, read_upca};
 use crate::refusal::Refusal;
-use crate::row::{FullData, Row, full_data, push_modules};
+use crate::row::{Row, push_modules};
 use crate::tables::{CENTRE_GUARD, LEFT_SETS, NORMAL_GUARD, SET_A, SET_B, SET_C};
 
 /// A number set: each digit has a pattern of seven modules in each of the three.
@@ -126,13 +124,6 @@ impl Linear for Ean8 {
         push_ean8(row, &full);
         Ok(())
     }
-
-    fn read(row: &[bool]) -> Option<FullData> {
-        if row.len() > MAX_MODULES {
-            return None;
-        }
-        Some(full_data(&read_ean8(row)?))
-    }
 }
 
 /// Appends the symbol of a first digit and the twelve after it.
@@ -176,13 +167,6 @@ impl Linear for Ean13 {
         push_ean13(row, full[0], &full[1..]);
         Ok(())
     }
-
-    fn read(row: &[bool]) -> Option<FullData> {
-        if row.len() > MAX_MODULES {
-            return None;
-        }
-        Some(full_data(&read_ean13(row)?))
-    }
 }
 
 /// UPC-A (ISO/IEC 15420): eleven digits, or twelve that end in their check digit, drawn as 95 modules: those of EAN-13
@@ -213,12 +197,5 @@ impl Linear for UpcA {
         let full = full_digits(11, data)?;
         push_ean13(row, b'0', &full);
         Ok(())
-    }
-
-    fn read(row: &[bool]) -> Option<FullData> {
-        if row.len() > MAX_MODULES {
-            return None;
-        }
-        Some(full_data(&read_upca(row)?))
     }
 }

@@ -9,6 +9,3 @@ pub const MAX_VALUES: usize = 2 * MAX_BYTES;
 /// The most modules in a row: eleven for each value of a Code 128 symbol, its start value and its check value, and
 /// thirteen for its stop character.
 pub const MAX_MODULES: usize = 11 * (MAX_VALUES + 2) + 13;
-
-/// The most bytes that a row is read as: two digits for each value.
-pub const MAX_FULL_DATA: usize = 2 * MAX_VALUES;

@@ -1,11 +1,10 @@
 //! What every linear symbology does.
 ghost use Rattle.std.specs.Prelude.{◌≡◌, ◌≢◌, ℕ, Bool, Option, Result, Err, List, [], IsOk, IfOk, IfErr};
-ghost use Rattle.std.specs.Prelude.{option_map};
 ghost use Rattle.linear.specs.declared.refusal.Refusal.{Refusal as Refused};
-ghost use Rattle.linear.specs.Drawing.{IsDrawn, read_row};
+ghost use Rattle.linear.specs.Drawing.{IsDrawn};
 
 use crate::refusal::Refusal;
-use crate::row::{FullData, Row};
+use crate::row::Row;
 
 /// The widths of the quiet zones before and after a row, in modules.
 #[derive(Clone, Copy, PartialEq, Eq)]
@@ -46,9 +45,4 @@ pub trait Linear {
             (λ full. IsOk result × IsDrawn row_of reading turned_limit full row.new.items) }
         ensures refused { IfErr (full_data «data».now)
             (λ refusal. (result ≡ Err refusal) × (row.new.items ≡ [])) };
-
-    /// Reads a row of modules: its full data where it is a symbol of this symbology, with no correction. A row that is
-    /// longer than [`MAX_MODULES`](crate::MAX_MODULES) is not read.
-    fn read(row: &[bool]) -> Option<FullData>
-        ensures { option_map (λ full. full.items) result ≡ read_row reading row.now };
 }

@@ -1,18 +1,15 @@
 //! Rows of modules.
-ghost use Rattle.std.specs.Prelude.{◌≡◌, ◌≤◌, ◌+◌, length};
+ghost use Rattle.std.specs.Prelude.{◌≤◌, ◌+◌, length};
 ghost use Rattle.arrayvec.specs.ArrayVec.{array_vec_len};
 ghost use Rattle.linear.specs.Private.Lists.{Appends};
 ghost use Rattle.linear.specs.declared.limits.TheConstants.{MAX_MODULES};
 
-use crate::limits::{MAX_FULL_DATA, MAX_MODULES};
+use crate::limits::MAX_MODULES;
 use arrayvec::ArrayVec;
 
 /// The modules of a symbol from left to right, true where dark, without its quiet zones. The longest is a Code 128
 /// symbol of 80 bytes.
 pub type Row = ArrayVec<bool, MAX_MODULES>;
-
-/// The full data that a row is read as. The longest are the digits of a Code 128 symbol in set C.
-pub type FullData = ArrayVec<u8, MAX_FULL_DATA>;
 
 /// Appends modules. It is inlined, so that the compiler knows how many it copies.
 #[inline(always)]
@@ -22,15 +19,4 @@ pub fn push_modules(row: &mut Row, modules: &[bool])
 {
     // The row has space for them, so that it cannot fail.
     let _ = row.try_extend_from_slice(modules);
-}
-
-/// Returns digits as full data.
-pub fn full_data(digits: &[u8]) -> FullData
-    requires { length digits.now ≤ 13 }
-    ensures { result.items ≡ digits.now }
-{
-    let mut full = FullData::new();
-    // There is space for them, so that it cannot fail.
-    let _ = full.try_extend_from_slice(digits);
-    full
 }

@@ -70,12 +70,6 @@ pub static LEFT_SETS: [[NumberSet; 6]; 10] = [
     [A, B, B, A, B, A],
 ];
 
-/// The letters of the same sets.
-pub static LEFT_LETTERS: [[u8; 6]; 10] = [
-    *b"AAAAAA", *b"AABABB", *b"AABBAB", *b"AABBBA", *b"ABAABB", *b"ABBAAB", *b"ABBBAA", *b"ABABAB",
-    *b"ABABBA", *b"ABBABA",
-];
-
 /// The modules of the Code 128 values 0 to 105 (ISO/IEC 15417).
 pub static CHARACTERS: [[bool; 11]; 106] = [
     [D, D, L, D, D, L, L, D, D, L, L],

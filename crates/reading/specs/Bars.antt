@@ -1,7 +1,7 @@
 -- What dots are read as: the quiet zones and the symbol formats of ISO/IEC 15420 and 15417, with no correction.
 -- Why: `bars_zone`, `read_bars`, `BarsAreRead`: the same sampling and the same rules as of an image that was drawn.
 use Rattle.std.specs.Prelude.{◌≡◌, ◌<◌, ◌≤◌, ℕ, Bool, List, Option, length, option_and_then}
-use Rattle.linear.specs.Drawing.{read_row}
+use Rattle.linear_reading.specs.Reading.{read_row}
 use Rattle.linear.specs.declared.linear.QuietZones.{QuietZones}
 use Rattle.linear.specs.declared.limits.TheConstants.{MAX_MODULES}
 use Rattle.picture.specs.Picture.{bars, with_quiet_zone, enlargement}

@@ -1,15 +1,16 @@
 //! Linear symbols read from dots.
 ghost use Rattle.std.specs.Prelude.{◌≡◌, ◌<◌, option_map, option_and_then};
-ghost use Rattle.linear.specs.Drawing.{read_row};
+ghost use Rattle.linear_reading.specs.Reading.{read_row};
 ghost use Rattle.picture.specs.Dots.{raster_in};
 ghost use Rattle.picture.specs.Reading.{common_row, raster};
 ghost use Rattle.reading.specs.Bars.{BarsAreRead, read_bars};
 
-use linear::{FullData, Linear, MAX_MODULES};
+use linear::MAX_MODULES;
+use linear_reading::{FullData, LinearReading};
 use picture::{Dots, Grid, QuietZone, Sampled, common_row};
 
 /// Reads modules as bars: the row that all rows are equal to.
-fn read_modules<L: Linear, G: Grid>(modules: &G) -> Option<FullData>
+fn read_modules<L: LinearReading, G: Grid>(modules: &G) -> Option<FullData>
     ensures { option_map (λ full. full.items) result
         ≡ option_and_then (read_row L.reading) (common_row (raster (G.picture modules.now)).rows) }
 {
@@ -26,7 +27,7 @@ fn read_modules<L: Linear, G: Grid>(modules: &G) -> Option<FullData>
 }
 
 /// Reads dots as a linear symbol of a symbology, in its quiet zone, each module `scale` dots wide: its full data.
-pub fn read_bars<L: Linear>(dots: Dots, scale: usize) -> Option<FullData>
+pub fn read_bars<L: LinearReading>(dots: Dots, scale: usize) -> Option<FullData>
     requires { 0 < scale }
     ensures { option_map (λ full. full.items) result
         ≡ read_bars L.reading L.QUIET_ZONES scale (raster_in dots.entry.width dots.entry.height dots.entry.digits.now) }

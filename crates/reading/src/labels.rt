@@ -10,7 +10,8 @@ ghost use Rattle.reading.specs.Labels.{IsReadAtSomeScale, read_dots};
 use crate::bars::read_bars;
 use crate::squares::read_qr;
 use labelcore::{Options, Symbology};
-use linear::{Code128, Ean8, Ean13, Linear, UpcA};
+use linear::{Code128, Ean8, Ean13, UpcA};
+use linear_reading::LinearReading;
 use picture::Dots;
 use qrdata::SymbolData;
 
@@ -26,7 +27,7 @@ fn data_of(full: &[u8]) -> SymbolData
 }
 
 /// Reads dots as a linear symbol.
-fn read_linear<L: Linear>(dots: Dots, scale: usize) -> Option<SymbolData>
+fn read_linear<L: LinearReading>(dots: Dots, scale: usize) -> Option<SymbolData>
     requires { 0 < scale }
     ensures { option_map (λ bytes. bytes.items) result ≡ Bars.read_bars L.reading L.QUIET_ZONES scale
         (raster_in dots.entry.width dots.entry.height dots.entry.digits.now) }

@@ -5,7 +5,8 @@ use device::{Buffered, Sink, write_whole};
 use filter::{Status, run};
 use gf256::{Generator, mul, pow_alpha};
 use labelcore::{Fault, Format, Item, LineBuf, Options, Scratch, Symbology, parse};
-use linear::{Ean8, Linear, Refusal, Row, read_any};
+use linear::{Ean8, Linear, Refusal, Row};
+use linear_reading::{LinearReading, read_any};
 use picture::{Bars, Dots, Framed, QuietZone, Scaled, write_pbm};
 use qrdata::{Codewords, Level, Version, choose, codewords, read_data};
 use qrmatrix::Matrix;
@@ -36,12 +37,18 @@ fn page_of_linear(rt: HostRuntime) {
     let mut row = Row::new();
     assert!(rt; Ean8::encode(b"7351353", &mut row).is_ok());
     assert!(rt; row.len() == 67);
-    assert!(rt; Ean8::read(&row).is_some_and(|full| full.as_slice() == b"73513537".as_slice()));
-    assert!(rt; read_any(&row).is_some_and(|full| full.as_slice() == b"73513537".as_slice()));
     let refusal = Refusal::WrongCheckDigit { given: 0, right: 7 };
     assert!(rt; Ean8::encode(b"73513530", &mut row) == Err(refusal));
     assert!(rt; row.is_empty());
     assert!(rt; Ean8::QUIET_ZONES.left == 7);
+}
+
+#[test]
+fn page_of_linear_reading(rt: HostRuntime) {
+    let mut row = Row::new();
+    assert!(rt; Ean8::encode(b"7351353", &mut row).is_ok());
+    assert!(rt; Ean8::read(&row).is_some_and(|full| full.as_slice() == b"73513537".as_slice()));
+    assert!(rt; read_any(&row).is_some_and(|full| full.as_slice() == b"73513537".as_slice()));
 }
 
 #[test]

@@ -1,7 +1,7 @@
 use Rattle.std.proofs.Common.{◌≡◌, ◌≤◌, ℕ, Bool, Option, List, length, refl, ap, ◌∙◌}
 use Rattle.std.specs.Prelude.{option_and_then}
 use Rattle.std.proofs.lemmas.Bool.{le-leb}
-use Rattle.linear.specs.Drawing.{read_row}
+use Rattle.linear_reading.specs.Reading.{read_row}
 use Rattle.linear.specs.declared.limits.TheConstants.{MAX_MODULES}
 use Rattle.picture.specs.Picture.{bars}
 use Rattle.picture.specs.Reading.{common_row}

@@ -1,0 +1,9 @@
+-- Worked values of reading (ISO/IEC 15417, symbol structure).
+use Rattle.std.specs.Prelude.{◌≡◌, refl, false, Some, None, [], ◌∷◌, length, map, replicate}
+use Rattle.linear_reading.specs.Reading.{read_row}
+
+-- eleven modules for each of 160 values, the start value and the check value, and thirteen for the stop character: a row
+-- of as many is read, and no longer one
+longest_row : map (λ modules. read_row (λ row. Some (length row ∷ [])) (replicate modules false)) (1795 ∷ 1796 ∷ [])
+    ≡ Some (1795 ∷ []) ∷ None ∷ []
+longest_row = refl

@@ -1,0 +1,5 @@
+use Rattle.std.proofs.Common.{◌≡◌, ◌∷◌, ◌+◌, map, take}
+use Rattle.linear_reading.proofs.read_ean.all_digits.Given as goal
+
+abbrev pub invariant-loop-found : goal.invariant-loop-found
+invariant-loop-found l = l.digits.items ≡ (48 + l.first) ∷ map (λ found. found.1) (take l.found-index l.left)

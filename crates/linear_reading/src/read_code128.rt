@@ -1,0 +1,222 @@
+//! Reading of Code 128 symbols (ISO/IEC 15417).
+ghost use Rattle.std.specs.Prelude.{◌≡◌, ℕ, List, ◌∷◌, ◌+◌, ◌*◌, ◌≤◌, ◌<◌, ◌&&◌, ◌==◌, IfSome, length, option_map};
+ghost use Rattle.std.specs.Prelude.{MatchOption, nat_eq, nat_le, false, position, option_and_then, drop, if◌then◌else◌};
+ghost use Rattle.linear.specs.declared.switching.CodeSet.{CodeSet as Set};
+ghost use Rattle.linear.specs.CodeSets.{start_value};
+ghost use Rattle.linear.specs.declared.limits.TheConstants.{MAX_VALUES, MAX_MODULES};
+ghost use Rattle.linear_reading.specs.declared.full_data.TheConstants.{MAX_FULL_DATA};
+ghost use Rattle.arrayvec.specs.ArrayVec.{array_vec_len};
+ghost use Rattle.linear.specs.declared.tables.TheConstants.{CHARACTERS};
+ghost use Rattle.linear.specs.Code128.{character_modules};
+ghost use Rattle.linear.specs.Code128Reading.{meaning, other_set, read_values, symbol_data, read_code128};
+ghost use Rattle.linear.specs.Modules.{each_group, same_modules};
+ghost use Rattle.linear_reading.specs.Private.Meanings.{group_value, meant, with_values};
+
+use crate::full_data::FullData;
+use crate::read_ean::same_modules;
+use arrayvec::ArrayVec;
+use linear::{CHARACTERS, CodeSet, MAX_VALUES, STOP, check_value};
+
+/// The fewest values of a symbol before the stop character.
+const MIN_SYMBOL_VALUES: usize = 3;
+
+/// The most values of a symbol before the stop character.
+const MAX_SYMBOL_VALUES: usize = MAX_VALUES + 2;
+
+/// The values of a symbol before the stop character.
+type SymbolValues = ArrayVec<u8, MAX_SYMBOL_VALUES>;
+
+/// What a value means between the start and the check value.
+#[derive(Clone, Copy)]
+pub enum Meaning {
+    Character(u8),
+    Pair(u8, u8),
+    Change(CodeSet),
+    Shift,
+    Nothing,
+}
+
+/// Returns the meaning of a value while a set holds.
+fn meaning_of(set: CodeSet, value: u8) -> Meaning
+    ensures { meant result ≡ meaning set value }
+{
+    match set {
+        CodeSet::A => match value {
+            0..64 => Meaning::Character(value + 32),
+            64..96 => Meaning::Character(value - 64),
+            98 => Meaning::Shift,
+            99 => Meaning::Change(CodeSet::C),
+            100 => Meaning::Change(CodeSet::B),
+            _ => Meaning::Nothing,
+        },
+        CodeSet::B => match value {
+            0..96 => Meaning::Character(value + 32),
+            98 => Meaning::Shift,
+            99 => Meaning::Change(CodeSet::C),
+            101 => Meaning::Change(CodeSet::A),
+            _ => Meaning::Nothing,
+        },
+        CodeSet::C => match value {
+            0..100 => Meaning::Pair(b'0' + value / 10, b'0' + value % 10),
+            100 => Meaning::Change(CodeSet::B),
+            101 => Meaning::Change(CodeSet::A),
+            _ => Meaning::Nothing,
+        },
+    }
+}
+
+/// Returns the set of the one character after a shift.
+fn other_set(set: CodeSet) -> CodeSet
+    ensures { result ≡ other_set set }
+{
+    match set {
+        CodeSet::A => CodeSet::B,
+        CodeSet::B => CodeSet::A,
+        CodeSet::C => CodeSet::C,
+    }
+}
+
+/// Returns the set in which the next value is read.
+fn set_at(set: CodeSet, is_shifted: bool) -> CodeSet
+    ensures { result ≡ (if is_shifted then other_set set else set) }
+{
+    if is_shifted { other_set(set) } else { set }
+}
+
+/// Reads a value, appends its text, and returns the set that holds after it and whether the next one is shifted.
+fn read_value(
+    full: &mut FullData,
+    set: CodeSet,
+    is_shifted: bool,
+    value: u8,
+) -> Option<(CodeSet, bool)>
+    requires { array_vec_len full.old + 2 ≤ MAX_FULL_DATA }
+    ensures read { (rest : List ℕ) → with_values full.old.items set is_shifted (value ∷ rest)
+        ≡ option_and_then (λ next. with_values full.new.items next.0 next.1 rest) result }
+    ensures len { array_vec_len full.new ≤ array_vec_len full.old + 2 }
+{
+    match meaning_of(set_at(set, is_shifted), value) {
+        Meaning::Character(byte) => {
+            full.push(byte);
+            Some((set, false))
+        }
+        Meaning::Pair(first, second) => {
+            full.push(first);
+            full.push(second);
+            Some((set, false))
+        }
+        Meaning::Change(next) if !is_shifted => Some((next, false)),
+        Meaning::Shift if !is_shifted => Some((set, true)),
+        _ => None,
+    }
+}
+
+/// Returns the bytes of values, from a set on.
+fn read_values(start: CodeSet, values: &[u8]) -> Option<FullData>
+    requires { length values.now ≤ MAX_VALUES }
+    ensures { option_map (λ full. full.items) result ≡ read_values start false values.now }
+{
+    let mut full = FullData::new();
+    let mut set = start;
+    let mut is_shifted = false;
+    for value in values {
+        let next = read_value(&mut full, set, is_shifted, *value)?;
+        set = next.0;
+        is_shifted = next.1;
+    }
+    if is_shifted { None } else { Some(full) }
+}
+
+/// Returns the set that a start value starts in.
+fn set_of_start(value: u8) -> Option<CodeSet>
+    ensures { MatchOption result ((set : Set) → nat_eq (start_value set) value ≡ false)
+        (λ set. value ≡ start_value set) }
+{
+    match value {
+        103 => Some(CodeSet::A),
+        104 => Some(CodeSet::B),
+        105 => Some(CodeSet::C),
+        _ => None,
+    }
+}
+
+/// Returns the bytes of the values before the stop character: a start value, those of the data, and the check value.
+fn symbol_data(values: &[u8]) -> Option<FullData>
+    requires { length values.now ≤ MAX_VALUES + 2 }
+    ensures { option_map (λ full. full.items) result ≡ symbol_data values.now }
+{
+    match values {
+        [start, inner @ .., check] => {
+            let set = set_of_start(*start)?;
+            if check_value(*start, inner) != *check {
+                return None;
+            }
+            read_values(set, inner)
+        }
+        _ => None,
+    }
+}
+
+/// Returns the place of a group among the characters.
+fn place_of(group: &[bool]) -> Option<usize>
+    ensures found { result ≡ position (same_modules group.now) CHARACTERS }
+    ensures low { IfSome result (λ place. place < 106) }
+{
+    CHARACTERS
+        .iter()
+        .position(|character| group == character.as_slice())
+}
+
+/// Returns the value whose character is the group of eleven modules.
+fn value_of(group: &[bool]) -> Option<u8>
+    requires { length group.now ≡ 11 }
+    ensures found { result ≡ group_value group.now }
+    ensures low { IfSome result (λ value. value < 106) }
+{
+    match place_of(group) {
+        Some(place) => Some(place as u8),
+        None => None,
+    }
+}
+
+/// Returns the values of the first groups of modules, if each of them is the character of one.
+fn values_in(count: usize, modules: &[bool]) -> Option<SymbolValues>
+    requires few { count ≤ MAX_VALUES + 2 }
+    requires groups { 11 * count ≤ length modules.now }
+    ensures { option_map (λ values. values.items) result ≡ each_group group_value 11 count modules.now }
+{
+    let mut values = SymbolValues::new();
+    for i in 0..count {
+        values.push(value_of(&modules[11 * i..11 * i + 11])?);
+    }
+    Some(values)
+}
+
+/// Returns whether modules are the stop character.
+fn is_stop(modules: &[bool]) -> bool
+    ensures { result ≡ same_modules modules.now (character_modules 106) }
+{
+    same_modules(modules, &STOP)
+}
+
+/// Returns whether a row has this many characters of eleven modules, and the stop character after them. Three are the
+/// fewest: the start character, one or more for the data, and the check character.
+fn is_stopped(count: usize, row: &[bool]) -> bool
+    requires { 11 * count ≤ length row.now }
+    ensures { result ≡ ((nat_le 3 count && length row.now == 11 * count + 13)
+        && same_modules (drop (11 * count) row.now) (character_modules 106)) }
+{
+    count >= MIN_SYMBOL_VALUES && row.len() == 11 * count + 13 && is_stop(&row[11 * count..])
+}
+
+/// Reads a row as a Code 128 symbol.
+pub fn read_code128(row: &[bool]) -> Option<FullData>
+    requires { length row.now ≤ MAX_MODULES }
+    ensures { option_map (λ full. full.items) result ≡ read_code128 row.now }
+{
+    let count = row.len().saturating_sub(13) / 11;
+    if !is_stopped(count, row) {
+        return None;
+    }
+    symbol_data(&values_in(count, row)?)
+}
