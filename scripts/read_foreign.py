@@ -35,8 +35,11 @@ from compare_symbols import ALPHANUMERIC, LETTERS, capacity
 from pictures import DIGITS, with_check_digit
 
 # The crates that the reader needs, and its line in crates.txt.
-CRATES = ("gf256", "linear", "device", "qrdata", "qrmatrix", "picture", "labelcore", "filter", "reading")
-READER = "foreign: device labelcore picture qrdata reading"
+CRATES = (
+    *("gf256", "linear", "device", "qrdata", "qrmatrix", "picture"),
+    *("qr_reading", "labelcore", "filter", "reading"),
+)
+READER = "foreign: device labelcore picture qr_reading reading"
 TEXT = os.path.join(sources.TOP, "scripts", "foreign_reader.txt")
 # The letter of each symbology in a record, and its quiet zones left, right, above and below, in modules.
 SYMBOLOGIES = {
