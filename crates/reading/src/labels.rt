@@ -12,7 +12,7 @@ use crate::squares::read_qr;
 use labelcore::{Options, Symbology};
 use linear::{Code128, Ean8, Ean13, Linear, UpcA};
 use picture::Dots;
-use qrdata::SymbolData;
+use qr_reading::SymbolData;
 
 /// Returns the same data with more room after it.
 fn data_of(full: &[u8]) -> SymbolData
