@@ -20,7 +20,7 @@ from reader import Declaration, File, Key
 # The crates in the order in which a reader meets them, from the headline down.
 CRATES = [
     *("filter", "labelcore", "device", "picture", "linear", "qrmatrix"),
-    *("qrdata", "gf256", "command", "capi", "reading", "linear_reading", "testing"),
+    *("qrdata", "gf256", "command", "capi", "reading", "linear_reading", "qr_reading", "testing"),
 ]
 # The program, and the crate whose functions C calls. They have no definitions of their own.
 PROGRAM, EXPORTS = "labels", "labels_c"

@@ -10,7 +10,7 @@ use crate::numbers::{Answer, BAD_OPTION, BAD_SYMBOLOGY, DONE, NO_ROOM, symbology
 use crate::room::put;
 use labelcore::Symbology;
 use picture::Dots;
-use qrdata::SymbolData;
+use qr_reading::SymbolData;
 
 /// The dots are no symbol of the symbology.
 const NOT_READ: u32 = 17;

@@ -1,11 +1,9 @@
 pub mod BeginningLaws
 pub mod BestChoiceLaws
 pub mod BitStringLaws
-pub mod BlockDataLaws
 pub mod BlockLaws
 pub mod BoundLaws
 pub mod CharacterLaws
-pub mod CursorLaws
 pub mod ChoiceClassLaws
 pub mod ChoiceOrderLaws
 pub mod ChoiceLimitLaws
@@ -15,15 +13,12 @@ pub mod FewestBitsLaws
 pub mod LengthLaws
 pub mod PaddingLaws
 pub mod PayloadLaws
-pub mod PayloadStepLaws
 pub mod DataReadingLaws
 pub mod DamageLaws
-pub mod DeinterleavingLaws
 pub mod CodewordByteLaws
 pub mod ReadFitLaws
 pub mod SameWidthLaws
 pub mod SegmentReadingLaws
-pub mod SegmentStepLaws
 pub mod SmallChoiceLaws
 pub mod FirstsTableLaws
 pub mod VersionSearchLaws

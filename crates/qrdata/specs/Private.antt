@@ -1,9 +1,8 @@
--- Definitions that only the contracts of private functions cite: nothing here has to be believed.
+-- Definitions that only contracts inside this crate cite, and those of what `qr_reading` takes from it: nothing here has
+-- to be believed.
 pub mod BitsInCodewords
 pub mod Blocks
 pub mod ChoiceView
 pub mod Firsts
-pub mod Groups
-pub mod ReadSoFar
 pub mod SmallestPlan
 pub mod Table

@@ -39,7 +39,7 @@ struct Rest {
 
 /// Returns 2^n.
 #[inline(always)]
-pub(crate) fn power_of_two(n: usize) -> u32
+pub fn power_of_two(n: usize) -> u32
     requires { n ≤ 23 }
     ensures { result ≡ 2 ^ n }
 {
@@ -219,7 +219,7 @@ impl Bits {
 
 /// Proves that each number of a slice of bytes is below 256: a proof sees the slice as a list of numbers, which has no
 /// such bound. It does nothing when it runs.
-pub(crate) fn are_bytes(bytes: &[u8])
+pub fn are_bytes(bytes: &[u8])
     ensures { All (λ b. b < 256) bytes.now }
 {}
 

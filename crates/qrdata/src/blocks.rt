@@ -9,7 +9,7 @@ use arrayvec::ArrayVec;
 use gf256::Generator;
 
 /// The most codewords of a symbol, those of version 10.
-pub(crate) const MAX_CODEWORDS: usize = 346;
+pub const MAX_CODEWORDS: usize = 346;
 
 /// The codewords of a symbol.
 pub type Codewords = ArrayVec<u8, MAX_CODEWORDS>;
@@ -62,10 +62,10 @@ pub(crate) fn interleave(lengths: &[usize], codewords: &[u8], out: &mut Codeword
 }
 
 /// The lengths of the blocks of a symbol, at most 8 of them.
-pub(crate) type Lengths = ArrayVec<usize, 8>;
+pub type Lengths = ArrayVec<usize, 8>;
 
 /// Writes a length `count` times.
-pub(crate) fn push_lengths(lengths: &mut Lengths, count: usize, size: usize)
+pub fn push_lengths(lengths: &mut Lengths, count: usize, size: usize)
     requires room { array_vec_len lengths.old + count ≤ 8 }
     ensures { lengths.new.items ≡ lengths.old.items ++ replicate count size }
 {

@@ -6,26 +6,21 @@
 #![tactic(auto)]
 
 mod bits;
-mod block_reading;
 mod blocks;
 mod codeword_sequence;
-mod cursor;
-mod data_reading;
 mod firsts;
 mod level;
 mod mask;
 mod mode;
 mod plan;
-mod segment_reading;
 mod segmentation;
 mod version;
 
-pub use blocks::Codewords;
+pub use bits::{are_bytes, power_of_two};
+pub use blocks::{Codewords, Lengths, MAX_CODEWORDS, push_lengths};
 pub use codeword_sequence::codewords;
-pub use data_reading::read_data;
 pub use level::Level;
 pub use mask::Mask;
 pub use mode::{Mode, Segment};
 pub use plan::{DoesNotFit, Plan, choose};
-pub use segment_reading::SymbolData;
 pub use version::Version;

@@ -38,7 +38,7 @@ impl Mode {
     }
 
     /// Returns the width of the character count indicator in a version, in bits.
-    pub(crate) fn count_width(self, version: Version) -> usize
+    pub fn count_width(self, version: Version) -> usize
         ensures { result ≡ count_width version self }
     {
         let short = version.number() < 10;

@@ -132,7 +132,7 @@ impl Version {
     }
 
     /// Returns the number of error correction codewords of each block at a level.
-    pub(crate) fn ec_codewords_per_block(self, level: Level) -> usize
+    pub fn ec_codewords_per_block(self, level: Level) -> usize
         ensures value { result ≡ ec_codewords_per_block self level }
         ensures count { IsEcCodewordCount result }
     {
@@ -140,7 +140,7 @@ impl Version {
     }
 
     /// Returns the number of data codewords of each block at a level, the short blocks first.
-    pub(crate) fn lengths(self, level: Level) -> Lengths
+    pub fn lengths(self, level: Level) -> Lengths
         ensures { result.items ≡ block_lengths self level }
     {
         self.prove_range();

@@ -56,7 +56,7 @@ static PATTERNS: [[u64; 12]; 8] = [
 
 /// Returns the modules that a mask flips in the rows `place`, `place` + 12 and so on.
 #[tactic(auto, using(crate::proofs::MaskLaws::mask_row_is))]
-pub(crate) fn mask_row_bits(mask: Mask, place: usize) -> u64
+pub fn mask_row_bits(mask: Mask, place: usize) -> u64
     requires { place < 12 }
     ensures { (x y : ℕ) → x < SIDE → y < SIDE → y % 12 ≡ place
         → bit result x ≡ Masks.is_flipped mask x y }

@@ -1,5 +1,5 @@
 //! A drawn symbol.
-ghost use Rattle.std.specs.Prelude.{◌≡◌, ℕ, ◌<◌, ◌≤◌, ◌&&◌, All, length};
+ghost use Rattle.std.specs.Prelude.{◌≡◌, ℕ, ◌<◌, ◌≤◌, ◌&&◌, length};
 ghost use Rattle.std.specs.Prelude.{slice_index};
 ghost use Rattle.qrdata.specs.Versions.{side_of, total_codewords};
 ghost use Rattle.qrmatrix.specs.Bits.{bit};
@@ -11,7 +11,7 @@ ghost use Rattle.qrmatrix.specs.Private.Squares.{IsWithin};
 use crate::penalty::penalty;
 use crate::square::{SIDE, Square};
 use crate::unmasked::Unmasked;
-use qrdata::{Codewords, Level, Mask, Version};
+use qrdata::{Codewords, Level, Mask, Version, are_bytes};
 use std::marker::Model;
 
 /// The width of the quiet zone on each side of a symbol, in modules (ISO/IEC 18004, 9.1).
@@ -36,12 +36,6 @@ impl Model for Matrix {
       within : IsWithin m.side m.modules;
     } };
 }
-
-/// Proves that the numbers of a slice of bytes are below 256, which the type of an `ArrayVec` does not say to a proof.
-/// It does nothing when it runs.
-pub(crate) fn are_bytes(bytes: &[u8])
-    ensures { All (λ b. b < 256) bytes.now }
-{}
 
 impl Matrix {
     /// Draws the codewords of a symbol under the given mask, or else under the mask of the lowest penalty,

@@ -18,18 +18,18 @@ const ROOM: usize = 408;
 
 /// Two columns of a symbol.
 #[derive(Clone, Copy)]
-pub(crate) struct Strip {
+pub struct Strip {
     /// The modules on a side of the symbol.
-    pub(crate) side: usize,
+    pub side: usize,
     /// How many strips are to its right.
-    pub(crate) number: usize,
+    pub number: usize,
     /// The left one of its columns.
-    pub(crate) x: usize,
+    pub x: usize,
 }
 
 impl Strip {
     /// Makes the strip that has `number` others to its right. No strip has the column of the timing pattern.
-    pub(crate) fn new(side: usize, number: usize) -> Strip
+    pub fn new(side: usize, number: usize) -> Strip
         requires side { (21 ≤ side) × (side ≤ SIDE) }
         requires number { number < (side - 1) / 2 }
         ensures side { result.side ≡ side }
@@ -50,7 +50,7 @@ impl Strip {
     }
 
     /// Returns the row that the strip reaches after `t` others: one strip goes up, and the next one down.
-    pub(crate) fn row(self, t: usize) -> usize
+    pub fn row(self, t: usize) -> usize
         requires { t < self.side }
         ensures value { result ≡ row_of self.side self.number t }
         ensures inside { result < self.side }
@@ -89,7 +89,7 @@ fn bits_from(bytes: &[u8; ROOM], i: usize) -> u64
 
 /// Returns bit `x` and, one place higher, the next one.
 #[tactic(auto, using(crate::proofs::TwoBitsLaws::two_low, crate::proofs::TwoBitsLaws::two_high))]
-pub(crate) fn pair_at(bits: u64, x: usize) -> u64
+pub fn pair_at(bits: u64, x: usize) -> u64
     requires { x + 1 < 64 }
     ensures low { bit result 0 ≡ bit bits x }
     ensures high { bit result 1 ≡ bit bits (x + 1) }

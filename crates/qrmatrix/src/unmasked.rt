@@ -34,7 +34,7 @@ fn mask_in_turn(turn: u8) -> Mask
 
 /// Draws the function patterns on two blank squares: the modules that they leave free, and those of theirs that are
 /// dark.
-pub(crate) fn draw_functions(version: Version, free: &mut Square, modules: &mut Square)
+pub fn draw_functions(version: Version, free: &mut Square, modules: &mut Square)
     requires { IsBlank free.old × IsBlank modules.old }
     ensures { DrawsFunctions version free.new modules.old modules.new }
 {

@@ -11,7 +11,7 @@ use Rattle.labelcore.specs.declared.symbology.Symbology.TheVariants.{Qr}
 use Rattle.linear.specs.declared.limits.TheConstants.{MAX_MODULES}
 use Rattle.qrmatrix.specs.Reading.{read_square}
 use Rattle.qrmatrix.specs.Square.{value_at}
-use Rattle.qrmatrix.proofs.SymbolReadingLaws.{wide_side}
+use Rattle.qr_reading.proofs.SymbolReadingLaws.{wide_side}
 use Rattle.picture.specs.Picture.{Picture, enlargement, with_quiet_zone}
 use Rattle.picture.specs.Reading.{Raster, raster, sample}
 use Rattle.picture.specs.Text.{pixel_row}

@@ -16,7 +16,7 @@ use Rattle.qrmatrix.specs.Symbol.{is_dark}
 use Rattle.qrmatrix.proofs.ReadingLaws.{module_outside}
 use Rattle.qrmatrix.proofs.RowBitsLaws.{above_bit, or_bit, two_bits}
 use Rattle.qrmatrix.specs.Square.{value_at}
-use Rattle.qrmatrix.proofs.SymbolReadingLaws.{wide_side}
+use Rattle.qr_reading.proofs.SymbolReadingLaws.{wide_side}
 use Rattle.picture.specs.Picture.{Picture, symbol_picture}
 use Rattle.picture.specs.Reading.{raster}
 use Rattle.picture.specs.Text.{pixel_row}

@@ -13,7 +13,7 @@ use labelcore::{Options, Symbology};
 use linear::{Code128, Ean8, Ean13, UpcA};
 use linear_reading::LinearReading;
 use picture::Dots;
-use qrdata::SymbolData;
+use qr_reading::SymbolData;
 
 /// Returns the same data with more room after it.
 fn data_of(full: &[u8]) -> SymbolData

@@ -9,8 +9,8 @@ ghost use Rattle.reading.specs.Squares.{SymbolsAreRead, read_qr};
 ghost use Rattle.reading.specs.Private.{symbol_in};
 
 use picture::{Dots, Grid, QuietZone, Sampled};
-use qrdata::{SymbolData, read_data};
-use qrmatrix::{QUIET_ZONE, ReadSymbol, SIDE, read};
+use qr_reading::{ReadSymbol, SymbolData, read, read_data};
+use qrmatrix::{QUIET_ZONE, SIDE};
 
 /// Returns the modules of a row as the bits of a number, column 0 the lowest.
 fn row_word<G: Grid>(modules: &G, y: usize) -> u64

@@ -8,7 +8,8 @@ use labelcore::{Fault, Format, Item, LineBuf, Options, Scratch, Symbology, parse
 use linear::{Ean8, Linear, Refusal, Row};
 use linear_reading::{LinearReading, read_any};
 use picture::{Bars, Dots, Framed, QuietZone, Scaled, write_pbm};
-use qrdata::{Codewords, Level, Version, choose, codewords, read_data};
+use qr_reading::read_data;
+use qrdata::{Codewords, Level, Version, choose, codewords};
 use qrmatrix::Matrix;
 use reading::{
     bars_are_read, labels_are_read, read, read_at_any_scale, read_bars, symbols_are_read,
@@ -84,8 +85,6 @@ fn page_of_qrdata(rt: HostRuntime) {
     let mut symbol = Codewords::new();
     codewords(&plan, &mut symbol);
     assert!(rt; symbol.len() == 26 && symbol[0] == 32 && symbol[1] == 91);
-    let read = read_data(plan.version(), plan.level(), symbol.as_slice());
-    assert!(rt; read.is_some_and(|data| data.as_slice() == b"HELLO WORLD".as_slice()));
 }
 
 #[test]
@@ -98,8 +97,23 @@ fn page_of_qrmatrix(rt: HostRuntime) {
     codewords(&plan, &mut symbol);
     let matrix = Matrix::draw(plan.version(), plan.level(), None, &symbol);
     assert!(rt; matrix.side() == 21 && matrix.mask().number() == 0 && matrix.penalty() == 297);
-    let seen = qrmatrix::read(&matrix.rows()[..21]);
-    assert!(rt; seen.is_some_and(|seen| seen.codewords() == symbol.as_slice()));
+}
+
+#[test]
+fn page_of_qr_reading(rt: HostRuntime) {
+    let plan = match choose(Version::of(1), Level::Q, b"HELLO WORLD") {
+        Ok(plan) => plan,
+        Err(_) => panic!(rt; "it does not fit"),
+    };
+    let mut symbol = Codewords::new();
+    codewords(&plan, &mut symbol);
+    let matrix = Matrix::draw(plan.version(), plan.level(), None, &symbol);
+    let Some(seen) = qr_reading::read(&matrix.rows()[..21]) else {
+        panic!(rt; "it is a symbol");
+    };
+    assert!(rt; seen.codewords() == symbol.as_slice());
+    let data = read_data(seen.version(), seen.level(), seen.codewords());
+    assert!(rt; data.is_some_and(|data| data.as_slice() == b"HELLO WORLD".as_slice()));
 }
 
 #[test]

@@ -1,12 +1,10 @@
 -- The blocks of a message on their way into a symbol (ISO/IEC 18004, 7.5 and 7.6).
-use Rattle.std.specs.Prelude.{◌≡◌, ◌≤◌, ◌+◌, ◌*◌, ℕ, List, Option, length, map, replicate, slice_index, sum}
-use Rattle.std.specs.Bool.{then_some}
-use Rattle.std.specs.List.{concat, flat_map, list_all, range_with_len, zip}
+use Rattle.std.specs.Prelude.{◌≡◌, ◌≤◌, ◌+◌, ◌*◌, ℕ, List, length, map, replicate, sum}
+use Rattle.std.specs.List.{flat_map}
 use Rattle.gf256.specs.ErrorCorrection.{ec_codewords_of}
 use Rattle.qrdata.specs.declared.level.Level.{Level}
 use Rattle.qrdata.specs.declared.level.Level.TheVariants.{L, M, Q, H}
 use Rattle.qrdata.specs.Codewords.{split_by}
-use Rattle.qrdata.specs.Reading.{deinterleaving, has_roots, interleaving_place}
 use Rattle.qrdata.specs.Versions.{block_lengths, ec_codewords_per_block}
 
 -- how many blocks a symbol has
@@ -33,14 +31,3 @@ pub record HasBlocks (version : ℕ) (level : Level) (message : List ℕ) : Type
       ≡ map (ec_codewords_of (ec_codewords_per_block version level)) (split_by (block_lengths version level) message)
   pub few : block_count version level ≤ 8
   pub total : length message + block_count version level * ec_codewords_per_block version level ≤ 346
-
--- block b of these lengths, whose codewords are interleaved
-abbrev pub block_at : List ℕ → List ℕ → ℕ → List ℕ
-block_at lengths codewords b =
-    map (λ i. slice_index codewords (interleaving_place lengths b i)) (range_with_len 0 (slice_index lengths b))
-
--- the blocks of these lengths, joined, if each is a multiple of its generator with its k error correction codewords
-unfoldable pub sound_blocks : (k : ℕ) (lengths ec_lengths codewords ec_codewords : List ℕ) → Option (List ℕ)
-sound_blocks k lengths ec_lengths codewords ec_codewords =
-    let blocks = deinterleaving lengths codewords in
-    then_some (list_all (has_roots k) (zip blocks (deinterleaving ec_lengths ec_codewords))) (concat blocks)

@@ -1,0 +1,146 @@
+-- Blocks are taken back out of interleaved codewords one after another, and each is tested by its remainder.
+use Rattle.std.proofs.Common.{◌≡◌, ℕ, zero, suc, ◌+◌, ◌-◌, ◌<◌, ◌≤◌, List, [], ◌∷◌, ◌++◌, map, take, drop, get_or, All}
+use Rattle.std.proofs.Common.{length, refl, sym, ap, ◌∙◌, append_assoc, length-append, arith, Bool, true, false, min}
+use Rattle.std.proofs.Common.{sum}
+use Rattle.std.proofs.Common.{cond, inl, inr}
+use Rattle.std.specs.Bool.{then_some}
+use Rattle.std.specs.Prelude.{None, Option, bytes_eq, nat_lt, slice_index}
+use Rattle.std.specs.List.{concat, list_all, range_with_len, sum_by, zip}
+use Rattle.std.proofs.lemmas.Bool.{cases_lt, le-ltb, lt-ltb}
+use Rattle.std.proofs.lemmas.Bool.Decides.{nat_tests}
+use Rattle.std.proofs.lemmas.List.{take_all}
+use Rattle.std.proofs.lemmas.List.Elements.{All-append}
+use Rattle.std.proofs.lemmas.List.FromFn.{length-map-range_with_len}
+use Rattle.std.proofs.lemmas.List.Sums.{sum_by-cons}
+use Rattle.std.proofs.lemmas.Slice.Eq.{bytes_eq-Decides}
+use Rattle.gf256.specs.Field.{IsElement}
+use Rattle.gf256.specs.ErrorCorrection.{AreEcCodewords, wrong_codewords}
+use Rattle.gf256.proofs.DistanceLaws.{close_codewords}
+use Rattle.qr_reading.specs.Private.Blocks.{block_at, sound_blocks}
+use Rattle.qrdata.specs.Reading.{deinterleaving, has_roots, interleaving_place}
+use Rattle.qrdata.proofs.BitStringLaws.{drop_front}
+use Rattle.qrdata.proofs.DamageLaws.{HasRoots-has_roots}
+use Rattle.qrdata.proofs.DataReadingLaws.{roots_pass}
+
+-- ---- the place of a codeword
+
+min_below : (i : ℕ) (lengths : List ℕ) → sum_by (min i) lengths ≤ sum lengths
+min_below i [] = omega arith
+min_below i (n ∷ lengths) =
+    omega (arith, sum_by-cons (min i) n lengths, sum_by-cons (λ x. x) n lengths, min_below i lengths)
+
+pub place_below : (lengths : List ℕ) (b i : ℕ) → b < length lengths → i < get_or lengths b 0
+    → interleaving_place lengths b i < sum lengths
+place_below [] b i inside h = absurd (omega arith)
+place_below (n ∷ lengths) zero i inside h =
+    omega (arith, sum_by-cons (min i) n lengths, sum_by-cons (λ x. x) n lengths, min_below i lengths)
+place_below (n ∷ lengths) (suc b) i inside h =
+    let rest = place_below lengths b i (omega arith) h in
+    let one = sum_by-cons (λ n. cond (nat_lt i n) 1 0) n (take b lengths) in
+    let below = sum_by-cons (min i) n lengths in
+    let all = sum_by-cons (λ x. x) n lengths in
+    elim (cases_lt i n) [
+      | inl has ↦ omega (arith, rest, rw (lt-ltb i n has) at one, below, all)
+      | inr lacks ↦ omega (arith, rest, rw (le-ltb i n lacks) at one, below, all)
+    ]
+
+-- the places that are left are the next one and those after it
+pub place_next : {A : Type 0} (f : ℕ → A) (place n : ℕ) → place < n
+    → map f (range_with_len place (n - place)) ≡ f place ∷ map f (range_with_len (place + 1) (n - (place + 1)))
+place_next f place n h = let more : n - place ≡ suc (n - (place + 1)) = omega arith in rw more refl
+
+pub length-block_at : (lengths codewords : List ℕ) (b : ℕ)
+    → length (block_at lengths codewords b) ≡ slice_index lengths b
+length-block_at lengths codewords b = length-map-range_with_len _ 0 (slice_index lengths b)
+
+-- the last of several blocks that are joined
+pub last_block : (message block all : List ℕ) (start : ℕ) → all ≡ message ++ block → start ≡ length message
+    → take (length all - start) (drop start all) ≡ block
+last_block message block all start joined is =
+    let size : length (message ++ block) - length message ≡ length block = omega (arith, length-append message block) in
+    rw (joined, is, size, drop_front (length message) message block refl) (take_all (length block) block (omega arith))
+
+-- ---- the test of a block
+
+wrong_codewords-front : (block p q : List ℕ) → wrong_codewords (block ++ p) (block ++ q) ≡ wrong_codewords p q
+unfolding wrong_codewords
+wrong_codewords-front [] p q = refl
+wrong_codewords-front (b ∷ block) p q =
+    grind (arith, nat_tests, wrong_codewords-front block p q)
+
+wrong_codewords-le : (p q : List ℕ) → wrong_codewords p q ≤ length p
+unfolding wrong_codewords
+wrong_codewords-le [] q = omega arith
+wrong_codewords-le (a ∷ p) [] = omega arith
+wrong_codewords-le (a ∷ p) (b ∷ q) = grind (arith, nat_tests, wrong_codewords-le p q)
+
+-- error correction codewords that make the block a multiple of the generator are its remainder
+remainder_of-roots : (k : ℕ) (block ec_codewords remainder : List ℕ) → AreEcCodewords k block remainder
+    → length ec_codewords ≡ k → length block + k ≤ 255 → All IsElement block → All IsElement ec_codewords
+    → has_roots k (block, ec_codewords) ≡ true → ec_codewords ≡ remainder
+remainder_of-roots k block ec_codewords remainder are long short elements ec_elements roots =
+    let count = are.remainder.ec_codewords_length in
+    let near : wrong_codewords (block ++ remainder) (block ++ ec_codewords) ≤ k = omega (
+      arith,
+      count,
+      wrong_codewords-front block remainder ec_codewords,
+      wrong_codewords-le remainder ec_codewords,
+    ) in
+    let same = close_codewords k (block ++ remainder) (block ++ ec_codewords)
+    (omega (arith, short, count, length-append block remainder))
+    (omega (arith, long, count, length-append block remainder, length-append block ec_codewords))
+    (All-append IsElement block remainder elements are.remainder.ec_codewords_elements)
+    (All-append IsElement block ec_codewords elements ec_elements) are.roots
+    (HasRoots-has_roots k block ec_codewords roots) near in
+    sym (drop_front (length block) block ec_codewords refl) ∙ ap (drop (length block)) (sym same)
+    ∙ drop_front (length block) block remainder refl
+
+-- the remainder does
+has_roots-remainder : (k : ℕ) (block remainder : List ℕ) → AreEcCodewords k block remainder
+    → has_roots k (block, remainder) ≡ true
+has_roots-remainder k block remainder are = roots_pass (block ++ remainder) k 0 (λ i h. are.roots i (omega (arith, h)))
+
+agree : (a b : Bool) → (a ≡ true → b ≡ true) → (b ≡ true → a ≡ true) → a ≡ b
+agree true b f g = sym (f refl)
+agree false true f g = g refl
+agree false false f g = refl
+
+-- so that both tests are one
+pub remainder_tests : (k : ℕ) (block ec_codewords remainder : List ℕ) → AreEcCodewords k block remainder
+    → length ec_codewords ≡ k → length block + k ≤ 255 → All IsElement block → All IsElement ec_codewords
+    → bytes_eq ec_codewords remainder ≡ has_roots k (block, ec_codewords)
+remainder_tests k block ec_codewords remainder are long short elements ec_elements =
+    agree (bytes_eq ec_codewords remainder) (has_roots k (block, ec_codewords))
+    (λ same. rw ((bytes_eq-Decides ec_codewords remainder).0 same) (has_roots-remainder k block remainder are))
+    (λ roots. (bytes_eq-Decides ec_codewords remainder).1
+    (remainder_of-roots k block ec_codewords remainder are long short elements ec_elements roots))
+
+-- ---- the blocks, one after another
+
+module _ (k : ℕ) (lengths ec_lengths codewords ec_codewords : List ℕ) where
+  -- the blocks so far, joined, and those from b on, if each of these is a multiple of its generator
+  abbrev pub with_blocks : List ℕ → (b n : ℕ) → Option (List ℕ)
+  with_blocks message b n =
+      let blocks = map (block_at lengths codewords) (range_with_len b n) in
+      then_some (list_all (has_roots k) (zip blocks (map (block_at ec_lengths ec_codewords) (range_with_len b n))))
+      (message ++ concat blocks)
+
+  pub all_blocks : (message : List ℕ) (n : ℕ) → message ≡ [] → n ≡ length lengths → n ≡ length ec_lengths
+      → with_blocks message 0 n ≡ sound_blocks k lengths ec_lengths codewords ec_codewords
+  unfolding sound_blocks deinterleaving
+  all_blocks message n empty count ec_count = rw (empty, ← count, ← ec_count) refl
+
+  -- a block that passes, and those after it
+  pub one_block : (message : List ℕ) (b n : ℕ) → b < n
+      → has_roots k (block_at lengths codewords b, block_at ec_lengths ec_codewords b) ≡ true
+      → with_blocks (message ++ block_at lengths codewords b) (b + 1) (n - (b + 1)) ≡ with_blocks message b (n - b)
+  one_block message b n inside passes =
+      let more : n - b ≡ suc (n - (b + 1)) = omega arith in
+      rw (more, passes, append_assoc message) refl
+
+  -- where a block fails
+  pub no_block : (message : List ℕ) (b n : ℕ) → b < n
+      → has_roots k (block_at lengths codewords b, block_at ec_lengths ec_codewords b) ≡ false
+      → None ≡ with_blocks message b (n - b)
+  no_block message b n inside fails =
+      let more : n - b ≡ suc (n - (b + 1)) = omega arith in rw (more, fails) refl

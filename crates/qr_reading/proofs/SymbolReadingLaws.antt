@@ -1,0 +1,199 @@
+-- What a symbol is read as, by its side, the first modules of row 8, its patterns and the walk.
+use Rattle.std.proofs.Common.{◌≡◌, ℕ, ◌-◌, ◌/◌, ◌<◌, ◌≤◌, refl, sym, ap, subst, ◌∙◌, arith, Bool, true, false}
+use Rattle.std.proofs.Common.{List, [], ◌∷◌, length, map, Option, Some, None, ◌&&◌, ◌==◌}
+use Rattle.std.specs.Prelude.{All, find, if◌then◌else◌, nat_le, nat_lt, option_and_then, slice_index_or}
+use mathlib.Core.Bool.{xor}
+use Rattle.std.specs.List.{filter, flat_map, range_with_len}
+use Rattle.std.proofs.lemmas.Bool.{eqb-true, leb-true, ltb-true}
+use Rattle.std.proofs.lemmas.Bool.Decides.{nat_tests}
+use Rattle.std.proofs.lemmas.List.{length-map, map-append}
+use Rattle.std.proofs.lemmas.List.Elements.{filter-append}
+use Rattle.qrdata.specs.declared.level.Level.{Level}
+use Rattle.gf256.specs.BinaryPolynomial.{binary_remainder}
+use Rattle.qrdata.specs.Bits.{bits_of, codewords_of}
+use Rattle.qrdata.specs.Versions.{side_of, total_codewords}
+use Rattle.qrmatrix.specs.Bits.{bit}
+use Rattle.qrmatrix.specs.Functions.{is_free}
+use Rattle.qrmatrix.specs.Masks.{is_flipped}
+use Rattle.qrmatrix.specs.Placement.{remainder_bits}
+use Rattle.qrmatrix.specs.Square.{value_at}
+use Rattle.qrmatrix.specs.Private.Drawing.{MarksFree}
+use Rattle.qrmatrix.specs.Reading.{read_bits, read_format, read_matrix, read_with, shows_functions, shows_version, walk}
+use Rattle.qr_reading.specs.declared.codeword_bits.CodewordBits.{CodewordBits}
+use Rattle.qr_reading.specs.Private.BitsInCodewords.{bits_in}
+use Rattle.qrmatrix.specs.Private.Placing.{right_column, row_of}
+use Rattle.qr_reading.specs.Private.Walking.{format_named, row_bits, strip_bits, walk_bits}
+use Rattle.qrmatrix.proofs.ComputedLaws.{by_version, same_at}
+use Rattle.qrmatrix.proofs.FoundLaws.{IsFormat-of, find_in_range, format_of, reading_of}
+use Rattle.qr_reading.proofs.JoinedBitLaws.{codewords_first, length-bits_in}
+use Rattle.qrmatrix.proofs.ReadingLaws.{format_shown, map_filter, version_is_shown}
+use Rattle.qrmatrix.proofs.VersionLaws.{filtered, is_walked, room, same_filter, walked}
+use Rattle.qrmatrix.proofs.WordDistanceLaws.{format_word}
+
+-- ---- the walk
+
+-- the places of a row that a strip reaches after t others
+pair_at : ℕ → ℕ → ℕ → List (ℕ × ℕ)
+pair_at n strip t =
+    (right_column n strip, row_of n strip t) ∷ (right_column n strip - 1, row_of n strip t) ∷ []
+
+strip_at : ℕ → ℕ → List (ℕ × ℕ)
+strip_at n strip = flat_map (pair_at n strip) (range_with_len 0 n)
+
+walk_is : (v : ℕ) → 1 ≤ v → v ≤ 10
+    → walk (side_of v) ≡ flat_map (strip_at (side_of v)) (range_with_len 0 ((side_of v - 1) / 2))
+unfolding walk strip_at pair_at
+walk_is = by_version (λ v. walk (side_of v))
+    (λ v. flat_map (strip_at (side_of v)) (range_with_len 0 ((side_of v - 1) / 2))) refl
+
+module _ (free modules : ℕ → ℕ → Bool) where
+  -- the free modules at a list of places
+  kept : List (ℕ × ℕ) → List Bool
+  kept places = map (λ (p : ℕ × ℕ). modules p.0 p.1) (filter (λ (p : ℕ × ℕ). free p.0 p.1) places)
+
+  kept-flat_map : (f : ℕ → List (ℕ × ℕ)) (g : ℕ → List Bool) → ((k : ℕ) → kept (f k) ≡ g k) → (xs : List ℕ)
+      → kept (flat_map f xs) ≡ flat_map g xs
+  unfolding kept
+  kept-flat_map f g same [] = refl
+  kept-flat_map f g same (x ∷ xs) =
+      rw (filter-append, map-append, ← same x, ← kept-flat_map f g same xs) refl
+
+  pair_kept : (n strip t : ℕ) → kept (pair_at n strip t) ≡ row_bits n free modules strip t
+  unfolding kept pair_at
+  pair_kept n strip t =
+      at (free (right_column n strip) (row_of n strip t)) (free (right_column n strip - 1) (row_of n strip t)) refl refl
+    where
+      at : (a b : Bool) → free (right_column n strip) (row_of n strip t) ≡ a
+          → free (right_column n strip - 1) (row_of n strip t) ≡ b
+          → kept (pair_at n strip t) ≡ row_bits n free modules strip t
+      at true true first second = rw (first, second) refl
+      at true false first second = rw (first, second) refl
+      at false true first second = rw (first, second) refl
+      at false false first second = rw (first, second) refl
+
+  walk_kept : (v : ℕ) → 1 ≤ v → v ≤ 10 → kept (walk (side_of v)) ≡ walk_bits (side_of v) free modules
+  unfolding walk_bits strip_bits strip_at
+  walk_kept v least most =
+      let n = side_of v in
+      ap kept (walk_is v least most)
+      ∙ kept-flat_map (strip_at n) (strip_bits n free modules)
+      (λ strip. kept-flat_map (pair_at n strip) (row_bits n free modules strip) (pair_kept n strip) (range_with_len 0 n))
+      (range_with_len 0 ((n - 1) / 2))
+
+module _ (v : ℕ) (least : 1 ≤ v) (most : v ≤ 10) where
+  -- the walk reads the free modules with the mask taken off
+  pub walk_read : (mask : ℕ) (free : List (List Bool)) (modules m : ℕ → ℕ → Bool) → MarksFree v free
+      → ((x y : ℕ) → y < side_of v → modules x y ≡ (value_at free x y && xor (is_flipped mask x y) (m x y)))
+      → walk_bits (side_of v) (value_at free) modules ≡ read_bits v mask m
+  unfolding kept read_bits
+  walk_read mask free modules m marks is =
+      let n = side_of v in
+      let is_left = λ (p : ℕ × ℕ). value_at free p.0 p.1 in
+      let chosen = λ (p : ℕ × ℕ). is_free v p.0 p.1 in
+      let same = same_filter is_left chosen (is_walked n)
+      (λ p i. marks.inside p.0 p.1 (grind (arith, nat_tests)) (grind (arith, nat_tests))) (walk n) (walked v least most) in
+      sym (walk_kept (value_at free) modules v least most)
+      ∙ ap (map (λ (p : ℕ × ℕ). modules p.0 p.1)) same
+      ∙ map_filter chosen (is_walked n) (λ (p : ℕ × ℕ). modules p.0 p.1)
+      (λ (p : ℕ × ℕ). xor (is_flipped mask p.0 p.1) (m p.0 p.1))
+      (λ p i free_at. is p.0 p.1 (grind (arith, nat_tests))
+      ∙ rw (marks.inside p.0 p.1 (grind (arith, nat_tests)) (grind (arith, nat_tests)), free_at) refl)
+      (walk n) (walked v least most)
+
+  few_bits : nat_le (room v) 2768 ≡ true
+  unfolding total_codewords remainder_bits
+  few_bits = by_version (λ v. nat_le (room v) 2768) (λ v. true) refl v least most
+
+  few_left : nat_lt (remainder_bits v) 8 ≡ true
+  unfolding remainder_bits
+  few_left = by_version (λ v. nat_lt (remainder_bits v) 8) (λ v. true) refl v least most
+
+  pub length-read_bits : (mask : ℕ) (m : ℕ → ℕ → Bool) → length (read_bits v mask m) ≡ room v
+  unfolding read_bits
+  length-read_bits mask m = length-map _ _ ∙ filtered v least most
+
+  pub bits_fit : (mask : ℕ) (m : ℕ → ℕ → Bool) → length (read_bits v mask m) ≤ 2775
+  bits_fit mask m = omega (arith, length-read_bits mask m, leb-true (room v) 2768 few_bits)
+
+  -- the codewords of the bits that were read
+  pub codewords_read : (mask : ℕ) (m : ℕ → ℕ → Bool) (bits : CodewordBits) → bits_in bits ≡ read_bits v mask m
+      → All (λ w. w < 256) bits.codewords.items
+      → bits.codewords.items ≡ codewords_of (total_codewords v) (read_bits v mask m)
+  codewords_read mask m bits is bytes =
+      let long = ap length is ∙ length-read_bits mask m in
+      let count : total_codewords v ≡ length bits.codewords.items =
+      omega (arith, long, length-bits_in bits, bits.rest.few, ltb-true (remainder_bits v) 8 few_left) in
+      rw (← is, count) (sym (codewords_first bits.codewords.items (bits_of bits.rest.count bits.rest.number) bytes))
+
+-- ---- the format information
+
+-- the level and the mask that five modules name are those of the format information
+named_by_word : (message : ℕ) → message < 32 → format_of (format_word message)
+    ≡ (let word = format_word message in format_named (bit word 14) (bit word 13) (bit word 12) (bit word 11) (bit word 10))
+unfolding format_word binary_remainder
+named_by_word message low =
+    same_at 0 32 (λ message. format_of (format_word message)) (λ message. let word = format_word message in
+    format_named (bit word 14) (bit word 13) (bit word 12) (bit word 11) (bit word 10)) refl message (omega arith) low
+
+no_reading : {A : Type 0} (a : Bool) (x : A) → (if a && false then Some x else None) ≡ None
+no_reading true x = refl
+no_reading false x = refl
+
+module _ (n : ℕ) (m : ℕ → ℕ → Bool) where
+  -- the level and the mask that the first five modules of row 8 name
+  abbrev named : Level × ℕ
+  named = format_named (m 0 8) (m 1 8) (m 2 8) (m 3 8) (m 4 8)
+
+  named_is : (format : Level × ℕ) → read_format n m ≡ Some format → format ≡ named
+  named_is format e =
+      let is = IsFormat-of n m format e in
+      let at : ℕ → List Bool → Bool = λ i l. slice_index_or l i false in
+      let fourteen : m 0 8 ≡ bit (format_word is.message) 14 = ap (at 14) is.first in
+      let thirteen : m 1 8 ≡ bit (format_word is.message) 13 = ap (at 13) is.first in
+      let twelve : m 2 8 ≡ bit (format_word is.message) 12 = ap (at 12) is.first in
+      let eleven : m 3 8 ≡ bit (format_word is.message) 11 = ap (at 11) is.first in
+      let ten : m 4 8 ≡ bit (format_word is.message) 10 = ap (at 10) is.first in
+      is.value ∙ named_by_word is.message is.low ∙ rw (fourteen, thirteen, twelve, eleven, ten) refl
+
+  named_low : named.1 < 8
+  named_low = grind arith
+
+  pub unknown_side : find (λ v. side_of v == n) (range_with_len 1 10) ≡ None → read_matrix n m ≡ None
+  unfolding read_matrix
+  unknown_side none = rw none refl
+
+  -- no version is wider than the tenth
+  pub wide_side : 57 < n → read_matrix n m ≡ None
+  wide_side wide = unknown_side (at (find (λ v. side_of v == n) (range_with_len 1 10)) refl)
+    where
+      at : (o : Option ℕ) → find (λ v. side_of v == n) (range_with_len 1 10) ≡ o
+          → find (λ v. side_of v == n) (range_with_len 1 10) ≡ None
+      at None e = e
+      at (Some v) e =
+          let range = find_in_range (λ v. side_of v == n) 1 10 v e in
+          absurd (omega (arith, wide, range.2, eqb-true (side_of v) n range.0))
+
+  module _ (v : ℕ) (found : find (λ v. side_of v == n) (range_with_len 1 10) ≡ Some v) where
+    pub is_side : n ≡ side_of v
+    is_side = sym (eqb-true (side_of v) n (find_in_range (λ v. side_of v == n) 1 10 v found).0)
+
+    pub unread : shows_functions v named.0 named.1 m ≡ false → read_matrix n m ≡ None
+    unfolding read_matrix
+    unread wrong = rw found (at (read_format n m) refl)
+      where
+        at : (format : Option (Level × ℕ)) → read_format n m ≡ format
+            → option_and_then (read_with v m) (read_format n m) ≡ None
+        at None e = rw e refl
+        at (Some format) e =
+            rw (e, named_is format e, wrong)
+            (no_reading (shows_version v (side_of v) m) _)
+
+    pub is_read : shows_functions v named.0 named.1 m ≡ true → read_matrix n m ≡ Some (reading_of v named m)
+    unfolding read_matrix
+    is_read shown =
+        let range = find_in_range (λ v. side_of v == n) 1 10 v found in
+        let side = eqb-true (side_of v) n range.0 in
+        let most : v ≤ 10 = omega (arith, range.2) in
+        let format = subst (λ k. read_format k m ≡ Some named) side
+        (format_shown v named.0 named.1 m shown range.1 most named_low) in
+        rw (found, format, version_is_shown v named.0 named.1 m shown range.1 most named_low, shown) refl

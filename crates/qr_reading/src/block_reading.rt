@@ -1,0 +1,102 @@
+//! Blocks taken back out of interleaved codewords, and the test of each (ISO/IEC 18004, 7.5, 7.6 and 12).
+ghost use Rattle.arrayvec.specs.ArrayVec.{array_vec_len};
+ghost use Rattle.gf256.specs.ErrorCorrection.{IsEcCodewordCount};
+ghost use Rattle.qrdata.specs.Reading.{has_roots};
+ghost use Rattle.qr_reading.specs.Private.Blocks.{block_at, sound_blocks};
+ghost use Rattle.std.specs.List.{count_by, sum_by};
+ghost use Rattle.std.specs.Prelude.{◌≡◌, ◌+◌, ◌<◌, ◌≤◌, ◌++◌, All, IfSome, length, min, nat_lt, option_map};
+ghost use Rattle.std.specs.Prelude.{replicate, slice_index, sum};
+
+use gf256::Generator;
+use qrdata::{Codewords, MAX_CODEWORDS, are_bytes};
+
+/// Returns how many codewords of blocks have places below one.
+fn count_below(lengths: &[usize], place: usize) -> usize
+    requires { sum lengths.now ≤ MAX_CODEWORDS }
+    ensures { result ≡ sum_by (min place) lengths.now }
+{
+    let mut count = 0;
+    for size in lengths {
+        count += place.min(*size);
+    }
+    count
+}
+
+/// Returns how many blocks have a codeword at a place.
+fn count_at(lengths: &[usize], place: usize) -> usize
+    ensures { result ≡ count_by (nat_lt place) lengths.now }
+{
+    let mut count = 0;
+    for size in lengths {
+        if place < *size {
+            count += 1;
+        }
+    }
+    count
+}
+
+/// Appends the codewords of a block of interleaved ones.
+fn push_block(lengths: &[usize], codewords: &[u8], block: usize, out: &mut Codewords)
+    requires whole { sum lengths.now ≡ length codewords.now }
+    requires block { block < length lengths.now }
+    requires room { array_vec_len out.old + slice_index lengths.now block ≤ MAX_CODEWORDS }
+    requires few { length codewords.now ≤ MAX_CODEWORDS }
+    ensures { out.new.items ≡ out.old.items ++ block_at lengths.now codewords.now block }
+{
+    for place in 0..lengths[block] {
+        let earlier = count_below(lengths, place) + count_at(&lengths[..block], place);
+        out.push(codewords[earlier]);
+    }
+}
+
+/// Returns whether a block is a multiple of the generator with its error correction codewords: whether these are the
+/// remainder of the block.
+fn is_multiple(generator: &Generator, count: usize, block: &[u8], ec_codewords: &[u8]) -> bool
+    requires count { (generator.now ≡ count) × (length ec_codewords.now ≡ count) }
+    requires few { IsEcCodewordCount count }
+    requires short { length block.now + count ≤ 255 }
+    ensures { result ≡ has_roots count (block.now, ec_codewords.now) }
+{
+    are_bytes(block);
+    are_bytes(ec_codewords);
+    let mut remainder = [0; 30];
+    generator.ec_codewords(block, &mut remainder[..count]);
+    ec_codewords == &remainder[..count]
+}
+
+/// Returns the codewords of the blocks of interleaved ones, block by block. `None`: a block is no multiple of the
+/// generator with its error correction codewords.
+pub(crate) fn sound_blocks(
+    count: usize,
+    lengths: &[usize],
+    ec_lengths: &[usize],
+    codewords: &[u8],
+    ec_codewords: &[u8],
+) -> Option<Codewords>
+    requires count { IsEcCodewordCount count }
+    requires equal { ec_lengths.now ≡ replicate (length lengths.now) count }
+    requires whole { (sum lengths.now ≡ length codewords.now) × (sum ec_lengths.now ≡ length ec_codewords.now) }
+    requires short { All (λ n. n + count ≤ 255) lengths.now }
+    requires few { length codewords.now + length ec_codewords.now ≤ MAX_CODEWORDS }
+    ensures value { option_map (λ message. message.items) result
+        ≡ sound_blocks count lengths.now ec_lengths.now codewords.now ec_codewords.now }
+    ensures len { IfSome result (λ message. array_vec_len message ≡ length codewords.now) }
+{
+    let generator = Generator::new(count);
+    let mut message = Codewords::new();
+    for block in 0..lengths.len() {
+        let start = message.len();
+        push_block(lengths, codewords, block, &mut message);
+        let mut remainder = Codewords::new();
+        push_block(ec_lengths, ec_codewords, block, &mut remainder);
+        if !is_multiple(
+            &generator,
+            count,
+            &message.as_slice()[start..],
+            remainder.as_slice(),
+        ) {
+            return None;
+        }
+    }
+    Some(message)
+}

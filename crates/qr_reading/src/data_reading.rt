@@ -1,0 +1,33 @@
+//! The data that the codewords of a symbol hold (ISO/IEC 18004, 12).
+ghost use Rattle.qrdata.specs.Reading.{data_in};
+ghost use Rattle.std.specs.Prelude.{◌≡◌, option_map};
+
+use crate::block_reading::sound_blocks;
+use crate::segment_reading::{SymbolData, read_segments};
+use qrdata::{Lengths, Level, Version, push_lengths};
+
+/// Reads the data that the codewords of a symbol hold, with no correction (ISO/IEC 18004, 12). They are in the order in
+/// which they are placed. `None`: they are not as many as the version has, a block is no multiple of its generator, or
+/// what the blocks hold are no segments in the numeric, the alphanumeric and the byte mode.
+pub fn read_data(version: Version, level: Level, codewords: &[u8]) -> Option<SymbolData>
+    ensures { option_map (λ bytes. bytes.items) result ≡ data_in version level codewords.now }
+{
+    if codewords.len() != version.total_codewords() {
+        return None;
+    }
+    version.prove_range();
+    let count = version.ec_codewords_per_block(level);
+    let blocks = version.lengths(level);
+    let lengths = blocks.as_slice();
+    let mut ec_lengths = Lengths::new();
+    push_lengths(&mut ec_lengths, lengths.len(), count);
+    let (codewords, ec_codewords) = codewords.split_at(version.data_codewords(level));
+    let message = sound_blocks(
+        count,
+        lengths,
+        ec_lengths.as_slice(),
+        codewords,
+        ec_codewords,
+    )?;
+    read_segments(version, message.as_slice())
+}

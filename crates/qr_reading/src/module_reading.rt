@@ -1,0 +1,181 @@
+//! The reading of a symbol's modules, with no correction (ISO/IEC 18004, 12).
+ghost use Rattle.std.specs.Prelude.{◌≡◌, ℕ, ◌≤◌, ◌<◌, ◌==◌, ◌&&◌, length, slice_index};
+ghost use Rattle.std.specs.Bool.{xor};
+ghost use Rattle.std.specs.List.{find, list_all, range_with_len};
+ghost use Rattle.qrdata.specs.Bits.{codewords_of};
+ghost use Rattle.qrdata.specs.Versions.{side_of, total_codewords};
+ghost use Rattle.qrmatrix.specs.Bits.{bit};
+ghost use Rattle.qrmatrix.specs.Masks.{is_flipped};
+ghost use Rattle.qrmatrix.specs.Reading;
+ghost use Rattle.qrmatrix.specs.Reading.{read_bits, read_matrix};
+ghost use Rattle.qrmatrix.specs.Square.{value_at};
+ghost use Rattle.qrmatrix.specs.Private.Drawing.{MarksFree};
+ghost use Rattle.qr_reading.specs.Private.Walking.{DrawsPatterns, format_named, shows_row};
+
+use crate::codeword_bits::CodewordBits;
+use crate::walk::read_strips;
+use qrdata::{Codewords, Level, Mask, Version, are_bytes};
+use qrmatrix::{SIDE, Square, draw_format, draw_functions, low_ones, mask_row_bits};
+use std::marker::Model;
+
+/// What the modules of a symbol are read as.
+#[derive(Drop)]
+pub struct ReadSymbol {
+    version: Version,
+    level: Level,
+    codewords: Codewords,
+}
+
+impl Model for ReadSymbol {
+    ghost Value = { Reading.Reading };
+
+    ghost view = { λ s. record { version = s.version; level = s.level; codewords = s.codewords.items } };
+}
+
+impl ReadSymbol {
+    /// Returns the version.
+    pub fn version(&self) -> Version
+        ensures { result ≡ self.now.version }
+    {
+        self.version
+    }
+
+    /// Returns the level.
+    pub fn level(&self) -> Level
+        ensures { result ≡ self.now.level }
+    {
+        self.level
+    }
+
+    /// Returns the codewords, which have had no correction.
+    pub fn codewords(&self) -> &[u8]
+        ensures { result.now ≡ self.now.codewords }
+    {
+        &self.codewords
+    }
+}
+
+/// The modules of a symbol that the codewords do not choose.
+#[derive(Drop)]
+struct Patterns {
+    /// The modules that the codewords choose.
+    free: Square,
+    /// Those of the others that are dark.
+    dark: Square,
+}
+
+/// Returns the version whose symbols have this many modules on a side.
+fn version_of_side(side: usize) -> Option<Version>
+    ensures { result ≡ find (λ v. side_of v == side) (range_with_len 1 10) }
+{
+    if side < 21 || side > SIDE || side % 4 != 1 {
+        return None;
+    }
+    Some(Version::of((side / 4 - 4) as u8))
+}
+
+/// Returns the level and the mask that the five highest bits of the format information name. They are the first five
+/// modules of row 8 (ISO/IEC 18004, 7.9).
+fn format_in(row: u64) -> (Level, Mask)
+    ensures { result ≡ format_named (bit row 0) (bit row 1) (bit row 2) (bit row 3) (bit row 4) }
+{
+    let level = match row % 4 {
+        0 => Level::H,
+        1 => Level::M,
+        2 => Level::Q,
+        _ => Level::L,
+    };
+    let mask = match row / 4 % 8 {
+        0 => 5,
+        1 => 1,
+        2 => 7,
+        3 => 3,
+        4 => 4,
+        5 => 0,
+        6 => 6,
+        _ => 2,
+    };
+    (level, Mask::of(mask))
+}
+
+/// Returns whether the modules of a row that are not free are those of another row.
+fn is_row_shown(side: usize, row: u64, free: u64, dark: u64) -> bool
+    requires { side ≤ SIDE }
+    ensures { result ≡ shows_row side (bit row) (bit free) (bit dark) }
+{
+    (row ^ dark) & !free & low_ones(side) == 0
+}
+
+impl Patterns {
+    /// Draws the patterns of a symbol with its format information.
+    fn draw(version: Version, level: Level, mask: Mask) -> Patterns
+        ensures { DrawsPatterns version level mask result.free result.dark }
+    {
+        let mut free = Square::new();
+        let mut dark = Square::new();
+        draw_functions(version, &mut free, &mut dark);
+        draw_format(version, level, mask, &mut dark);
+        Patterns { free, dark }
+    }
+
+    /// Returns whether rows have the patterns.
+    fn are_shown(&self, rows: &[u64]) -> bool
+        requires { length rows.now ≤ SIDE }
+        ensures { result ≡ list_all (λ y. shows_row (length rows.now) (bit (slice_index rows.now y))
+            (λ x. value_at self.now.free x y) (λ x. value_at self.now.dark x y)) (range_with_len 0 (length rows.now)) }
+    {
+        for y in 0..rows.len() {
+            if !is_row_shown(rows.len(), rows[y], self.free.row(y), self.dark.row(y)) {
+                return false;
+            }
+        }
+        true
+    }
+}
+
+/// Returns the free modules with the mask taken off; the others are light.
+fn unmasked(rows: &[u64], mask: Mask, free: &Square) -> Square
+    requires { length rows.now ≤ SIDE }
+    ensures { (x y : ℕ) → y < length rows.now → value_at result x y
+        ≡ (value_at free.now x y && xor (is_flipped mask x y) (bit (slice_index rows.now y) x)) }
+{
+    let mut modules = Square::new();
+    for y in 0..rows.len() {
+        modules.put(y, (rows[y] ^ mask_row_bits(mask, y % 12)) & free.row(y));
+    }
+    modules
+}
+
+/// Returns the codewords that the free modules of a symbol are under a mask.
+fn read_codewords(rows: &[u64], version: Version, mask: Mask, free: &Square) -> Codewords
+    requires side { length rows.now ≡ side_of version }
+    requires free { MarksFree version free.now }
+    ensures { result.items ≡ codewords_of (total_codewords version)
+        (read_bits version mask (λ x y. bit (slice_index rows.now y) x)) }
+{
+    version.prove_range();
+    let modules = unmasked(rows, mask, free);
+    let mut bits = CodewordBits::new();
+    read_strips(version, free, &modules, &mut bits);
+    are_bytes(&bits.codewords);
+    bits.codewords
+}
+
+/// Reads a square of modules as a symbol, with no correction (ISO/IEC 18004, 12): both copies of the format and version
+/// information and every module of the other patterns have to be right. There are as many rows as modules on a side,
+/// and bit x of number y is the module at column x and row y, dark where set; the bits from the side on are not read.
+pub fn read(rows: &[u64]) -> Option<ReadSymbol>
+    ensures { result ≡ read_matrix (length rows.now) (λ x y. bit (slice_index rows.now y) x) }
+{
+    let version = version_of_side(rows.len())?;
+    let (level, mask) = format_in(rows[8]);
+    let patterns = Patterns::draw(version, level, mask);
+    if !patterns.are_shown(rows) {
+        return None;
+    }
+    Some(ReadSymbol {
+        version,
+        level,
+        codewords: read_codewords(rows, version, mask, &patterns.free),
+    })
+}

@@ -1,0 +1,186 @@
+//! Segments read from the bits of data codewords (ISO/IEC 18004, 7.4 and 12).
+ghost use Rattle.arrayvec.specs.ArrayVec.{array_vec_len};
+ghost use Rattle.qr_reading.specs.Private.Groups.{group_bytes, next_group};
+ghost use Rattle.qr_reading.specs.Private.ReadSoFar.{HasRoom, Leaves, after, bits_at};
+ghost use Rattle.qrdata.specs.Reading.{alphanumeric_character, payload_at, segment_at, segments_at};
+ghost use Rattle.qrdata.specs.Segments.{byte_bits, mode_indicator, modes};
+ghost use Rattle.std.specs.List.{find};
+ghost use Rattle.std.specs.Prelude.{◌≡◌, ◌++◌, ◌+◌, ◌*◌, ◌≤◌, ◌<◌, ◌==◌, IfSome, length, option_map};
+
+use crate::cursor::Cursor;
+use arrayvec::ArrayVec;
+use qrdata::{Mode, Version, power_of_two};
+
+/// The most bytes that a symbol holds: digits of version 10 at level L, three in ten of its 2192 data bits.
+const MAX_DATA: usize = 657;
+
+/// The data that the codewords of a symbol hold.
+pub type SymbolData = ArrayVec<u8, MAX_DATA>;
+
+/// The 45 characters of the alphanumeric mode, in the order of their values.
+const CHARACTERS: [u8; 45] = *b"0123456789ABCDEFGHIJKLMNOPQRSTUVWXYZ $%*+-./:";
+
+/// Returns the character of an alphanumeric value.
+#[tactic(auto, unfolding(qrdata::specs::Segments::alphanumeric_characters))]
+fn character_of(value: u32) -> u8
+    requires { value < 45 }
+    ensures { result ≡ alphanumeric_character value }
+{
+    CHARACTERS[value as usize]
+}
+
+/// Returns the digit of a value.
+fn digit_of(value: u32) -> u8
+    requires { value < 10 }
+    ensures { result ≡ 48 + value }
+{
+    b'0' + value as u8
+}
+
+/// Appends bytes to the data.
+#[inline(always)]
+fn append(out: &mut SymbolData, bytes: &[u8])
+    requires { array_vec_len out.old + length bytes.now ≤ MAX_DATA }
+    ensures { out.new.items ≡ out.old.items ++ bytes.now }
+{
+    // There is space for them, so that it cannot fail.
+    let _ = out.try_extend_from_slice(bytes);
+}
+
+/// Characters of a payload that one number stands for.
+#[derive(Clone, Copy)]
+struct Group {
+    /// How many characters there are.
+    size: usize,
+    /// The least number that stands for none.
+    limit: u32,
+    /// The width of the number in bits.
+    width: usize,
+}
+
+/// Returns the next group, where `left` characters are left.
+fn next_group(mode: Mode, left: usize) -> Group
+    requires { 0 < left }
+    ensures value { result ≡ next_group mode left }
+    ensures inside { result.size ≤ left }
+    ensures room { 10 * result.size ≤ 3 * result.width }
+    ensures narrow { result.width ≤ 16 }
+{
+    let (size, limit, width) = match mode {
+        Mode::Numeric => if left < 2 {
+            (1, 10, 4)
+        } else if left < 3 {
+            (2, 100, 7)
+        } else {
+            (3, 1000, 10)
+        },
+        Mode::Alphanumeric => if left < 2 { (1, 45, 6) } else { (2, 2025, 11) },
+        Mode::Byte => (1, 256, 8),
+    };
+    Group { size, limit, width }
+}
+
+/// Appends the characters of a group to the data.
+fn append_group(mode: Mode, left: usize, number: u32, out: &mut SymbolData)
+    requires below { number < (next_group mode left).limit }
+    requires room { array_vec_len out.old + (next_group mode left).size ≤ MAX_DATA }
+    ensures bytes { out.new.items ≡ out.old.items ++ group_bytes mode left number }
+    ensures len { array_vec_len out.new ≡ array_vec_len out.old + (next_group mode left).size }
+{
+    match mode {
+        Mode::Numeric => if left < 2 {
+            out.push(digit_of(number));
+        } else if left < 3 {
+            append(out, &[digit_of(number / 10), digit_of(number % 10)]);
+        } else {
+            let tens = number / 10;
+            append(
+                out,
+                &[
+                    digit_of(tens / 10),
+                    digit_of(tens % 10),
+                    digit_of(number % 10),
+                ],
+            );
+        },
+        Mode::Alphanumeric => if left < 2 {
+            out.push(character_of(number));
+        } else {
+            append(out, &[character_of(number / 45), character_of(number % 45)]);
+        },
+        Mode::Byte => out.push(number as u8),
+    }
+}
+
+/// Reads the payload of characters of a mode, appends these to the data, and returns the place after it.
+fn read_payload(
+    codewords: &[u8],
+    start: Cursor,
+    mode: Mode,
+    count: usize,
+    out: &mut SymbolData,
+) -> Option<Cursor>
+    requires { HasRoom out.old.items (bits_at codewords.now start) }
+    ensures read { option_map (λ end. (out.new.items, bits_at codewords.now end)) result
+        ≡ after out.old.items (payload_at mode count (bits_at codewords.now start)) }
+    ensures left { IfSome result (λ end.
+        Leaves out.new.items (bits_at codewords.now start) (bits_at codewords.now end)) }
+{
+    let mut cursor = start;
+    let mut left = count;
+    while left > 0 {
+        let group = next_group(mode, left);
+        let (number, end) = cursor.number(codewords, group.limit, group.width)?;
+        append_group(mode, left, number, out);
+        cursor = end;
+        left -= group.size;
+    }
+    Some(cursor)
+}
+
+/// Returns the mode that an indicator names.
+fn mode_of(indicator: u32) -> Option<Mode>
+    ensures { result ≡ find (λ mode. mode_indicator mode == indicator) modes }
+{
+    match indicator {
+        1 => Some(Mode::Numeric),
+        2 => Some(Mode::Alphanumeric),
+        4 => Some(Mode::Byte),
+        _ => None,
+    }
+}
+
+/// Reads a segment, appends its bytes to the data, and returns the place after it.
+fn read_segment(
+    version: Version,
+    codewords: &[u8],
+    start: Cursor,
+    out: &mut SymbolData,
+) -> Option<Cursor>
+    requires { HasRoom out.old.items (bits_at codewords.now start) }
+    ensures read { option_map (λ end. (out.new.items, bits_at codewords.now end)) result
+        ≡ after out.old.items (segment_at version (bits_at codewords.now start)) }
+    ensures room { IfSome result (λ end. HasRoom out.new.items (bits_at codewords.now end)) }
+    ensures less { IfSome result (λ end. length (bits_at codewords.now end) + 4
+        ≤ length (bits_at codewords.now start)) }
+{
+    let (indicator, cursor) = start.number(codewords, 16, 4)?;
+    let mode = mode_of(indicator)?;
+    let width = mode.count_width(version);
+    let (count, cursor) = cursor.number(codewords, power_of_two(width), width)?;
+    read_payload(codewords, cursor, mode, count as usize, out)
+}
+
+/// Reads segments to their end, and returns their bytes.
+pub(crate) fn read_segments(version: Version, codewords: &[u8]) -> Option<SymbolData>
+    requires { 8 * length codewords.now ≤ 2192 }
+    ensures { option_map (λ bytes. bytes.items) result
+        ≡ segments_at version (8 * length codewords.now) (byte_bits codewords.now) }
+{
+    let mut out = SymbolData::new();
+    let mut cursor = Cursor::at_start();
+    while !cursor.is_end(codewords) {
+        cursor = read_segment(version, codewords, cursor, &mut out)?;
+    }
+    Some(out)
+}
