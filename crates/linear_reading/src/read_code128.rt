@@ -1,21 +1,21 @@
 //! Reading of Code 128 symbols (ISO/IEC 15417).
 ghost use Rattle.std.specs.Prelude.{◌≡◌, ℕ, List, ◌∷◌, ◌+◌, ◌*◌, ◌≤◌, ◌<◌, ◌&&◌, ◌==◌, IfSome, length, option_map};
-ghost use Rattle.std.specs.Prelude.{MatchOption, nat_eq, nat_le, false, position, option_and_then, drop, if◌then◌else◌};
+ghost use Rattle.std.specs.Prelude.{MatchOption, nat_eq, nat_le, false, option_and_then, drop, if◌then◌else◌};
 ghost use Rattle.linear.specs.declared.switching.CodeSet.{CodeSet as Set};
 ghost use Rattle.linear.specs.CodeSets.{start_value};
 ghost use Rattle.linear.specs.declared.limits.TheConstants.{MAX_VALUES, MAX_MODULES};
 ghost use Rattle.linear_reading.specs.declared.full_data.TheConstants.{MAX_FULL_DATA};
 ghost use Rattle.arrayvec.specs.ArrayVec.{array_vec_len};
-ghost use Rattle.linear.specs.declared.tables.TheConstants.{CHARACTERS};
 ghost use Rattle.linear.specs.Code128.{character_modules};
 ghost use Rattle.linear.specs.Code128Reading.{meaning, other_set, read_values, symbol_data, read_code128};
 ghost use Rattle.linear.specs.Modules.{each_group, same_modules};
 ghost use Rattle.linear_reading.specs.Private.Meanings.{group_value, meant, with_values};
 
 use crate::full_data::FullData;
-use crate::read_ean::same_modules;
+use crate::groups::{number_of, same_modules};
+use crate::tables::{NUMBERS, VALUES};
 use arrayvec::ArrayVec;
-use linear::{CHARACTERS, CodeSet, MAX_VALUES, STOP, check_value};
+use linear::{CodeSet, MAX_VALUES, STOP, check_value};
 
 /// The fewest values of a symbol before the stop character.
 const MIN_SYMBOL_VALUES: usize = 3;
@@ -157,25 +157,19 @@ fn symbol_data(values: &[u8]) -> Option<FullData>
     }
 }
 
-/// Returns the place of a group among the characters.
-fn place_of(group: &[bool]) -> Option<usize>
-    ensures found { result ≡ position (same_modules group.now) CHARACTERS }
-    ensures low { IfSome result (λ place. place < 106) }
-{
-    CHARACTERS
-        .iter()
-        .position(|character| group == character.as_slice())
-}
-
 /// Returns the value whose character is the group of eleven modules.
+#[inline(always)]
 fn value_of(group: &[bool]) -> Option<u8>
     requires { length group.now ≡ 11 }
     ensures found { result ≡ group_value group.now }
     ensures low { IfSome result (λ value. value < 106) }
 {
-    match place_of(group) {
-        Some(place) => Some(place as u8),
-        None => None,
+    let number = number_of(group);
+    let value = VALUES[number / 2 % 256];
+    if value < 106 && NUMBERS[usize::from(value)] == number {
+        Some(value)
+    } else {
+        None
     }
 }
 
