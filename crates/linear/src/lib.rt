@@ -21,5 +21,5 @@ pub use limits::{MAX_MODULES, MAX_VALUES};
 pub use linear::{Linear, QuietZones};
 pub use refusal::Refusal;
 pub use row::Row;
-pub use switching::CodeSet;
+pub use switching::{CodeSet, start_value};
 pub use tables::{CENTRE_GUARD, NORMAL_GUARD, STOP};
