@@ -92,7 +92,7 @@ zip_some (Some x) (Some y) pair e = let same = some_pair_parts x pair.0 y pair.1
 -- ---- EAN and UPC
 
 -- the group in which a digit is found is its pattern
-digit_drawn : (set : NumberSet) (group : List Bool) (byte : ℕ) → digit_in set group ≡ Some byte
+pub digit_drawn : (set : NumberSet) (group : List Bool) (byte : ℕ) → digit_in set group ≡ Some byte
     → (group ≡ pattern set (digit_value byte)) × IsAsciiDigit byte
 digit_drawn set group byte e =
     let test = λ (byte : ℕ). same_modules (pattern set (digit_value byte)) group in
@@ -266,7 +266,7 @@ upca_drawn row full e = option_and_then_some _ (read_ean13 row) full e (λ numbe
 
 -- ---- Code 128
 
-character_drawn : (row : List Bool) (value : ℕ) → group_value (take 11 row) ≡ Some value
+pub character_drawn : (row : List Bool) (value : ℕ) → group_value (take 11 row) ≡ Some value
     → (take 11 row ≡ character_modules value) × (value < 106)
 character_drawn row value e =
     let found = position-Some (same_modules (take 11 row)) characters value [] e in

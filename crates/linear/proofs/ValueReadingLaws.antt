@@ -56,7 +56,7 @@ meaning-change C B byte lacks has = refl
 meaning-change set C byte lacks has = cc
 
 -- what is read of a value with this meaning, and of the values after it
-read_next : CodeSet → Bool → List ℕ → Meaning → Option (List ℕ)
+unfoldable pub read_next : CodeSet → Bool → List ℕ → Meaning → Option (List ℕ)
 read_next set is_shifted values m =
     elim m [
       | text bytes ↦ option_map (λ rest. bytes ++ rest) (read_values set false values)

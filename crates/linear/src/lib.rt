@@ -16,10 +16,10 @@ mod tables;
 
 pub use code128::{Code128, check_value};
 pub use digits::{Digits, full_digits, with_check_digit};
-pub use ean::{Ean8, Ean13, NumberSet, UpcA, modules_of};
+pub use ean::{Ean8, Ean13, NumberSet, UpcA};
 pub use limits::{MAX_MODULES, MAX_VALUES};
 pub use linear::{Linear, QuietZones};
 pub use refusal::Refusal;
 pub use row::Row;
-pub use switching::CodeSet;
-pub use tables::{CENTRE_GUARD, CHARACTERS, NORMAL_GUARD, STOP};
+pub use switching::{CodeSet, start_value};
+pub use tables::{CENTRE_GUARD, NORMAL_GUARD, STOP};

@@ -2,5 +2,6 @@ pub mod Examples
 pub mod GroupReadingLaws
 pub mod ScanningLaws
 pub mod SymbolDataLaws
-pub mod ValueSearchLaws
+pub mod FoundLaws
+pub mod GroupNumberLaws
 pub mod ValueStepLaws

@@ -1,49 +1,46 @@
 -- The values of a Code 128 symbol are read one after another (ISO/IEC 15417, code sets).
-use Rattle.std.proofs.Common.{◌≡◌, ℕ, Bool, true, false, Option, Some, None, List, [], ◌∷◌, ◌++◌, refl, sym, ap, append_assoc}
+use Rattle.std.proofs.Common.{◌≡◌, ℕ, Bool, true, false, Option, Some, None, List, [], ◌∷◌, ◌++◌, refl, sym, ap, ◌∙◌, append_assoc}
 use Rattle.std.proofs.lemmas.List.{append-nil}
 use Rattle.std.specs.Prelude.{option_map, if◌then◌else◌}
 use Rattle.linear.specs.declared.switching.CodeSet.{CodeSet}
-use Rattle.linear.specs.Code128Reading.{meaning, other_set, read_values, text, change, shift, none}
+use Rattle.linear.specs.Code128Reading.{Meaning, meaning, other_set, read_values, text, change, shift, none}
+use Rattle.linear.proofs.ValueReadingLaws.{read_next}
 use Rattle.linear_reading.specs.Private.Meanings.{with_values}
 
-rest_after : (before bytes : List ℕ) (rest : Option (List ℕ))
-    → option_map (λ more. before ++ more) (option_map (λ more. bytes ++ more) rest)
-    ≡ option_map (λ more. (before ++ bytes) ++ more) rest
-rest_after before bytes None = refl
-rest_after before bytes (Some rest) = ap Some (sym (append_assoc before bytes rest))
+-- what is read in all: before a value with this meaning, of it, and of those to come
+abbrev pub all_read : List ℕ → CodeSet → Bool → List ℕ → Meaning → Option (List ℕ)
+all_read before set is_shifted rest m =
+    elim m [
+      | text bytes ↦ with_values (before ++ bytes) set false rest
+      | change next ↦ if is_shifted then None else with_values before next false rest
+      | shift ↦ if is_shifted then None else with_values before set true rest
+      | none ↦ None
+    ]
 
-pub text_read : (before : List ℕ) (set : CodeSet) (is_shifted : Bool) (value : ℕ) (rest bytes : List ℕ)
-    → meaning (if is_shifted then other_set set else set) value ≡ text bytes
-    → with_values before set is_shifted (value ∷ rest) ≡ with_values (before ++ bytes) set false rest
-unfolding with_values
-text_read before set is_shifted value rest bytes is =
-    rw (is, read_values) (rest_after before bytes (read_values set false rest))
+with_next : (before : List ℕ) (set : CodeSet) (is_shifted : Bool) (rest : List ℕ) (m : Meaning)
+    → option_map (λ more. before ++ more) (read_next set is_shifted rest m) ≡ all_read before set is_shifted rest m
+unfolding with_values read_next
+with_next before set is_shifted rest (text bytes) = joined (read_values set false rest)
+  where
+    joined : (more : Option (List ℕ))
+        → option_map (λ more. before ++ more) (option_map (λ more. bytes ++ more) more)
+        ≡ option_map (λ more. (before ++ bytes) ++ more) more
+    joined None = refl
+    joined (Some more) = ap Some (sym (append_assoc before bytes more))
+with_next before set true rest (change next) = refl
+with_next before set false rest (change next) = refl
+with_next before set true rest shift = refl
+with_next before set false rest shift = refl
+with_next before set is_shifted rest none = refl
 
-pub change_read : (before : List ℕ) (set next : CodeSet) (value : ℕ) (rest : List ℕ) → meaning set value ≡ change next
-    → with_values before set false (value ∷ rest) ≡ with_values before next false rest
-unfolding with_values
-change_read before set next value rest is = rw (is, read_values) refl
-
-pub shift_read : (before : List ℕ) (set : CodeSet) (value : ℕ) (rest : List ℕ) → meaning set value ≡ shift
-    → with_values before set false (value ∷ rest) ≡ with_values before set true rest
-unfolding with_values
-shift_read before set value rest is = rw (is, read_values) refl
-
-pub nothing_read : (before : List ℕ) (set : CodeSet) (is_shifted : Bool) (value : ℕ) (rest : List ℕ)
-    → meaning (if is_shifted then other_set set else set) value ≡ none
-    → with_values before set is_shifted (value ∷ rest) ≡ None
-unfolding with_values
-nothing_read before set is_shifted value rest is = rw (is, read_values) refl
-
-pub no_change_read : (before : List ℕ) (set next : CodeSet) (value : ℕ) (rest : List ℕ)
-    → meaning (other_set set) value ≡ change next → with_values before set true (value ∷ rest) ≡ None
-unfolding with_values
-no_change_read before set next value rest is = rw (is, read_values) refl
-
-pub no_shift_read : (before : List ℕ) (set : CodeSet) (value : ℕ) (rest : List ℕ) → meaning (other_set set) value ≡ shift
-    → with_values before set true (value ∷ rest) ≡ None
-unfolding with_values
-no_shift_read before set value rest is = rw (is, read_values) refl
+pub value_read : (before : List ℕ) (set at : CodeSet) (is_shifted : Bool) (value : ℕ) (rest : List ℕ) (m : Meaning)
+    → at ≡ (if is_shifted then other_set set else set) → m ≡ meaning at value
+    → with_values before set is_shifted (value ∷ rest) ≡ all_read before set is_shifted rest m
+unfolding with_values read_next
+value_read before set at is_shifted value rest m holds is =
+    ap (λ m. option_map (λ more. before ++ more) (read_next set is_shifted rest m))
+    (ap (λ s. meaning s value) (sym holds) ∙ sym is)
+    ∙ with_next before set is_shifted rest m
 
 pub nothing_before : (before : List ℕ) (set : CodeSet) (values : List ℕ) → before ≡ []
     → with_values before set false values ≡ read_values set false values

@@ -1,2 +1,3 @@
 -- Definitions that only the contracts of private functions cite: nothing here has to be believed.
+pub mod Groups
 pub mod Meanings

@@ -5,6 +5,7 @@
 #![tactic(auto)]
 
 mod full_data;
+mod groups;
 mod read_code128;
 mod read_ean;
 mod rows;

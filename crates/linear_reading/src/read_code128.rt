@@ -1,21 +1,20 @@
 //! Reading of Code 128 symbols (ISO/IEC 15417).
 ghost use Rattle.std.specs.Prelude.{◌≡◌, ℕ, List, ◌∷◌, ◌+◌, ◌*◌, ◌≤◌, ◌<◌, ◌&&◌, ◌==◌, IfSome, length, option_map};
-ghost use Rattle.std.specs.Prelude.{MatchOption, nat_eq, nat_le, false, position, option_and_then, drop, if◌then◌else◌};
-ghost use Rattle.linear.specs.declared.switching.CodeSet.{CodeSet as Set};
-ghost use Rattle.linear.specs.CodeSets.{start_value};
+ghost use Rattle.std.specs.Prelude.{◌++◌, [], nat_le, false, option_and_then, drop, if◌then◌else◌};
+ghost use Rattle.std.specs.Str.{bytes_eq};
 ghost use Rattle.linear.specs.declared.limits.TheConstants.{MAX_VALUES, MAX_MODULES};
 ghost use Rattle.linear_reading.specs.declared.full_data.TheConstants.{MAX_FULL_DATA};
 ghost use Rattle.arrayvec.specs.ArrayVec.{array_vec_len};
-ghost use Rattle.linear.specs.declared.tables.TheConstants.{CHARACTERS};
-ghost use Rattle.linear.specs.Code128.{character_modules};
+ghost use Rattle.linear.specs.Code128.{character_modules, with_check};
 ghost use Rattle.linear.specs.Code128Reading.{meaning, other_set, read_values, symbol_data, read_code128};
 ghost use Rattle.linear.specs.Modules.{each_group, same_modules};
-ghost use Rattle.linear_reading.specs.Private.Meanings.{group_value, meant, with_values};
+ghost use Rattle.linear_reading.specs.Private.Meanings.{group_value, meant, set_in, with_values};
 
 use crate::full_data::FullData;
-use crate::read_ean::same_modules;
+use crate::groups::{number_of, same_modules};
+use crate::tables::{NUMBERS, VALUES};
 use arrayvec::ArrayVec;
-use linear::{CHARACTERS, CodeSet, MAX_VALUES, STOP, check_value};
+use linear::{CodeSet, MAX_VALUES, STOP, check_value, start_value};
 
 /// The fewest values of a symbol before the stop character.
 const MIN_SYMBOL_VALUES: usize = 3;
@@ -127,16 +126,29 @@ fn read_values(start: CodeSet, values: &[u8]) -> Option<FullData>
     if is_shifted { None } else { Some(full) }
 }
 
-/// Returns the set that a start value starts in.
-fn set_of_start(value: u8) -> Option<CodeSet>
-    ensures { MatchOption result ((set : Set) → nat_eq (start_value set) value ≡ false)
-        (λ set. value ≡ start_value set) }
+/// Returns whether the values of a symbol before the stop character begin and end as they do in this set: with its start
+/// value, and with the check value.
+#[tactic(auto, using(crate::proofs::SymbolDataLaws::by_ends))]
+fn is_in(set: CodeSet, start: u8, inner: &[u8], check: u8) -> bool
+    requires { length inner.now ≤ MAX_VALUES }
+    ensures { result ≡ bytes_eq (with_check set inner.now) (start ∷ (inner.now ++ check ∷ [])) }
 {
-    match value {
-        103 => Some(CodeSet::A),
-        104 => Some(CodeSet::B),
-        105 => Some(CodeSet::C),
-        _ => None,
+    start_value(set) == start && check_value(start, inner) == check
+}
+
+/// Returns the set that the values of a symbol before the stop character start in.
+fn set_of(start: u8, inner: &[u8], check: u8) -> Option<CodeSet>
+    requires { length inner.now ≤ MAX_VALUES }
+    ensures { result ≡ set_in inner.now (start ∷ (inner.now ++ check ∷ [])) }
+{
+    if is_in(CodeSet::A, start, inner, check) {
+        Some(CodeSet::A)
+    } else if is_in(CodeSet::B, start, inner, check) {
+        Some(CodeSet::B)
+    } else if is_in(CodeSet::C, start, inner, check) {
+        Some(CodeSet::C)
+    } else {
+        None
     }
 }
 
@@ -146,36 +158,24 @@ fn symbol_data(values: &[u8]) -> Option<FullData>
     ensures { option_map (λ full. full.items) result ≡ symbol_data values.now }
 {
     match values {
-        [start, inner @ .., check] => {
-            let set = set_of_start(*start)?;
-            if check_value(*start, inner) != *check {
-                return None;
-            }
-            read_values(set, inner)
-        }
+        [start, inner @ .., check] => read_values(set_of(*start, inner, *check)?, inner),
         _ => None,
     }
 }
 
-/// Returns the place of a group among the characters.
-fn place_of(group: &[bool]) -> Option<usize>
-    ensures found { result ≡ position (same_modules group.now) CHARACTERS }
-    ensures low { IfSome result (λ place. place < 106) }
-{
-    CHARACTERS
-        .iter()
-        .position(|character| group == character.as_slice())
-}
-
 /// Returns the value whose character is the group of eleven modules.
+#[inline(always)]
 fn value_of(group: &[bool]) -> Option<u8>
     requires { length group.now ≡ 11 }
     ensures found { result ≡ group_value group.now }
     ensures low { IfSome result (λ value. value < 106) }
 {
-    match place_of(group) {
-        Some(place) => Some(place as u8),
-        None => None,
+    let number = number_of(group);
+    let value = VALUES[number / 2 % 256];
+    if value < 106 && NUMBERS[usize::from(value)] == number {
+        Some(value)
+    } else {
+        None
     }
 }
 

@@ -8,13 +8,15 @@ ghost use Rattle.std.specs.Str.{bytes_eq};
 ghost use Rattle.linear.specs.Digits.{with_check_digit};
 ghost use Rattle.linear.specs.EanReading.{digit_in, digit_in_a_or_b, has_guards, read_halves};
 ghost use Rattle.linear.specs.EanReading.{with_first_digit, read_ean13, read_ean8, read_upca};
-ghost use Rattle.linear.specs.Modules.{each_group, same_modules};
+ghost use Rattle.linear.specs.Modules.{each_group};
 ghost use Rattle.linear.specs.Private.Data.{AreDigits};
 ghost use Rattle.linear.specs.Tables.{left_half_sets};
+ghost use Rattle.linear_reading.specs.Private.Groups.{kind_of};
 
-use crate::tables::LEFT_LETTERS;
+use crate::groups::{number_of, same_modules};
+use crate::tables::{DIGITS, LEFT_LETTERS};
 use arrayvec::ArrayVec;
-use linear::{CENTRE_GUARD, Digits, NORMAL_GUARD, NumberSet, modules_of, with_check_digit};
+use linear::{CENTRE_GUARD, Digits, NORMAL_GUARD, NumberSet, with_check_digit};
 
 /// The digits of a half.
 type Half = ArrayVec<u8, 6>;
@@ -22,24 +24,30 @@ type Half = ArrayVec<u8, 6>;
 /// The digits of a left half, each after the letter of its number set.
 type LeftHalf = ArrayVec<(u8, u8), 6>;
 
-/// Returns whether two rows have the same modules.
-pub fn same_modules(modules: &[bool], other: &[bool]) -> bool
-    ensures { result ≡ same_modules modules.now other.now }
+/// Returns the number of a number set in the table of digits.
+fn kind_of(set: NumberSet) -> u8
+    ensures { result ≡ kind_of set }
 {
-    modules == other
+    match set {
+        NumberSet::A => 1,
+        NumberSet::B => 2,
+        NumberSet::C => 3,
+    }
 }
 
 /// Returns the digit whose pattern in this number set is the group.
+#[inline(always)]
 fn digit_in(set: NumberSet, group: &[bool]) -> Option<u8>
+    requires { length group.now ≡ 7 }
     ensures found { result ≡ digit_in set group.now }
     ensures digit { IfSome result IsAsciiDigit }
 {
-    for digit in 0..10 {
-        if same_modules(&modules_of(set, digit), group) {
-            return Some(b'0' + digit);
-        }
+    let found = DIGITS[number_of(group)];
+    if found / 16 == kind_of(set) {
+        Some(b'0' + found % 16)
+    } else {
+        None
     }
-    None
 }
 
 /// Returns whether a row of two halves of this many digits has its guards, with nothing after the last.
@@ -74,6 +82,7 @@ fn digits_in(set: NumberSet, half: usize, modules: &[bool]) -> Option<Half>
 
 /// Returns the letter of the number set in which a left group is found, `A` or `B`, and its digit there.
 fn digit_in_a_or_b(group: &[bool]) -> Option<(u8, u8)>
+    requires { length group.now ≡ 7 }
     ensures found { result ≡ digit_in_a_or_b group.now }
     ensures digit { IfSome result (λ found. IsAsciiDigit found.1) }
 {

@@ -1,8 +1,10 @@
 -- The meanings of Code 128 values in the code, as contracts inside this crate see them.
-use Rattle.std.specs.Prelude.{ℕ, Bool, Option, List, [], ◌∷◌, ◌++◌, option_map, position}
-use Rattle.linear.specs.Code128.{characters}
+use Rattle.std.specs.Prelude.{ℕ, Bool, Option, List, [], ◌∷◌, ◌++◌, find, option_map, position}
+use Rattle.std.specs.Str.{bytes_eq}
+use Rattle.linear.specs.Code128.{characters, with_check}
 use Rattle.linear.specs.Modules.{same_modules}
 use Rattle.linear.specs.declared.switching.CodeSet.{CodeSet}
+use Rattle.linear.specs.declared.switching.CodeSet.TheVariants.{A, B, C}
 use Rattle.linear_reading.specs.declared.read_code128.Meaning.{Meaning as Coded}
 use Rattle.linear_reading.specs.declared.read_code128.Meaning.TheVariants.{Character, Pair, Change, Shift, Nothing}
 use Rattle.linear.specs.Code128Reading.{Meaning, text, change, shift, none, read_values}
@@ -23,3 +25,7 @@ with_values before set is_shifted values =
 -- the value whose character is a group
 abbrev pub group_value : List Bool → Option ℕ
 group_value group = position (same_modules group) characters
+
+-- the set in which these are the values of a symbol whose values of the data are the inner ones
+abbrev pub set_in : List ℕ → List ℕ → Option CodeSet
+set_in inner values = find (λ set. bytes_eq (with_check set inner) values) (A ∷ B ∷ C ∷ [])
