@@ -12,9 +12,9 @@ ghost use Rattle.qrmatrix.specs.Square.{value_at};
 ghost use Rattle.qrmatrix.specs.Private.Drawing.{MarksFree};
 ghost use Rattle.qr_reading.specs.Private.Walking.{DrawsPatterns, format_named, shows_row};
 
-use crate::codeword_bits::CodewordBits;
+use crate::bits::codewords_of;
 use crate::walk::read_strips;
-use qrdata::{Codewords, Level, Mask, Version, are_bytes};
+use qrdata::{Codewords, Level, Mask, Version};
 use qrmatrix::{SIDE, Square, draw_format, draw_functions, low_ones, mask_row_bits};
 use std::marker::Model;
 
@@ -155,10 +155,8 @@ fn read_codewords(rows: &[u64], version: Version, mask: Mask, free: &Square) -> 
 {
     version.prove_range();
     let modules = unmasked(rows, mask, free);
-    let mut bits = CodewordBits::new();
-    read_strips(version, free, &modules, &mut bits);
-    are_bytes(&bits.codewords);
-    bits.codewords
+    let bits = read_strips(version, free, &modules);
+    codewords_of(version.total_codewords(), &bits)
 }
 
 /// Reads a square of modules as a symbol, with no correction (ISO/IEC 18004, 12): both copies of the format and version

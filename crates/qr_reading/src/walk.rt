@@ -1,47 +1,52 @@
-//! The codewords of a symbol, read strip by strip (ISO/IEC 18004, 7.7.3 and 12).
-ghost use Rattle.std.specs.Prelude.{◌≡◌, ◌≤◌, ◌<◌, ◌+◌, ◌++◌, length};
+//! The bits of a symbol, read strip by strip (ISO/IEC 18004, 7.7.3 and 12).
+ghost use Rattle.arrayvec.specs.ArrayVec.{array_vec_len};
+ghost use Rattle.std.specs.Prelude.{◌≡◌, ◌≤◌, ◌<◌, ◌+◌, ◌*◌, ◌++◌, [], ◌∷◌, if◌then◌else◌};
 ghost use Rattle.qrdata.specs.Versions.{side_of};
 ghost use Rattle.qrmatrix.specs.Square.{value_at};
-ghost use Rattle.qr_reading.specs.Private.BitsInCodewords.{bits_in};
 ghost use Rattle.qrmatrix.specs.Private.Placing.{right_column};
 ghost use Rattle.qr_reading.specs.Private.Walking.{strip_bits, walk_bits};
 
-use crate::codeword_bits::{CodewordBits, MAX_BITS};
+use crate::bits::{BitList, MAX_BITS};
 use qrdata::Version;
-use qrmatrix::{SIDE, Square, Strip, pair_at};
+use qrmatrix::{SIDE, Square, Strip};
 
-/// Writes the free modules of a strip, row after row.
-fn read_strip(strip: Strip, free: &Square, modules: &Square, bits: &mut CodewordBits)
-    requires side { strip.side ≤ SIDE }
-    requires column { strip.x + 1 < SIDE }
-    requires strip { strip.x + 1 ≡ right_column strip.side strip.number }
-    requires room { length (bits_in bits.old) + length
-        (strip_bits strip.side (value_at free.now) (value_at modules.now) strip.number) ≤ MAX_BITS }
-    ensures { bits_in bits.new ≡ bits_in bits.old
-        ++ strip_bits strip.side (value_at free.now) (value_at modules.now) strip.number }
+/// Appends a module where it is free.
+#[inline(always)]
+fn push_free(is_free: bool, is_dark: bool, bits: &mut BitList)
+    requires { array_vec_len bits.old + 1 ≤ MAX_BITS }
+    ensures bits { bits.new.items ≡ bits.old.items ++ (if is_free then is_dark ∷ [] else []) }
+    ensures len { array_vec_len bits.new ≤ array_vec_len bits.old + 1 }
 {
-    for t in 0..strip.side {
-        let y = strip.row(t);
-        let free_pair = pair_at(free.row(y), strip.x);
-        let pair = pair_at(modules.row(y), strip.x);
-        bits.push_pair(free_pair, pair);
+    if is_free {
+        bits.push(is_dark);
     }
 }
 
-/// Writes the free modules of a symbol, strip after strip.
-pub(crate) fn read_strips(
-    version: Version,
-    free: &Square,
-    modules: &Square,
-    bits: &mut CodewordBits,
-)
-    requires room { length (bits_in bits.old) + length
-        (walk_bits (side_of version) (value_at free.now) (value_at modules.now)) ≤ MAX_BITS }
-    ensures { bits_in bits.new ≡ bits_in bits.old
-        ++ walk_bits (side_of version) (value_at free.now) (value_at modules.now) }
+/// Appends the free modules of a strip, row after row.
+fn read_strip(strip: Strip, free: &Square, modules: &Square, bits: &mut BitList)
+    requires side { strip.side ≤ SIDE }
+    requires column { strip.x + 1 < SIDE }
+    requires strip { strip.x + 1 ≡ right_column strip.side strip.number }
+    requires room { array_vec_len bits.old + 2 * strip.side ≤ MAX_BITS }
+    ensures bits { bits.new.items ≡ bits.old.items
+        ++ strip_bits strip.side (value_at free.now) (value_at modules.now) strip.number }
+    ensures len { array_vec_len bits.new ≤ array_vec_len bits.old + 2 * strip.side }
+{
+    for t in 0..strip.side {
+        let y = strip.row(t);
+        push_free(free.get(strip.x + 1, y), modules.get(strip.x + 1, y), bits);
+        push_free(free.get(strip.x, y), modules.get(strip.x, y), bits);
+    }
+}
+
+/// Returns the free modules of a symbol, strip after strip.
+pub(crate) fn read_strips(version: Version, free: &Square, modules: &Square) -> BitList
+    ensures { result.items ≡ walk_bits (side_of version) (value_at free.now) (value_at modules.now) }
 {
     let side = version.side();
+    let mut bits = BitList::new();
     for number in 0..(side - 1) / 2 {
-        read_strip(Strip::new(side, number), free, modules, bits);
+        read_strip(Strip::new(side, number), free, modules, &mut bits);
     }
+    bits
 }
