@@ -21,7 +21,7 @@ use Rattle.qrmatrix.specs.Private.Placing.{right_column, row_of}
 use Rattle.qr_reading.specs.Private.Walking.{format_named, row_bits, strip_bits, walk_bits}
 use Rattle.qrmatrix.proofs.ComputedLaws.{by_version, same_at}
 use Rattle.qrmatrix.proofs.FoundLaws.{IsFormat-of, find_in_range, format_of, reading_of}
-use Rattle.qrmatrix.proofs.ReadingLaws.{format_shown, map_filter, version_is_shown}
+use Rattle.qrmatrix.proofs.ReadingLaws.{format_shown, version_is_shown}
 use Rattle.qrmatrix.proofs.VersionLaws.{filtered, is_walked, room, same_filter, walked}
 use Rattle.qrmatrix.proofs.WordDistanceLaws.{format_word}
 
@@ -77,23 +77,17 @@ module _ (free modules : ℕ → ℕ → Bool) where
 
 module _ (v : ℕ) (least : 1 ≤ v) (most : v ≤ 10) where
   -- the walk reads the free modules with the mask taken off
-  pub walk_read : (mask : ℕ) (free : List (List Bool)) (modules m : ℕ → ℕ → Bool) → MarksFree v free
-      → ((x y : ℕ) → y < side_of v → modules x y ≡ (value_at free x y && xor (is_flipped mask x y) (m x y)))
-      → walk_bits (side_of v) (value_at free) modules ≡ read_bits v mask m
+  pub walk_read : (mask : ℕ) (free : List (List Bool)) (m : ℕ → ℕ → Bool) → MarksFree v free
+      → walk_bits (side_of v) (value_at free) (λ x y. xor (is_flipped mask x y) (m x y)) ≡ read_bits v mask m
   unfolding kept read_bits
-  walk_read mask free modules m marks is =
+  walk_read mask free m marks =
       let n = side_of v in
       let is_left = λ (p : ℕ × ℕ). value_at free p.0 p.1 in
       let chosen = λ (p : ℕ × ℕ). is_free v p.0 p.1 in
       let same = same_filter is_left chosen (is_walked n)
       (λ p i. marks.inside p.0 p.1 (grind (arith, nat_tests)) (grind (arith, nat_tests))) (walk n) (walked v least most) in
-      sym (walk_kept (value_at free) modules v least most)
-      ∙ ap (map (λ (p : ℕ × ℕ). modules p.0 p.1)) same
-      ∙ map_filter chosen (is_walked n) (λ (p : ℕ × ℕ). modules p.0 p.1)
-      (λ (p : ℕ × ℕ). xor (is_flipped mask p.0 p.1) (m p.0 p.1))
-      (λ p i free_at. is p.0 p.1 (grind (arith, nat_tests))
-      ∙ rw (marks.inside p.0 p.1 (grind (arith, nat_tests)) (grind (arith, nat_tests)), free_at) refl)
-      (walk n) (walked v least most)
+      sym (walk_kept (value_at free) (λ x y. xor (is_flipped mask x y) (m x y)) v least most)
+      ∙ ap (map (λ (p : ℕ × ℕ). xor (is_flipped mask p.0 p.1) (m p.0 p.1))) same
 
   pub length-read_bits : (mask : ℕ) (m : ℕ → ℕ → Bool) → length (read_bits v mask m) ≡ room v
   unfolding read_bits

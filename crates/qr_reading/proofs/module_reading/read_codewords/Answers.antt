@@ -3,7 +3,6 @@ use Rattle.qrdata.specs.Bits.{codewords_of}
 use Rattle.qrdata.specs.declared.level.Level.TheVariants.{L}
 use Rattle.qrdata.proofs.VersionLaws.{IsSound-of}
 use Rattle.qrmatrix.specs.Bits.{bit}
-use Rattle.qrmatrix.specs.Square.{value_at}
 use Rattle.qr_reading.proofs.SymbolReadingLaws.{length-read_bits, walk_read}
 use Rattle.qr_reading.proofs.module_reading.read_codewords.Goals as goal
 
@@ -12,8 +11,7 @@ codewords_of-requires-clause-enough c =
     let v = c.args.version in
     let known = c.prove_range.ensures in
     let m : ℕ → ℕ → Bool = λ x y. bit (slice_index c.args.rows.now y) x in
-    let read = walk_read v known.0 known.1 c.args.mask c.args.free.now (value_at c.unmasked-modules.result) m
-    c.requires.free (λ x y below. c.unmasked-modules.ensures x y (omega (arith, below, c.requires.side))) in
+    let read = walk_read v known.0 known.1 c.args.mask c.args.free.now m c.requires.free in
     omega (
       arith,
       c.total_codewords.ensures,
@@ -30,7 +28,6 @@ returns c =
     let v = c.args.version in
     let known = c.prove_range.ensures in
     let m : ℕ → ℕ → Bool = λ x y. bit (slice_index c.args.rows.now y) x in
-    let read = walk_read v known.0 known.1 c.args.mask c.args.free.now (value_at c.unmasked-modules.result) m
-    c.requires.free (λ x y below. c.unmasked-modules.ensures x y (omega (arith, below, c.requires.side))) in
+    let read = walk_read v known.0 known.1 c.args.mask c.args.free.now m c.requires.free in
     c.codewords_of.ensures
     ∙ (λ i. codewords_of (c.total_codewords.ensures i) ((c.deref.ensures.0 ∙ c.read_strips-bits.ensures ∙ read) i))

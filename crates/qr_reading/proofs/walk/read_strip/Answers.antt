@@ -1,6 +1,6 @@
 use Rattle.std.proofs.Common.{◌≡◌, ◌+◌, ◌-◌, ◌++◌, append_assoc, ap, arith, refl}
 use Rattle.qrmatrix.specs.Square.{value_at}
-use Rattle.qr_reading.specs.Private.Walking.{row_bits, strip_bits}
+use Rattle.qr_reading.specs.Private.Walking.{row_bits, strip_bits, unmasked}
 use Rattle.qr_reading.proofs.WalkedBitLaws.{next_walked, row_is}
 use Rattle.qr_reading.proofs.walk.read_strip.Goals as goal
 
@@ -17,7 +17,7 @@ pub loop-t-preserved : goal.loop-t-preserved
 loop-t-preserved c =
     let strip = c.args.strip in
     let free = value_at c.args.free.now in
-    let modules = value_at c.args.modules.now in
+    let modules = unmasked c.args.rows.now c.args.mask in
     let old = c.loop-t.bits.items in
     let t = c.loop-t.t in
     let row = row_is strip.side strip.number t strip.x c.row-y.result free modules c.requires.strip
@@ -26,9 +26,9 @@ loop-t-preserved c =
       c.push_free-in-loop-t.ensures.bits,
       c.push_free.ensures.bits,
       c.get.ensures,
+      c.unmasked.ensures,
       c.get-in-loop-t.ensures,
-      c.get-in-loop-t-2.ensures,
-      c.get-in-loop-t-3.ensures,
+      c.unmasked-in-loop-t.ensures,
       append_assoc old,
     ) (ap (λ l. old ++ l) row) in
     record {

@@ -1,6 +1,6 @@
 use Rattle.std.proofs.Common.{◌≡◌, ◌+◌, ◌-◌, ◌/◌, ◌∙◌, ap, refl, arith, length}
 use Rattle.qrmatrix.specs.Square.{value_at}
-use Rattle.qr_reading.specs.Private.Walking.{strip_bits, walk_bits}
+use Rattle.qr_reading.specs.Private.Walking.{strip_bits, unmasked, walk_bits}
 use Rattle.qr_reading.proofs.WalkedBitLaws.{next_walked}
 use Rattle.qr_reading.proofs.walk.read_strips.Goals as goal
 
@@ -25,7 +25,7 @@ loop-number-preserved c =
     let number = c.loop-number.number in
     let read = rw (c.new.ensures.side, c.new.ensures.number) at c.read_strip.ensures.bits in
     record {
-      all = next_walked (strip_bits n (value_at c.args.free.now) (value_at c.args.modules.now)) c.loop-number.bits.items _
+      all = next_walked (strip_bits n (value_at c.args.free.now) (unmasked c.args.rows.now c.args.mask)) c.loop-number.bits.items _
           number ((n - 1) / 2 - number) ((n - 1) / 2 - (number + 1)) (omega (arith, c.loop-number-test.true))
           c.loop-number.invariant.all c.read_strip.new.bits.items read;
       room = omega (arith, c.read_strip.ensures.len, c.new.ensures.side, c.loop-number.invariant.room);

@@ -2,7 +2,7 @@ use Rattle.std.proofs.Common.{ap, arith, get_or, ◌≡◌, ◌+◌, append_asso
 use Rattle.std.specs.Prelude.{slice_index}
 use Rattle.qrdata.specs.Reading.{interleaving_place}
 use Rattle.qr_reading.proofs.DeinterleavingLaws.{place_below, place_next}
-use Rattle.qr_reading.proofs.block_reading.push_block.Goals as goal
+use Rattle.qr_reading.proofs.block_reading.block_at.Goals as goal
 
 pub overflow_add-earlier : goal.overflow_add-earlier
 overflow_add-earlier c =
