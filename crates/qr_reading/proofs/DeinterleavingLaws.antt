@@ -8,7 +8,6 @@ use Rattle.std.specs.Prelude.{None, Option, bytes_eq, nat_lt, slice_index}
 use Rattle.std.specs.List.{concat, list_all, range_with_len, sum_by, zip}
 use Rattle.std.proofs.lemmas.Bool.{cases_lt, le-ltb, lt-ltb}
 use Rattle.std.proofs.lemmas.Bool.Decides.{nat_tests}
-use Rattle.std.proofs.lemmas.List.{take_all}
 use Rattle.std.proofs.lemmas.List.Elements.{All-append}
 use Rattle.std.proofs.lemmas.List.FromFn.{length-map-range_with_len}
 use Rattle.std.proofs.lemmas.List.Sums.{sum_by-cons}
@@ -52,13 +51,6 @@ place_next f place n h = let more : n - place ≡ suc (n - (place + 1)) = omega 
 pub length-block_at : (lengths codewords : List ℕ) (b : ℕ)
     → length (block_at lengths codewords b) ≡ slice_index lengths b
 length-block_at lengths codewords b = length-map-range_with_len _ 0 (slice_index lengths b)
-
--- the last of several blocks that are joined
-pub last_block : (message block all : List ℕ) (start : ℕ) → all ≡ message ++ block → start ≡ length message
-    → take (length all - start) (drop start all) ≡ block
-last_block message block all start joined is =
-    let size : length (message ++ block) - length message ≡ length block = omega (arith, length-append message block) in
-    rw (joined, is, size, drop_front (length message) message block refl) (take_all (length block) block (omega arith))
 
 -- ---- the test of a block
 

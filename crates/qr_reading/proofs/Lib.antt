@@ -1,7 +1,6 @@
+mod BitListLaws
 mod BlockDataLaws
-mod CursorLaws
 mod DeinterleavingLaws
-mod JoinedBitLaws
 mod PatternReadingLaws
 mod PayloadStepLaws
 mod SegmentStepLaws

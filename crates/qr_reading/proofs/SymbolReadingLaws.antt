@@ -1,32 +1,27 @@
 -- What a symbol is read as, by its side, the first modules of row 8, its patterns and the walk.
 use Rattle.std.proofs.Common.{◌≡◌, ℕ, ◌-◌, ◌/◌, ◌<◌, ◌≤◌, refl, sym, ap, subst, ◌∙◌, arith, Bool, true, false}
 use Rattle.std.proofs.Common.{List, [], ◌∷◌, length, map, Option, Some, None, ◌&&◌, ◌==◌}
-use Rattle.std.specs.Prelude.{All, find, if◌then◌else◌, nat_le, nat_lt, option_and_then, slice_index_or}
+use Rattle.std.specs.Prelude.{find, if◌then◌else◌, option_and_then, slice_index_or}
 use mathlib.Core.Bool.{xor}
 use Rattle.std.specs.List.{filter, flat_map, range_with_len}
-use Rattle.std.proofs.lemmas.Bool.{eqb-true, leb-true, ltb-true}
+use Rattle.std.proofs.lemmas.Bool.{eqb-true}
 use Rattle.std.proofs.lemmas.Bool.Decides.{nat_tests}
 use Rattle.std.proofs.lemmas.List.{length-map, map-append}
 use Rattle.std.proofs.lemmas.List.Elements.{filter-append}
 use Rattle.qrdata.specs.declared.level.Level.{Level}
 use Rattle.gf256.specs.BinaryPolynomial.{binary_remainder}
-use Rattle.qrdata.specs.Bits.{bits_of, codewords_of}
-use Rattle.qrdata.specs.Versions.{side_of, total_codewords}
+use Rattle.qrdata.specs.Versions.{side_of}
 use Rattle.qrmatrix.specs.Bits.{bit}
 use Rattle.qrmatrix.specs.Functions.{is_free}
 use Rattle.qrmatrix.specs.Masks.{is_flipped}
-use Rattle.qrmatrix.specs.Placement.{remainder_bits}
 use Rattle.qrmatrix.specs.Square.{value_at}
 use Rattle.qrmatrix.specs.Private.Drawing.{MarksFree}
 use Rattle.qrmatrix.specs.Reading.{read_bits, read_format, read_matrix, read_with, shows_functions, shows_version, walk}
-use Rattle.qr_reading.specs.declared.codeword_bits.CodewordBits.{CodewordBits}
-use Rattle.qr_reading.specs.Private.BitsInCodewords.{bits_in}
 use Rattle.qrmatrix.specs.Private.Placing.{right_column, row_of}
 use Rattle.qr_reading.specs.Private.Walking.{format_named, row_bits, strip_bits, walk_bits}
 use Rattle.qrmatrix.proofs.ComputedLaws.{by_version, same_at}
 use Rattle.qrmatrix.proofs.FoundLaws.{IsFormat-of, find_in_range, format_of, reading_of}
-use Rattle.qr_reading.proofs.JoinedBitLaws.{codewords_first, length-bits_in}
-use Rattle.qrmatrix.proofs.ReadingLaws.{format_shown, map_filter, version_is_shown}
+use Rattle.qrmatrix.proofs.ReadingLaws.{format_shown, version_is_shown}
 use Rattle.qrmatrix.proofs.VersionLaws.{filtered, is_walked, room, same_filter, walked}
 use Rattle.qrmatrix.proofs.WordDistanceLaws.{format_word}
 
@@ -82,48 +77,21 @@ module _ (free modules : ℕ → ℕ → Bool) where
 
 module _ (v : ℕ) (least : 1 ≤ v) (most : v ≤ 10) where
   -- the walk reads the free modules with the mask taken off
-  pub walk_read : (mask : ℕ) (free : List (List Bool)) (modules m : ℕ → ℕ → Bool) → MarksFree v free
-      → ((x y : ℕ) → y < side_of v → modules x y ≡ (value_at free x y && xor (is_flipped mask x y) (m x y)))
-      → walk_bits (side_of v) (value_at free) modules ≡ read_bits v mask m
+  pub walk_read : (mask : ℕ) (free : List (List Bool)) (m : ℕ → ℕ → Bool) → MarksFree v free
+      → walk_bits (side_of v) (value_at free) (λ x y. xor (is_flipped mask x y) (m x y)) ≡ read_bits v mask m
   unfolding kept read_bits
-  walk_read mask free modules m marks is =
+  walk_read mask free m marks =
       let n = side_of v in
       let is_left = λ (p : ℕ × ℕ). value_at free p.0 p.1 in
       let chosen = λ (p : ℕ × ℕ). is_free v p.0 p.1 in
       let same = same_filter is_left chosen (is_walked n)
       (λ p i. marks.inside p.0 p.1 (grind (arith, nat_tests)) (grind (arith, nat_tests))) (walk n) (walked v least most) in
-      sym (walk_kept (value_at free) modules v least most)
-      ∙ ap (map (λ (p : ℕ × ℕ). modules p.0 p.1)) same
-      ∙ map_filter chosen (is_walked n) (λ (p : ℕ × ℕ). modules p.0 p.1)
-      (λ (p : ℕ × ℕ). xor (is_flipped mask p.0 p.1) (m p.0 p.1))
-      (λ p i free_at. is p.0 p.1 (grind (arith, nat_tests))
-      ∙ rw (marks.inside p.0 p.1 (grind (arith, nat_tests)) (grind (arith, nat_tests)), free_at) refl)
-      (walk n) (walked v least most)
-
-  few_bits : nat_le (room v) 2768 ≡ true
-  unfolding total_codewords remainder_bits
-  few_bits = by_version (λ v. nat_le (room v) 2768) (λ v. true) refl v least most
-
-  few_left : nat_lt (remainder_bits v) 8 ≡ true
-  unfolding remainder_bits
-  few_left = by_version (λ v. nat_lt (remainder_bits v) 8) (λ v. true) refl v least most
+      sym (walk_kept (value_at free) (λ x y. xor (is_flipped mask x y) (m x y)) v least most)
+      ∙ ap (map (λ (p : ℕ × ℕ). xor (is_flipped mask p.0 p.1) (m p.0 p.1))) same
 
   pub length-read_bits : (mask : ℕ) (m : ℕ → ℕ → Bool) → length (read_bits v mask m) ≡ room v
   unfolding read_bits
   length-read_bits mask m = length-map _ _ ∙ filtered v least most
-
-  pub bits_fit : (mask : ℕ) (m : ℕ → ℕ → Bool) → length (read_bits v mask m) ≤ 2775
-  bits_fit mask m = omega (arith, length-read_bits mask m, leb-true (room v) 2768 few_bits)
-
-  -- the codewords of the bits that were read
-  pub codewords_read : (mask : ℕ) (m : ℕ → ℕ → Bool) (bits : CodewordBits) → bits_in bits ≡ read_bits v mask m
-      → All (λ w. w < 256) bits.codewords.items
-      → bits.codewords.items ≡ codewords_of (total_codewords v) (read_bits v mask m)
-  codewords_read mask m bits is bytes =
-      let long = ap length is ∙ length-read_bits mask m in
-      let count : total_codewords v ≡ length bits.codewords.items =
-      omega (arith, long, length-bits_in bits, bits.rest.few, ltb-true (remainder_bits v) 8 few_left) in
-      rw (← is, count) (sym (codewords_first bits.codewords.items (bits_of bits.rest.count bits.rest.number) bytes))
 
 -- ---- the format information
 

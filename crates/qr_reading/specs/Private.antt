@@ -1,5 +1,4 @@
 -- Definitions that only the contracts of private functions cite: nothing here has to be believed.
-pub mod BitsInCodewords
 pub mod Blocks
 pub mod Groups
 pub mod ReadSoFar

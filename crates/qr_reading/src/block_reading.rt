@@ -4,11 +4,11 @@ ghost use Rattle.gf256.specs.ErrorCorrection.{IsEcCodewordCount};
 ghost use Rattle.qrdata.specs.Reading.{has_roots};
 ghost use Rattle.qr_reading.specs.Private.Blocks.{block_at, sound_blocks};
 ghost use Rattle.std.specs.List.{count_by, sum_by};
-ghost use Rattle.std.specs.Prelude.{◌≡◌, ◌+◌, ◌<◌, ◌≤◌, ◌++◌, All, IfSome, length, min, nat_lt, option_map};
+ghost use Rattle.std.specs.Prelude.{◌≡◌, ◌+◌, ◌<◌, ◌≤◌, All, IfSome, length, min, nat_lt, option_map};
 ghost use Rattle.std.specs.Prelude.{replicate, slice_index, sum};
 
 use gf256::Generator;
-use qrdata::{Codewords, MAX_CODEWORDS, are_bytes};
+use qrdata::{Codewords, MAX_CODEWORDS, are_bytes, push_codewords};
 
 /// Returns how many codewords of blocks have places below one.
 fn count_below(lengths: &[usize], place: usize) -> usize
@@ -35,18 +35,20 @@ fn count_at(lengths: &[usize], place: usize) -> usize
     count
 }
 
-/// Appends the codewords of a block of interleaved ones.
-fn push_block(lengths: &[usize], codewords: &[u8], block: usize, out: &mut Codewords)
+/// Returns a block of interleaved codewords.
+fn block_at(lengths: &[usize], codewords: &[u8], block: usize) -> Codewords
     requires whole { sum lengths.now ≡ length codewords.now }
     requires block { block < length lengths.now }
-    requires room { array_vec_len out.old + slice_index lengths.now block ≤ MAX_CODEWORDS }
+    requires short { slice_index lengths.now block ≤ 255 }
     requires few { length codewords.now ≤ MAX_CODEWORDS }
-    ensures { out.new.items ≡ out.old.items ++ block_at lengths.now codewords.now block }
+    ensures { result.items ≡ block_at lengths.now codewords.now block }
 {
+    let mut out = Codewords::new();
     for place in 0..lengths[block] {
         let earlier = count_below(lengths, place) + count_at(&lengths[..block], place);
         out.push(codewords[earlier]);
     }
+    out
 }
 
 /// Returns whether a block is a multiple of the generator with its error correction codewords: whether these are the
@@ -85,18 +87,12 @@ pub(crate) fn sound_blocks(
     let generator = Generator::new(count);
     let mut message = Codewords::new();
     for block in 0..lengths.len() {
-        let start = message.len();
-        push_block(lengths, codewords, block, &mut message);
-        let mut remainder = Codewords::new();
-        push_block(ec_lengths, ec_codewords, block, &mut remainder);
-        if !is_multiple(
-            &generator,
-            count,
-            &message.as_slice()[start..],
-            remainder.as_slice(),
-        ) {
+        let data = block_at(lengths, codewords, block);
+        let remainder = block_at(ec_lengths, ec_codewords, block);
+        if !is_multiple(&generator, count, &data, &remainder) {
             return None;
         }
+        push_codewords(&mut message, &data);
     }
     Some(message)
 }

@@ -2,6 +2,7 @@
 ghost use Rattle.qrdata.specs.Reading.{data_in};
 ghost use Rattle.std.specs.Prelude.{◌≡◌, option_map};
 
+use crate::bits::bits_of_codewords;
 use crate::block_reading::sound_blocks;
 use crate::segment_reading::{SymbolData, read_segments};
 use qrdata::{Lengths, Level, Version, push_lengths};
@@ -29,5 +30,5 @@ pub fn read_data(version: Version, level: Level, codewords: &[u8]) -> Option<Sym
         codewords,
         ec_codewords,
     )?;
-    read_segments(version, message.as_slice())
+    read_segments(version, &bits_of_codewords(message.as_slice()))
 }

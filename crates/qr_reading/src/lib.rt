@@ -4,14 +4,13 @@
 //! [`read`] reads a square of modules, and [`read_data`] the codewords of a symbol. The README of this crate has an
 //! example. Nothing here takes memory from the heap.
 //!
-//! Inside, `module_reading` compares a square with the patterns of the symbol that it names, and `walk` reads the
-//! codewords into `codeword_bits`. `data_reading` takes the blocks back out of the codewords and tests each
-//! (`block_reading`), and reads the segments that they hold (`segment_reading`) along a `cursor`.
+//! Inside, `module_reading` compares a square with the patterns of the symbol that it names, and `walk` reads its bits.
+//! `data_reading` takes the blocks back out of the codewords and tests each (`block_reading`), and reads the segments
+//! that they hold (`segment_reading`). Numbers and codewords are read from lists of `bits`.
 #![tactic(auto)]
 
+mod bits;
 mod block_reading;
-mod codeword_bits;
-mod cursor;
 mod data_reading;
 mod module_reading;
 mod segment_reading;

@@ -12,10 +12,10 @@ ghost use Rattle.qrmatrix.specs.Square.{value_at};
 ghost use Rattle.qrmatrix.specs.Private.Drawing.{MarksFree};
 ghost use Rattle.qr_reading.specs.Private.Walking.{DrawsPatterns, format_named, shows_row};
 
-use crate::codeword_bits::CodewordBits;
+use crate::bits::codewords_of;
 use crate::walk::read_strips;
-use qrdata::{Codewords, Level, Mask, Version, are_bytes};
-use qrmatrix::{SIDE, Square, draw_format, draw_functions, low_ones, mask_row_bits};
+use qrdata::{Codewords, Level, Mask, Version};
+use qrmatrix::{SIDE, Square, draw_format, draw_functions};
 use std::marker::Model;
 
 /// What the modules of a symbol are read as.
@@ -98,12 +98,13 @@ fn format_in(row: u64) -> (Level, Mask)
     (level, Mask::of(mask))
 }
 
-/// Returns whether the modules of a row that are not free are those of another row.
-fn is_row_shown(side: usize, row: u64, free: u64, dark: u64) -> bool
-    requires { side ≤ SIDE }
-    ensures { result ≡ shows_row side (bit row) (bit free) (bit dark) }
+/// Returns whether the module at a place is dark.
+#[inline(always)]
+fn is_dark(rows: &[u64], x: usize, y: usize) -> bool
+    requires { (x < SIDE) × (y < length rows.now) }
+    ensures { result ≡ bit (slice_index rows.now y) x }
 {
-    (row ^ dark) & !free & low_ones(side) == 0
+    (rows[y] >> x) % 2 == 1
 }
 
 impl Patterns {
@@ -118,32 +119,23 @@ impl Patterns {
         Patterns { free, dark }
     }
 
+    /// Returns whether a row has the patterns.
+    fn is_row_shown(&self, rows: &[u64], y: usize) -> bool
+        requires { (y < length rows.now) × (length rows.now ≤ SIDE) }
+        ensures { result ≡ shows_row (length rows.now) (bit (slice_index rows.now y))
+            (λ x. value_at self.now.free x y) (λ x. value_at self.now.dark x y) }
+    {
+        (0..rows.len()).all(|x| self.free.get(x, y) || self.dark.get(x, y) == is_dark(rows, x, y))
+    }
+
     /// Returns whether rows have the patterns.
     fn are_shown(&self, rows: &[u64]) -> bool
         requires { length rows.now ≤ SIDE }
         ensures { result ≡ list_all (λ y. shows_row (length rows.now) (bit (slice_index rows.now y))
             (λ x. value_at self.now.free x y) (λ x. value_at self.now.dark x y)) (range_with_len 0 (length rows.now)) }
     {
-        for y in 0..rows.len() {
-            if !is_row_shown(rows.len(), rows[y], self.free.row(y), self.dark.row(y)) {
-                return false;
-            }
-        }
-        true
+        (0..rows.len()).all(|y| self.is_row_shown(rows, y))
     }
-}
-
-/// Returns the free modules with the mask taken off; the others are light.
-fn unmasked(rows: &[u64], mask: Mask, free: &Square) -> Square
-    requires { length rows.now ≤ SIDE }
-    ensures { (x y : ℕ) → y < length rows.now → value_at result x y
-        ≡ (value_at free.now x y && xor (is_flipped mask x y) (bit (slice_index rows.now y) x)) }
-{
-    let mut modules = Square::new();
-    for y in 0..rows.len() {
-        modules.put(y, (rows[y] ^ mask_row_bits(mask, y % 12)) & free.row(y));
-    }
-    modules
 }
 
 /// Returns the codewords that the free modules of a symbol are under a mask.
@@ -154,11 +146,8 @@ fn read_codewords(rows: &[u64], version: Version, mask: Mask, free: &Square) -> 
         (read_bits version mask (λ x y. bit (slice_index rows.now y) x)) }
 {
     version.prove_range();
-    let modules = unmasked(rows, mask, free);
-    let mut bits = CodewordBits::new();
-    read_strips(version, free, &modules, &mut bits);
-    are_bytes(&bits.codewords);
-    bits.codewords
+    let bits = read_strips(version, free, rows, mask);
+    codewords_of(version.total_codewords(), &bits)
 }
 
 /// Reads a square of modules as a symbol, with no correction (ISO/IEC 18004, 12): both copies of the format and version

@@ -1,13 +1,13 @@
 //! Segments read from the bits of data codewords (ISO/IEC 18004, 7.4 and 12).
 ghost use Rattle.arrayvec.specs.ArrayVec.{array_vec_len};
 ghost use Rattle.qr_reading.specs.Private.Groups.{group_bytes, next_group};
-ghost use Rattle.qr_reading.specs.Private.ReadSoFar.{HasRoom, Leaves, after, bits_at};
+ghost use Rattle.qr_reading.specs.Private.ReadSoFar.{HasRoom, Leaves, after};
 ghost use Rattle.qrdata.specs.Reading.{alphanumeric_character, payload_at, segment_at, segments_at};
-ghost use Rattle.qrdata.specs.Segments.{byte_bits, mode_indicator, modes};
+ghost use Rattle.qrdata.specs.Segments.{mode_indicator, modes};
 ghost use Rattle.std.specs.List.{find};
 ghost use Rattle.std.specs.Prelude.{◌≡◌, ◌++◌, ◌+◌, ◌*◌, ◌≤◌, ◌<◌, ◌==◌, IfSome, length, option_map};
 
-use crate::cursor::Cursor;
+use crate::bits::{is_end, number_at};
 use arrayvec::ArrayVec;
 use qrdata::{Mode, Version, power_of_two};
 
@@ -112,30 +112,28 @@ fn append_group(mode: Mode, left: usize, number: u32, out: &mut SymbolData)
     }
 }
 
-/// Reads the payload of characters of a mode, appends these to the data, and returns the place after it.
-fn read_payload(
-    codewords: &[u8],
-    start: Cursor,
+/// Reads the payload of characters of a mode, appends these to the data, and returns the bits after it.
+fn read_payload<'a>(
+    bits: &'a [bool],
     mode: Mode,
     count: usize,
     out: &mut SymbolData,
-) -> Option<Cursor>
-    requires { HasRoom out.old.items (bits_at codewords.now start) }
-    ensures read { option_map (λ end. (out.new.items, bits_at codewords.now end)) result
-        ≡ after out.old.items (payload_at mode count (bits_at codewords.now start)) }
-    ensures left { IfSome result (λ end.
-        Leaves out.new.items (bits_at codewords.now start) (bits_at codewords.now end)) }
+) -> Option<&'a [bool]>
+    requires { HasRoom out.old.items bits.now }
+    ensures read { option_map (λ end. (out.new.items, end.now)) result
+        ≡ after out.old.items (payload_at mode count bits.now) }
+    ensures left { IfSome result (λ end. Leaves out.new.items bits.now end.now) }
 {
-    let mut cursor = start;
+    let mut rest = bits;
     let mut left = count;
     while left > 0 {
         let group = next_group(mode, left);
-        let (number, end) = cursor.number(codewords, group.limit, group.width)?;
+        let (number, end) = number_at(group.limit, group.width, rest)?;
         append_group(mode, left, number, out);
-        cursor = end;
+        rest = end;
         left -= group.size;
     }
-    Some(cursor)
+    Some(rest)
 }
 
 /// Returns the mode that an indicator names.
@@ -150,37 +148,30 @@ fn mode_of(indicator: u32) -> Option<Mode>
     }
 }
 
-/// Reads a segment, appends its bytes to the data, and returns the place after it.
-fn read_segment(
-    version: Version,
-    codewords: &[u8],
-    start: Cursor,
-    out: &mut SymbolData,
-) -> Option<Cursor>
-    requires { HasRoom out.old.items (bits_at codewords.now start) }
-    ensures read { option_map (λ end. (out.new.items, bits_at codewords.now end)) result
-        ≡ after out.old.items (segment_at version (bits_at codewords.now start)) }
-    ensures room { IfSome result (λ end. HasRoom out.new.items (bits_at codewords.now end)) }
-    ensures less { IfSome result (λ end. length (bits_at codewords.now end) + 4
-        ≤ length (bits_at codewords.now start)) }
+/// Reads a segment, appends its bytes to the data, and returns the bits after it.
+fn read_segment<'a>(version: Version, bits: &'a [bool], out: &mut SymbolData) -> Option<&'a [bool]>
+    requires { HasRoom out.old.items bits.now }
+    ensures read { option_map (λ end. (out.new.items, end.now)) result
+        ≡ after out.old.items (segment_at version bits.now) }
+    ensures room { IfSome result (λ end. HasRoom out.new.items end.now) }
+    ensures less { IfSome result (λ end. length end.now + 4 ≤ length bits.now) }
 {
-    let (indicator, cursor) = start.number(codewords, 16, 4)?;
+    let (indicator, rest) = number_at(16, 4, bits)?;
     let mode = mode_of(indicator)?;
     let width = mode.count_width(version);
-    let (count, cursor) = cursor.number(codewords, power_of_two(width), width)?;
-    read_payload(codewords, cursor, mode, count as usize, out)
+    let (count, rest) = number_at(power_of_two(width), width, rest)?;
+    read_payload(rest, mode, count as usize, out)
 }
 
 /// Reads segments to their end, and returns their bytes.
-pub(crate) fn read_segments(version: Version, codewords: &[u8]) -> Option<SymbolData>
-    requires { 8 * length codewords.now ≤ 2192 }
-    ensures { option_map (λ bytes. bytes.items) result
-        ≡ segments_at version (8 * length codewords.now) (byte_bits codewords.now) }
+pub(crate) fn read_segments(version: Version, bits: &[bool]) -> Option<SymbolData>
+    requires { length bits.now ≤ 2192 }
+    ensures { option_map (λ bytes. bytes.items) result ≡ segments_at version (length bits.now) bits.now }
 {
     let mut out = SymbolData::new();
-    let mut cursor = Cursor::at_start();
-    while !cursor.is_end(codewords) {
-        cursor = read_segment(version, codewords, cursor, &mut out)?;
+    let mut rest = bits;
+    while !is_end(rest) {
+        rest = read_segment(version, rest, &mut out)?;
     }
     Some(out)
 }

@@ -1,47 +1,64 @@
-//! The codewords of a symbol, read strip by strip (ISO/IEC 18004, 7.7.3 and 12).
-ghost use Rattle.std.specs.Prelude.{◌≡◌, ◌≤◌, ◌<◌, ◌+◌, ◌++◌, length};
+//! The bits of a symbol, read strip by strip (ISO/IEC 18004, 7.7.3 and 12).
+ghost use Rattle.arrayvec.specs.ArrayVec.{array_vec_len};
+ghost use Rattle.std.specs.Prelude.{◌≡◌, ◌≤◌, ◌<◌, ◌+◌, ◌*◌, ◌++◌, [], ◌∷◌, if◌then◌else◌, length};
 ghost use Rattle.qrdata.specs.Versions.{side_of};
 ghost use Rattle.qrmatrix.specs.Square.{value_at};
-ghost use Rattle.qr_reading.specs.Private.BitsInCodewords.{bits_in};
 ghost use Rattle.qrmatrix.specs.Private.Placing.{right_column};
-ghost use Rattle.qr_reading.specs.Private.Walking.{strip_bits, walk_bits};
+ghost use Rattle.qr_reading.specs.Private.Walking.{strip_bits, unmasked, walk_bits};
 
-use crate::codeword_bits::{CodewordBits, MAX_BITS};
-use qrdata::Version;
-use qrmatrix::{SIDE, Square, Strip, pair_at};
+use crate::bits::{BitList, MAX_BITS};
+use qrdata::{Mask, Version};
+use qrmatrix::{SIDE, Square, Strip, mask_row_bits};
 
-/// Writes the free modules of a strip, row after row.
-fn read_strip(strip: Strip, free: &Square, modules: &Square, bits: &mut CodewordBits)
-    requires side { strip.side ≤ SIDE }
-    requires column { strip.x + 1 < SIDE }
-    requires strip { strip.x + 1 ≡ right_column strip.side strip.number }
-    requires room { length (bits_in bits.old) + length
-        (strip_bits strip.side (value_at free.now) (value_at modules.now) strip.number) ≤ MAX_BITS }
-    ensures { bits_in bits.new ≡ bits_in bits.old
-        ++ strip_bits strip.side (value_at free.now) (value_at modules.now) strip.number }
+/// Appends a module where it is free.
+#[inline(always)]
+fn push_free(is_free: bool, is_dark: bool, bits: &mut BitList)
+    requires { array_vec_len bits.old + 1 ≤ MAX_BITS }
+    ensures bits { bits.new.items ≡ bits.old.items ++ (if is_free then is_dark ∷ [] else []) }
+    ensures len { array_vec_len bits.new ≤ array_vec_len bits.old + 1 }
 {
-    for t in 0..strip.side {
-        let y = strip.row(t);
-        let free_pair = pair_at(free.row(y), strip.x);
-        let pair = pair_at(modules.row(y), strip.x);
-        bits.push_pair(free_pair, pair);
+    if is_free {
+        bits.push(is_dark);
     }
 }
 
-/// Writes the free modules of a symbol, strip after strip.
-pub(crate) fn read_strips(
-    version: Version,
-    free: &Square,
-    modules: &Square,
-    bits: &mut CodewordBits,
-)
-    requires room { length (bits_in bits.old) + length
-        (walk_bits (side_of version) (value_at free.now) (value_at modules.now)) ≤ MAX_BITS }
-    ensures { bits_in bits.new ≡ bits_in bits.old
-        ++ walk_bits (side_of version) (value_at free.now) (value_at modules.now) }
+/// Returns the module at a place, with a mask taken off.
+#[inline(always)]
+fn unmasked(rows: &[u64], mask: Mask, x: usize, y: usize) -> bool
+    requires column { x < SIDE }
+    requires row { (y < length rows.now) × (length rows.now ≤ SIDE) }
+    ensures { result ≡ unmasked rows.now mask x y }
+{
+    ((mask_row_bits(mask, y % 12) ^ rows[y]) >> x) % 2 == 1
+}
+
+/// Appends the free modules of a strip, row after row.
+fn read_strip(strip: Strip, free: &Square, rows: &[u64], mask: Mask, bits: &mut BitList)
+    requires side { (strip.side ≡ length rows.now) × (length rows.now ≤ SIDE) }
+    requires column { strip.x + 1 < SIDE }
+    requires strip { strip.x + 1 ≡ right_column strip.side strip.number }
+    requires room { array_vec_len bits.old + 2 * strip.side ≤ MAX_BITS }
+    ensures bits { bits.new.items ≡ bits.old.items
+        ++ strip_bits strip.side (value_at free.now) (unmasked rows.now mask) strip.number }
+    ensures len { array_vec_len bits.new ≤ array_vec_len bits.old + 2 * strip.side }
+{
+    for t in 0..strip.side {
+        let y = strip.row(t);
+        let right = strip.x + 1;
+        push_free(free.get(right, y), unmasked(rows, mask, right, y), bits);
+        push_free(free.get(strip.x, y), unmasked(rows, mask, strip.x, y), bits);
+    }
+}
+
+/// Returns the free modules of a symbol with a mask taken off, strip after strip.
+pub(crate) fn read_strips(version: Version, free: &Square, rows: &[u64], mask: Mask) -> BitList
+    requires { length rows.now ≡ side_of version }
+    ensures { result.items ≡ walk_bits (side_of version) (value_at free.now) (unmasked rows.now mask) }
 {
     let side = version.side();
+    let mut bits = BitList::new();
     for number in 0..(side - 1) / 2 {
-        read_strip(Strip::new(side, number), free, modules, bits);
+        read_strip(Strip::new(side, number), free, rows, mask, &mut bits);
     }
+    bits
 }

@@ -77,7 +77,7 @@ pub fn push_lengths(lengths: &mut Lengths, count: usize, size: usize)
 }
 
 /// Writes codewords at the end.
-fn push_codewords(out: &mut Codewords, codewords: &[u8])
+pub fn push_codewords(out: &mut Codewords, codewords: &[u8])
     requires room { array_vec_len out.old + length codewords.now ≤ MAX_CODEWORDS }
     ensures { out.new.items ≡ out.old.items ++ codewords.now }
 {

@@ -1,8 +1,7 @@
 -- The rows of the masks, 64 bits each.
-use Rattle.std.proofs.Common.{◌≡◌, ℕ, ◌+◌, ◌%◌, ◌<◌, ◌^◌, ◌*◌, ◌/◌, refl, sym, ◌∙◌, arith, Bool, true, ◌&&◌}
+use Rattle.std.proofs.Common.{◌≡◌, ℕ, ◌+◌, ◌%◌, ◌<◌, ◌^◌, ◌*◌, ◌/◌, refl, sym, ◌∙◌, arith, Bool, true}
 use Rattle.std.proofs.Common.{List, [], inl, inr}
 use Rattle.std.specs.Prelude.{slice_index_or, ◌==◌, bit_and, bit_xor, if◌then◌else◌}
-use mathlib.Core.Bool.{xor}
 use Rattle.std.specs.Bool.{beq}
 use Rattle.qrmatrix.specs.declared.mask.TheConstants.{PATTERNS}
 use Rattle.qrmatrix.specs.Bits.{bit}
@@ -73,17 +72,4 @@ masked_more last mask w free modules start m new before put row x y =
     put x y ∙ elim (cases_eq y last) [
       | inl e ↦ rw (e, row x) (grind (arith, nat_tests))
       | inr ne ↦ rw (before x y) (grind (arith, nat_tests))
-    ]
-
--- a row of modules with the mask taken off the free ones, and without the others
-pub row_unmasked : (mask p y : ℕ) (free : List (List Bool)) (f w : ℕ) → f < 2 ^ 57
-    → ((x : ℕ) → x < 57 → bit p x ≡ is_flipped mask x y) → ((x : ℕ) → bit f x ≡ value_at free x y) → (x : ℕ)
-    → bit (bit_and (bit_xor w p) f) x ≡ (value_at free x y && xor (is_flipped mask x y) (bit w x))
-unfolding xor
-row_unmasked mask p y free f w narrow pattern is_free x =
-    let flipped = xor_bit w p x in
-    let and = and_bit (bit_xor w p) f x in
-    elim (cases_lt x 57) [
-      | inl l ↦ grind (arith, flipped, and, pattern x l, is_free x)
-      | inr g ↦ grind (arith, flipped, and, above_bit f 57 x narrow g, is_free x)
     ]

@@ -89,7 +89,7 @@ fn bits_from(bytes: &[u8; ROOM], i: usize) -> u64
 
 /// Returns bit `x` and, one place higher, the next one.
 #[tactic(auto, using(crate::proofs::TwoBitsLaws::two_low, crate::proofs::TwoBitsLaws::two_high))]
-pub fn pair_at(bits: u64, x: usize) -> u64
+fn pair_at(bits: u64, x: usize) -> u64
     requires { x + 1 < 64 }
     ensures low { bit result 0 ≡ bit bits x }
     ensures high { bit result 1 ≡ bit bits (x + 1) }

@@ -1,12 +1,5 @@
 -- What of a symbol's data was read and what is still to be read, as contracts inside this crate see them.
-use Rattle.std.specs.Prelude.{ℕ, Bool, Option, List, ◌++◌, ◌+◌, ◌*◌, ◌≤◌, drop, length, option_map}
-use Rattle.qr_reading.specs.declared.cursor.Cursor.{Cursor}
-use Rattle.qrdata.specs.Bits.{bits_of}
-use Rattle.qrdata.specs.Segments.{byte_bits}
-
--- the bits of codewords that are still to be read
-abbrev pub bits_at : List ℕ → Cursor → List Bool
-bits_at codewords cursor = bits_of cursor.count cursor.number ++ byte_bits (drop cursor.next codewords)
+use Rattle.std.specs.Prelude.{ℕ, Bool, Option, List, ◌++◌, ◌+◌, ◌*◌, ◌≤◌, length, option_map}
 
 -- what was read before, with the bytes that are found next, and the bits after these
 unfoldable pub after : List ℕ → Option (List ℕ × List Bool) → Option (List ℕ × List Bool)

@@ -1,16 +1,22 @@
 -- The walk over the modules, row by row of a strip (ISO/IEC 18004, 7.7.3).
 use Rattle.std.specs.Prelude.{◌≡◌, ◌<◌, ℕ, ◌+◌, ◌-◌, ◌*◌, ◌/◌, Bool, false, List, [], ◌∷◌, ◌++◌, if◌then◌else◌}
-use Rattle.std.specs.Prelude.{not, ◌||◌, Some}
-use Rattle.std.specs.Bool.{beq}
+use Rattle.std.specs.Prelude.{not, ◌||◌, Some, slice_index}
+use Rattle.std.specs.Bool.{beq, xor}
 use Rattle.std.specs.List.{flat_map, list_all, range_with_len}
 use Rattle.qrdata.specs.declared.level.Level.{Level}
 use Rattle.qrdata.specs.declared.level.Level.TheVariants.{L, M, Q, H}
 use Rattle.qrdata.specs.Versions.{side_of}
+use Rattle.qrmatrix.specs.Bits.{bit}
 use Rattle.qrmatrix.specs.Functions.{fixed_module, is_free}
+use Rattle.qrmatrix.specs.Masks.{is_flipped}
 use Rattle.qrmatrix.specs.Private.Counting.{one_if}
 use Rattle.qrmatrix.specs.Private.Placing.{right_column, row_of}
 use Rattle.qrmatrix.specs.Private.Drawing.{MarksFree}
 use Rattle.qrmatrix.specs.Square.{value_at}
+
+-- the module at a place of rows, with a mask taken off
+abbrev pub unmasked : List ℕ → ℕ → ℕ → ℕ → Bool
+unmasked rows mask x y = xor (is_flipped mask x y) (bit (slice_index rows y) x)
 
 -- the free ones of two modules: the right one, then the left one
 abbrev pub pair_bits : (right_free left_free right left : Bool) → List Bool

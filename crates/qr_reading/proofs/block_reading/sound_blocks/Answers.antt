@@ -1,9 +1,9 @@
-use Rattle.std.proofs.Common.{List, ap, arith, get_or, length, length-append, sym, ◌≡◌, ◌-◌, ◌++◌, ◌∙◌, ℕ}
+use Rattle.std.proofs.Common.{ap, arith, get_or, length, length-append, sym, ◌≡◌, ◌-◌, ◌++◌, ◌∙◌}
 use Rattle.std.proofs.lemmas.List.{get_or-replicate, length-replicate}
 use Rattle.std.proofs.lemmas.List.Sums.{sum_by-drop_more}
 use Rattle.qr_reading.specs.Private.Blocks.{block_at}
 use Rattle.qrdata.specs.Reading.{has_roots}
-use Rattle.qr_reading.proofs.DeinterleavingLaws.{all_blocks, last_block, length-block_at, no_block, one_block}
+use Rattle.qr_reading.proofs.DeinterleavingLaws.{all_blocks, length-block_at, no_block, one_block}
 use Rattle.qr_reading.proofs.block_reading.sound_blocks.Goals as goal
 
 pub loop-block-init : goal.loop-block-init
@@ -18,59 +18,63 @@ loop-block-init c =
     }
 
 pub is_multiple-requires-clause-count : goal.is_multiple-requires-clause-count
-is_multiple-requires-clause-count c =
-    let remainder = c.as_slice-in-loop-block.ensures.value ∙ c.push_block-in-loop-block.ensures
-    ∙ ap (λ (old : List ℕ). old ++ block_at c.args.ec_lengths.now c.args.ec_codewords.now c.loop-block.block)
-    c.new-remainder.ensures in (
-      c.new-generator.ensures,
-      ap length remainder ∙ length-block_at c.args.ec_lengths.now c.args.ec_codewords.now c.loop-block.block
-          ∙ ap (λ lengths. get_or lengths c.loop-block.block 0) c.requires.equal
-          ∙ get_or-replicate (length c.args.lengths.now) c.loop-block.block c.args.count 0 c.loop-block-test.true,
-    )
+is_multiple-requires-clause-count c = (
+  c.new-generator.ensures,
+  ap length (c.deref-in-loop-block.ensures.0 ∙ c.block_at-remainder.ensures)
+      ∙ length-block_at c.args.ec_lengths.now c.args.ec_codewords.now c.loop-block.block
+      ∙ ap (λ lengths. get_or lengths c.loop-block.block 0) c.requires.equal
+      ∙ get_or-replicate (length c.args.lengths.now) c.loop-block.block c.args.count 0 c.loop-block-test.true,
+)
 
 pub is_multiple-requires-clause-short : goal.is_multiple-requires-clause-short
 is_multiple-requires-clause-short c =
-    let last = last_block c.loop-block.message.items _ c.as_slice.result.now c.len-start.result
-    (c.as_slice.ensures.value ∙ c.push_block.ensures) c.len-start.ensures.value in
     omega (
       arith,
-      ap length last,
+      ap length (c.deref.ensures.0 ∙ c.block_at-data.ensures),
       length-block_at c.args.lengths.now c.args.codewords.now c.loop-block.block,
       c.requires.short c.loop-block.block 0 c.loop-block-test.true,
     )
 
 pub returns-then-not-is_multiple-clause-value : goal.returns-then-not-is_multiple-clause-value
 returns-then-not-is_multiple-clause-value c =
-    let last = last_block c.loop-block.message.items _ c.as_slice.result.now c.len-start.result
-    (c.as_slice.ensures.value ∙ c.push_block.ensures) c.len-start.ensures.value in
-    let remainder = c.as_slice-in-loop-block.ensures.value ∙ c.push_block-in-loop-block.ensures
-    ∙ ap (λ (old : List ℕ). old ++ block_at c.args.ec_lengths.now c.args.ec_codewords.now c.loop-block.block)
-    c.new-remainder.ensures in
+    let codewords_are = c.deref.ensures.0 ∙ c.block_at-data.ensures in
+    let remainder = c.deref-in-loop-block.ensures.0 ∙ c.block_at-remainder.ensures in
     no_block c.args.count c.args.lengths.now c.args.ec_lengths.now c.args.codewords.now c.args.ec_codewords.now
     c.loop-block.message.items c.loop-block.block (length c.args.lengths.now) c.loop-block-test.true
-    ((λ i. has_roots c.args.count (sym last i, sym remainder i)) ∙ sym c.is_multiple.ensures
+    ((λ i. has_roots c.args.count (sym codewords_are i, sym remainder i)) ∙ sym c.is_multiple.ensures
     ∙ c.if-not-is_multiple.true)
     ∙ c.loop-block.invariant.all
+
+pub push_codewords-requires : goal.push_codewords-requires
+push_codewords-requires c = record {
+  room = omega (
+    arith,
+    ap length (c.deref-in-loop-block-2.ensures.0 ∙ c.block_at-data.ensures),
+    length-block_at c.args.lengths.now c.args.codewords.now c.loop-block.block,
+    sum_by-drop_more (λ x. x) c.args.lengths.now c.loop-block.block 0 c.loop-block-test.true,
+    c.loop-block.invariant.room,
+    c.requires.few,
+  );
+}
 
 pub loop-block-preserved : goal.loop-block-preserved
 loop-block-preserved c =
     let lengths = c.args.lengths.now in
     let codewords = c.args.codewords.now in
     let b = c.loop-block.block in
-    let last = last_block c.loop-block.message.items _ c.as_slice.result.now c.len-start.result
-    (c.as_slice.ensures.value ∙ c.push_block.ensures) c.len-start.ensures.value in
-    let remainder = c.as_slice-in-loop-block.ensures.value ∙ c.push_block-in-loop-block.ensures
-    ∙ ap (λ (old : List ℕ). old ++ block_at c.args.ec_lengths.now c.args.ec_codewords.now c.loop-block.block)
-    c.new-remainder.ensures in
+    let codewords_are = c.deref.ensures.0 ∙ c.block_at-data.ensures in
+    let remainder = c.deref-in-loop-block.ensures.0 ∙ c.block_at-remainder.ensures in
+    let pushed = c.push_codewords.ensures
+    ∙ ap (λ l. c.loop-block.message.items ++ l) (c.deref-in-loop-block-2.ensures.0 ∙ c.block_at-data.ensures) in
     record {
-      all = rw c.push_block.ensures (one_block c.args.count lengths c.args.ec_lengths.now codewords
-          c.args.ec_codewords.now c.loop-block.message.items b (length lengths) c.loop-block-test.true
-          ((λ i. has_roots c.args.count (sym last i, sym remainder i)) ∙ sym c.is_multiple.ensures
+      all = rw pushed (one_block c.args.count lengths c.args.ec_lengths.now codewords c.args.ec_codewords.now
+          c.loop-block.message.items b (length lengths) c.loop-block-test.true
+          ((λ i. has_roots c.args.count (sym codewords_are i, sym remainder i)) ∙ sym c.is_multiple.ensures
           ∙ c.if-not-is_multiple.false))
           ∙ c.loop-block.invariant.all;
       room = omega (
         arith,
-        ap length c.push_block.ensures,
+        ap length pushed,
         length-append c.loop-block.message.items (block_at lengths codewords b),
         length-block_at lengths codewords b,
         sum_by-drop_more (λ x. x) lengths b 0 c.loop-block-test.true,

@@ -9,6 +9,7 @@ use Rattle.qrdata.specs.Private.Blocks.{block_count}
 use Rattle.qrdata.specs.Versions.{block_lengths, data_codewords, ec_codewords_per_block}
 use Rattle.qr_reading.proofs.BlockDataLaws.{data_in-found, data_in-other}
 use Rattle.qrdata.proofs.DataReadingLaws.{lengths_hold}
+use Rattle.qrdata.proofs.PaddingLaws.{length-byte_bits}
 use Rattle.qrdata.proofs.VersionLaws.{IsSound-of, data_codewords-few}
 use Rattle.qr_reading.proofs.data_reading.read_data.Goals as goal
 
@@ -86,6 +87,8 @@ read_segments-requires c =
     omega (
       arith,
       data_codewords-few c.args.version c.args.level c.data_codewords.ensures c.prove_range.ensures,
+      ap length (c.deref.ensures.0 ∙ c.bits_of_codewords.ensures),
+      length-byte_bits c.as_slice-2.result.now,
       ap length c.as_slice-2.ensures.value,
       c.in_ok-message.ensures.len,
       c.split_at.ensures.front_len,
@@ -93,11 +96,16 @@ read_segments-requires c =
 
 pub returns : goal.returns
 returns c =
-    let size : length c.as_slice-2.result.now ≡ data_codewords c.args.version c.args.level =
-    ap length c.as_slice-2.ensures.value ∙ c.in_ok-message.ensures.len ∙ c.split_at.ensures.front_len
-    ∙ c.data_codewords.ensures in
-    c.read_segments.ensures
-    ∙ (λ i. segments_at c.args.version (8 * size i) (byte_bits (c.as_slice-2.ensures.value i)))
+    let bits = c.deref.ensures.0 ∙ c.bits_of_codewords.ensures ∙ ap byte_bits c.as_slice-2.ensures.value in
+    let size : length c.deref.result.now ≡ 8 * data_codewords c.args.version c.args.level = omega (
+      arith,
+      ap length bits,
+      length-byte_bits c.in_ok-message.message.items,
+      c.in_ok-message.ensures.len,
+      c.split_at.ensures.front_len,
+      c.data_codewords.ensures,
+    ) in
+    c.read_segments.ensures ∙ (λ i. segments_at c.args.version (size i) (bits i))
     ∙ data_in-found c.args.version c.args.level c.args.codewords.now (Some c.in_ok-message.message.items) _ _ _ _ _
     (c.if-codewords-total_codewords.false ∙ c.total_codewords.ensures) c.in_ok-message.ensures.value
     c.ec_codewords_per_block-count.ensures.value (c.as_slice-lengths.ensures.value ∙ c.lengths-blocks.ensures)
