@@ -23,6 +23,7 @@ mod wide_rows;
 
 pub use ascii::write_ascii;
 pub use bars::Bars;
+pub use bits::bits_of;
 pub use dots::Dots;
 pub use framed::Framed;
 pub use grid::Grid;
