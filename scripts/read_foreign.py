@@ -36,7 +36,7 @@ from pictures import DIGITS, with_check_digit
 
 # The crates that the reader needs, and its line in crates.txt.
 CRATES = ("gf256", "linear", "device", "qrdata", "qrmatrix", "picture", "labelcore", "filter", "reading")
-READER = "foreign: device labelcore picture qrdata reading"
+READER = "foreign: device labelcore qrdata reading"
 TEXT = os.path.join(sources.TOP, "scripts", "foreign_reader.txt")
 # The letter of each symbology in a record, and its quiet zones left, right, above and below, in modules.
 SYMBOLOGIES = {
