@@ -14,11 +14,16 @@ pub struct Dots<'a> {
     ghost whole: { length digits.now ≡ width * height },
 }
 
-/// Returns whether each of these is a digit 0 or 1.
+/// Returns whether each of these is a digit 0 or 1. It looks at all of them: a loop that can end early is not turned
+/// into vector code.
 fn are_dots(digits: &[u8]) -> bool
     ensures { result ≡ list_all (λ b. b == 48 || b == 49) digits.now }
 {
-    digits.iter().all(|digit| *digit == b'0' || *digit == b'1')
+    let mut are = true;
+    for i in 0..digits.len() {
+        are &= digits[i] == b'0' || digits[i] == b'1';
+    }
+    are
 }
 
 impl<'a> Dots<'a> {

@@ -103,14 +103,14 @@ fn is_told_by_first(dots: &Dots, scale: usize, zone: &QuietZone) -> bool
         && are_rows_equal(dots)
 }
 
-/// Returns whether each dot has the colour of its cell. Where there is no zone above and below and all rows are equal,
-/// the first row tells.
-fn are_cells(dots: &Dots, scale: usize, zone: &QuietZone) -> bool
-    requires { 0 < scale }
+/// Returns whether each dot has the colour of its cell. With `is_told` the first row tells.
+fn are_cells(dots: &Dots, scale: usize, zone: &QuietZone, is_told: bool) -> bool
+    requires some { 0 < scale }
+    requires told { is_told ≡ true → IsToldByFirst dots.now.width dots.now.height dots.now.digits.now scale zone.now }
     ensures { result ≡ are_cells (raster_in dots.now.width dots.now.height dots.now.digits.now) scale zone.now
         (dots.now.width / scale) (dots.now.height / scale) }
 {
-    if is_told_by_first(dots, scale, zone) {
+    if is_told {
         return is_row_of_cells(dots, scale, zone, 0);
     }
     for y in 0..dots.height {
@@ -131,9 +131,11 @@ fn first_dot(length: usize, scale: usize, before: usize, place: usize) -> usize
     (before + place) * scale
 }
 
-/// Returns whether dots show modules inside a quiet zone: cells of one colour each, light in the zone.
-fn are_modules(dots: &Dots, scale: usize, zone: &QuietZone) -> bool
-    requires { 0 < scale }
+/// Returns whether dots show modules inside a quiet zone: cells of one colour each, light in the zone. With `is_told`
+/// the first row tells.
+fn are_modules(dots: &Dots, scale: usize, zone: &QuietZone, is_told: bool) -> bool
+    requires some { 0 < scale }
+    requires told { is_told ≡ true → IsToldByFirst dots.now.width dots.now.height dots.now.digits.now scale zone.now }
     ensures { result ≡ are_modules (raster_in dots.now.width dots.now.height dots.now.digits.now) scale zone.now }
 {
     dots.width % scale == 0
@@ -142,7 +144,7 @@ fn are_modules(dots: &Dots, scale: usize, zone: &QuietZone) -> bool
         && zone.right <= dots.width / scale - zone.left
         && zone.top <= dots.height / scale
         && zone.bottom <= dots.height / scale - zone.top
-        && are_cells(dots, scale, zone)
+        && are_cells(dots, scale, zone, is_told)
 }
 
 impl<'a> Sampled<'a> {
@@ -155,10 +157,10 @@ impl<'a> Sampled<'a> {
             (λ modules. sample (raster_in dots.entry.width dots.entry.height dots.entry.digits.now) scale zone
             ≡ Some (raster (⟦<Sampled<'a> as Grid>⟧.picture modules)).rows) }
     {
-        if !are_modules(&dots, scale, &zone) {
+        let are_equal = is_told_by_first(&dots, scale, &zone);
+        if !are_modules(&dots, scale, &zone, are_equal) {
             return None;
         }
-        let are_equal = is_told_by_first(&dots, scale, &zone);
         Some(Sampled {
             dots,
             scale,

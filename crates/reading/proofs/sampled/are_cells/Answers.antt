@@ -25,10 +25,10 @@ loop-y-preserved c =
     c.loop-y.invariant ∙ passes_on test y (y + 1) (dots.height - y) (dots.height - (y + 1)) (omega arith) refl
     (sym c.if-not-is_row_of_cells.false ∙ c.is_row_of_cells-in-loop-y.ensures)
 
-pub returns-then-is_told_by_first : goal.returns-then-is_told_by_first
-returns-then-is_told_by_first c =
+pub returns-then-is_told : goal.returns-then-is_told
+returns-then-is_told c =
     let dots = c.args.dots.now in
-    let told = c.is_told_by_first.ensures c.if-is_told_by_first.true in
+    let told = c.requires.told c.if-is_told.true in
     c.is_row_of_cells.ensures
-    ∙ sym (first_tells dots.width dots.height dots.digits.now c.args.scale c.args.zone.now c.requires told.above
+    ∙ sym (first_tells dots.width dots.height dots.digits.now c.args.scale c.args.zone.now c.requires.some told.above
     told.under told.whole told.same told.some)
