@@ -85,13 +85,27 @@ static int refuse_symbol(labels_answer *answer, labels_symbol_info *info) {
     return refuse(answer);
 }
 
+/* The most bytes that any data may have to fit QR versions 1 to 9, whatever the level: those of level H, in byte mode
+ * (ISO/IEC 18004, table 7). */
+static const size_t bytes_of_versions[] = {7, 14, 24, 34, 44, 58, 64, 84, 98};
+
+/* The most modules that a QR symbol of so many bytes has. */
+static size_t most_of_qr(uint32_t min_version, size_t size) {
+    size_t version = 1;
+    while (version < 10 && (version < min_version || bytes_of_versions[version - 1] < size))
+        version++;
+    return (17 + 4 * version) * (17 + 4 * version);
+}
+
 /* The most modules that a symbol of so many bytes has. In Code 128 a byte takes two characters of 11 modules at most,
  * beside the start and check characters and the stop character of 13. */
-static size_t most_modules(int symbology, size_t size) {
-    static const size_t most[] = {95, 95, 95, LABELS_MAX_BARS, LABELS_MAX_MODULES};
+static size_t most_modules(const labels_options *options, int symbology, size_t size) {
+    static const size_t most[] = {95, 95, 95, LABELS_MAX_BARS};
+    if (symbology == LABELS_QR)
+        return most_of_qr(options->min_version, size);
     if (symbology == LABELS_CODE128 && size < 80)
         return 22 * size + 35;
-    return symbology >= 0 && symbology <= LABELS_QR ? most[symbology] : 0;
+    return symbology >= 0 && symbology <= LABELS_CODE128 ? most[symbology] : 0;
 }
 
 /* The proved code takes modules as truth values, so each byte that it may write has to be 0 or 1. Clears as many as a
@@ -137,9 +151,10 @@ int labels_symbol(const labels_options *options, int symbology, const void *data
     modules = write_to(modules, room);
     if (are_bad(data, size, modules, room))
         return refuse_symbol(answer, info);
-    room = cleared(modules, room, most_modules(symbology, size));
-    labels_proved_symbol(or_defaults(options), (uint32_t)symbology, data, size, modules, room, answer->message,
-                         MESSAGE_ROOM, info->data, DATA_ROOM, info, answer);
+    options = or_defaults(options);
+    room = cleared(modules, room, most_modules(options, symbology, size));
+    labels_proved_symbol(options, (uint32_t)symbology, data, size, modules, room, answer->message, MESSAGE_ROOM,
+                         info->data, DATA_ROOM, info, answer);
     return finish_symbol(answer, info);
 }
 

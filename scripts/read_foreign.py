@@ -39,7 +39,7 @@ CRATES = (
     *("gf256", "linear", "linear_reading", "device", "qrdata", "qrmatrix", "picture"),
     *("qr_reading", "labelcore", "filter", "reading"),
 )
-READER = "foreign: device labelcore picture qr_reading reading"
+READER = "foreign: device labelcore qr_reading reading"
 TEXT = os.path.join(sources.TOP, "scripts", "foreign_reader.txt")
 # The letter of each symbology in a record, and its quiet zones left, right, above and below, in modules.
 SYMBOLOGIES = {

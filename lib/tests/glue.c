@@ -122,9 +122,21 @@ void labels_proved_read(uint32_t symbology, uint32_t scale, uint32_t width, uint
     put_message(answer->message, MESSAGE, answer);
 }
 
+/* The modules of the first QR version from one on that has room for so many bytes at level H, whose data codewords have
+ * two bytes less: the mode and the count take 12 bits (ISO/IEC 18004, tables 2, 3 and 7). */
+static size_t most_of_qr(size_t version, size_t size) {
+    static const size_t codewords[] = {9, 16, 26, 36, 46, 60, 66, 86, 100};
+    for (; version <= 9; version++)
+        if (size + 2 <= codewords[version - 1])
+            return (17 + 4 * version) * (17 + 4 * version);
+    return LABELS_MAX_MODULES;
+}
+
 /* The modules that a symbol of so many bytes can have: EAN and UPC at most 95, Code 128 two characters a byte. */
 static size_t most_of(int symbology, size_t size) {
-    static const size_t fixed[] = {95, 95, 95, LABELS_MAX_BARS, LABELS_MAX_MODULES};
+    static const size_t fixed[] = {95, 95, 95, LABELS_MAX_BARS};
+    if (symbology == LABELS_QR)
+        return most_of_qr(given.options->min_version, size);
     size_t most = fixed[symbology];
     size_t of_bytes = (2 * size + 2) * 11 + 13;
     return symbology == LABELS_CODE128 && of_bytes < most ? of_bytes : most;
@@ -241,7 +253,7 @@ static void see_bad(int call) {
 }
 
 int main(void) {
-    static const size_t sizes[] = {0, 1, FEW, 79, 80, 81};
+    static const size_t sizes[] = {0, 1, 7, 8, FEW, 79, 80, 81, 98, 99};
     static const size_t rooms[] = {0, 1, FEW, LABELS_MAX_BARS, LABELS_MAX_MODULES, MANY};
     int done = 0;
     for (int call = 0; call < CALLS; call++) {

@@ -37,6 +37,10 @@ WRONG = (
     ("    answer->at = 0;\n", ""),
     ("22 * size + 35", "22 * size + 34"),
     ("most[] = {95, 95, 95,", "most[] = {95, 94, 95,"),
+    ("bytes_of_versions[] = {7, 14,", "bytes_of_versions[] = {8, 14,"),
+    ("64, 84, 98};", "64, 84, 99};"),
+    ("version < 10 &&", "version < 9 &&"),
+    ("version < min_version ||", "version < min_version % 2 ||"),
 )
 
 

@@ -57,6 +57,17 @@ for wrong in ({"unit": "furlong"}, {"module": 0}, {"module": float("nan")}):
         raise AssertionError(wrong)
 """
 )
+# The bytes that versions 1 to 10 hold at level H, at which they hold fewest: ISO/IEC 18004, table 7.
+SIZES = """
+import liblabels
+HELD = (7, 14, 24, 34, 44, 58, 64, 84, 98, 119)
+for size in range(1, HELD[-1] + 1):
+    first = next(version for version, held in enumerate(HELD, 1) if size <= held)
+    for lowest in (1, 5, 10):
+        symbol = liblabels.symbol("qr", size * b"\\xff", level="H", min_version=lowest)
+        assert symbol.version == max(first, lowest), (size, lowest)
+        assert symbol.width == symbol.rows == 17 + 4 * symbol.version, (size, lowest)
+"""
 # Two readers read the PNG, and the SVG as rsvg-convert draws it.
 READ = (
     LINES
@@ -84,6 +95,10 @@ for line, (name, data) in LINES.items():
 
 
 class Pictures(WithLibrary):
+    def test_versions(self) -> None:
+        """The modules of QR symbols of each size have room, whatever their lowest version."""
+        self.run_ok(PYTHON, "-c", SIZES)
+
     def test_dots(self) -> None:
         self.run_ok(PYTHON, "-c", DOTS)
         for right, wrong in (

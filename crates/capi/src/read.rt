@@ -9,8 +9,8 @@ use crate::draw::declined;
 use crate::numbers::{Answer, BAD_OPTION, BAD_SYMBOLOGY, DONE, NO_ROOM, symbology_of};
 use crate::room::put;
 use labelcore::Symbology;
-use picture::Dots;
 use qr_reading::SymbolData;
+use reading::Dots;
 
 /// The dots are no symbol of the symbology.
 const NOT_READ: u32 = 17;

@@ -1,5 +1,6 @@
 //! The modules of one symbol into a caller's room.
-ghost use Rattle.std.specs.Prelude.{◌≡◌, ◌≢◌, ◌+◌, ◌*◌, ◌≤◌, ◌++◌, ℕ, List, [], length, drop, Ok, Err, IfOk, IfErr};
+ghost use Rattle.std.specs.Prelude.{◌≡◌, ◌≢◌, ◌+◌, ◌*◌, ◌<◌, ◌≤◌, ◌++◌, ℕ, List, [], length, take, drop};
+ghost use Rattle.std.specs.Prelude.{Ok, Err, IfOk, IfErr};
 ghost use Rattle.labelcore.specs.OptionValues.{LabelValues};
 ghost use Rattle.filter.specs.Private.{beside};
 ghost use Rattle.filter.specs.ModuleReading.{IsReadInModules};
@@ -7,6 +8,7 @@ ghost use Rattle.filter.specs.Symbol.{linear_symbol as linear_symbol_of, quiet_z
 ghost use Rattle.labelcore.specs.declared.symbology.Symbology.TheVariants.{Qr};
 ghost use Rattle.labelcore.specs.declared.symbology.Symbology.{Symbology as Symbologies};
 ghost use Rattle.picture.specs.Picture.{symbol_picture};
+ghost use Rattle.picture.specs.Text.{pixel_row};
 ghost use Rattle.capi.specs.Calls.{asked};
 ghost use Rattle.capi.specs.Full.{PutsFull, PutsFullAsked};
 ghost use Rattle.capi.specs.Modules.{AnswersAsked, AnswersModules, HasNumbers, HasQrNumbers, IsDrawnAs, IsMatrixOf};
@@ -23,9 +25,12 @@ use crate::numbers::{
 };
 use labelcore::{Fault, LabelOptions, Options, Symbology};
 use linear::{Code128, Ean8, Ean13, Linear, Row, UpcA};
-use picture::{Bars, Grid, read_pixels};
+use picture::{Bars, Grid, bits_of, read_pixels};
 use qrdata::{Codewords, Level, choose, codewords};
 use qrmatrix::{Matrix, QUIET_ZONE};
+
+/// The bits of a row.
+const BITS: usize = 64;
 
 /// Puts the modules of a grid at the front of a room that has space for them.
 fn put_grid<G: Grid>(grid: &G, modules: &mut [bool])
@@ -34,11 +39,28 @@ fn put_grid<G: Grid>(grid: &G, modules: &mut [bool])
         ++ drop ((G.picture grid.now).width * (G.picture grid.now).height) modules.old }
 {
     let width = grid.width();
+    let height = grid.height();
+    let all = width * height;
     let mut at = 0;
-    for y in 0..grid.height() {
-        let end = at + width;
-        read_pixels(grid, y, &mut modules[at..end]);
-        at = end;
+    for y in 0..height {
+        put_row(grid, y, &mut modules[at..all]);
+        at += width;
+    }
+}
+
+/// Puts a row of a grid at the front of `room`. What is behind the row there may change: the bits of a row are put all
+/// at once where there is room for them.
+fn put_row<G: Grid>(grid: &G, y: usize, room: &mut [bool])
+    requires in_height { y < (G.picture grid.now).height }
+    requires in_room { (G.picture grid.now).width ≤ length room.old }
+    ensures { take (G.picture grid.now).width room.new ≡ pixel_row (G.picture grid.now) y }
+{
+    let width = grid.width();
+    match grid.row_bits(y) {
+        Some(row) if width <= BITS && BITS <= room.len() => {
+            room[..BITS].copy_from_slice(&bits_of(row));
+        }
+        _ => read_pixels(grid, y, &mut room[..width]),
     }
 }
 

@@ -4,7 +4,6 @@ use Rattle.std.specs.Prelude.{false, Some, None, replicate, take, slice_set, sli
 use Rattle.std.specs.List.{range_with_len}
 use Rattle.std.specs.Fmt.{digits}
 use Rattle.picture.specs.Picture.{Picture, bars, with_quiet_zone, enlargement}
-use Rattle.picture.specs.Dots.{raster_in}
 use Rattle.picture.specs.declared.quiet_zone.QuietZone.{QuietZone}
 use Rattle.picture.specs.Text.{pbm_text, ascii_text}
 use Rattle.picture.specs.Reading.{Raster, pbm_pixels, ascii_pixels, is_white, raster, pbm_files, ascii_files, sample}
@@ -166,11 +165,6 @@ one_row : map (λ texts. common_row (rows_of texts)) ((codes "101" ∷ codes "10
     ∷ codes "100" ∷ []) ∷ (codes "101" ∷ codes "001" ∷ codes "101" ∷ []) ∷ (codes "101" ∷ codes "10" ∷ []) ∷ [] ∷ []) ≡
     Some (true ∷ false ∷ true ∷ []) ∷ None ∷ None ∷ None ∷ None ∷ []
 one_row = refl
-
--- dots are rows of digits, 1 where dark
-dots_as_pixels : raster_in 3 2 (codes "110010")
-    ≡ record { width = 3; height = 2; rows = rows_of (codes "110" ∷ codes "010" ∷ []) }
-dots_as_pixels = refl
 
 -- ---- quiet zones
 

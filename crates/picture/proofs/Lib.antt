@@ -1,7 +1,5 @@
 pub mod AsciiLaws
 pub mod CutLaws
-pub mod DotLaws
-pub mod EqualDotLaws
 pub mod Examples
 pub mod GridLaws
 pub mod HeaderLaws

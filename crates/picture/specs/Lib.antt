@@ -1,4 +1,3 @@
-pub mod Dots
 pub mod Picture
 pub mod Private
 pub mod Reading

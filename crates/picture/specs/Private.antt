@@ -1,3 +1,2 @@
 -- Definitions that only the contracts of private functions cite: nothing here has to be believed.
-pub mod Dots
 pub mod Rows

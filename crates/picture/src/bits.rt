@@ -21,7 +21,7 @@ const VALUES: [u8; 64] = [
 
 /// Returns the bits of a row, the lowest first.
 #[inline(always)]
-fn bits_of(row: u64) -> [bool; 64]
+pub fn bits_of(row: u64) -> [bool; 64]
     ensures { result ≡ map (bit row) (below 64) }
 {
     are_some(bits_in_bytes(row))

@@ -8,26 +8,21 @@
 mod ascii;
 mod bars;
 mod bits;
-mod dots;
 mod framed;
 mod grid;
 mod kept_rows;
 mod matrix;
-mod one_row;
 mod pbm;
 mod pixel_text;
 mod quiet_zone;
-mod sampled;
 mod scaled;
 mod wide_rows;
 
 pub use ascii::write_ascii;
 pub use bars::Bars;
-pub use dots::Dots;
+pub use bits::bits_of;
 pub use framed::Framed;
 pub use grid::Grid;
-pub use one_row::common_row;
 pub use pbm::write_pbm;
 pub use quiet_zone::QuietZone;
-pub use sampled::Sampled;
 pub use scaled::{Scaled, read_pixels};

@@ -1,12 +1,20 @@
 -- Worked values: the quiet zone of bars, and the dots of `ean8 7351353`, at a scale of 1 and of 2.
-use Rattle.std.proofs.Common.{◌≡◌, ℕ, List, [], ◌∷◌, ◌++◌, None, Some, codes, refl, flat_map, map, length, false}
+use Rattle.std.proofs.Common.{◌≡◌, ℕ, List, [], ◌∷◌, ◌++◌, None, Some, codes, refl, flat_map, map, length, true, false}
 use Rattle.std.specs.Prelude.{replicate, slice_set}
 use Rattle.labelcore.specs.declared.symbology.Symbology.TheVariants.{Ean8, UpcA}
 use Rattle.linear.specs.Tables.{number_set_a}
-use Rattle.picture.specs.Dots.{raster_in}
+use Rattle.reading.specs.Dots.{raster_in}
 use Rattle.picture.specs.Reading.{sample}
 use Rattle.reading.specs.Bars.{bars_zone}
 use Rattle.reading.specs.Labels.{read_dots, read_short}
+
+-- dots are rows of digits, 1 where dark
+dots_as_pixels : raster_in 3 2 (codes "110010") ≡ record {
+  width = 3;
+  height = 2;
+  rows = (true ∷ true ∷ false ∷ []) ∷ (false ∷ true ∷ false ∷ []) ∷ [];
+}
+dots_as_pixels = refl
 
 -- the quiet zone of an EAN-13 is 11 modules before it and 7 after it, and none above and below (ISO/IEC 15420)
 zone_of_ean13 : bars_zone (record { left = 11; right = 7 }) ≡ record { left = 11; right = 7; top = 0; bottom = 0 }

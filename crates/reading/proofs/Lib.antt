@@ -1,3 +1,5 @@
+pub mod DotLaws
+pub mod EqualDotLaws
 mod Examples
 mod WidthLaws
 mod SquareLaws

@@ -1,4 +1,5 @@
 pub mod Bars
+pub mod Dots
 pub mod Squares
 pub mod Labels
 pub mod Private

@@ -1,13 +1,16 @@
 //! Linear symbols read from dots.
 ghost use Rattle.std.specs.Prelude.{◌≡◌, ◌<◌, option_map, option_and_then};
 ghost use Rattle.linear_reading.specs.Reading.{read_row};
-ghost use Rattle.picture.specs.Dots.{raster_in};
+ghost use Rattle.reading.specs.Dots.{raster_in};
 ghost use Rattle.picture.specs.Reading.{common_row, raster};
 ghost use Rattle.reading.specs.Bars.{BarsAreRead, read_bars};
 
+use crate::dots::Dots;
+use crate::one_row::common_row;
+use crate::sampled::Sampled;
 use linear::MAX_MODULES;
 use linear_reading::{FullData, LinearReading};
-use picture::{Dots, Grid, QuietZone, Sampled, common_row};
+use picture::{Grid, QuietZone};
 
 /// Reads modules as bars: the row that all rows are equal to.
 fn read_modules<L: LinearReading, G: Grid>(modules: &G) -> Option<FullData>

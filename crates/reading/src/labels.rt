@@ -1,18 +1,18 @@
 //! Labels read from dots, by their symbology.
 ghost use Rattle.std.specs.Prelude.{◌≡◌, ◌≢◌, ◌<◌, ◌≤◌, ℕ, List, [], IfOk, IfSome, Some, length, option_map};
 ghost use Rattle.filter.specs.Symbol.{quiet_zone, symbol_of};
-ghost use Rattle.picture.specs.Dots.{raster_in};
+ghost use Rattle.reading.specs.Dots.{raster_in};
 ghost use Rattle.picture.specs.Picture.{enlargement, with_quiet_zone};
 ghost use Rattle.picture.specs.Reading.{raster};
 ghost use Rattle.reading.specs.Bars;
 ghost use Rattle.reading.specs.Labels.{IsReadAtSomeScale, read_dots};
 
 use crate::bars::read_bars;
+use crate::dots::Dots;
 use crate::squares::read_qr;
 use labelcore::{Options, Symbology};
 use linear::{Code128, Ean8, Ean13, UpcA};
 use linear_reading::LinearReading;
-use picture::Dots;
 use qr_reading::SymbolData;
 
 /// Returns the same data with more room after it.

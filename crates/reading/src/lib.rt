@@ -5,9 +5,13 @@
 #![tactic(auto)]
 
 mod bars;
+mod dots;
 mod labels;
+mod one_row;
+mod sampled;
 mod squares;
 
 pub use bars::{bars_are_read, read_bars};
+pub use dots::Dots;
 pub use labels::{labels_are_read, read, read_at_any_scale};
 pub use squares::{read_qr, symbols_are_read};

@@ -3,12 +3,14 @@ ghost use Rattle.std.specs.Prelude.{◌≡◌, ◌<◌, ◌≤◌, ◌&&◌, ℕ
 ghost use Rattle.qrmatrix.specs.Bits.{bit};
 ghost use Rattle.filter.specs.Reading.{read_modules};
 ghost use Rattle.labelcore.specs.declared.symbology.Symbology.TheVariants.{Qr};
-ghost use Rattle.picture.specs.Dots.{raster_in};
+ghost use Rattle.reading.specs.Dots.{raster_in};
 ghost use Rattle.picture.specs.Reading.{raster};
 ghost use Rattle.reading.specs.Squares.{SymbolsAreRead, read_qr};
 ghost use Rattle.reading.specs.Private.{symbol_in};
 
-use picture::{Dots, Grid, QuietZone, Sampled};
+use crate::dots::Dots;
+use crate::sampled::Sampled;
+use picture::{Grid, QuietZone};
 use qr_reading::{ReadSymbol, SymbolData, read, read_data};
 use qrmatrix::{QUIET_ZONE, SIDE};
 

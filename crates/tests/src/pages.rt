@@ -7,12 +7,12 @@ use gf256::{Generator, mul, pow_alpha};
 use labelcore::{Fault, Format, Item, LineBuf, Options, Scratch, Symbology, parse};
 use linear::{Ean8, Linear, Refusal, Row};
 use linear_reading::{LinearReading, read_any};
-use picture::{Bars, Dots, Framed, QuietZone, Scaled, write_pbm};
+use picture::{Bars, Framed, QuietZone, Scaled, write_pbm};
 use qr_reading::read_data;
 use qrdata::{Codewords, Level, Version, choose, codewords};
 use qrmatrix::Matrix;
 use reading::{
-    bars_are_read, labels_are_read, read, read_at_any_scale, read_bars, symbols_are_read,
+    Dots, bars_are_read, labels_are_read, read, read_at_any_scale, read_bars, symbols_are_read,
 };
 use std::test::Fail;
 use testing::{FailAt, MemSink, MemSource};

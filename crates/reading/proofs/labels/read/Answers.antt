@@ -1,5 +1,5 @@
 use Rattle.std.proofs.Common.{◌∙◌}
-use Rattle.picture.specs.Dots.{raster_in}
+use Rattle.reading.specs.Dots.{raster_in}
 use Rattle.reading.proofs.LabelLaws.{qr_dots}
 use Rattle.reading.proofs.labels.read.Goals as goal
 

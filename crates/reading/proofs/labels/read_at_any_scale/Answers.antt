@@ -1,5 +1,5 @@
 use Rattle.std.proofs.Common.{◌+◌, ◌∙◌, sym, arith}
-use Rattle.picture.specs.Dots.{raster_in}
+use Rattle.reading.specs.Dots.{raster_in}
 use Rattle.reading.proofs.ScaleLaws.{first_found, none_found, scale_within}
 use Rattle.reading.proofs.labels.read_at_any_scale.Goals as goal
 

@@ -1,5 +1,5 @@
 use Rattle.std.proofs.Common.{◌≡◌, ◌<◌, ◌≤◌, ℕ, None}
-use Rattle.picture.specs.Dots.{raster_in}
+use Rattle.reading.specs.Dots.{raster_in}
 use Rattle.reading.specs.Labels.{read_dots}
 use Rattle.reading.proofs.labels.read_at_any_scale.Given as goal
 
