@@ -539,6 +539,11 @@ def by_hand(numbers: random.Random, columns: int) -> Made:
                 f' table:number-rows-repeated="{gap}"><table:table-cell/></table:table-row>'
             )
             row += gap
+    return Made(packed(ods_parts("".join(lines)), zipfile.ZIP_STORED), formats)
+
+
+def ods_parts(rows: str) -> Dict[str, str]:
+    """The files of a workbook that has one table of these rows."""
     styles = "".join(style for style, _ in ODS_STYLES.values())
     for number in range(len(ODS_STYLES)):
         styles += (
@@ -548,7 +553,7 @@ def by_hand(numbers: random.Random, columns: int) -> Made:
     content = f'{XML}<office:document-content {ODS_SPACES} {NUMBER_SPACE} office:version="1.3">'
     content += f"<office:automatic-styles>{styles}</office:automatic-styles>"
     content += "<office:body><office:spreadsheet>"
-    content += f'<table:table table:name="A">{"".join(lines)}</table:table>'
+    content += f'<table:table table:name="A">{rows}</table:table>'
     content += "</office:spreadsheet></office:body></office:document-content>"
     kind = "application/vnd.oasis.opendocument.spreadsheet"
     space = "urn:oasis:names:tc:opendocument:xmlns:manifest:1.0"
@@ -558,8 +563,7 @@ def by_hand(numbers: random.Random, columns: int) -> Made:
             f'<manifest:file-entry manifest:full-path="{path}" manifest:media-type="{media}"/>'
         )
     manifest += "</manifest:manifest>"
-    parts = {"mimetype": kind, "META-INF/manifest.xml": manifest, "content.xml": content}
-    return Made(packed(parts, zipfile.ZIP_STORED), formats)
+    return {"mimetype": kind, "META-INF/manifest.xml": manifest, "content.xml": content}
 
 
 def wrapped(numbers: random.Random, number: int, line: str) -> str:
