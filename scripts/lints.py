@@ -30,8 +30,6 @@ ENDINGS = {".py": "python", ".bash": "completion", ".1": "manual", ".3": "manual
 # The most that a function may have: ways through it, as McCabe counts them, and statements without its docstring.
 MOST_WAYS = 15
 MOST_STATEMENTS = 30
-# Where four functions have up to three more.
-WITH_MORE = "tools/"
 # What flake8 has to find in WRONG: an import and a variable that nothing uses, a name that is not there, and a
 # function with one way too many.
 BRANCHES = "    if two:\n        pass\n" * MOST_WAYS
@@ -132,7 +130,7 @@ def too_long(path: str) -> Iterator[str]:
 def faults_of_files(paths: Sequence[str]) -> list[str]:
     """What a look into files finds, for which there is no lint."""
     found = [fault for path in paths for fault in silenced(path)]
-    counted = [path for path in paths if kind_of(path) == "python" and not path.startswith(WITH_MORE)]
+    counted = [path for path in paths if kind_of(path) == "python"]
     return found + [fault for path in counted for fault in too_long(path)]
 
 
