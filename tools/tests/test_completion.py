@@ -151,6 +151,7 @@ class Completion(unittest.TestCase):
         done = subprocess.run(make, capture_output=True, text=True, env=environment)
         self.assertEqual((done.returncode, done.stdout, done.stderr), (0, "", ""))
 
+    @support.slow
     def test_values(self) -> None:
         """Each value of an option is proposed, and no file; of one that takes any text nothing."""
         for name, values in {**VALUES, "label-table --code": "", "label-print --stock": ""}.items():

@@ -138,6 +138,7 @@ class Versions(InFolder):
         assert match, first
         return match[1]
 
+    @support.slow
     def test_versions_rise(self) -> None:
         """A commit has a version above that of the one before; a tag has the plain version."""
         for name in ("debian/changelog.py", "CHANGELOG.md"):

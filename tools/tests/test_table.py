@@ -1339,6 +1339,7 @@ class Manual(unittest.TestCase):
 
 
 class LongTables(TableTest):
+    @support.slow
     def test_many_rows_in_seconds(self) -> None:
         table = "code;name\n" + f'{PENCIL};"a, b"\n' * 20000
         before = support.processor_seconds()
@@ -1346,6 +1347,7 @@ class LongTables(TableTest):
         self.assertEqual((done.returncode, done.stdout.count(b"\n"), done.stderr), (0, 40002, b""))
         self.assertLess(support.processor_seconds() - before, 20)
 
+    @support.slow
     def test_many_rows_of_qr_in_seconds(self) -> None:
         table = "code;name\n" + "".join(
             f"https://example.com/01/0{PENCIL}/21/{n};x\n" for n in range(20000)

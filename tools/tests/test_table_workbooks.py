@@ -825,6 +825,7 @@ class Hostile(WorkbookTest):
         )
         self.refused(packed(content), problem)
 
+    @support.slow
     def test_huge_parts(self) -> None:
         stream = io.BytesIO(xlsx(self.SHEET))
         with zipfile.ZipFile(stream, "a", zipfile.ZIP_DEFLATED) as archive:
