@@ -4,7 +4,7 @@
 usage: scripts/gate.py quick | built | STEP..
 
 quick: what needs no program and no proof: the texts, the lints, the tests of the scripts, and those of the tools that
-draw nothing and take no seconds; some two and a half minutes of a processor. built: what needs the proved program,
+draw nothing and take no seconds; some 75 seconds of a processor. built: what needs the proved program,
 crates/labels/out/labels, and the proved library, crates/labels_c/out/liblabels_c.a; it has all tests of the tools.
 STEP: these steps alone, each a script of scripts/ with its arguments.
 

@@ -153,7 +153,9 @@ class TakenAway(InCopy):
         self.assertEqual((status, said in text), (1, True), text)
 
     def test_all_is_there(self) -> None:
-        status, said = self.gate("counts.py", "pages.py")
+        status, said = self.judged("counts.py")
+        self.assertEqual(status, 0, said)
+        status, said = self.gate("pages.py", "subjects.py")
         self.assertEqual((status, said.split("\n")[-2]), (0, "2 passed, 0 failed"), said)
 
     def test_another_python(self) -> None:
