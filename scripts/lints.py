@@ -42,7 +42,7 @@ FINDS = ("F401", "F841", "F821", "C901")
 AS_TOOLS = tuple(f"scripts/{name}.py" for name in ("believed_rows", "changes", "edits", "judging", "wrong_bodies"))
 # The folders whose Python is typed, those together that import one another: modules of others may have the same name.
 TYPED = (("scripts", "debian"), ("lib",), ("tools", "completions"))
-NOT_TYPED = ("tools/tests/", "scripts/instructions.py", "scripts/tests/test_believed.py")
+NOT_TYPED = ("tools/tests/",)
 # black puts a space before the colon of a slice, which E203 is against.
 STYLE = f"flake8 --isolated --disable-noqa --extend-ignore E203 --max-complexity {MOST_WAYS} --max-line-length"
 LAYOUT = f"black --config {os.devnull} --quiet --check --line-length"
