@@ -42,7 +42,6 @@ FINDS = ("F401", "F841", "F821", "C901")
 AS_TOOLS = tuple(f"scripts/{name}.py" for name in ("believed_rows", "changes", "edits", "judging", "wrong_bodies"))
 # The folders whose Python is typed, those together that import one another: modules of others may have the same name.
 TYPED = (("scripts", "debian"), ("lib",), ("tools", "completions"))
-NOT_TYPED = ("tools/tests/",)
 # black puts a space before the colon of a slice, which E203 is against.
 STYLE = f"flake8 --isolated --disable-noqa --extend-ignore E203 --max-complexity {MOST_WAYS} --max-line-length"
 LAYOUT = f"black --config {os.devnull} --quiet --check --line-length"
@@ -198,7 +197,6 @@ def all_lints(files: Mapping[str, Sequence[str]]) -> tuple[Lint, ...]:
     tools = [path for path in files["python"] if path.startswith("tools/") or path in AS_TOOLS]
     used = [path for path in tools if "/tests/" not in path]
     others = [path for path in files["python"] if path not in tools]
-    typed = [path for path in files["python"] if not path.startswith(NOT_TYPED)]
     return (
         Lint("shellcheck --norc", files["shell"], "wrong.sh", "#!/bin/sh\nrm $1\n"),
         Lint("shellcheck --norc --shell=bash", files["completion"], "wrong.bash", "rm $1\n"),
@@ -207,7 +205,9 @@ def all_lints(files: Mapping[str, Sequence[str]]) -> tuple[Lint, ...]:
         Lint(f"{STYLE} 100", used, "wrong.py", WRONG, FINDS),
         Lint(f"{STYLE} 119", [path for path in files["python"] if path not in used], "wrong.py", WRONG, FINDS),
         *(
-            Lint(TYPES + names[0], below(names, typed), "wrong.py", "number: int = 'one'\n", is_of_each=False)
+            Lint(
+                TYPES + names[0], below(names, files["python"]), "wrong.py", "number: int = 'one'\n", is_of_each=False
+            )
             for names in TYPED
         ),
         Lint("mandoc -Tlint -W warning", files["manual"], "wrong.1", ".TH WRONG 1\n.SH NAME\n.XX\n"),

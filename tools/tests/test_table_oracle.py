@@ -195,7 +195,7 @@ def ours(data: bytes) -> Sheet:
     """What labeltools reads."""
     formatter = Formatter(Signs(".", ","))
     cells: Dict[Tuple[int, int], Found] = {}
-    hidden = set()
+    hidden: set[int] = set()
     for row in rows_of_workbook(data, "x", None, formatter):
         if row.is_hidden:
             hidden.add(row.number)
@@ -226,7 +226,7 @@ def gnumerics(data: bytes, ending: str) -> Sheet:
         book = converted(path, "Gnumeric_XmlIO:sax:0")
     root = ElementTree.fromstring(gzip.decompress(book) if book[:2] == b"\x1f\x8b" else book)
     space = {"g": root.tag[1:].partition("}")[0]}
-    hidden = set()
+    hidden: set[int] = set()
     for row in root.iterfind(".//g:RowInfo", space):
         if row.get("Hidden") == "1":
             first = int(row.attrib["No"]) + 1
@@ -288,7 +288,7 @@ def has_own_signs(mine: Found, theirs: Found, number_format: str) -> bool:
     """
     if mine.text is None or theirs.text is None or "[$" not in number_format:
         return False
-    swapped = plain(theirs.text).translate(str.maketrans({",": "", ".": ","}))
+    swapped = plain(theirs.text).translate(str.maketrans(".", ",", ","))
     apostrophe = plain(theirs.text).replace(",", "’")
     bare = re.sub(r"(?<=\d)[. ](?=\d{3})", "", plain(mine.text))
     return bare == swapped or plain(mine.text) == apostrophe
@@ -390,7 +390,7 @@ def values(numbers: random.Random) -> Iterator[float]:
 
 def table_of(numbers: random.Random, columns: int) -> List[List[Tuple[Any, str]]]:
     """Rows of values with their formats: one row for each format, and rows of texts."""
-    lines = []
+    lines: List[List[Tuple[Any, str]]] = []
     found = values(numbers)
     first = [next(found) for _ in range(14)]
     for number_format in FORMATS:
