@@ -26,7 +26,7 @@ library = $(MAKE) -C lib OUT=$(CURDIR)/out/lib PROVED=$(abspath $(PROVED)) $(1)
 link = ln -sfn $(1) $(DESTDIR)$(2)
 
 help:
-	@echo 'make quick     the texts, the lints and the quick tests that need no program: two minutes'
+	@echo 'make quick     the texts, the lints and the quick tests that need no program: a minute or two'
 	@echo 'make check     proves and tests every crate: 10 to 20 minutes'
 	@echo 'make gate      all that a change has to pass'
 	@echo 'make gate-test the same in a fresh Debian, as root'

@@ -8,7 +8,7 @@ that name: what is found may be too much because of that, never too little.
 import os
 import sys
 from dataclasses import dataclass
-from typing import Iterable, Iterator, NamedTuple, Sequence
+from typing import Iterable, NamedTuple, Sequence
 
 import declared
 import libraries
@@ -84,9 +84,9 @@ class Repository:
         one = self.definition(key)
         return [one.key, *self.cites(one)] if one else []
 
-    def cites(self, one: Declaration) -> Iterator[Key]:
-        """Yields what a definition cites."""
-        return self.specs[one.key.crate, one.key.module].cites(one.tokens)
+    def cites(self, one: Declaration) -> Sequence[Key]:
+        """Returns what a definition cites."""
+        return self.specs[one.key.crate, one.key.module].cited_by(one)
 
     def definitions(self, keys: Iterable[Key]) -> list[Declaration]:
         """Returns the definitions of names, each once."""
@@ -164,7 +164,7 @@ def definitions_of_clap(names: Sequence[Key]) -> list[Declaration]:
         """What a definition cites, or what a file has a name from that it passes on."""
         file = files.get(key.module) if key.crate == CLAP else None
         if file and (one := file.of_name.get(key.name)):
-            return [one.key, *file.cites(one.tokens)]
+            return [one.key, *file.cited_by(one)]
         passed_on = file.passed_on if file else []
         return [it.target for it in passed_on if it.target and it.name == key.name]
 

@@ -14,6 +14,7 @@ crates/labels/out/labels.
 """
 
 import ast
+import functools
 import glob
 import os
 import re
@@ -65,9 +66,14 @@ def counts_of_crate(crate: str, files: Iterable[reader.File]) -> Iterator[tuple[
     yield len(glob.glob(f"crates/{crate}/stdout")), "stored runs"
 
 
-def numbers_in(text: str) -> Iterator[str]:
+@functools.cache
+def numbers_in(text: str) -> str:
     """The constants of a file of Python that are computed of numbers: limits, sizes, seeds."""
-    for statement in ast.parse(text).body:
+    return ", ".join(constants_of(ast.parse(text)))
+
+
+def constants_of(module: ast.Module) -> Iterator[str]:
+    for statement in module.body:
         if isinstance(statement, ast.Assign):
             parts = [node for node in ast.walk(statement.value) if isinstance(node, ast.expr)]
             numbers = [it for it in parts if isinstance(it, ast.Constant) and isinstance(it.value, (int, float))]
@@ -78,9 +84,14 @@ def numbers_in(text: str) -> Iterator[str]:
 def numbers_below(folder: str) -> Iterator[tuple[str, str]]:
     """The numbers of each script or test of a folder that has some, and its name."""
     for path in sources.files_below(folder, ".py"):
-        found = ", ".join(numbers_in(sources.read(path)))
-        if found and os.path.dirname(path) == folder:
+        if os.path.dirname(path) == folder and (found := numbers_in(sources.read(path))):
             yield f"numbers of {path}", found
+
+
+def numbers_of_python() -> Iterator[tuple[str, str]]:
+    """The numbers of the scripts and of the tests."""
+    for folder in ("scripts", *gate.TESTS):
+        yield from numbers_below(folder)
 
 
 def names_of_packages() -> list[str]:
@@ -122,8 +133,7 @@ def counts_of_text() -> Iterator[tuple[str, object]]:
     yield "labels to compare", f"{len(labels)} with {len(heads)} heads, {len(with_zint)} for zint"
     yield "packages of the gate", len(names_of_packages())
     yield "tests of the packages", ", ".join(tests_of_packages())
-    for folder in ("scripts", *gate.TESTS):
-        yield from numbers_below(folder)
+    yield from numbers_of_python()
 
 
 def last_line_of(step: str) -> str:

@@ -4,7 +4,7 @@
 usage: scripts/gate.py quick | built | STEP..
 
 quick: what needs no program and no proof: the texts, the lints, the tests of the scripts, and those of the tools that
-draw nothing and take no seconds; some two and a half minutes of a processor. built: what needs the proved program,
+draw nothing and take no seconds; some 75 seconds of a processor. built: what needs the proved program,
 crates/labels/out/labels, and the proved library, crates/labels_c/out/liblabels_c.a; it has all tests of the tools.
 STEP: these steps alone, each a script of scripts/ with its arguments.
 
@@ -18,6 +18,7 @@ import re
 import sys
 import time
 
+import forks
 import sources
 
 QUICK = (
@@ -42,6 +43,8 @@ BUILT = (
     "run_recipes.py",
     "instructions.py --check",
 )
+# The steps of quick that run in forks of one process, which has read the files for all of them.
+FORKED = (*QUICK[:5], "run_tests.py scripts/tests")
 # The steps whose last line is in the file of counts: those that judge what is built, and one before.
 COUNTED = ("believed_rows.py", *(step for step in BUILT if not step.startswith("run_tests.py")))
 COUNTS = "scripts/counts.txt"
@@ -61,10 +64,23 @@ def counts_kept() -> dict[str, str]:
     return dict(pairs)
 
 
-def run(step: str) -> tuple[int, str, str]:
+def run(step: str, is_forked: bool = False) -> tuple[int, str, str]:
     """The status of a step, what it wrote, and the last line of that."""
-    status, said = sources.run([sources.PYTHON, *f"scripts/{step}".split()])
+    if is_forked:
+        name, *arguments = step.split()
+        status, said = forks.run(sources.TOP, name, arguments)
+    else:
+        status, said = sources.run([sources.PYTHON, *f"scripts/{step}".split()])
     return status, said, said.rstrip("\n").split("\n")[-1]
+
+
+def steps_to_fork() -> tuple[str, ...]:
+    """The steps that run in forks: none where a file cannot be read, which they then say themselves."""
+    try:
+        forks.read_files()
+    except (Exception, SystemExit):
+        return ()
+    return FORKED
 
 
 def fault_of_count(step: str, last: str, ran: int) -> str:
@@ -78,9 +94,9 @@ def fault_of_count(step: str, last: str, ran: int) -> str:
     return ""
 
 
-def passed_and_failed(step: str) -> tuple[int, int, str]:
+def passed_and_failed(step: str, is_forked: bool) -> tuple[int, int, str]:
     """How many of a step passed and failed, and what is printed of it."""
-    status, said, last = run(step)
+    status, said, last = run(step, is_forked)
     numbers = PASSED.fullmatch(last)
     good, bad, left_out = map(int, numbers.groups("0")) if numbers else (int(status == 0), int(status != 0), 0)
     if left_out and "--quick" not in step:
@@ -101,10 +117,11 @@ def main() -> int:
         is_asked = asked in (("-h",), ("--help",))
         print(__doc__, file=sys.stdout if is_asked else sys.stderr)
         return 0 if is_asked else 2
+    forked = steps_to_fork() if asked == ("quick",) else ()
     passed = failed = 0
     for step in steps:
         start = time.monotonic()
-        good, bad, said = passed_and_failed(step)
+        good, bad, said = passed_and_failed(step, step in forked)
         passed, failed = passed + good, failed + bad
         print(said)
         print(f"{'FAILED' if bad else 'ok'}: {step}, {time.monotonic() - start:.1f} s", flush=True)

@@ -24,6 +24,7 @@ import tempfile
 from dataclasses import dataclass
 from functools import partial
 from pathlib import Path
+from typing import Any, Callable, Iterator, Mapping, NoReturn, Optional, Union
 
 import sources
 
@@ -55,7 +56,14 @@ class Label:
     level: str = "M"
 
 
-def front(count, text):
+# A cell of a table: a count, a text, or nothing; and what counts those of each row.
+Cell = Union[float, str, None]
+Rows = dict[str, list[Callable[[], Cell]]]
+Word = Union[str, Path]
+Environment = Optional[Mapping[str, str]]
+
+
+def front(count: int, text: str) -> str:
     """The first characters of a text over and over."""
     return (text * count)[:count]
 
@@ -111,14 +119,14 @@ LIBRARIES = {"libqrencode": "libqrencode", "libzint": "libzint, no picture", "qr
 QR_ALONE = ("libqrencode", "qrcodegen")
 
 
-def stop(text):
+def stop(text: str) -> NoReturn:
     print(f"{sys.argv[0]}: {text}", file=sys.stderr)
     sys.exit(2)
 
 
-def ran(*command, **how):
+def ran(*command: Word, **how: Any) -> "subprocess.CompletedProcess[str]":
     """A command that has run. Stops where it fails."""
-    if not shutil.which(command[0]):
+    if not shutil.which(os.fspath(command[0])):
         stop(f"not installed: {command[0]}")
     done = subprocess.run(command, stdin=subprocess.DEVNULL, stderr=subprocess.PIPE, text=True, **how)
     if done.returncode:
@@ -126,23 +134,29 @@ def ran(*command, **how):
     return done
 
 
-def output_of(*command):
-    return ran(*command, stdout=subprocess.PIPE).stdout
+def output_of(*command: Word) -> str:
+    return str(ran(*command, stdout=subprocess.PIPE).stdout)
 
 
-def said_by_valgrind(*words, environment=None):
+def said_by_valgrind(*words: Word, environment: Environment = None) -> str:
     """What valgrind says of a command whose output is thrown away."""
     return ran("valgrind", *words, stdout=subprocess.DEVNULL, env=environment).stderr
 
 
-def instructions_of(program, *words, environment=None):
+def instructions_of(program: Word, *words: Word, environment: Environment = None) -> int:
     """The instructions of a command."""
-    command = ("--tool=callgrind", "--callgrind-out-file=/dev/null", shutil.which(program), *words)
-    return int(re.search(r" Collected : (\d+)", said_by_valgrind(*command, environment=environment))[1])
+    command = ("--tool=callgrind", "--callgrind-out-file=/dev/null", shutil.which(program) or program, *words)
+    return number_in(r" Collected : (\d+)", said_by_valgrind(*command, environment=environment))
 
 
-def command_of(program, label, times, *options):
-    """The command of a program for a label, so many times, or nothing; qrencode draws it once."""
+def number_in(pattern: str, said: str) -> int:
+    """The number that a text has. Stops where it has none."""
+    found = re.search(pattern, said, re.M)
+    return int(found[1]) if found else stop(f"valgrind has counted nothing: {said}")
+
+
+def command_of(program: Word, label: Label, times: int, *options: str) -> list[Word]:
+    """The command of a program for a label, n times, or no word; qrencode draws it once."""
     line = f"{label.symbology} {label.data}" if program == PROGRAM else label.data
     Path("lines").write_text(f"{line}\n" * times, encoding="utf-8")
     is_qr = label.symbology == "qr"
@@ -156,10 +170,10 @@ def command_of(program, label, times, *options):
         return ["barcode", "-e", of_barcode, "-n", "-o", os.devnull, "-i", "lines"]
     if program == "qrencode" and is_qr:
         return ["qrencode", "-l", label.level, "-s", "1", "-t", "ASCII", "-o", os.devnull, label.data]
-    return None
+    return []
 
 
-def one_more(program, label, *options):
+def one_more(program: Word, label: Label, *options: str) -> Cell:
     """What one label more takes of a program, or nothing where it does not draw it."""
     command = command_of(program, label, 1, *options)
     if not command:
@@ -173,19 +187,19 @@ def one_more(program, label, *options):
     return (more - less) / COUNT
 
 
-def whole_run(program, label):
+def whole_run(program: Word, label: Label) -> Cell:
     """What a whole run over one label takes of a program, or nothing where it does not draw it."""
     command = command_of(program, label, 1)
     return instructions_of(*command, environment={}) if command else None
 
 
-def nothing():
+def nothing() -> Cell:
     """What a whole run of a program takes that does nothing."""
     subprocess.run(["gcc", "-xc", "-", "-o", "nothing"], input=b"int main(void) { return 0; }", check=True)
     return instructions_of("./nothing", environment={})
 
 
-def system_calls(call):
+def system_calls(call: str) -> Cell:
     """How often a run over 1,000 labels makes a system call, without those of a run over none."""
     counts = []
     for times in (0, 1000):
@@ -196,19 +210,19 @@ def system_calls(call):
     return counts[1] - counts[0]
 
 
-def draws(call, label):
+def draws(call: str, label: Label) -> bool:
     """Whether a call of a library draws a label: some draw QR alone."""
     return label.symbology == "qr" or not call.startswith(QR_ALONE)
 
 
-def words_of_call(call, label):
+def words_of_call(call: str, label: Label) -> tuple[str, ...]:
     """The words by which the test program makes a call; it is built where it is not there."""
     if not os.path.exists("count_calls"):
         output_of(*BUILD)
     return call, label.symbology, label.level, label.data
 
 
-def of_call(call, label):
+def of_call(call: str, label: Label) -> Cell:
     """What a call of a library takes, or nothing where it does not draw the label."""
     if not draws(call, label):
         return None
@@ -218,10 +232,10 @@ def of_call(call, label):
     said_by_valgrind(*command, environment={**os.environ, **NO_STOSB})
     if theirs:
         see_picture(label, theirs)
-    return int(re.search(r"^summary: (\d+)", sources.read("counts.1"), re.M)[1]) / CALLS
+    return number_in(r"^summary: (\d+)", sources.read("counts.1")) / CALLS
 
 
-def time_of_call(call, label):
+def time_of_call(call: str, label: Label) -> Cell:
     """The microseconds of a call of a library, as text, or nothing where it does not draw the label."""
     if not draws(call, label):
         return None
@@ -229,11 +243,12 @@ def time_of_call(call, label):
     return f"{microseconds:,.0f}" if microseconds >= 100 else f"{microseconds:.2g}"
 
 
-def nothing_drawn():
+def nothing_drawn() -> Cell:
     """A cell of what is not counted."""
+    return None
 
 
-def see_picture(label, theirs):
+def see_picture(label: Label, theirs: str) -> None:
     """A picture of bars has to be that of `labels`, one of a QR symbol as large: its mask may differ."""
     ours = output_of(*command_of(PROGRAM, label, CALLS + 1))
     if label.symbology == "qr":
@@ -242,9 +257,9 @@ def see_picture(label, theirs):
         stop(f"a library draws another picture of: {label.data}")
 
 
-def tables():
+def tables() -> Iterator[tuple[list[str], Rows]]:
     """The tables of the page: the head, and for each row what counts its cells, of which the first is ours."""
-    rows = {}
+    rows: Rows = {}
     for name, label in LABELS.items():
         ours, *others = (partial(one_more, program, label) for program in PROGRAMS)
         rows[name] = [ours, *(partial(of_call, loop, label) for loop in LOOPS), *others]
@@ -261,22 +276,22 @@ def tables():
         for name in names:
             calls = [call, *(LIBRARIES.values() if call == "labels_symbol" else ())]
             counts = [partial(of_call, one, OF_LIBRARY[name]) for one in calls]
-            none = [nothing_drawn] * (len(LIBRARIES) + 1 - len(calls))
+            none: list[Callable[[], Cell]] = [nothing_drawn] * (len(LIBRARIES) + 1 - len(calls))
             times = [partial(time_of_call, one, OF_LIBRARY[name]) for one in calls]
             function, *scale = call.split(", ")
             rows[", ".join([f"`{function}`", name, *scale])] = [*counts, *none, *times]
-    times = [f"{name}, µs" for name in ("liblabels", *LIBRARIES)]
-    yield ["Call", "liblabels", *LIBRARIES, *times], rows
+    of_times = [f"{name}, µs" for name in ("liblabels", *LIBRARIES)]
+    yield ["Call", "liblabels", *LIBRARIES, *of_times], rows
 
 
-def shown(count):
+def shown(count: Cell) -> str:
     """A cell: a count in hundreds, a small one and a text as they are, or none."""
     if count is None or isinstance(count, str):
         return count or "-"
     return f"{100 * round(count / 100):,}" if count >= 1000 else f"{count:.0f}"
 
 
-def print_tables():
+def print_tables() -> None:
     for head, rows in tables():
         print(f"| {' | '.join(head)} |\n|{'---|' * len(head)}")
         for name, cells in rows.items():
@@ -285,7 +300,7 @@ def print_tables():
         print()
 
 
-def rows_of(page):
+def rows_of(page: str) -> Iterator[list[str]]:
     """The rows of the page's tables that are counted: a name, and the number of ours."""
     is_counted = False
     for line in page.split("\n"):
@@ -295,7 +310,7 @@ def rows_of(page):
             yield cells
 
 
-def compared(name, found, wanted):
+def compared(name: str, found: float, wanted: str) -> str:
     """A line on a count beside that of the page, which begins with FAILS where they differ."""
     if not re.fullmatch(r"[1-9][\d,]*", wanted):
         return f"FAILS {name}: the page has {wanted or 'no such row'}"
@@ -304,7 +319,7 @@ def compared(name, found, wanted):
     return f"FAILS {line}" if abs(percent) > ROOM else line
 
 
-def check(found, page):
+def check(found: Mapping[str, float], page: str) -> tuple[list[str], int]:
     """A line for each count, and how many fail."""
     rows = [*rows_of(page)]
     lines = []
@@ -314,14 +329,14 @@ def check(found, page):
     return lines, sum(line.startswith("FAILS") for line in lines)
 
 
-def sees_wrong_counts():
+def sees_wrong_counts() -> bool:
     """Whether counts that are 6 % below and above those of a page are reported."""
     page = "| Label | labels |\n|---|---|\n| low | 1,000 |\n| high | 1,000 |\n| right | 1,000 |\n"
     lines, failed = check({"low": 940, "high": 1060, "right": 1000}, page)
     return failed == 2 and [line.startswith("FAILS") for line in lines] == [True, True, False]
 
 
-def main():
+def main() -> int:
     parser = sources.parser_of(__doc__, has_top=False)
     parser.add_argument("--check", action="store_true", help="compare what is ours with the page")
     given = parser.parse_args()
@@ -333,7 +348,8 @@ def main():
         if not sees_wrong_counts():
             print("a count that is 6 % below or above that of the page is not reported")
             return 1
-        found = {name: cells[0]() for _, rows in tables() for name, cells in rows.items()}
+        counts = {name: cells[0]() for _, rows in tables() for name, cells in rows.items()}
+        found = {name: count for name, count in counts.items() if isinstance(count, (int, float))}
     lines, failed = check(found, PAGE.read_text(encoding="utf-8"))
     print(*lines, f"{len(found)} rows, {failed} failed", sep="\n")
     return 1 if failed else 0

@@ -3,12 +3,15 @@
 
 What a file is, its first line says, or its ending. A first line `#!` that is none of INTERPRETERS is a fault: such a
 file would be read by no lint. Settings beside the code are not read, but for scripts/mypy.ini; remarks in the code
-that silence a lint are faults. The last line is `N passed, M failed`.
+that silence a lint are faults. A text in which a lint found nothing is not read again by the same lint, as long as no
+package changes: out/lints.txt has the sums of these texts. The last line is `N passed, M failed`.
 """
 
 import ast
+import hashlib
 import os
 import re
+import shutil
 import sys
 import tempfile
 import tokenize
@@ -30,8 +33,6 @@ ENDINGS = {".py": "python", ".bash": "completion", ".1": "manual", ".3": "manual
 # The most that a function may have: ways through it, as McCabe counts them, and statements without its docstring.
 MOST_WAYS = 15
 MOST_STATEMENTS = 30
-# Where four functions have up to three more.
-WITH_MORE = "tools/"
 # What flake8 has to find in WRONG: an import and a variable that nothing uses, a name that is not there, and a
 # function with one way too many.
 BRANCHES = "    if two:\n        pass\n" * MOST_WAYS
@@ -41,12 +42,14 @@ FINDS = ("F401", "F841", "F821", "C901")
 AS_TOOLS = tuple(f"scripts/{name}.py" for name in ("believed_rows", "changes", "edits", "judging", "wrong_bodies"))
 # The folders whose Python is typed, those together that import one another: modules of others may have the same name.
 TYPED = (("scripts", "debian"), ("lib",), ("tools", "completions"))
-NOT_TYPED = ("tools/tests/", "scripts/instructions.py", "scripts/tests/test_believed.py")
 # black puts a space before the colon of a slice, which E203 is against.
 STYLE = f"flake8 --isolated --disable-noqa --extend-ignore E203 --max-complexity {MOST_WAYS} --max-line-length"
 LAYOUT = f"black --config {os.devnull} --quiet --check --line-length"
 # It keeps what it read of the typed files, in a folder that is not committed.
 TYPES = "mypy --no-error-summary --config-file scripts/mypy.ini --cache-dir out/mypy/"
+# What is kept of the other lints, and what changes with each package of the system.
+KEPT = "out/lints.txt"
+PACKAGES = "/var/lib/dpkg/status"
 # What silences a lint where it is written.
 SILENCED = re.compile(r"#\s*(?:noqa|type:\s*ignore|fmt:\s*(?:off|skip)|pragma|mypy:|flake8:|shellcheck disable)", re.I)
 
@@ -60,8 +63,9 @@ class Lint:
     wrong_name: str
     wrong: str
     finds: tuple[str, ...] = ()  # what it has to say of that file, each
+    is_of_each: bool = True  # whether what it finds in a file depends on no other one
 
-    def fault(self) -> str:
+    def fault(self, kept: "Kept") -> str:
         """What it finds, or that it reads no file, or that it finds nothing in what is wrong."""
         if not self.files:
             return f"{self.command} reads no file"
@@ -73,12 +77,41 @@ class Lint:
             unseen = [it for it in self.finds if f": {it} " not in found]
             if not found or unseen:
                 return f"{self.command} finds nothing in: {', '.join(unseen) or self.wrong}"
-        return self.findings(self.files)
+        if not self.is_of_each:
+            return self.findings(self.files)
+        new = [path for path in self.files if not kept.has(self.command, path)]
+        found = self.findings(new) if new else ""
+        kept.take(self.command, [path for path in self.files if not found or path not in new])
+        return found
 
     def findings(self, files: Sequence[str]) -> str:
         """What it finds, and its status; nothing where it finds nothing."""
         status, said = sources.run([*self.command.split(), *files])
         return f"{said}{self.command} found something, status {status}" if status or said else ""
+
+
+class Kept:
+    """The sums of the texts in which a lint found nothing, by the lint and the packages that are installed."""
+
+    def __init__(self) -> None:
+        self.before = frozenset(sources.read(KEPT).split()) if os.path.exists(KEPT) else frozenset[str]()
+        self.found = set[str]()
+        self.packages = os.stat(PACKAGES).st_mtime_ns
+
+    def sum_of(self, command: str, path: str) -> str:
+        program = shutil.which(command.split()[0])
+        head = f"{self.packages} {program} {command}\0{os.path.splitext(path)[1]}\0{sources.read(path)}"
+        return hashlib.sha256(head.encode()).hexdigest()
+
+    def has(self, command: str, path: str) -> bool:
+        return self.sum_of(command, path) in self.before
+
+    def take(self, command: str, paths: Sequence[str]) -> None:
+        self.found.update(self.sum_of(command, path) for path in paths)
+
+    def write(self) -> None:
+        """Keeps what was found now, and no more."""
+        sources.write(KEPT, "".join(f"{it}\n" for it in sorted(self.found)))
 
 
 def kind_of(path: str) -> str:
@@ -114,6 +147,8 @@ def comments_of(path: str) -> Iterator[tuple[int, str]]:
 
 def silenced(path: str) -> Iterator[str]:
     """What silences a lint in a file."""
+    if not SILENCED.search(sources.read(path)):
+        return
     for line, text in comments_of(path):
         if SILENCED.search(text):
             yield f"{path}:{line}: it silences a lint: {text.strip()}"
@@ -132,7 +167,7 @@ def too_long(path: str) -> Iterator[str]:
 def faults_of_files(paths: Sequence[str]) -> list[str]:
     """What a look into files finds, for which there is no lint."""
     found = [fault for path in paths for fault in silenced(path)]
-    counted = [path for path in paths if kind_of(path) == "python" and not path.startswith(WITH_MORE)]
+    counted = [path for path in paths if kind_of(path) == "python"]
     return found + [fault for path in counted for fault in too_long(path)]
 
 
@@ -162,7 +197,6 @@ def all_lints(files: Mapping[str, Sequence[str]]) -> tuple[Lint, ...]:
     tools = [path for path in files["python"] if path.startswith("tools/") or path in AS_TOOLS]
     used = [path for path in tools if "/tests/" not in path]
     others = [path for path in files["python"] if path not in tools]
-    typed = [path for path in files["python"] if not path.startswith(NOT_TYPED)]
     return (
         Lint("shellcheck --norc", files["shell"], "wrong.sh", "#!/bin/sh\nrm $1\n"),
         Lint("shellcheck --norc --shell=bash", files["completion"], "wrong.bash", "rm $1\n"),
@@ -170,7 +204,12 @@ def all_lints(files: Mapping[str, Sequence[str]]) -> tuple[Lint, ...]:
         Lint(f"{LAYOUT} 119", others, "wrong.py", "x = 'one'\n"),
         Lint(f"{STYLE} 100", used, "wrong.py", WRONG, FINDS),
         Lint(f"{STYLE} 119", [path for path in files["python"] if path not in used], "wrong.py", WRONG, FINDS),
-        *(Lint(TYPES + names[0], below(names, typed), "wrong.py", "number: int = 'one'\n") for names in TYPED),
+        *(
+            Lint(
+                TYPES + names[0], below(names, files["python"]), "wrong.py", "number: int = 'one'\n", is_of_each=False
+            )
+            for names in TYPED
+        ),
         Lint("mandoc -Tlint -W warning", files["manual"], "wrong.1", ".TH WRONG 1\n.SH NAME\n.XX\n"),
     )
 
@@ -186,7 +225,9 @@ def main() -> int:
         *faults_of_files([path for kind in ("python", "shell", "completion") for path in files[kind]]),
     ]
     lints = all_lints(files)
-    found = [fault for lint in lints if (fault := lint.fault())]
+    kept = Kept()
+    found = [fault for lint in lints if (fault := lint.fault(kept))]
+    kept.write()
     print(*faults, *found, f"{len(lints) - len(found)} passed, {len(found) + len(faults)} failed", sep="\n")
     return 1 if found or faults else 0
 

@@ -5,6 +5,7 @@ Literal of the code; Head, Antt, Text and End of what the code says by the logic
 kit's layout, which `rt ci` demands, what stands side by side begins in one column.
 """
 
+import functools
 import itertools
 import json
 import os
@@ -154,22 +155,36 @@ class File:
                 break
         return " ".join(reversed(found))
 
-    def cites(self, tokens: Sequence[Token]) -> Iterator[Key]:
-        """What tokens name, in their order: definitions of the file itself, and what it imports of the logic."""
+    @functools.cached_property
+    def targets(self) -> dict[str, list[Key]]:
+        """What the names of the file itself, and those that it imports of the logic, stand for."""
         targets: dict[str, list[Key]] = {}
         for one in self.imports:
             if one.target:
                 targets.setdefault(one.name, []).append(one.target)
-        targets.update({name: [one.key] for name, one in self.of_name.items()})
+        return targets | {name: [one.key] for name, one in self.of_name.items()}
+
+    @functools.cached_property
+    def operators(self) -> list[str]:
+        """The names among them that are operators."""
+        return [name for name in self.targets if "◌" in name]
+
+    def cites(self, tokens: Sequence[Token]) -> Iterator[Key]:
+        """What tokens name, in their order: definitions of the file itself, and what it imports of the logic."""
         for token in tokens:
             first, _, rest = token.text.partition(".")
-            for target in targets.get(first, ()):
+            for target in self.targets.get(first, ()):
                 if target.name or rest:
                     yield target if target.name else target._replace(name=rest.split(".")[0])
-        names = names_in(tokens)
-        for name in targets:
-            if "◌" in name and is_named_in(name, names):
-                yield from targets[name]
+        names = names_in(tokens) if self.operators else set()
+        for name in self.operators:
+            if is_named_in(name, names):
+                yield from self.targets[name]
+
+    @functools.cache
+    def cited_by(self, one: Declaration) -> Sequence[Key]:
+        """What a declaration of the file cites."""
+        return [*self.cites(one.tokens)]
 
     # ---- the logic
 

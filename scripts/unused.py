@@ -60,7 +60,7 @@ def unused_definitions(logic: Sequence[File], code: Sequence[File]) -> list[Decl
         """The definition that has a name, and what it cites."""
         file = files.get(key._replace(name=""))
         one = file.of_name.get(key.name) if file else None
-        return [one.key, *file.cites(one.tokens)] if file and one else []
+        return [one.key, *file.cited_by(one)] if file and one else []
 
     roots = [key for file in code for key in cited_by_code(file)]
     cited = [*roots, *(one.target for file in logic for one in file.imports if one.target)]

@@ -7,7 +7,6 @@ import stat
 import subprocess
 import sys
 import tempfile
-import traceback
 import unittest
 from typing import Callable, Iterable, Sequence
 
@@ -44,38 +43,8 @@ def in_copy(folder: str, name: str, *arguments: str) -> tuple[int, str]:
 
     It runs in a fork of this process, which has read the files before: the script reads what is changed in the copy.
     """
-    script = module(name.removesuffix(".py"))
-    with tempfile.TemporaryFile() as said:
-        child = os.fork()
-        if child == 0:
-            os.dup2(said.fileno(), 1)
-            os.dup2(said.fileno(), 2)
-            sys.stdout = sys.stderr = open(1, "w", encoding="utf-8", errors="backslashreplace", closefd=False)
-            sys.argv = [name, *arguments]
-            setattr(module("sources"), "TOP", folder)
-            status = 1
-            try:
-                os.chdir(folder)
-                status = script.main()
-            except SystemExit as end:
-                print("" if isinstance(end.code, int) else end.code)
-                status = end.code if isinstance(end.code, int) else 1
-            except BaseException:
-                traceback.print_exc()
-            finally:
-                sys.stdout.flush()
-                os._exit(status)
-        status = os.waitstatus_to_exitcode(os.waitpid(child, 0)[1])
-        said.seek(0)
-        return status, said.read().decode()
-
-
-def read_files() -> None:
-    """Has this process read the crates and the pages, so that its forks read what is changed alone."""
-    os.chdir(TOP)
-    module("reader").files_of(TOP, module("sources").crates_of(TOP), "src", "specs", "proofs")
-    for text in module("pages").texts().values():
-        module("pages").parsed(text)
+    found: tuple[int, str] = module("forks").run(folder, name, arguments)
+    return found
 
 
 def read(path: str) -> str:
@@ -113,7 +82,7 @@ class InCopy(unittest.TestCase):
 
     @classmethod
     def setUpClass(cls) -> None:
-        read_files()
+        module("forks").read_files()
         cls.folder = os.path.join(tempfile.mkdtemp(prefix="test-copy-"), "labels")
         cls.addClassCleanup(shutil.rmtree, os.path.dirname(cls.folder))
         shutil.copytree(TOP, cls.folder, ignore=shutil.ignore_patterns("out", ".git", "__pycache__"))

@@ -8,6 +8,7 @@ import io
 import re
 import sys
 import unittest
+from typing import Any, Callable, Container, Iterable
 from unittest import mock
 
 from support import TOP, InCopy, in_copy, module, read, write
@@ -20,20 +21,27 @@ PROOF = "docs/PROOF.md"
 RESULTS = "scripts/believed_rows.txt"
 
 
+def found_in(pattern: str, text: str) -> str:
+    """What a text has of a pattern, which has to be there."""
+    found = re.search(pattern, text, re.M)
+    assert found, pattern
+    return found[0]
+
+
 class Believed(InCopy):
     """The numbers, the table and the names of std on the pages are compared with the files."""
 
     @classmethod
-    def setUpClass(cls):
+    def setUpClass(cls) -> None:
         """A copy of the repository whose pages are right."""
         super().setUpClass()
         if in_copy(cls.folder, "believed.py", "--write")[0] != 0:
             raise AssertionError("believed.py --write failed")
 
-    def check(self):
+    def check(self) -> tuple[int, str]:
         return self.judged("believed.py", "--check")
 
-    def test_what_write_leaves_is_right(self):
+    def test_what_write_leaves_is_right(self) -> None:
         """Each contract has a line, and the second needs less than both."""
         status, said = self.check()
         self.assertEqual(status, 0, said)
@@ -48,11 +56,11 @@ class Believed(InCopy):
         shows, runs = (lines[it][0] for it in clauses)
         self.assertTrue(max(shows, runs) < lines[both][0] < shows + runs, said)
 
-    def test_changes(self):
+    def test_changes(self) -> None:
         """Another number, table or name of std on the pages; another clause, definition or crate in the files."""
-        number = re.search(r"[\d,]+ lines of \[definitions", read(self.path("README.md"))).group()
-        clap = re.search(r"[\d,]+ lines of `clap`", read(self.path("README.md"))).group()
-        row = re.search(r"\| the clause `shows` .*\n", read(self.path(PROOF))).group()
+        number = found_in(r"[\d,]+ lines of \[definitions", read(self.path("README.md")))
+        clap = found_in(r"[\d,]+ lines of `clap`", read(self.path("README.md")))
+        row = found_in(r"\| the clause `shows` .*\n", read(self.path(PROOF)))
         held_line, entry = "crates/labelcore/specs/HeldLine.antt", "crates/command/src/entry.rt"
         says, for_take = "as the files give it", "| `take` | the first n elements of a list |\n"
         changes = (
@@ -80,7 +88,7 @@ class Believed(InCopy):
         )
         self.assert_changes_fail(changes, self.check)
 
-    def test_show(self):
+    def test_show(self) -> None:
         """A list has what a clause rests on, with its comment, and says by which clause of a standard."""
         feed, penalty = "- LF: the line feed\n", "Why: `penalty`: in the manner of 7.8.3.\n"
         for name, has, has_not in (
@@ -96,7 +104,7 @@ class Believed(InCopy):
                 self.assertEqual([it for it in has if it not in said], [])
                 self.assertEqual([it for it in has_not if it in said], [])
 
-    def test_show_changes(self):
+    def test_show_changes(self) -> None:
         """A `Why: ` names definitions of its file."""
         penalty = "crates/qrmatrix/specs/Penalty.antt"
         changes = (
@@ -105,7 +113,7 @@ class Believed(InCopy):
         )
         self.assert_changes_fail(changes, lambda: self.judged("believed.py", "--show", "program"))
 
-    def test_axioms(self):
+    def test_axioms(self) -> None:
         """The number of PROOF is that of the verdict on the program, and not one of another crate."""
         log = self.path("log")
         for assumed, status, says in ((39, 0, "39 contracts"), (38, 1, "and docs/PROOF.md has 39")):
@@ -121,10 +129,10 @@ class Believed(InCopy):
 class Rows(InCopy):
     """The results of judged changes are compared with the definitions and the worked values."""
 
-    def check(self):
+    def check(self) -> tuple[int, str]:
         return self.judged("believed_rows.py")
 
-    def test_as_it_is(self):
+    def test_as_it_is(self) -> None:
         """With another comment too."""
         reading = "crates/picture/specs/Reading.antt"
         text = read(self.path(reading))
@@ -134,11 +142,11 @@ class Rows(InCopy):
         self.assertEqual(status, 0, said)
         self.assertRegex(said, r"^\d{4} changes of \d{3} definitions are refused, \d+ mean the same\n$")
 
-    def test_changes(self):
+    def test_changes(self) -> None:
         """Another definition or worked value, a file without a result, a result without a file."""
         reading, examples = "crates/picture/specs/Reading.antt", "crates/picture/proofs/Examples.antt"
         not_judged = "picture/Reading: not as it was judged"
-        line = re.search(r"^picture/Reading .*\n", read(self.path(RESULTS)), re.M).group()
+        line = found_in(r"^picture/Reading .*\n", read(self.path(RESULTS)))
         changes = (
             (reading, "b == 32 || b == 9", "b == 32 || b == 8", not_judged),
             (reading, "b == 32 || b == 9", "b == 32 && b == 9", not_judged),
@@ -154,10 +162,10 @@ class Rows(InCopy):
 class Sample(unittest.TestCase):
     """Changes that are judged again, by a stand-in of the prover."""
 
-    def sampled(self, refuses):
+    def sampled(self, refuses: Callable[[Any], bool]) -> tuple[int, str]:
         """The status of --sample and its last line, where `refuses` says whether a change is refused."""
 
-        def judge(_top, _as_left, _crate, changes, values):
+        def judge(_top: str, _as_left: bool, _crate: Any, changes: Iterable[Any], values: Container[str]) -> None:
             for change in changes:
                 self.assertIn(change.file.title, values)
                 change.by = "value" if refuses(change) else ""
@@ -169,7 +177,7 @@ class Sample(unittest.TestCase):
         ):
             return believed_rows.main(), said.getvalue().split("\n")[-2]
 
-    def test_sample(self):
+    def test_sample(self) -> None:
         """All is as judged where the changes are refused and those that mean the same are not."""
         for refuses, status, wrong in (
             (lambda change: not change.is_same, 0, 0),
@@ -180,7 +188,7 @@ class Sample(unittest.TestCase):
                 last = f"30 changes judged again, 2 mean the same, {wrong} not as judged"
                 self.assertEqual(self.sampled(refuses), (status, last))
 
-    def test_judged_by_own_values(self):
+    def test_judged_by_own_values(self) -> None:
         """A worked value that is not in the line of a file does not judge it."""
         (file,) = module("reader").files_at(TOP, [f"{TOP}/crates/gf256/proofs/Examples.antt"])
         worked = [one.name for one in file.declarations if changes.is_worked(one)]

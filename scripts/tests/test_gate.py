@@ -153,7 +153,9 @@ class TakenAway(InCopy):
         self.assertEqual((status, said in text), (1, True), text)
 
     def test_all_is_there(self) -> None:
-        status, said = self.gate("counts.py", "pages.py")
+        status, said = self.judged("counts.py")
+        self.assertEqual(status, 0, said)
+        status, said = self.gate("pages.py", "subjects.py")
         self.assertEqual((status, said.split("\n")[-2]), (0, "2 passed, 0 failed"), said)
 
     def test_another_python(self) -> None:
@@ -171,7 +173,12 @@ class TakenAway(InCopy):
     def test_what_is_written_otherwise(self) -> None:
         for step, changes in CHANGED.items():
             self.assert_changes_fail(changes, lambda: self.judged(*step.split()))
-        self.assert_changes_fail(CHANGED_SCRIPTS, lambda: self.gate("counts.py"))
+        for file, old, new, _ in CHANGED_SCRIPTS:
+            self.replace(file, read(self.path(file)).replace(old, new, 1))
+        status, said = self.gate("counts.py")
+        self.assertEqual(status, 1)
+        for *_, wanted in CHANGED_SCRIPTS:
+            self.assertIn(wanted, said)
 
     def test_tests_that_cannot_be_read(self) -> None:
         self.move("lib/tests", "lib/tests-away")
@@ -291,6 +298,11 @@ class TakenAway(InCopy):
                 os.mkdir(os.path.join(folder, name))
             for name, text in texts.items():
                 write(os.path.join(folder, name), text)
+            # What mypy keeps of the modules of Python is the same here.
+            types = os.path.join(TOP, "out/mypy")
+            os.makedirs(types, exist_ok=True)
+            os.mkdir(os.path.join(folder, "out"))
+            os.symlink(types, os.path.join(folder, "out/mypy"))
             status, said = in_copy(folder, "lints.py")
         for wanted in (
             "F401",
@@ -305,6 +317,45 @@ class TakenAway(InCopy):
         ):
             self.assertIn(wanted, said)
         self.assertEqual(status, 1)
+
+
+class KeptLints(InFolder):
+    """What a lint passed is not read again: but what is new, what failed, and all after a package changed."""
+
+    def found_and_read(self, *names: str) -> tuple[str, str]:
+        """What a run of a lint finds in files, and which it reads of them, after a wrong one."""
+        lints = module("lints")
+        path = f"{self.path('bin')}:{os.environ['PATH']}"
+        files = mock.patch.multiple(lints, KEPT="out/kept", PACKAGES="packages")
+        with files, mock.patch.dict(os.environ, PATH=path), mock.patch.object(lints.sources, "TOP", self.folder):
+            kept = lints.Kept()
+            found = lints.Lint("look", names, "bad", "wrong").fault(kept)
+            kept.write()
+        _, *are_read = read("log").split("\n")
+        os.remove("log")
+        return found.partition("\n")[0], " ".join(are_read).strip()
+
+    def test_runs(self) -> None:
+        write(self.path("bin/look"), '#!/bin/sh\necho "$@" >> log\n! grep -l wrong "$@"\n', is_program=True)
+        write(self.path("packages"), "none")
+        os.chdir(self.folder)
+        self.addCleanup(os.chdir, TOP)
+        for changed, text, names, found, are_read in (
+            ("one", "right", "one", "", "one"),
+            ("packages", "", "one", "", "one"),
+            ("", "", "one", "", ""),
+            ("two", "wrong", "one two", "two", "two"),
+            ("", "", "one two", "two", "two"),
+            ("two", "better", "one two", "", "two"),
+            ("", "", "one two", "", ""),
+            ("one", "right still", "one two", "", "one"),
+            ("", "", "two", "", ""),
+            ("", "", "one two", "", "one"),
+        ):
+            if changed:
+                write(self.path(changed), text)
+            with self.subTest(changed=changed, names=names):
+                self.assertEqual(self.found_and_read(*names.split()), (found, are_read))
 
 
 # Stands in for a part of the gate. Of gate.py `quick` runs one step, `built` two.
@@ -489,13 +540,14 @@ class Packages(unittest.TestCase):
         names |= {node.module for node in nodes if isinstance(node, ast.ImportFrom) and node.module}
         others = {name.split(".")[0] for name in names} - own - sys.stdlib_module_names
         self.assertIn("numpy", others)
-        for name in sorted(others):
-            with self.subTest(name):
-                spec = importlib.util.find_spec(name)
-                where = spec.origin if spec else None
-                found = subprocess.run(["dpkg", "-S", where or name], capture_output=True)
-                package = found.stdout.decode().partition(":")[0]
-                self.assertRegex(listed, rf"(?m)^{re.escape(package)} ")
+        files = [spec.origin if (spec := importlib.util.find_spec(name)) else None for name in others]
+        self.assertNotIn(None, files, others)
+        found = subprocess.run(["dpkg", "-S", *map(str, files)], capture_output=True, check=True)
+        rows = found.stdout.decode().splitlines()
+        self.assertEqual(sorted(row.split(": ")[1] for row in rows), sorted(map(str, files)))
+        for row in rows:
+            with self.subTest(row):
+                self.assertRegex(listed, rf"(?m)^{re.escape(row.partition(':')[0])} ")
 
     def test_each_script_is_a_step(self) -> None:
         """Each program of scripts/ is a step of the gate, or is run by `.ci/run` or a page."""

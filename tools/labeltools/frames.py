@@ -182,7 +182,7 @@ def ninth_of_ten(values: Mapping[float, int]) -> float:
 
 
 @dataclass
-class Demand:
+class JointNeeds:
     """What some labels need together; each need is given with how many labels have it."""
 
     area: Area
@@ -315,7 +315,7 @@ def module_in(area: Area, need: Need, wished: int, room: int) -> int:
 
 def frame_of(area: Area, needs: Mapping[Need, int]) -> Optional[Frame]:
     """Returns the frame of labels, or None where no one frame serves all of them."""
-    demand = Demand(area, needs)
+    demand = JointNeeds(area, needs)
     narrowest = [min(allowed, default=0) for allowed in demand.modules]
     if not all(narrowest) or min(area.width, area.height) < 1:
         return None
@@ -334,7 +334,7 @@ def frame_of(area: Area, needs: Mapping[Need, int]) -> Optional[Frame]:
     return cut
 
 
-def rounds_of(demand: Demand) -> list[list[int]]:
+def rounds_of(demand: JointNeeds) -> list[list[int]]:
     """Returns the modules that are tried, in rounds: for tills the widest that serves comes first;
     on a shelf the price decides.
     """
@@ -349,21 +349,21 @@ def rounds_of(demand: Demand) -> list[list[int]]:
     return [[one] for one in wishes]
 
 
-def frames_of(demand: Demand, level: Level, wishes: Iterable[int]) -> Iterable[Frame]:
+def frames_of(demand: JointNeeds, level: Level, wishes: Iterable[int]) -> Iterable[Frame]:
     """Yields the frames on a level: of each arrangement, size of titles and module."""
     parts = demand.title_parts
     for kind, part, module in product(ARRANGEMENTS, parts, wishes):
         title = max(demand.area.dots(LEAST_TITLE), round(demand.text_size * part))
-        trial = Trial(demand, level, kind, title, part == parts[-1], module)
-        if frame := trial.frame():
+        attempt = Attempt(demand, level, kind, title, part == parts[-1], module)
+        if frame := attempt.frame():
             yield frame
 
 
 @dataclass(frozen=True)
 class Rooms:
-    """The room of a trial: the width of the code and what is beside it, the width of titles and of
-    prices, the least and the most height of the code with its digits, the most height of bars, the
-    height of digits.
+    """The room of an attempt: the width of the code and what is beside it, the width of titles and
+    of prices, the least and the most height of the code with its digits, the most height of bars,
+    the height of digits.
     """
 
     code: int
@@ -377,7 +377,7 @@ class Rooms:
 
 
 @dataclass(frozen=True)
-class Head:
+class Heading:
     """Title and text: the lines of titles and whether most are whole; the letters and the height of
     texts, whether these are beside the code; the height above price and code.
     """
@@ -400,12 +400,12 @@ class Line:
 
 
 @dataclass(frozen=True)
-class Trial:
+class Attempt:
     """One arrangement of the parts of labels, with titles of one size and one module, on one level
     of demands.
     """
 
-    demand: Demand
+    demand: JointNeeds
     level: Level
     kind: str
     title: int
@@ -480,7 +480,7 @@ class Trial:
             return rooms.beside >= LEAST_LINE * self.title
         return bool(demand.price) and rooms.beside >= 1
 
-    def head(self, rooms: Rooms) -> Head:
+    def head(self, rooms: Rooms) -> Heading:
         """Returns the title, and the text below it where that is not beside the code."""
         demand = self.demand
         area = demand.area
@@ -499,7 +499,7 @@ class Trial:
             text = small if is_foot_text else text
         text_height = math.ceil(demand.lines * LINE * text)
         height = math.ceil(lines * LINE * self.title) + (0 if is_foot_text else text_height)
-        return Head(lines, wanted <= most, text, text_height, is_foot_text, height)
+        return Heading(lines, wanted <= most, text, text_height, is_foot_text, height)
 
     def details(self, rooms: Rooms) -> Line:
         """Returns old price and unit price, on a line or on two."""
@@ -514,7 +514,7 @@ class Trial:
             size = min(size, math.floor(rooms.price / max(was, unit)))
         return Line(size, lines, math.ceil(lines * LINE * size))
 
-    def price(self, rooms: Rooms, head: Head, details: Line, low: int) -> Optional[Line]:
+    def price(self, rooms: Rooms, head: Heading, details: Line, low: int) -> Optional[Line]:
         """Returns the price, as large as the room allows; None where it and the code do not fit."""
         demand = self.demand
         area = demand.area
@@ -535,7 +535,7 @@ class Trial:
         return Line(size, 1, math.ceil(HINTING * size * demand.price_height))
 
     def framed(
-        self, rooms: Rooms, head: Head, details: Line, price: Line, boxes: Mapping[str, Box]
+        self, rooms: Rooms, head: Heading, details: Line, price: Line, boxes: Mapping[str, Box]
     ) -> Frame:
         """Returns the frame of boxes. A narrower module and cut titles have to be worth it."""
         demand = self.demand
@@ -564,26 +564,26 @@ class Trial:
         )
 
 
-def rest_below(area: Area, demand: Demand, head: Head) -> int:
+def rest_below(area: Area, demand: JointNeeds, head: Heading) -> int:
     """Returns the height below title and text."""
     return area.height - head.height - (demand.gap if head.height else 0)
 
 
 @dataclass(frozen=True)
 class Arrangement:
-    """A trial whose parts all have their sizes."""
+    """An attempt whose parts all have their sizes."""
 
-    trial: Trial
+    attempt: Attempt
     rooms: Rooms
-    head: Head
+    head: Heading
     details: Line
     price: Line
     low: int
 
     @property
-    def demand(self) -> Demand:
+    def demand(self) -> JointNeeds:
         """What the labels need."""
-        return self.trial.demand
+        return self.attempt.demand
 
     def title(self, left: int, top: int) -> Box:
         """Returns the place of title and text."""
@@ -591,11 +591,11 @@ class Arrangement:
 
     def stacked(self) -> dict[str, Box]:
         """Returns places of head, price and code, one below another."""
-        inset = self.trial.inset
+        inset = self.attempt.inset
         rooms = self.rooms
         area = self.demand.area
         gap = self.demand.gap
-        is_foot = self.trial.kind == "foot"
+        is_foot = self.attempt.kind == "foot"
         details = self.details.height
         numbers = self.price.height + (0 if is_foot else details)
         rest = rest_below(area, self.demand, self.head) - (numbers + gap if numbers else 0)
@@ -633,10 +633,10 @@ class Arrangement:
         rooms = self.rooms
         area = self.demand.area
         rest = rest_below(area, self.demand, self.head)
-        whole = area.height if self.trial.kind == "beside" else rest
+        whole = area.height if self.attempt.kind == "beside" else rest
         code = min(whole, rooms.most)
         numbers = self.price.height + self.details.height
-        right = area.width - self.trial.inset
+        right = area.width - self.attempt.inset
         top = 0 if numbers else (area.height - self.head.height) // 2
         boxes = {
             "code": Box(0, area.height - whole + (whole - code) // 2, rooms.code, code),

@@ -392,12 +392,7 @@ def run() -> int:
     job = planned(options)
     forget()
     check_arguments(arguments, job)
-    queue: Optional[str] = arguments.queue
-    is_single = bool(arguments.journal or (queue or "").startswith(SCHEME))
-    if queue is not None and not is_single:
-        require_printable(job, queue)
-    elif queue is None and options.each is None:
-        standard_output()  # a closed one is said before the input is read
+    check_output(arguments, job)
     if arguments.is_stream:
         from labeltools import stream
 
@@ -408,16 +403,38 @@ def run() -> int:
     if job.form == DESIGN and found.labels:
         write_design(found)
         return 1 if found.left_out else 0
+    return give_out(arguments, options, found, talk)
+
+
+def is_single(arguments: argparse.Namespace) -> bool:
+    """Returns whether labels are sent one by one."""
+    return bool(arguments.journal or (arguments.queue or "").startswith(SCHEME))
+
+
+def check_output(arguments: argparse.Namespace, job: PrintJob) -> None:
+    """Raises `ToolError` where labels cannot go out, before the input is read."""
+    if arguments.queue is None:
+        if arguments.each is None:
+            standard_output()
+    elif not is_single(arguments):
+        require_printable(job, arguments.queue)
+
+
+def give_out(
+    arguments: argparse.Namespace, options: PrintOptions, found: Prepared, talk: PrintTalk
+) -> int:
+    """Writes labels, prints them or sends them; returns 1 where one is left out or doubtful."""
+    job = found.job
     press = found.press(talk)
     items = found.labels
     prints = found.prints if options.each is None else once(items)
     check_count(job, prints, options.each is not None)
     if options.each is not None:
         write_files(press, items, paths_of(items, options.each))
-    elif is_single:
+    elif is_single(arguments):
         return send_each(arguments, press, found)
-    elif queue is not None:
-        write_message(TOOL, Text("{}", print_on(press, prints, queue)))
+    elif arguments.queue is not None:
+        write_message(TOOL, Text("{}", print_on(press, prints, arguments.queue)))
     else:
         write(press, prints)
         if arguments.summary or sys.stderr.isatty():

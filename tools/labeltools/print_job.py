@@ -19,7 +19,7 @@ from labeltools.layout import LaidOut, LaidOutFile, PrintLabel, lay_out, print_l
 from labeltools.letters import Fonts, Letters
 from labeltools.lines_file import UNPRINTABLE, LineRecord, LinesFile, read_lines
 from labeltools.messages import BAD_ARGUMENTS, Place, Talk, ToolError, quoted
-from labeltools.own_design import is_file, read_design, size_of_page
+from labeltools.own_design import OwnDesign, is_file, read_design, size_of_page
 from labeltools.own_layout import OwnLayouts
 from labeltools.own_pen import with_colours
 from labeltools.pen import Medium, Pen
@@ -122,30 +122,14 @@ def planned(options: PrintOptions) -> PrintJob:
     if is_file(options.design) and not (options.stock or options.paper or options.cell):
         options = replace(options, paper=size_of_page(options.design))
     form = form_of(options)
-    if not form.is_drawn and not options.dpi:
-        hint = Text("the dots an inch of the printer, such as 203 or 300")
-        raise ToolError(Text("--to {} needs --dpi", form.name), hint, BAD_ARGUMENTS)
-    dpi = options.dpi or DRAWING_DPI
-    if dpi > MOST_DPI:
-        raise ToolError(Text("--dpi {}: {} are the most", dpi, MOST_DPI), status=BAD_ARGUMENTS)
-    for name in ("note", "font", "digits", "stock"):
-        if UNPRINTABLE.search(getattr(options, name) or ""):
-            raise ToolError(
-                Text("--{} has characters that are no text", name), status=BAD_ARGUMENTS
-            )
+    dpi = dpi_of(options, form)
+    check_texts(options)
     sheet = sheet_of(options, form)
     edges = options.edge
     if edges is None:
         edge = 0.0 if sheet.is_single else EDGE
         edges = edge, edge, edge, edge
-    own = None
-    if is_file(options.design):
-        if options.height is not None:
-            what = Text("--height is not for a design of one's own")
-            hint = Text("the places of a design say how high bars are")
-            raise ToolError(what, hint, BAD_ARGUMENTS)
-        white = white_of(sheet, edges)
-        own = with_colours(read_design(options.design, sheet.cell, white, options.turn))
+    own = own_design(options, sheet, edges) if is_file(options.design) else None
     wishes = Wishes(
         OWN if own else DESIGNS[options.design],
         options.module,
@@ -162,6 +146,36 @@ def planned(options: PrintOptions) -> PrintJob:
     fonts = Fonts(options.font, options.digits)
     how = (options.first, options.is_cut, options.words, own)
     return PrintJob(plan, form, fonts, *how)
+
+
+def dpi_of(options: PrintOptions, form: Form) -> int:
+    """Returns the dots an inch; raises `ToolError` where they are not given, or too many."""
+    if not form.is_drawn and not options.dpi:
+        hint = Text("the dots an inch of the printer, such as 203 or 300")
+        raise ToolError(Text("--to {} needs --dpi", form.name), hint, BAD_ARGUMENTS)
+    dpi = options.dpi or DRAWING_DPI
+    if dpi > MOST_DPI:
+        raise ToolError(Text("--dpi {}: {} are the most", dpi, MOST_DPI), status=BAD_ARGUMENTS)
+    return dpi
+
+
+def check_texts(options: PrintOptions) -> None:
+    """Raises `ToolError` where a text of the options has what cannot be printed."""
+    for name in ("note", "font", "digits", "stock"):
+        if UNPRINTABLE.search(getattr(options, name) or ""):
+            raise ToolError(
+                Text("--{} has characters that are no text", name), status=BAD_ARGUMENTS
+            )
+
+
+def own_design(options: PrintOptions, sheet: Sheet, edges: Edges) -> OwnDesign:
+    """Returns the design that a file is; raises `ToolError` where it is none."""
+    if options.height is not None:
+        what = Text("--height is not for a design of one's own")
+        hint = Text("the places of a design say how high bars are")
+        raise ToolError(what, hint, BAD_ARGUMENTS)
+    white = white_of(sheet, edges)
+    return with_colours(read_design(options.design, sheet.cell, white, options.turn))
 
 
 def form_of(options: PrintOptions) -> Form:
@@ -257,12 +271,7 @@ def prepared(
         reasons.update(doubles(lines, reasons))
     if reasons:
         labels = [label for label in labels if label.record.number not in reasons]
-    if job.design:
-        area = job.plan.area.turned() if job.design.is_turned else job.plan.area
-        own = OwnLayouts(job.design, area, letters, options.note, options.words)
-        laid_out = own.lay_out(labels, talk)
-    else:
-        laid_out = lay_out(labels, job.plan.area, letters, talk)
+    laid_out = laid_out_by(options, job, labels, letters, talk)
     reasons.update(laid_out.left_out)
     wanted = only_wanted(laid_out.labels, options.only)
     if options.read_back:
@@ -279,6 +288,21 @@ def prepared(
         remarks += remarks_on(wanted, laid_out, len(tables) > 1, pen)
     laid_out = replace(laid_out, labels=tuple(wanted))
     return Prepared(job, laid_out, tuple(left_out), tuple(remarks), tables, letters)
+
+
+def laid_out_by(
+    options: PrintOptions,
+    job: PrintJob,
+    labels: Sequence[PrintLabel],
+    letters: Letters,
+    talk: Talk,
+) -> LaidOutFile:
+    """Returns the layouts of labels by the design of a file, or a built-in one."""
+    if job.design is None:
+        return lay_out(labels, job.plan.area, letters, talk)
+    area = job.plan.area.turned() if job.design.is_turned else job.plan.area
+    own = OwnLayouts(job.design, area, letters, options.note, options.words)
+    return own.lay_out(labels, talk)
 
 
 def doubles(lines: LinesFile, refused: Mapping[int, Text]) -> Mapping[int, Text]:

@@ -59,7 +59,7 @@ def lines_of_table(data: bytes, name: str, options: TableOptions, talk: Talk) ->
     start = head_of(data, name, options, talk)
     looked_at: list[Row] = []
     columns = columns_of(start.head, kept(start.rows, looked_at), options)
-    work = Work(options, columns, start, talk)
+    work = TableRun(options, columns, start, talk)
     work.take_all(chain(looked_at, start.rows))
     writer = work.writer
     if not (writer.taken or writer.left_out or work.hidden or work.unmarked):
@@ -153,8 +153,8 @@ def nothing_marked(columns: Columns, name: str) -> ToolError:
 
 
 @dataclass
-class Work:
-    """The work on a table: what is to be said about a row is said at once, the rest at the end."""
+class TableRun:
+    """A run over a table: what is to be said about a row is said at once, the rest at the end."""
 
     options: TableOptions
     columns: Columns

@@ -4,8 +4,6 @@ import json
 from pathlib import Path
 from typing import Any, Sequence
 
-import numpy
-
 import jobs
 import support
 from labeltools.messages import Silence
@@ -58,12 +56,13 @@ def written(path: Path, body: str, page: str = PAGE) -> Path:
 
 def prepared(design: Path, labels: Sequence[Label], **options: Any) -> Prepared:
     """Labels in a design, each read as it is drawn."""
-    usual = {"paper": PAPER, "dpi": 203, "to": "pbm", "read_back": True}
-    wished = PrintOptions(**{**usual, "design": str(design), **options})
+    chosen: dict[str, Any] = {"paper": PAPER, "dpi": 203, "to": "pbm", "read_back": True}
+    chosen |= {"design": str(design), **options}
+    wished = PrintOptions(**chosen)
     return labels_of(wished, planned(wished), "lines", lines_of(labels), Silence())
 
 
-def dots_of(found: Prepared, number: int = 0) -> numpy.ndarray:
+def dots_of(found: Prepared, number: int = 0) -> jobs.Dots:
     """The dots of a label on its page, as they go out."""
     press = found.press(Silence())
     with press.document([(found.labels[number], found.job.plan.places[0])]) as file:

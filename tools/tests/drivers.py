@@ -9,7 +9,7 @@ from typing import Callable, Iterator, List, Sequence, Tuple
 
 import numpy
 
-from jobs import JobError, data_of_run_lengths
+from jobs import Dots, JobError, data_of_run_lengths
 
 # The commands of a language, and what each does. The number in it, of digits or of one byte, is
 # that of the bytes or dots of a row, of rows that are skipped, or of the bytes of the row after it.
@@ -32,7 +32,7 @@ PCL: Language = (
 )
 
 
-def rows_of(data: bytes, size: int) -> numpy.ndarray:
+def rows_of(data: bytes, size: int) -> Dots:
     """Packed rows as dots."""
     packed = numpy.frombuffer(data, dtype=numpy.uint8).reshape(-1, size)
     return numpy.unpackbits(packed, axis=1)
@@ -40,7 +40,7 @@ def rows_of(data: bytes, size: int) -> numpy.ndarray:
 
 def pages_of(
     job: bytes, language: Language, number_of: Callable[[bytes], int] = int
-) -> Iterator[numpy.ndarray]:
+) -> Iterator[Dots]:
     """The pages of a job, row by row."""
     at = size = 0
     rows: List[bytes] = []
@@ -68,7 +68,7 @@ def pages_of(
             rows = []
 
 
-def pages_of_zpl(job: bytes) -> Iterator[numpy.ndarray]:
+def pages_of_zpl(job: bytes) -> Iterator[Dots]:
     """The pages of rastertolabel's ZPL: each a graphic with run lengths."""
     for total, size, text in re.findall(rb"~DGR:CUPS\.GRF,(\d+),(\d+),\n([^~^]*)", job):
         data = data_of_run_lengths(text.replace(b"\n", b""), int(size))
@@ -77,16 +77,16 @@ def pages_of_zpl(job: bytes) -> Iterator[numpy.ndarray]:
         yield rows_of(data, int(size))
 
 
-def pages_of_epl(job: bytes) -> Iterator[numpy.ndarray]:
+def pages_of_epl(job: bytes) -> Iterator[Dots]:
     """The pages of EPL2: rows of dots in which 0 is dark."""
     return (1 - page for page in pages_of(job, EPL))
 
 
-def pages_of_dymo(job: bytes) -> Iterator[numpy.ndarray]:
+def pages_of_dymo(job: bytes) -> Iterator[Dots]:
     """The pages of a LabelWriter, whose numbers are bytes."""
     return pages_of(job, DYMO, ord)
 
 
-def pages_of_pcl(job: bytes) -> Iterator[numpy.ndarray]:
+def pages_of_pcl(job: bytes) -> Iterator[Dots]:
     """The pages of PCL."""
     return pages_of(job, PCL)

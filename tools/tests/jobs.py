@@ -8,10 +8,12 @@ rows of 0 and 1.
 import re
 import struct
 from io import BytesIO
-from typing import List, Tuple
+from typing import Any, List, Tuple
 
 import numpy
+from numpy.typing import NDArray
 
+Dots = NDArray[Any]
 ZPL_LABEL = re.compile(
     rb"\^XA\^PON\^LH0,0\^LS0\^PW([0-9]+)\^LL([0-9]+)\n(.*?)(?:\^PQ([0-9]+)\n)?\^XZ\n", re.DOTALL
 )
@@ -23,9 +25,9 @@ class JobError(Exception):
     """What is wrong with a job."""
 
 
-def dots_of_zpl(job: bytes) -> List[numpy.ndarray]:
+def dots_of_zpl(job: bytes) -> List[Dots]:
     """The labels of a ZPL job, each as often as it is printed."""
-    labels: List[numpy.ndarray] = []
+    labels: List[Dots] = []
     at = 0
     while at < len(job):
         label = ZPL_LABEL.match(job, at)
@@ -39,7 +41,7 @@ def dots_of_zpl(job: bytes) -> List[numpy.ndarray]:
     return labels
 
 
-def dots_of_fields(fields: bytes, width: int, height: int) -> numpy.ndarray:
+def dots_of_fields(fields: bytes, width: int, height: int) -> Dots:
     """The dots of the graphic fields of a label of ZPL."""
     dots = numpy.zeros((height, (width + 7) // 8 * 8), dtype=numpy.uint8)
     place = 0
@@ -93,15 +95,15 @@ def data_of_run_lengths(text: bytes, size: int) -> bytes:
 PAPER = 5000  # dots: wider than any label of a test
 
 
-def dots_of_escpos(job: bytes, cut: bytes = CUT) -> List[numpy.ndarray]:
+def dots_of_escpos(job: bytes, cut: bytes = CUT) -> List[Dots]:
     """The labels of an ESC/POS job, each of them some images and, where there is one, a cut, on a
     paper that is wider than all of them.
     """
     stream = BytesIO(job)
     if stream.read(2) != RESET:
         raise JobError("no ESC @ at the start")
-    labels: List[numpy.ndarray] = []
-    bands: List[numpy.ndarray] = []
+    labels: List[Dots] = []
+    bands: List[Dots] = []
     while head := stream.read(4):
         if head == b"\x1dv0\0":
             size, height = struct.unpack("<HH", stream.read(4))
@@ -122,13 +124,13 @@ def dots_of_escpos(job: bytes, cut: bytes = CUT) -> List[numpy.ndarray]:
     return labels
 
 
-def bits_of(rows: List[bytes], width: int) -> numpy.ndarray:
+def bits_of(rows: List[bytes], width: int) -> Dots:
     """Rows of whole bytes as dots."""
     packed = numpy.frombuffer(b"".join(rows), dtype=numpy.uint8).reshape(len(rows), -1)
     return numpy.unpackbits(packed, axis=1)[:, :width]
 
 
-def pictures_of_pbm(data: bytes) -> List[numpy.ndarray]:
+def pictures_of_pbm(data: bytes) -> List[Dots]:
     """The pictures of a stream of raw PBM."""
     pictures = []
     while data:
@@ -147,12 +149,12 @@ def pictures_of_pbm(data: bytes) -> List[numpy.ndarray]:
     return pictures
 
 
-def pbm_of(dots: numpy.ndarray) -> bytes:
+def pbm_of(dots: Dots) -> bytes:
     """Dots as raw PBM."""
     return b"P4\n%d %d\n%b" % (dots.shape[1], dots.shape[0], numpy.packbits(dots, axis=1).tobytes())
 
 
-def ink_of(dots: numpy.ndarray) -> Tuple[int, int, int, int]:
+def ink_of(dots: Dots) -> Tuple[int, int, int, int]:
     """The left, top, right and bottom of the ink of dots, the last two behind it; zeros where there
     is none.
     """

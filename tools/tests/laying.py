@@ -5,8 +5,6 @@ import unittest
 from dataclasses import dataclass
 from typing import Any, Optional, Sequence
 
-import numpy
-
 import jobs
 from labeltools.forms.dots import drawn_page
 from labeltools.layout import LaidOut
@@ -46,7 +44,7 @@ class Laid:
         """What is wrong with a label as it is drawn, if anything."""
         return fault_of(item, self.prepared.laid_out.area, self.pen)
 
-    def dots(self, item: LaidOut, around: int = 0, is_turned: bool = False) -> numpy.ndarray:
+    def dots(self, item: LaidOut, around: int = 0, is_turned: bool = False) -> jobs.Dots:
         """The dots of a label with white around its area."""
         area = self.prepared.laid_out.area
         size = area.width + 2 * around, area.height + 2 * around

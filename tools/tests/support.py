@@ -71,9 +71,8 @@ def run_here(tool: str, *arguments: str, input: bytes = b"") -> "Finished[bytes]
     runs.
     """
     source = io.TextIOWrapper(io.BytesIO(input))
-    out, err = io.TextIOWrapper(io.BytesIO()), io.TextIOWrapper(
-        io.BytesIO(), "utf-8", "backslashreplace"
-    )
+    written, said = io.BytesIO(), io.BytesIO()
+    out, err = io.TextIOWrapper(written), io.TextIOWrapper(said, "utf-8", "backslashreplace")
     status = 0
     with mock.patch.multiple(sys, argv=[tool, *arguments], stdin=source, stdout=out, stderr=err):
         try:
@@ -82,10 +81,10 @@ def run_here(tool: str, *arguments: str, input: bytes = b"") -> "Finished[bytes]
             status = int(end.code or 0)
         out.flush()
         err.flush()
-    return Finished([tool, *arguments], status, out.buffer.getvalue(), err.buffer.getvalue())
+    return Finished([tool, *arguments], status, written.getvalue(), said.getvalue())
 
 
-def environment(locale: str = "C.UTF-8") -> dict:
+def environment(locale: str = "C.UTF-8") -> Dict[str, str]:
     """The environment of a tool under test: LC_ALL alone chooses the language; tools/ and `labels`
     are found.
     """
@@ -208,8 +207,11 @@ def printed(
     with tempfile.TemporaryFile() as out, tempfile.TemporaryFile() as err:
         os.dup2(out.fileno(), 1)
         os.dup2(err.fileno(), 2)
-        streams = {"stdout": open(1, "w", closefd=False), "stderr": open(2, "w", closefd=False)}
-        changed = {
+        streams: Dict[str, Any] = {
+            "stdout": open(1, "w", closefd=False),
+            "stderr": open(2, "w", closefd=False),
+        }
+        changed: Dict[str, Any] = {
             "argv": [tool, *map(str, arguments)],
             "stdin": io.TextIOWrapper(io.BytesIO(input)),
             **streams,

@@ -108,7 +108,7 @@ main_of("small-tool", function)
 
 class EveryTool(unittest.TestCase):
     def ended(
-        self, tool: str, arguments: tuple, redirection: str, data: bytes = b""
+        self, tool: str, arguments: tuple[str, ...], redirection: str, data: bytes = b""
     ) -> tuple[int, bytes, list[str]]:
         """The status, standard output and messages of a tool, run by a shell with a redirection."""
         done = subprocess.run(

@@ -19,7 +19,7 @@ from labeltools.forms.dots import Picture
 from labeltools.messages import Silence, ToolError
 from labeltools.print_job import Prepared, PrintOptions, labels_of, planned
 
-SHOP = [
+SHOP: list[tuple[str, dict[str, Any]]] = [
     ("ean13 4006381333931", {"title": "Bleistift, weich", "price": "0,80 €", "text": ["rot"]}),
     ("ean8 73513537", {"title": "Kaugummi", "price": "0,30 €", "was": "0,40 €"}),
     ("upca 036000291452", {"title": "Käse", "price": "12,95 €", "unit": "1 kg = 3,20 €"}),
@@ -51,7 +51,13 @@ def options_of(form: str, **others: Any) -> PrintOptions:
     sheet: dict[str, Any] = {"paper": (62.0, 40.0)}
     if form in ("svg", "png"):
         sheet = {"cell": (62.0, 40.0), "columns": 2, "rows": 4}
-    chosen = {"dpi": 203, "to": form, "edge": (0.0, 0.0, 0.0, 0.0), "dots": 900, **sheet}
+    chosen: dict[str, Any] = {
+        "dpi": 203,
+        "to": form,
+        "edge": (0.0, 0.0, 0.0, 0.0),
+        "dots": 900,
+        **sheet,
+    }
     return PrintOptions(**{**chosen, **others})
 
 
@@ -105,7 +111,7 @@ def moved_part(kind: str, across: int, down: int) -> Callable[..., Any]:
     return call
 
 
-def drawn_with(change: Callable[[Any], None]) -> Callable[..., Any]:
+def drawn_with(change: Callable[[Any], Any]) -> Callable[..., Any]:
     """`Pen.draw` on a canvas that is changed first."""
     draw = pen.Pen.draw
 
@@ -424,12 +430,13 @@ class Read(unittest.TestCase):
         (code,) = page.codes
         (spot,) = compare.spots_of(found.labels[0], comparison.area)
         wanted = comparison.wanted(spot, found.job.plan.places[0])
-        for change in (
+        changes: Sequence[dict[str, Any]] = (
             {"width": code.width - 1},
             {"height": code.height - 1},
             {"modules": code.modules[:-1]},
             {"corners": [(x + 0.5, y) for x, y in code.corners]},
-        ):
+        )
+        for change in changes:
             page.codes = [replace(code, **change)]
             with self.subTest(change=change), self.assertRaises(compare.Different):
                 compare.CodesOfPage(page, 0.125).check(wanted)

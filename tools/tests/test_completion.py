@@ -10,7 +10,7 @@ import sys
 import tempfile
 import unittest
 from pathlib import Path
-from typing import Dict, List, Optional
+from typing import Any, Dict, List, Optional
 
 import support
 
@@ -29,7 +29,7 @@ VALUES: Dict[str, Optional[str]] = {
 }
 ALSO_FILES = ("label-print --design",)  # it takes a name or a file
 NUMBERS = "1 2 3 4 5 6 7 8 9 10"
-OF_LABELS = {
+OF_LABELS: Dict[str, Optional[str]] = {
     "--format": "pbm ascii",
     "--scale": NUMBERS[:15],
     "--height": "",
@@ -96,22 +96,31 @@ def by_bash(words: List[str], folder: Path) -> List[str]:
         last=len(words) - 1,
         command=words[0],
     )
-    how = {
+    how: Dict[str, Any] = {
         "capture_output": True,
         "text": True,
         "cwd": folder,
         "check": True,
         "env": support.environment(),
     }
-    return subprocess.run(["bash", "-c", script], **how).stdout.split("\n")
+    done: "subprocess.CompletedProcess[str]" = subprocess.run(["bash", "-c", script], **how)
+    return done.stdout.split("\n")
 
 
 def by_fish(words: List[str], folder: Path) -> List[str]:
     line = shlex.quote(" ".join(words))
     script = f"source {shlex.quote(str(COMPLETIONS / 'labels.fish'))}; complete -C {line}"
     environment = {**support.environment(), "HOME": str(folder)}
-    how = {"capture_output": True, "text": True, "cwd": folder, "check": True, "env": environment}
-    done = subprocess.run(["fish", "--no-config", "-c", script], **how)
+    how: Dict[str, Any] = {
+        "capture_output": True,
+        "text": True,
+        "cwd": folder,
+        "check": True,
+        "env": environment,
+    }
+    done: "subprocess.CompletedProcess[str]" = subprocess.run(
+        ["fish", "--no-config", "-c", script], **how
+    )
     return [line.split("\t")[0] for line in done.stdout.split("\n")]
 
 
@@ -147,13 +156,15 @@ class Completion(unittest.TestCase):
     def test_made(self) -> None:
         """The files are what completions/make.py makes of the commands as they are."""
         environment = {**support.environment(), "LABELS": str(support.labels_program())}
-        make = [sys.executable, COMPLETIONS / "make.py", "--check"]
+        make = [sys.executable, str(COMPLETIONS / "make.py"), "--check"]
         done = subprocess.run(make, capture_output=True, text=True, env=environment)
         self.assertEqual((done.returncode, done.stdout, done.stderr), (0, "", ""))
 
+    @support.slow
     def test_values(self) -> None:
         """Each value of an option is proposed, and no file; of one that takes any text nothing."""
-        for name, values in {**VALUES, "label-table --code": "", "label-print --stock": ""}.items():
+        more: Dict[str, Optional[str]] = {"label-table --code": "", "label-print --stock": ""}
+        for name, values in {**VALUES, **more}.items():
             files = ["my label.txt"] if values is None or name in ALSO_FILES else []
             for shell in SHELLS:
                 # in bash readline proposes the files

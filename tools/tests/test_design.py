@@ -7,7 +7,7 @@ import tempfile
 import unittest
 import zlib
 from pathlib import Path
-from typing import Any, Sequence
+from typing import Any, Dict, Sequence, Tuple
 from unittest import mock
 
 import numpy
@@ -39,8 +39,8 @@ def setUpModule() -> None:
 def png_of(width: int, height: int) -> str:
     """A white PNG in base 64; of a large one no more than 100 rows are there."""
     rows = (b"\0" + b"\xff" * ((width + 7) // 8)) * min(height, 100)
-    parts = ((b"IHDR", struct.pack(">IIBBBBB", width, height, 1, 0, 0, 0, 0)),)
-    parts += ((b"IDAT", zlib.compress(rows, 9)), (b"IEND", b""))
+    head = struct.pack(">IIBBBBB", width, height, 1, 0, 0, 0, 0)
+    parts = ((b"IHDR", head), (b"IDAT", zlib.compress(rows, 9)), (b"IEND", b""))
     data = b"\x89PNG\r\n\x1a\n"
     for kind, part in parts:
         check = struct.pack(">I", zlib.crc32(kind + part))
@@ -527,14 +527,15 @@ class Papers(OwnPages):
             ' transform="rotate(-90)"/>'
             '<rect id="code" x="1" y="20" width="46" height="18"/>'
         )
-        sheet = {"columns": 2, "rows": 3, "edge": (0.0, 0.0, 0.0, 0.0)}
+        sheet: Dict[str, Any] = {"columns": 2, "rows": 3, "edge": (0.0, 0.0, 0.0, 0.0)}
         pages = ("pdf", "svg", "png", "pbm")
-        for form, paper in (
+        cases: Sequence[Tuple[str, Dict[str, Any]]] = (
             *((form, {"paper": (60.0, 40.0)}) for form in (*pages, "zpl", "escpos")),
             *((form, {"paper": (40.0, 60.0)}) for form in (*pages, "zpl", "escpos")),
             *((form, {"paper": None, "cell": (60.0, 40.0), **sheet}) for form in pages),
             *((form, {"paper": None, "cell": (40.0, 60.0), **sheet}) for form in pages),
-        ):
+        )
+        for form, paper in cases:
             found = self.found(body, [ONE, ("code128 B", {"title": "b"})], to=form, **paper)
             self.assertEqual(reasons_of(found), [], (form, paper))
             documents = list(found.press(Silence()).documents(found.prints))

@@ -25,7 +25,7 @@ def setUpModule() -> None:
     support.needs("pdftoppm", "rsvg-convert", "pngtopnm", "zbarimg")
 
 
-def printed(name: str, form: str, dpi: int) -> numpy.ndarray:
+def printed(name: str, form: str, dpi: int) -> jobs.Dots:
     """The dots of the label of a design, as a program reads them in a form."""
     design = ("--design", str(designs.FOLDER / f"{name}.svg"))
     words = ("--dpi", str(dpi), "--to", form, "--dots", "9999")
@@ -45,7 +45,7 @@ def printed(name: str, form: str, dpi: int) -> numpy.ndarray:
     return jobs.pictures_of_pbm(done.stdout)[0]
 
 
-def is_same(one: numpy.ndarray, other: numpy.ndarray) -> bool:
+def is_same(one: jobs.Dots, other: jobs.Dots) -> bool:
     """Whether dots are the same; paper that is wider than them is white."""
     wide = other.shape[1]
     return numpy.array_equal(one[:, :wide], other) and not one[:, wide:].any()
@@ -89,7 +89,7 @@ class Shipped(unittest.TestCase):
         """The data of the symbols of a label, in their order."""
         return sorted(symbol.data.decode() for symbol in layout.symbols)
 
-    def by_zbar(self, dots: numpy.ndarray) -> list[str]:
+    def by_zbar(self, dots: jobs.Dots) -> list[str]:
         """What zbar reads on a label, with white around it."""
         with tempfile.TemporaryDirectory() as folder:
             path = Path(folder, "label.pbm")

@@ -12,7 +12,7 @@ import time
 import unittest
 import unittest.mock
 from pathlib import Path
-from typing import List, Tuple
+from typing import Any, Callable, Dict, Iterator, Sequence, Tuple
 
 import jobs
 import support
@@ -114,7 +114,7 @@ class FileBetween(unittest.TestCase):
             with self.subTest(remark=remark):
                 data = f"{HEAD}{remark}ean8 73513537\n{END}".encode()
                 self.assertRaises(ToolError, records_of, data)
-        for data in (
+        for text in (
             HEAD.replace("1", "2", 1) + "qr a\n" + END,
             HEAD + "qr a\n" + END.replace('"lines":1', '"lines":2'),
             HEAD + "qr a\n" + '#{"row":2}\n' + END,
@@ -124,8 +124,8 @@ class FileBetween(unittest.TestCase):
             END,
             '#{"row":2}\n',
         ):
-            with self.subTest(data=data):
-                self.assertRaises(ToolError, records_of, data.encode())
+            with self.subTest(text):
+                self.assertRaises(ToolError, records_of, text.encode())
 
     def test_lines_end_at_a_line_feed_alone(self) -> None:
         fields = {
@@ -266,7 +266,7 @@ class Signals(unittest.TestCase):
             form: support.run("label-print", *ROLL, form, input=data)
             for form in ("zpl", "escpos", "pbm")
         }
-        decode = {
+        decode: Dict[str, Callable[[bytes], Sequence[Any]]] = {
             "zpl": jobs.dots_of_zpl,
             "escpos": jobs.dots_of_escpos,
             "pbm": jobs.pictures_of_pbm,
@@ -282,7 +282,7 @@ class Signals(unittest.TestCase):
                 seen.add(len(decode[form](found)) if found else 0)
             self.assertGreater(len(seen), 3, form)
 
-    def outputs(self, form: str, data: bytes, size: int) -> List[bytes]:
+    def outputs(self, form: str, data: bytes, size: int) -> Iterator[bytes]:
         """What goes out where the reader waits after a part, a signal comes, and the reader goes
         on.
         """
@@ -305,7 +305,7 @@ class Signals(unittest.TestCase):
                     yield from [self.stopped(*one, moment) for moment, one in enumerate(runs)]
                     runs = []
 
-    def stopped(self, run: subprocess.Popen, reader: int, size: int, number: int) -> bytes:
+    def stopped(self, run: "subprocess.Popen[bytes]", reader: int, size: int, number: int) -> bytes:
         """The output of a run that gets a signal after `size` bytes of it were read."""
         found = b""
         while len(found) < size and (part := os.read(reader, min(4096, size - len(found)))):

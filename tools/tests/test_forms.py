@@ -24,7 +24,7 @@ LINES = (
     "code128 SHELF-7",
     "qr https://example.com/7",
 )
-MIXES = (
+MIXES: tuple[dict[str, Any], ...] = (
     {},
     {"title": "Seife"},
     {"price": "12,80 €"},
@@ -47,7 +47,7 @@ def printed(data: bytes, form: str, dpi: int, *arguments: str) -> bytes:
     return done.stdout
 
 
-def rendered(command: list[str], data: bytes) -> numpy.ndarray:
+def rendered(command: list[str], data: bytes) -> jobs.Dots:
     """The dots of a document, which is FILE in a command that writes PBM."""
     with tempfile.TemporaryDirectory() as folder:
         path = Path(folder, "label")
@@ -60,7 +60,7 @@ def rendered(command: list[str], data: bytes) -> numpy.ndarray:
         return jobs.pictures_of_pbm(found[0].read_bytes() if found else done.stdout)[0]
 
 
-def dots_of_svg(data: bytes, dpi: int) -> numpy.ndarray:
+def dots_of_svg(data: bytes, dpi: int) -> jobs.Dots:
     """The dots of an SVG: rsvg draws it in gray, and what is more than half dark is dark."""
     command = ["rsvg-convert", "-d", str(dpi), "-p", str(dpi), "-b", "white"]
     png = subprocess.run(command, input=data, capture_output=True, check=True).stdout
@@ -73,7 +73,7 @@ def dots_of_svg(data: bytes, dpi: int) -> numpy.ndarray:
     return (pixels < 128).astype(numpy.uint8)
 
 
-def forms_of(data: bytes, dpi: int, *arguments: str) -> Iterator[tuple[str, numpy.ndarray]]:
+def forms_of(data: bytes, dpi: int, *arguments: str) -> Iterator[tuple[str, jobs.Dots]]:
     """The dots of a label in each form."""
     pdf = ["pdftoppm", "-r", str(dpi), "-mono", "FILE", "out"]
     yield "pdf", rendered(pdf, printed(data, "pdf", dpi, *arguments))
@@ -84,7 +84,7 @@ def forms_of(data: bytes, dpi: int, *arguments: str) -> Iterator[tuple[str, nump
     yield "escpos", jobs.dots_of_escpos(printed(data, "escpos", dpi, *arguments))[0]
 
 
-def bars_of(data: bytes, dpi: int) -> tuple[slice, slice, numpy.ndarray]:
+def bars_of(data: bytes, dpi: int) -> tuple[slice, slice, jobs.Dots]:
     """Where the bars of a label are, and their dots by the modules of labels(1)."""
     options = PrintOptions(paper=PAPER, dpi=dpi, to="pbm")
     job = planned(options)
@@ -96,7 +96,7 @@ def bars_of(data: bytes, dpi: int) -> tuple[slice, slice, numpy.ndarray]:
     return rows, slice(left + box.left, left + box.right), modules_of(item)
 
 
-def modules_of(item: LaidOut) -> numpy.ndarray:
+def modules_of(item: LaidOut) -> jobs.Dots:
     """The dots of the bars of a label."""
     modules = item.label.modules
     bits = jobs.bits_of(modules.rows(), modules.width)

@@ -11,6 +11,7 @@ import sys
 import tempfile
 import unittest
 from pathlib import Path
+from typing import Iterator
 from unittest import mock
 
 import support
@@ -39,72 +40,74 @@ WRONG_DATA = ["level=Q X", " X", '"X"', "'X", "NAN", "4,00638E+12", "A\u200bB", 
 TABLE = "EAN;Name;Preis\n4006381333932;Stift;0,80\n96385074;Gummi;1E3\n4006381333931;Heft;2,50\n"
 
 
-def fields_of(text):
+def fields_of(text: str) -> list[str]:
     """The places of what differs in a text, such as 0 and 1, in order."""
     names = [name for _, name, _, _ in string.Formatter().parse(text) if name is not None]
     return sorted(str(number) if name == "" else name for number, name in enumerate(names))
 
 
-def sources():
+def sources() -> list[Path]:
     """The modules of the tools."""
     return sorted((support.TOOLS / "labeltools").rglob("*.py"))
 
 
-def entries(text):
+def entries(text: bytes) -> str:
     """The texts of a file of gettext, with their plurals, by the pattern of its entries."""
     text = text.replace(b"charset=CHARSET", b"charset=UTF-8")
     ran = ["msgcat", "--no-wrap", "-"]
     return subprocess.run(ran, input=text, capture_output=True, check=True).stdout.decode()
 
 
-def texts_of_tools():
+def texts_of_tools() -> dict[str, str]:
     """The entries of the texts of the tools, as xgettext finds them."""
     words = ["xgettext", "--language=Python", "--from-code=UTF-8", "--output=-"]
     words += [f"--keyword={one}" for one in KEYWORDS]
     found = subprocess.run([*words, *sources()], capture_output=True, check=True).stdout
     window = ["xgettext", "--language=Glade", "--from-code=UTF-8", "--output=-"]
-    window = [*window, support.TOOLS / "labeltools/window.ui"]
+    window += [str(support.TOOLS / "labeltools/window.ui")]
     both = entries(found), entries(subprocess.run(window, capture_output=True, check=True).stdout)
     return {one: many for text in both for one, many in ENTRY.findall(text)}
 
 
-def has_words(text):
+def has_words(text: str) -> bool:
     """Whether a text has more than what differs in it."""
     return any(map(str.isalpha, re.sub(r"\{.*?\}", "", text)))
 
 
-def calls():
+def calls() -> Iterator[tuple[str, ast.Call, int]]:
     """Yields the calls that make a text, with the name of their file and their literal arguments:
     the template, and its plural.
     """
     for path in sources():
         for node in ast.walk(ast.parse(path.read_text())):
-            name = getattr(node.func, "id", "") if isinstance(node, ast.Call) else ""
-            if name in ("Text", "counted") and path.name != "text.py":
+            if not isinstance(node, ast.Call) or path.name == "text.py":
+                continue
+            name = getattr(node.func, "id", "")
+            if name in ("Text", "counted"):
                 yield path.name, node, 1 + (name == "counted")
 
 
-def is_literal(node):
+def is_literal(node: ast.expr) -> bool:
     """Whether an expression is a text in quotes."""
     return isinstance(node, ast.Constant) and isinstance(node.value, str)
 
 
-def in_capitals(text):
+def in_capitals(text: str) -> str:
     """A text in a language that is English in capitals."""
     return re.sub(r"(\{.*?\})|[^{]+", lambda found: found[1] or found[0].upper(), text)
 
 
-def speaking(language, folder):
+def speaking(language: str, folder: str) -> dict[str, str]:
     """The environment of who speaks a language, with its translation in a folder."""
     path = Path(folder, language, "LC_MESSAGES")
     path.mkdir(parents=True, exist_ok=True)
     source = support.TOOLS / f"po/{language}.po"
-    words = ["msgfmt", "--check-format", "-o", path / "label-tools.mo", source]
+    words = ["msgfmt", "--check-format", "-o", str(path / "label-tools.mo"), str(source)]
     subprocess.run(words, check=True)
     return {**os.environ, "LANGUAGE": language, "LC_ALL": "C.UTF-8", "LABELS_LOCALE": folder}
 
 
-def german(folder):
+def german(folder: str) -> dict[str, str]:
     """The environment of a German, with the translation in a folder."""
     return speaking("de", folder)
 
@@ -131,16 +134,16 @@ print(least(lambda: [translated(one) for one in (note, hint) for _ in range(2000
 
 
 class German(unittest.TestCase):
-    def test_xgettext_finds_each_text(self):
+    def test_xgettext_finds_each_text(self) -> None:
         """mypy has each message as a `Text`; here its template is seen, and no field is a text."""
         for name, call, templates in calls():
             shown = f"{name}: {ast.unparse(call)}"
             self.assertTrue(all(map(is_literal, call.args[:templates])), shown)
             for one in call.args[templates:]:
-                is_text = is_literal(one) and has_words(one.value)
+                is_text = isinstance(one, ast.Constant) and has_words(str(one.value))
                 self.assertFalse(is_text or isinstance(one, ast.JoinedStr), shown)
 
-    def test_each_text_is_in_each_language_with_its_fields(self):
+    def test_each_text_is_in_each_language_with_its_fields(self) -> None:
         support.needs("xgettext", "msgcat")
         self.maxDiff = None  # the list is what a translator needs
         texts = texts_of_tools()
@@ -159,7 +162,7 @@ class German(unittest.TestCase):
                     for one in re.findall('"(.+)"', others[text]):
                         self.assertEqual(fields_of(one), fields_of(text), text)
 
-    def test_no_message_is_half_translated(self):
+    def test_no_message_is_half_translated(self) -> None:
         """Read in a language of capitals, messages have no other letters: names and numbers in
         quotes, of characters and of encodings apart.
         """
@@ -198,7 +201,7 @@ class German(unittest.TestCase):
                 lines += 1
         self.assertGreater(lines, 60)
 
-    def test_a_message_of_many_names_takes_no_time(self):
+    def test_a_message_of_many_names_takes_no_time(self) -> None:
         """40 quoted names: less than 0.1 s more than in English; 2,000 notes: less than 0.05 s."""
         support.needs("msgfmt")
         with tempfile.TemporaryDirectory() as folder:
@@ -217,14 +220,14 @@ class German(unittest.TestCase):
                 self.assertLess(times[language][1] / 2, 0.05, times)
             table = Path(folder, "wide.csv")
             table.write_text(";".join(NAMES).replace('"', "") + "\n1\n")
-            words = [support.TOOLS / "label-table", "--code", "EAN", table]
+            words = [str(support.TOOLS / "label-table"), "--code", "EAN", str(table)]
             ran = subprocess.run(
                 words, env=german(folder), capture_output=True, text=True, timeout=60
             )
         self.assertIn("keine Spalte", ran.stderr)
         self.assertNotIn("column", ran.stderr.partition("error")[2] or ran.stderr)
 
-    def test_counts_have_their_plurals(self):
+    def test_counts_have_their_plurals(self) -> None:
         support.needs("msgfmt")
         code = "from labeltools.summary import rows_text; from labeltools.text import translated;"
         code += " print(*(translated(rows_text(count)) for count in (0, 1, 3)), sep=', ')"
@@ -241,13 +244,13 @@ class German(unittest.TestCase):
                 )
             self.assertEqual(ran.stdout, f"{said}\n", ran.stderr)
 
-    def test_a_german_reads_german(self):
+    def test_a_german_reads_german(self) -> None:
         support.needs("msgfmt")
         with tempfile.TemporaryDirectory() as folder:
             table = Path(folder, "artikel.csv")
             table.write_text(TABLE)
             options = ["--code", "EAN", "--title", "Name", "--price", "Preis", "--summary"]
-            words = [support.TOOLS / "label-table", *options, table]
+            words = [str(support.TOOLS / "label-table"), *options, str(table)]
             ran = subprocess.run(words, env=german(folder), capture_output=True, text=True)
         said = ran.stderr.splitlines()
         self.assertEqual(
@@ -265,13 +268,13 @@ class German(unittest.TestCase):
         self.assertNotIn("row", ran.stderr)
         self.assertIn('"row":4', ran.stdout)
 
-    def test_who_speaks_french_reads_french(self):
+    def test_who_speaks_french_reads_french(self) -> None:
         support.needs("msgfmt")
         with tempfile.TemporaryDirectory() as folder:
             table = Path(folder, "articles.csv")
             table.write_text(TABLE)
             options = ["--code", "EAN", "--title", "Name", "--price", "Preis", "--summary"]
-            words = [support.TOOLS / "label-table", *options, table]
+            words = [str(support.TOOLS / "label-table"), *options, str(table)]
             environment = speaking("fr", folder)
             ran = subprocess.run(words, env=environment, capture_output=True, text=True)
         said = ran.stderr.replace("\u00a0", " ").splitlines()
@@ -282,7 +285,7 @@ class German(unittest.TestCase):
         self.assertTrue(said[-1].endswith("2 lignes laissées de côté"))
         self.assertNotIn("row", ran.stderr)
 
-    def test_bad_arguments_are_said_in_german(self):
+    def test_bad_arguments_are_said_in_german(self) -> None:
         """argparse says them, and what it says is looked for in the texts of the tools."""
         support.needs("msgfmt")
         with tempfile.TemporaryDirectory() as folder:
@@ -325,7 +328,7 @@ class German(unittest.TestCase):
                 last = ran.stderr.splitlines()[-1]
                 self.assertTrue(last.startswith(f"{tool}: Fehler: {said}"), last)
 
-    def test_what_the_library_refuses_is_said_in_german(self):
+    def test_what_the_library_refuses_is_said_in_german(self) -> None:
         """Its reasons are those of labels(1), which stay English."""
         source = (support.TOP / "crates/labelcore/src/message.rt").read_text()
         cases = source.partition("fn first_words")[2].partition("\n}")[0]
@@ -341,7 +344,7 @@ class German(unittest.TestCase):
             text = reason_of(message)
             self.assertEqual((text, text.template, text.fields), (message, template, fields))
 
-    def test_who_has_no_translation_reads_english(self):
+    def test_who_has_no_translation_reads_english(self) -> None:
         ran = support.run("label-table", "--code", "1", "/not/there.csv")
         self.assertIn("No such file", ran.stderr.decode())
 

@@ -3,9 +3,10 @@
 import tempfile
 import unittest
 from pathlib import Path
+from typing import Sequence
 
 import support
-from labeltools.guess import guess, guess_of
+from labeltools.guess import Guess, guess, guess_of
 from labeltools.messages import Silence
 from labeltools.table_options import FileOptions, TableOptions
 
@@ -72,7 +73,7 @@ TABLES = (
     ("Artikelbezeichnung;GTIN;CHF", "Rivella rot;4006381333931;2.50", "title code price"),
 )
 # tables in which two columns may be meant, and those that are
-DOUBTS = (
+DOUBTS: Sequence[tuple[str, str, dict[str, list[str]]]] = (
     (
         "Artikel;EAN;Preis A;Preis B",
         "Schraube lang;4006381333931;1,10;1,30",
@@ -97,13 +98,13 @@ DOUBTS = (
 SYMBOLOGIES = {"Inventarnummer": "code128", "Charge": "code128", "Regal": "qr"}
 
 
-def guessed(text, options=TableOptions()):
+def guessed(text: str, options: TableOptions = TableOptions()) -> Guess:
     """The guess of a table."""
     return guess_of(text.encode(), "table.csv", options, Silence())
 
 
 class Guesses(unittest.TestCase):
-    def test_columns_of_shops(self):
+    def test_columns_of_shops(self) -> None:
         for names, row, wanted in TABLES:
             found = guessed(f"{names}\n{row}\n")
             kinds = {place: kind for kind, place in found.columns.items()}
@@ -113,14 +114,14 @@ class Guesses(unittest.TestCase):
             wanted = SYMBOLOGIES.get(names.partition(";")[0], "auto")
             self.assertEqual(found.symbology, wanted, names)
 
-    def test_what_a_shop_pays_is_no_price(self):
+    def test_what_a_shop_pays_is_no_price(self) -> None:
         names = "EAN;Artikel;EK netto"
         row = "4006381333931;Salbe, kühlend;2,10 €"
         self.assertNotIn("price", guessed(f"{names}\n{row}\n").columns)
         found = guessed(f"{names};Apothekenpreis\n{row};4,95 €\n")
         self.assertEqual(found.columns["price"], 3)
 
-    def test_what_only_the_keeper_knows(self):
+    def test_what_only_the_keeper_knows(self) -> None:
         for names, row, wanted in DOUBTS:
             found = guessed(f"{names}\n{row}\n")
             said = {
@@ -130,7 +131,7 @@ class Guesses(unittest.TestCase):
             self.assertEqual(said, wanted, names)
             self.assertFalse(set(said) & set(found.columns), names)
 
-    def test_the_row_of_the_names(self):
+    def test_the_row_of_the_names(self) -> None:
         names, row, _ = TABLES[0]
         for above, header in (("", 1), ("Preisliste;;;\n;;;\n", 3), ("Stand;Mai;;\n", 2)):
             self.assertEqual(guessed(f"{above}{names}\n{row}\n").header, header, above)
@@ -141,7 +142,7 @@ class Guesses(unittest.TestCase):
         said = guessed(f"{row}\n{names}\n", TableOptions(file=FileOptions(header_row=1)))
         self.assertEqual(said.header, 1)
 
-    def test_label_table_proposes_columns(self):
+    def test_label_table_proposes_columns(self) -> None:
         names, row, _ = TABLES[7]
         with tempfile.TemporaryDirectory() as folder:
             path = Path(folder, "Hofladen Mai.csv")

@@ -8,7 +8,7 @@ import subprocess
 import tempfile
 import unittest
 from pathlib import Path
-from typing import Dict, List, Set
+from typing import Any, Dict, List, Set
 
 import support
 
@@ -62,11 +62,11 @@ class Install(InFolder):
         path = f"{self.folder}/bin:{os.environ['PATH']}"
         environment = {**os.environ, "PATH": path, "PYTHONSAFEPATH": "1"}
         command = "printf 'EAN\\n4006381333931\\n' | label-table --code EAN | labels --height 1"
-        how = {"cwd": self.folder, "env": environment, "capture_output": True}
+        how: Dict[str, Any] = {"cwd": self.folder, "env": environment, "capture_output": True}
         drawn = subprocess.run(["sh", "-c", command], **how)
         self.assertEqual((drawn.returncode, drawn.stderr, drawn.stdout[:8]), (0, b"", b"P1\n113 1"))
         for tool in TOOLS:
-            helped = subprocess.run([self.folder / "bin" / tool, "--help"], **how)
+            helped = subprocess.run([str(self.folder / "bin" / tool), "--help"], **how)
             self.assertEqual((helped.returncode, helped.stderr), (0, b""), tool)
 
     def test_a_folder_with_a_space_is_refused_at_once(self) -> None:
@@ -138,6 +138,7 @@ class Versions(InFolder):
         assert match, first
         return match[1]
 
+    @support.slow
     def test_versions_rise(self) -> None:
         """A commit has a version above that of the one before; a tag has the plain version."""
         for name in ("debian/changelog.py", "CHANGELOG.md"):

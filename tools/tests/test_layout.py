@@ -6,7 +6,7 @@ import itertools
 import os
 import re
 import unittest
-from typing import Any
+from typing import Any, Dict, List, Sequence, Tuple
 
 import numpy
 
@@ -15,6 +15,7 @@ from labeltools.area import ROLL_SMALLEST
 from labeltools.letters import Letters, Fonts
 from labeltools.selection import Selection
 from labeltools.symbologies import SYMBOLOGIES
+from jobs import Dots
 from laying import AROUND, laid_out, look
 
 EVERY = (
@@ -25,7 +26,7 @@ EVERY = (
     "qr,level=H https://example.com/7",
 )
 LONG = "Ein langer Name, der in zwei Zeilen steht und nicht in eine einzige passt"
-FULL = {
+FULL: Dict[str, Any] = {
     "title": LONG,
     "text": ["Art. 7"],
     "price": "12,80 €",
@@ -74,7 +75,14 @@ class Boxes(unittest.TestCase):
     """Nothing touches another part, leaves its place or is cut off; each label is read."""
 
     def test_every_size_design_and_symbology(self) -> None:
-        mixes = ({}, {"title": LONG}, PRICED, FULL, {"text": ["a", "b"]}, FULL_BUT_TITLE)
+        mixes: Sequence[Dict[str, Any]] = (
+            {},
+            {"title": LONG},
+            PRICED,
+            FULL,
+            {"text": ["a", "b"]},
+            FULL_BUT_TITLE,
+        )
         seen = 0
         for size, design in itertools.product(SIZES, ("article", "shelf")):
             dpi = 300 if size[0] > 60 else 600
@@ -101,7 +109,7 @@ class Boxes(unittest.TestCase):
 
     def test_hostile_texts(self) -> None:
         prices = ("0,80 €", "12.999,00 zł", "")
-        texts = ([], ["rot"], ["rot\nblau", "gjpq ÅÇ"])
+        texts: Sequence[List[str]] = ([], ["rot"], ["rot\nblau", "gjpq ÅÇ"])
         fields = [
             {"title": title, "price": price, "text": text, "unit": "1 kg = 5,98 €" if text else ""}
             for title, price, text in itertools.product(HOSTILE, prices, texts)
@@ -203,7 +211,7 @@ class Frames(unittest.TestCase):
 
     def test_labels_that_do_not_fit_together(self) -> None:
         """Each has room by itself, and no one frame serves both."""
-        wide = ("code128 " + "x" * 28, {})
+        wide: Tuple[str, Dict[str, Any]] = ("code128 " + "x" * 28, {})
         many = ("code128 x", {"text": ["a"] * 6})
         laid = laid_out(support.file_of([wide, many]), (100.0, 24.0), 300)
         self.assertEqual(len(laid.labels), 2, laid.reasons)
@@ -464,7 +472,7 @@ class Words(unittest.TestCase):
             look(self, laid, item)
 
 
-def longest_run(row: numpy.ndarray) -> int:
+def longest_run(row: Dots) -> int:
     """The most dots of a row that follow one another."""
     return max((len(run) for run in "".join(map(str, row)).split("0")), default=0)
 

@@ -9,7 +9,7 @@ import tempfile
 import unittest
 from dataclasses import replace
 from pathlib import Path
-from typing import List, Optional, Tuple
+from typing import Any, Dict, List, Optional, Tuple
 
 import numpy
 import zxingcpp
@@ -72,7 +72,8 @@ class Rows(unittest.TestCase):
         found = self.zpl(data=support.file_of(labels))
         self.assertEqual(found, (0, [codes[1], *3 * [codes[2]]], []))
         for copies in (-1, 10000, 1.5, "3", True, None):
-            found = self.zpl(data=support.file_of([(SHELF[0][0], {"copies": copies})]))
+            fields: Dict[str, Any] = {"copies": copies}
+            found = self.zpl(data=support.file_of([(SHELF[0][0], fields)]))
             self.assertEqual(found[:2], (1, []), copies)
 
     def test_captions_travel_with_their_line(self) -> None:
@@ -89,7 +90,12 @@ class Rows(unittest.TestCase):
         self.assertEqual(drawn[0][:-1], drawn[1][:-1][::-1])
 
     def test_refused_lines_and_rows_that_were_left_out(self) -> None:
-        labels = [SHELF[0], ("ean13 4006381333932", {}), ("code128 " + "x" * 81, {}), SHELF[1]]
+        labels: List[Tuple[str, Any]] = [
+            SHELF[0],
+            ("ean13 4006381333932", {}),
+            ("code128 " + "x" * 81, {}),
+            SHELF[1],
+        ]
         data = support.file_of(labels, left_out=[7, 9], left_out_count=25)
         status, codes, said = self.zpl(data=data)
         self.assertEqual(
@@ -114,7 +120,9 @@ class Rows(unittest.TestCase):
         )
 
     def test_a_handful_of_messages(self) -> None:
-        labels = [(f"code128 {'x' * (25 + number % 50)}", {}) for number in range(1500)]
+        labels: List[Tuple[str, Any]] = [
+            (f"code128 {'x' * (25 + number % 50)}", {}) for number in range(1500)
+        ]
         labels += [(f"ean8 735135{number % 100:02}", {}) for number in range(1000)]
         status, codes, said = self.zpl(data=support.file_of(labels))
         self.assertEqual((status, len(said)), (1, 9))
@@ -154,7 +162,7 @@ class Rows(unittest.TestCase):
 class Cells(unittest.TestCase):
     GRID = ("--columns", "2", "--rows", "2", "--cell", "60x40", "--to", "pbm", "--dpi", "150")
 
-    def pages(self, *arguments: str) -> List[numpy.ndarray]:
+    def pages(self, *arguments: str) -> List[jobs.Dots]:
         """The pages of a grid."""
         done = support.printed(*self.GRID, *arguments, input=support.file_of(SHELF[:3]))
         self.assertEqual(done.returncode, 0, done.stderr)

@@ -23,13 +23,15 @@ import support
 EAN = "ean13 400638133393"
 QR = "qr https://example.com/7"
 LINES = (EAN, "ean8 7351353", "upca 03600029145", "code128 SHELF-7")
-PRICED = {"title": "Bleistift, weich, 2B", "price": "0,80 €"}
-TEXTS = {
+Fields = dict[str, Any]
+NO_FIELDS: Fields = {}
+PRICED: Fields = {"title": "Bleistift, weich, 2B", "price": "0,80 €"}
+TEXTS: Fields = {
     "title": "Ein langer Name, der in zwei Zeilen steht und nicht in eine einzige passt",
     "text": ["Art. 7"],
     "price": "12,80 €",
 }
-FULL = {**TEXTS, "was": "14,95 €", "unit": "1 l = 2 €"}
+FULL: Fields = {**TEXTS, "was": "14,95 €", "unit": "1 l = 2 €"}
 SHOP = (  # millimetres, dots an inch, the least height of a price of a till's label
     ((40.0, 30.0), 203, 4.0),
     ((57.0, 32.0), 300, 5.5),
@@ -99,27 +101,27 @@ def sheet(size: tuple[float, float], dpi: int, *arguments: str) -> list[str]:
     return [*grid, "--dpi", str(dpi), *arguments]
 
 
-def pictures(labels: Sequence[Label], *arguments: str) -> list[numpy.ndarray]:
+def pictures(labels: Sequence[Label], *arguments: str) -> list[jobs.Dots]:
     """The dots of labels."""
     return jobs.pictures_of_pbm(printed(labels, *arguments, "--to", "pbm"))
 
 
-def code_in(dots: numpy.ndarray) -> str:
+def code_in(dots: jobs.Dots) -> str:
     """What zxing-cpp reads in dots."""
     found = zxingcpp.read_barcode(
         255 * (1 - dots), formats=FORMATS, binarizer=zxingcpp.Binarizer.BoolCast
     )
-    return found.text if found else ""
+    return str(found.text) if found else ""
 
 
-def modules_of(line: str) -> numpy.ndarray:
+def modules_of(line: str) -> jobs.Dots:
     """The modules that labels(1) draws of a line, with the quiet zones at their sides."""
     drawn = support.draw(f"{line}\n", "--height", "1")[0]
     (picture,) = jobs.pictures_of_pbm(subprocess.check_output(["pnmtopnm"], input=drawn))
     return picture
 
 
-def bars_in(dots: numpy.ndarray, line: str) -> Optional[Box]:
+def bars_in(dots: jobs.Dots, line: str) -> Optional[Box]:
     """Where the code of a line is in dots, each row of it; None where it is nowhere."""
     modules = modules_of(line)
     data = dots.tobytes()
@@ -131,9 +133,7 @@ def bars_in(dots: numpy.ndarray, line: str) -> Optional[Box]:
     return None
 
 
-def box_of(
-    dots: numpy.ndarray, wide: numpy.ndarray, module: int, top: int, left: int
-) -> Optional[Box]:
+def box_of(dots: jobs.Dots, wide: jobs.Dots, module: int, top: int, left: int) -> Optional[Box]:
     """Where a code is whose middle row is first seen at a place; each of several rows is a module
     high. None where it is not whole.
     """
@@ -148,7 +148,7 @@ def box_of(
     return Box(left, top, right, bottom, module) if is_whole else None
 
 
-def rendered(pdf: bytes, dpi: int, page: int = 1) -> numpy.ndarray:
+def rendered(pdf: bytes, dpi: int, page: int = 1) -> jobs.Dots:
     """The dots of a page of a PDF as poppler draws it."""
     command = ["pdftoppm", "-r", str(dpi), "-f", str(page), "-l", str(page), "-mono", "-"]
     done = subprocess.run(command, input=pdf, capture_output=True, check=True)
@@ -206,7 +206,7 @@ class Paper(unittest.TestCase):
 
     def test_all_grows_with_the_label(self) -> None:
         """On a label twice as wide and high price, title and bars are nearly twice as large."""
-        label = (EAN, {**TEXTS, "title": "Seife"})
+        label: Label = (EAN, {**TEXTS, "title": "Seife"})
         for size in ((45.0, 30.0), (50.0, 30.0), (52.0, 74.0)):
             double = (2 * size[0], 2 * size[1])
             small, large = (
@@ -384,7 +384,7 @@ class Forms(unittest.TestCase):
     def test_bars_are_in_the_same_dots(self) -> None:
         """With a price and without one, which has no place of its own."""
         for line in (*LINES, QR):
-            for fields in ({}, {"title": "Seife"}, PRICED):
+            for fields in NO_FIELDS, {"title": "Seife"}, PRICED:
                 self.check([(line, fields)])
 
     def test_zpl_has_the_dots_of_pbm(self) -> None:
@@ -427,7 +427,7 @@ class Forms(unittest.TestCase):
                 self.check_guards(jobs.pictures_of_pbm(path.read_bytes())[0], name)
                 path.unlink()
 
-    def check_guards(self, dots: numpy.ndarray, name: str) -> None:
+    def check_guards(self, dots: jobs.Dots, name: str) -> None:
         box = bars_in(dots, EAN)
         assert box is not None, name
         below = dots[box.bottom + 2 * box.module, box.left : box.right]
@@ -532,7 +532,7 @@ class Shelf(unittest.TestCase):
             self.assertIn("Gültig", [word[0] for word in words])
 
 
-def longest_run(row: numpy.ndarray) -> int:
+def longest_run(row: jobs.Dots) -> int:
     """The most dots of a row that follow one another."""
     return max((len(part) for part in "".join(map(str, row)).split("0")), default=0)
 
@@ -682,7 +682,7 @@ class Users(unittest.TestCase):
         with tempfile.TemporaryDirectory() as folder:
             shell = 'trap "" XFSZ; ulimit -f 8; "$@" > /dev/null'
             words = [str(support.TOOLS / "label-print"), "--stock", "l7160"]
-            many = [(f"ean13 {support.ean13(number)}", {}) for number in range(400)]
+            many: list[Label] = [(f"ean13 {support.ean13(number)}", {}) for number in range(400)]
             done = subprocess.run(
                 ["bash", "-c", shell, "sh", *words],
                 input=support.file_of(many),

@@ -4,13 +4,15 @@ import os
 import tempfile
 import unittest
 from pathlib import Path
+from typing import Any
 
 import support
 from labeltools.messages import Cancelled, Place, Silence
 from labeltools.press import Press, once, with_copies
 from labeltools.print_job import PrintOptions, labels_of, planned
+from labeltools.text import Text
 
-LABELS = [
+LABELS: list[tuple[str, dict[str, Any]]] = [
     (f"ean13 {support.ean13(400638000000 + number)}", {"title": f"Artikel {number}"})
     for number in range(30)
 ]
@@ -33,7 +35,7 @@ class Stopping(Silence):
     def go_on(self, done: int, total: int) -> None:
         self.asked += 1
         if self.asked == self.end:
-            raise Cancelled("stopped")
+            raise Cancelled(Text("stopped"))
 
 
 class Pages(unittest.TestCase):

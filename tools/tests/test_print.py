@@ -10,7 +10,7 @@ import unicodedata
 import unittest
 from concurrent.futures import ThreadPoolExecutor
 from pathlib import Path
-from typing import Dict, List, Sequence, Tuple
+from typing import Any, Dict, List, Sequence, Tuple
 
 import numpy
 import zxingcpp
@@ -32,6 +32,7 @@ TITLES = (
 )
 PRICES = ("0,80 €", "2,95 €", "12,80 €", "1.299,00 €", "12.999,00 zł")
 STOCKS = ("Avery L7160", "Zweckform 3475", "Herma 4464")
+FOLDER: Any = None  # for all tests
 RENDERERS = {
     "poppler": "pdftoppm -r {dpi} -mono {pdf} {out} && mv {out}-1.pbm {out}.pbm",
     "ghostscript": (
@@ -42,12 +43,12 @@ RENDERERS = {
 FORMATS = zxingcpp.EAN13 | zxingcpp.EAN8 | zxingcpp.UPCA | zxingcpp.Code128 | zxingcpp.QRCode
 
 
-def read(dots: numpy.ndarray) -> bytes:
+def read(dots: jobs.Dots) -> bytes:
     """What zxing-cpp reads in dots."""
     found = zxingcpp.read_barcode(
         255 * (1 - dots), formats=FORMATS, binarizer=zxingcpp.Binarizer.BoolCast
     )
-    return found.bytes if found else b""
+    return bytes(found.bytes) if found else b""
 
 
 def shelf(count: int, prices: Sequence[str] = PRICES) -> List[Tuple[str, Dict[str, object]]]:
@@ -88,7 +89,7 @@ def tearDownModule() -> None:
     FOLDER.cleanup()
 
 
-def rendered(pdf: Path, renderer: str, dpi: int) -> numpy.ndarray:
+def rendered(pdf: Path, renderer: str, dpi: int) -> jobs.Dots:
     """The dots of the first page of a PDF; a renderer that says anything is a failure."""
     out = Path(FOLDER.name, f"{pdf.stem}-{renderer}-{dpi}")
     command = RENDERERS[renderer].format(dpi=dpi, pdf=pdf, out=out)
@@ -99,7 +100,7 @@ def rendered(pdf: Path, renderer: str, dpi: int) -> numpy.ndarray:
     return jobs.pictures_of_pbm(out.with_suffix(".pbm").read_bytes())[0]
 
 
-def cells_of(stock: str, dots: numpy.ndarray, dpi: int) -> List[numpy.ndarray]:
+def cells_of(stock: str, dots: jobs.Dots, dpi: int) -> List[jobs.Dots]:
     """The cells of a sheet."""
     sheet, dot = stock_sheet(stock), 25.4 / dpi
     return [
@@ -182,7 +183,7 @@ class Sheets(unittest.TestCase):
             self.assertLessEqual(int(numpy.ptp(found - self.edges(wanted))), away, renderer)
 
     @staticmethod
-    def edges(row: numpy.ndarray) -> numpy.ndarray:
+    def edges(row: jobs.Dots) -> jobs.Dots:
         """The places at which dark and light change."""
         return numpy.diff(row.astype(numpy.int8)).nonzero()[0]
 
@@ -216,7 +217,7 @@ def bare(text: str) -> str:
 
 
 class Printers(unittest.TestCase):
-    LINES = {
+    LINES: Dict[str, Tuple[List[Tuple[str, Any]], Sequence[str]]] = {
         "60x40": (shelf(9), ()),
         "50x25": (shelf(9), ("--height", "8")),
         "40x30": (

@@ -194,10 +194,10 @@ def ran(*arguments: str, data: bytes = b"", cwd: str = ".", **variables: str) ->
 
 def in_pieces(pieces: Sequence[bytes], *arguments: str) -> Ran:
     """The same of a run that is given one of these pieces a read: the socket keeps packets apart."""
-    command = [support.labels_program(), *arguments]
+    command = [str(support.labels_program()), *arguments]
     ours, theirs = socket.socketpair(socket.AF_UNIX, socket.SOCK_SEQPACKET)
     with ours, subprocess.Popen(
-        command, stdin=theirs, stdout=subprocess.PIPE, stderr=subprocess.PIPE
+        command, stdin=theirs.fileno(), stdout=subprocess.PIPE, stderr=subprocess.PIPE
     ) as running:
         theirs.close()
         for piece in pieces:
@@ -217,7 +217,7 @@ class InFolder(unittest.TestCase):
         Path(cls.folder, "a-file").write_bytes(b"ean8 7351353\n")
 
     def ran(self, *arguments: str, **variables: str) -> Ran:
-        return ran(*arguments, cwd=self.folder, **variables)
+        return ran(*arguments, data=b"", cwd=self.folder, **variables)
 
 
 class Arguments(InFolder):

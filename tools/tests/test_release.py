@@ -53,7 +53,7 @@ class Release(unittest.TestCase):
 
     def test_sums_are_of_all_files(self) -> None:
         lines = (self.release / "SHA256SUMS").read_text(encoding="utf-8").split("\n")
-        said = dict(reversed(line.split("  ./")) for line in lines[:-1])
+        said = {line.split("  ./")[1]: line.split("  ./")[0] for line in lines[:-1]}
         self.assertEqual({**said, "SHA256SUMS": ""}, {**sums_of(self.release), "SHA256SUMS": ""})
 
     def packages(self) -> Dict[str, Set[str]]:

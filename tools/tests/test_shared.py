@@ -16,6 +16,7 @@ from labeltools import ods, prices, shape, summary, symbologies, workbook, xlsx
 from labeltools.lines_file import Label, first_remark, label_lines, last_remark, read_lines
 from labeltools.messages import Place, ToolError, write_message
 from labeltools.symbologies import SYMBOLOGIES
+from labeltools.text import Text
 
 # the keys of settings of each symbology, as the filter's own source has them
 KEY_OF = support.TOP / "crates/labelcore/src/settings.rt"
@@ -26,7 +27,7 @@ class Messages(unittest.TestCase):
     def written(self, message: str) -> str:
         stream = io.StringIO()
         with mock.patch.object(sys, "stderr", stream):
-            write_message("label-table", message)
+            write_message("label-table", Text("{}", message))
         return stream.getvalue()
 
     def test_a_message_is_one_line_that_changes_no_terminal(self) -> None:
@@ -36,11 +37,11 @@ class Messages(unittest.TestCase):
             self.assertEqual(self.written(f"a{sign}b"), shown)
 
     def test_what_a_message_says_and_what_to_do(self) -> None:
-        error = ToolError("there is no sheet", "give --sheet", 2)
+        error = ToolError(Text("there is no sheet"), Text("give --sheet"), 2)
         self.assertEqual(
             (str(error), error.what), ("there is no sheet: give --sheet", "there is no sheet")
         )
-        self.assertEqual(str(ToolError("there is no sheet")), "there is no sheet")
+        self.assertEqual(str(ToolError(Text("there is no sheet"))), "there is no sheet")
 
 
 class Symbologies(unittest.TestCase):

@@ -35,7 +35,7 @@ class Stock(unittest.TestCase):
             done = support.printed("--stock", name, input=b"ean8 7351353\n")
             self.assertEqual((done.returncode, done.stdout), (2, b""))
             self.assertIn(reason, done.stderr.decode(), name)
-        names: Dict[str, set] = {}
+        names: Dict[str, set[str]] = {}
         for brand, part in stock.parts():
             names.setdefault(stock.plain(part), set()).add(brand)
         shared = next(name for name, brands in names.items() if len(brands) > 1)
@@ -74,9 +74,9 @@ class Stock(unittest.TestCase):
         with tempfile.TemporaryDirectory() as folder, unittest.mock.patch.object(
             stock, "TEMPLATES", Path(folder)
         ):
-            for kept in (stock.parts, stock.brands):
-                kept.cache_clear()
-                self.addCleanup(kept.cache_clear)
+            for clear in (stock.parts.cache_clear, stock.brands.cache_clear):
+                clear()
+                self.addCleanup(clear)
             with self.assertRaisesRegex(Exception, "apt-get install glabels-data"):
                 stock.stock_sheet("l7160")
 

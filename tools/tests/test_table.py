@@ -14,7 +14,7 @@ import subprocess
 import tempfile
 import unittest
 from pathlib import Path
-from typing import Any, Dict, List, Sequence, Tuple, Union
+from typing import Any, Callable, Dict, List, Sequence, Tuple, Union
 
 import support
 from labeltools.messages import quoted as shown
@@ -72,13 +72,13 @@ class TableTest(unittest.TestCase):
         line, and at the end how many lines there are and which rows were left out.
         """
         data = table.encode() if isinstance(table, str) else table
-        runs = [functools.partial(support.run, locale=locale) for locale in locales] or [
-            support.run_here
+        runs: List[Callable[..., support.Finished[bytes]]] = [
+            functools.partial(support.run, locale=locale) for locale in locales
         ]
         left_out = [
             int(row) for row in re.findall("^row ([0-9]+): ", "\n".join(problems), re.MULTILINE)
         ]
-        for run in runs:
+        for run in runs or [support.run_here]:
             with self.subTest(run=run, table=data[:60], arguments=arguments):
                 done = run("label-table", *arguments, input=data)
                 self.assertEqual(
@@ -438,7 +438,7 @@ class Cells(TableTest):
                 for cell in ("#REF!", "#N/A", "#WERT!", "#DIV/0!", "####", "Err:502", "#ЗНАЧ!")
             },
         }
-        for arguments in ([], ["--symbology", "qr"], ["--symbology", "code128"]):
+        for arguments in ((), ("--symbology", "qr"), ("--symbology", "code128")):
             self.check_cells(arguments, wanted)
 
     def test_a_line_end_behind_a_code(self) -> None:
@@ -496,7 +496,7 @@ class Columns(TableTest):
 
     def test_a_number_where_row_1_may_be_an_article(self) -> None:
         hint = "give --no-header if that is a code, --header if it is a name"
-        rows = [
+        rows: Sequence[Tuple[List[str], str, str]] = [
             ([], f"{PENCIL};a\n{SMALL};b\n", PENCIL),
             ([], PENCIL, PENCIL),
             ([], "4,00638E+12\tx\n4,00639E+12\ty\n", "4,00638E+12"),
@@ -950,7 +950,7 @@ class Numbers(TableTest):
             cell: f"refused: {cell} is an ISBN of ten digits: its EAN-13 is {ean}"
             for cell, ean in cells.items()
         }
-        for arguments in ([], ["--fill-zeros"], ["--fill-zeros", "--symbology", "upca"]):
+        for arguments in ((), ("--fill-zeros",), ("--fill-zeros", "--symbology", "upca")):
             self.check_cells(arguments, wanted)
         # without its zero
         wanted = {"306406152": f"refused: 306406152 is an ISBN of ten digits: its EAN-13 is {book}"}
@@ -961,7 +961,7 @@ class Numbers(TableTest):
         for number in range(100000000, 100001000):
             total = sum(int(digit) * weight for digit, weight in zip(str(number), range(10, 1, -1)))
             cells.append(f"{number}{'0123456789X'[-total % 11]}")
-        for arguments in ([], ["--fill-zeros"], ["--fill-zeros", "--symbology", "ean13"]):
+        for arguments in ((), ("--fill-zeros",), ("--fill-zeros", "--symbology", "ean13")):
             table = "code\n" + "\n".join(cells)
             done = support.run_here(
                 "label-table", "--code", "code", *arguments, input=table.encode()
@@ -1210,7 +1210,7 @@ class Arguments(TableTest):
 
     def test_standard_input(self) -> None:
         (self.folder / "-").write_text(f"code\n{PENCIL}\n")
-        for arguments in ([], ["-"]):
+        for arguments in ((), ("-",)):
             done = support.run(
                 "label-table",
                 "--code",
@@ -1236,7 +1236,7 @@ class Arguments(TableTest):
             for name, value in support.environment().items()
             if name != "PYTHONDONTWRITEBYTECODE"
         }
-        for safe in ({}, {"PYTHONSAFEPATH": "1"}):
+        for safe in (dict[str, str](), {"PYTHONSAFEPATH": "1"}):
             command = [str(link), "--code", "code"]
             done = subprocess.run(
                 command,
@@ -1339,6 +1339,7 @@ class Manual(unittest.TestCase):
 
 
 class LongTables(TableTest):
+    @support.slow
     def test_many_rows_in_seconds(self) -> None:
         table = "code;name\n" + f'{PENCIL};"a, b"\n' * 20000
         before = support.processor_seconds()
@@ -1346,6 +1347,7 @@ class LongTables(TableTest):
         self.assertEqual((done.returncode, done.stdout.count(b"\n"), done.stderr), (0, 40002, b""))
         self.assertLess(support.processor_seconds() - before, 20)
 
+    @support.slow
     def test_many_rows_of_qr_in_seconds(self) -> None:
         table = "code;name\n" + "".join(
             f"https://example.com/01/0{PENCIL}/21/{n};x\n" for n in range(20000)

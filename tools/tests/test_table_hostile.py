@@ -45,6 +45,7 @@ class Hostile(TableTest):
                     part.write(piece)
         return stream.getvalue()
 
+    @support.slow
     def test_one_cell_many_times(self) -> None:
         wide = ods_cell("x" * 100_000, more='table:number-columns-repeated="16384"')
         self.assertIn("more than 1 MB", self.ended(ods(table(["EAN", wide]))))
@@ -65,6 +66,7 @@ class Hostile(TableTest):
         )
         self.assertIn("more than 128 MB of texts", self.ended(data, "--title", "Name"))
 
+    @support.slow
     def test_a_format_that_is_no_format(self) -> None:
         for number_format in ("[$" * 16_000, "[$" * 120, '"' * 16_000, "0" * 16_000, "\\" * 255):
             data = xlsx(

@@ -195,7 +195,7 @@ def ours(data: bytes) -> Sheet:
     """What labeltools reads."""
     formatter = Formatter(Signs(".", ","))
     cells: Dict[Tuple[int, int], Found] = {}
-    hidden = set()
+    hidden: set[int] = set()
     for row in rows_of_workbook(data, "x", None, formatter):
         if row.is_hidden:
             hidden.add(row.number)
@@ -226,7 +226,7 @@ def gnumerics(data: bytes, ending: str) -> Sheet:
         book = converted(path, "Gnumeric_XmlIO:sax:0")
     root = ElementTree.fromstring(gzip.decompress(book) if book[:2] == b"\x1f\x8b" else book)
     space = {"g": root.tag[1:].partition("}")[0]}
-    hidden = set()
+    hidden: set[int] = set()
     for row in root.iterfind(".//g:RowInfo", space):
         if row.get("Hidden") == "1":
             first = int(row.attrib["No"]) + 1
@@ -288,7 +288,7 @@ def has_own_signs(mine: Found, theirs: Found, number_format: str) -> bool:
     """
     if mine.text is None or theirs.text is None or "[$" not in number_format:
         return False
-    swapped = plain(theirs.text).translate(str.maketrans({",": "", ".": ","}))
+    swapped = plain(theirs.text).translate(str.maketrans(".", ",", ","))
     apostrophe = plain(theirs.text).replace(",", "’")
     bare = re.sub(r"(?<=\d)[. ](?=\d{3})", "", plain(mine.text))
     return bare == swapped or plain(mine.text) == apostrophe
@@ -390,7 +390,7 @@ def values(numbers: random.Random) -> Iterator[float]:
 
 def table_of(numbers: random.Random, columns: int) -> List[List[Tuple[Any, str]]]:
     """Rows of values with their formats: one row for each format, and rows of texts."""
-    lines = []
+    lines: List[List[Tuple[Any, str]]] = []
     found = values(numbers)
     first = [next(found) for _ in range(14)]
     for number_format in FORMATS:
@@ -539,6 +539,11 @@ def by_hand(numbers: random.Random, columns: int) -> Made:
                 f' table:number-rows-repeated="{gap}"><table:table-cell/></table:table-row>'
             )
             row += gap
+    return Made(packed(ods_parts("".join(lines)), zipfile.ZIP_STORED), formats)
+
+
+def ods_parts(rows: str) -> Dict[str, str]:
+    """The files of a workbook that has one table of these rows."""
     styles = "".join(style for style, _ in ODS_STYLES.values())
     for number in range(len(ODS_STYLES)):
         styles += (
@@ -548,7 +553,7 @@ def by_hand(numbers: random.Random, columns: int) -> Made:
     content = f'{XML}<office:document-content {ODS_SPACES} {NUMBER_SPACE} office:version="1.3">'
     content += f"<office:automatic-styles>{styles}</office:automatic-styles>"
     content += "<office:body><office:spreadsheet>"
-    content += f'<table:table table:name="A">{"".join(lines)}</table:table>'
+    content += f'<table:table table:name="A">{rows}</table:table>'
     content += "</office:spreadsheet></office:body></office:document-content>"
     kind = "application/vnd.oasis.opendocument.spreadsheet"
     space = "urn:oasis:names:tc:opendocument:xmlns:manifest:1.0"
@@ -558,8 +563,7 @@ def by_hand(numbers: random.Random, columns: int) -> Made:
             f'<manifest:file-entry manifest:full-path="{path}" manifest:media-type="{media}"/>'
         )
     manifest += "</manifest:manifest>"
-    parts = {"mimetype": kind, "META-INF/manifest.xml": manifest, "content.xml": content}
-    return Made(packed(parts, zipfile.ZIP_STORED), formats)
+    return {"mimetype": kind, "META-INF/manifest.xml": manifest, "content.xml": content}
 
 
 def wrapped(numbers: random.Random, number: int, line: str) -> str:

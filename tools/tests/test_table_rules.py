@@ -149,7 +149,7 @@ class Prices(RulesTest):
 
     def test_what_is_no_price_leaves_its_row_out(self) -> None:
         for price in self.NONE:
-            for symbology in ([], ["--symbology", "code128"]):
+            for symbology in ((), ("--symbology", "code128")):
                 with self.subTest(price):
                     stream = io.StringIO()
                     csv.writer(stream).writerows([["EAN", "Preis"], [SMALL, price], [BOOK, "1.20"]])
@@ -682,12 +682,13 @@ class Workbooks(RulesTest):
             " another pattern"
         )
         self.assertEqual(dates(14), ["2026-11-25", said])
-        for number_format in (
+        formats: list[str | int] = [
             14,
             "d. mmmm yyyy",
             "yyyy-mm-dd h:mm:ss",
             "[$-F800]dddd, mmmm dd, yyyy",
-        ):
+        ]
+        for number_format in formats:
             self.assertEqual(dates(number_format, "--date-as", "dd.mm.yy"), ["25.11.26"])
         more = 'office:date-value="2026-11-25"'
         data = ods(table(["EAN", "MHD"], [SMALL, ods_cell("Mi 25. Nov", "date", more)]))

@@ -123,10 +123,10 @@ def xlsx(
     }
     for number, (_, _, text) in enumerate(names, 1):
         data = f"<sheetData>{text}</sheetData>"
-        own = (before, after) if number == 1 else ("", "")
-        parts[
-            f"xl/worksheets/sheet{number}.xml"
-        ] = f'{XML}<worksheet xmlns="{namespace}">{own[0]}{data}{own[1]}</worksheet>'
+        if number == 1:
+            data = f"{before}{data}{after}"
+        sheet = f'{XML}<worksheet xmlns="{namespace}">{data}</worksheet>'
+        parts[f"xl/worksheets/sheet{number}.xml"] = sheet
     return packed(parts)
 
 
@@ -240,7 +240,7 @@ class Xlsx(WorkbookTest):
         self.check(data, ["--code", "EAN"], [f"upca {SOAP}"], [problem], 1)
 
     def test_numbers_as_codes(self) -> None:
-        formats = [
+        formats: List[Union[str, int]] = [
             "0.00E+00",
             "#,##0",
             "0.00",
@@ -519,11 +519,11 @@ class Formats(WorkbookTest):
             input=data,
         )
         labels = parts_of(done.stdout)[1]
-        return labels[0][0].get("text", [""])[0] if labels else support.messages(done)[0]
+        return str(labels[0][0].get("text", [""])[0]) if labels else support.messages(done)[0]
 
     def test_formats_that_are_shown(self) -> None:
         accounting = '_-* #,##0.00\\ "€"_-;\\-* #,##0.00\\ "€"_-;_-* "-"??\\ "€"_-;_-@_-'
-        cases = [
+        cases: List[Tuple[float, Union[str, int], str]] = [
             *((0.8, '#,##0.00\\ "€"', "0,80 €"), (12999, "#,##0.00\\ [$zł-415]", "12.999,00 zł")),
             *(
                 (1234567.891, "#,##0.00", "1.234.567,89"),
@@ -645,9 +645,9 @@ class Formats(WorkbookTest):
             " or ."
         )
         for options, messages in (
-            ([], [note]),
-            (["--decimal", "."], []),
-            (["--text", "EAN"], [note]),
+            ((), [note]),
+            (("--decimal", "."), []),
+            (("--text", "EAN"), [note]),
         ):
             done = support.run(
                 "label-table", "--code", "EAN", "--price", "x", *options, input=data, locale="C"
@@ -825,6 +825,7 @@ class Hostile(WorkbookTest):
         )
         self.refused(packed(content), problem)
 
+    @support.slow
     def test_huge_parts(self) -> None:
         stream = io.BytesIO(xlsx(self.SHEET))
         with zipfile.ZipFile(stream, "a", zipfile.ZIP_DEFLATED) as archive:
@@ -890,7 +891,7 @@ class Hostile(WorkbookTest):
 
     def test_files_of_other_kinds(self) -> None:
         word = [("rId1", "officeDocument", "word/document.xml")]
-        files = [
+        files: List[Dict[str, str]] = [
             {"word/document.xml": "<x/>"},
             {"mimetype": "application/vnd.oasis.opendocument.text", "content.xml": "<x/>"},
             {"x": "y"},

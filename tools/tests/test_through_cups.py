@@ -18,7 +18,7 @@ import numpy
 
 import drivers
 import support
-from jobs import JobError
+from jobs import Dots, JobError
 from labeltools.messages import Silence
 from labeltools.press import Press, with_copies
 from labeltools.print_command import command_line
@@ -51,7 +51,7 @@ class Queue:
     driver: str
     sheet: Tuple[str, ...]
     paper: str
-    pages_of: Callable[[bytes], Iterator[numpy.ndarray]]
+    pages_of: Callable[[bytes], Iterator[Dots]]
     resolutions: Tuple[int, ...]
 
 
@@ -76,7 +76,7 @@ class Bars:
     page: int
     left: int
     top: int
-    dots: numpy.ndarray
+    dots: Dots
 
 
 def bars_of(queue: Queue, dpi: int) -> Iterator[Bars]:
@@ -101,7 +101,7 @@ def bars_of(queue: Queue, dpi: int) -> Iterator[Bars]:
             yield Bars(number, *place, dots)
 
 
-def shift_of(page: numpy.ndarray, bars: Bars) -> Optional[Tuple[int, int]]:
+def shift_of(page: Dots, bars: Bars) -> Optional[Tuple[int, int]]:
     """By how much bars are moved on a page, to the right and down, where each of their dots is
     there; None where they are nowhere.
     """
@@ -119,7 +119,7 @@ def shift_of(page: numpy.ndarray, bars: Bars) -> Optional[Tuple[int, int]]:
     return None
 
 
-def with_end(page: numpy.ndarray) -> numpy.ndarray:
+def with_end(page: Dots) -> Dots:
     """A page with white rows at its end, which drivers leave out."""
     return numpy.pad(page, ((0, 2 * NEAR), (0, 0)))
 
@@ -148,8 +148,8 @@ class Drivers(unittest.TestCase):
         ]
         for option in (f"media={queue.paper}", f"Resolution={resolution}dpi", "print-scaling=none"):
             command += ["-o", option]
-        how = {"capture_output": True, "timeout": support.SECONDS}
-        done = subprocess.run([*command, document], **how)
+        command.append(str(document))
+        done = subprocess.run(command, capture_output=True, timeout=support.SECONDS)
         self.assertEqual((printed.returncode, done.returncode), (0, 0), done.stderr[-400:])
         return done.stdout
 
@@ -172,7 +172,7 @@ class Drivers(unittest.TestCase):
 class Languages(unittest.TestCase):
     """Jobs as the manuals of the printers describe them, written by hand."""
 
-    def check(self, pages: Iterator[numpy.ndarray]) -> None:
+    def check(self, pages: Iterator[Dots]) -> None:
         (page,) = pages
         self.assertTrue(numpy.array_equal(page[:2, :16], ROWS), page)
 

@@ -9,8 +9,10 @@ import time
 import unittest
 from contextlib import redirect_stdout
 from dataclasses import replace
+from importlib import import_module
 from io import StringIO
 from pathlib import Path
+from typing import Any, Callable
 from unittest import mock
 
 import cairo
@@ -30,9 +32,18 @@ LONGEST_WORK = 0.5  # processor seconds without a heart beat
 LONGEST_WAIT = 10.0  # seconds without one
 SCALE = 4  # pixels of a millimetre
 TRIES = 3  # a window that stands still does so each time
+# What setUpModule makes.
+screen: Any = None
+folder: Any = None
+application: Any = None
+menu: Any = None
+window: Any = None
+Gio: Any = None
+GLib: Any = None
+Gtk: Any = None
 
 
-def setUpModule():
+def setUpModule() -> None:
     """Starts a screen; GTK is loaded when there is one."""
     support.labels_program()
     support.needs(*PROGRAMS)
@@ -50,13 +61,14 @@ def setUpModule():
     # a bus that GLib starts for this screen ends with it, and then ends this process
     os.environ["DBUS_SESSION_BUS_ADDRESS"] = "disabled:"
     sys.path.insert(0, str(TOOLS))
-    from labeltools import application, menu, window
-    from labeltools.gtk import Gio, GLib, Gtk
-
+    application, menu, window, gtk = (
+        import_module(f"labeltools.{name}") for name in ("application", "menu", "window", "gtk")
+    )
+    Gio, GLib, Gtk = gtk.Gio, gtk.GLib, gtk.Gtk
     Gtk.init([])
 
 
-def tearDownModule():
+def tearDownModule() -> None:
     """Ends the screen."""
     screen.terminate()
     screen.wait()
@@ -70,14 +82,14 @@ class Heart:
     the processor worked for this program: on a busy machine it waits for other programs too.
     """
 
-    def __init__(self):
+    def __init__(self) -> None:
         self.longest_work = 0.0
         self.longest_wait = 0.0
         self.clock = time.monotonic()
         self.worked = time.process_time()
         self.source = GLib.timeout_add(BEAT, self.beat)
 
-    def beat(self):
+    def beat(self) -> bool:
         """Takes the time since the last beat; returns that there is another."""
         wait = time.monotonic() - self.clock
         work = min(wait, time.process_time() - self.worked)  # two threads work twice as much
@@ -87,27 +99,27 @@ class Heart:
         self.worked = time.process_time()
         return True
 
-    def stop(self):
+    def stop(self) -> None:
         """Ends the heart."""
         self.beat()
         GLib.source_remove(self.source)
 
-    def stood_still(self):
+    def stood_still(self) -> bool:
         """Whether the window stood still for too long."""
         return self.longest_work > LONGEST_WORK or self.longest_wait > LONGEST_WAIT
 
-    def __repr__(self):
+    def __repr__(self) -> str:
         return f"{self.longest_work:.3f} s of work and {self.longest_wait:.3f} s without a beat"
 
 
-def work_for(seconds):
+def work_for(seconds: float) -> None:
     """Works for some processor seconds."""
     end = time.thread_time() + seconds
     while time.thread_time() < end:
         pass
 
 
-def settle(seconds):
+def settle(seconds: float) -> None:
     """Lets the window work."""
     end = time.monotonic() + seconds
     while time.monotonic() < end:
@@ -116,19 +128,19 @@ def settle(seconds):
         time.sleep(BEAT / 1000)
 
 
-def settle_until(is_done):
+def settle_until(is_done: Callable[[], Any]) -> None:
     """Waits in a thread of its own."""
     while not is_done():
         time.sleep(BEAT / 1000)
 
 
-def command(*words, data=None):
+def command(*words: Any, data: Any = None) -> Any:
     """What a command of the tools writes."""
     ran = subprocess.run([TOOLS / words[0], *words[1:]], input=data, capture_output=True)
     return ran.stdout
 
 
-def named(widget):
+def named(widget: Any) -> Any:
     """Yields the controls at and below a widget that a keyboard reaches, with their names."""
     accessible = widget.get_accessible()
     if widget.get_visible() and isinstance(
@@ -143,7 +155,7 @@ def named(widget):
             yield from named(child)
 
 
-def read_aloud(widget):
+def read_aloud(widget: Any) -> Any:
     """Yields the values of combo boxes at and below a widget, as a screen reader reads them."""
     if isinstance(widget, Gtk.ComboBox) and widget.get_visible():
         yield widget.get_accessible().get_name() or ""
@@ -153,8 +165,8 @@ def read_aloud(widget):
 
 
 class WindowTest(unittest.TestCase):
-    def setUp(self):
-        self.raised = []
+    def setUp(self) -> None:
+        self.raised: list[Any] = []
         hook = sys.excepthook
         sys.excepthook = lambda *error: self.raised.append(error)  # GTK goes on after an error
         self.addCleanup(setattr, sys, "excepthook", hook)
@@ -167,12 +179,12 @@ class WindowTest(unittest.TestCase):
         self.window = window.Window()
         self.window.present()
 
-    def tearDown(self):
+    def tearDown(self) -> None:
         self.window.destroy()
         settle(0.05)
         self.assertEqual(self.raised, [])
 
-    def shown(self):
+    def shown(self) -> Any:
         """The pixels of what the window shows, and how many of them are dark."""
         settle(0.1)
         shown = self.window.shown
@@ -185,18 +197,18 @@ class WindowTest(unittest.TestCase):
         data = bytes(surface.get_data())
         return data, data.count(bytes(3))
 
-    def until(self, is_done):
+    def until(self, is_done: Callable[[], Any]) -> None:
         """Waits for something."""
         end = time.monotonic() + WAIT
         while not is_done():
             self.assertLess(time.monotonic(), end, "the window did not get there")
             settle(0.03)
 
-    def open(self, path=None):
+    def open(self, path: Any = None) -> Any:
         self.window.open(path or self.table)
         self.until(lambda: self.window.has_labels or self.problem())
 
-    def change(self, **choices):
+    def change(self, **choices: Any) -> None:
         """Changes choices, and waits for the labels."""
         before = getattr(self.window, "labels", None)
         self.window.info.hide()
@@ -204,15 +216,15 @@ class WindowTest(unittest.TestCase):
             self.window.take({name.replace("_", "-"): value})
         self.until(lambda: self.is_made(before) or self.problem())
 
-    def is_made(self, before):
+    def is_made(self, before: Any) -> bool:
         """Whether there are other labels than before."""
         return self.window.has_labels and self.window.labels is not before
 
-    def problem(self):
+    def problem(self) -> Any:
         info = self.window.info
         return self.window.problem.get_text() if info.get_visible() else ""
 
-    def saved(self, name):
+    def saved(self, name: str) -> Any:
         """What the window saves."""
         path = self.folder / name
         self.window.save(path)
@@ -220,16 +232,16 @@ class WindowTest(unittest.TestCase):
         self.assertEqual(self.problem(), "")
         return path.read_bytes()
 
-    def by_commands(self, *words):
+    def by_commands(self, *words: Any) -> Any:
         """What the commands write for the table."""
         options = ["--header", "--code", "2", "--title", "3", "--price", "4", "--copies", "6"]
         lines = command("label-table", *options, "--", self.table)
         return command("label-print", *words, data=lines)
 
-    def rows(self):
+    def rows(self) -> Any:
         return [tuple(row) for row in self.window.notes]
 
-    def test_saves_what_the_commands_print(self):
+    def test_saves_what_the_commands_print(self) -> None:
         self.open()
         self.assertEqual(self.window.of.get_text(), "of 1")
         self.change(first=9)
@@ -239,7 +251,7 @@ class WindowTest(unittest.TestCase):
         roll = ("--paper", "60x40", "--to", "zpl", "--dpi", "203")
         self.assertEqual(self.saved("labels.zpl"), self.by_commands(*roll))
 
-    def test_prints_the_dots_of_the_command(self):
+    def test_prints_the_dots_of_the_command(self) -> None:
         self.open()
         path = self.folder / "printed.pdf"
         operation = self.window.operation()
@@ -258,7 +270,7 @@ class WindowTest(unittest.TestCase):
         self.assertTrue(dots[0])
         self.assertEqual(hash(dots[0]), hash(dots[1]))
 
-    def test_says_what_is_left_out_and_what_there_is(self):
+    def test_says_what_is_left_out_and_what_there_is(self) -> None:
         self.open()
         self.assertEqual(self.window.left_out.get_text(), "1 row is left out")
         row, cell, why = self.rows()[0]
@@ -267,13 +279,13 @@ class WindowTest(unittest.TestCase):
         self.assertIn("6 labels of 3 rows", self.window.count.get_text())
         self.assertTrue(self.window.guessed.get_visible())
 
-    def look(self, kind, number=1):
+    def look(self, kind: Any, number: int = 1) -> Any:
         """Looks at a page, or at a label."""
         self.window.view.set_active_id(kind)
         self.window.number.set_value(number)
         return self.shown()
 
-    def test_shows_pages_and_labels_in_their_size_and_in_dots(self):
+    def test_shows_pages_and_labels_in_their_size_and_in_dots(self) -> None:
         self.open()
         page, dark = self.look("page")
         self.assertGreater(dark, 500)
@@ -289,12 +301,12 @@ class WindowTest(unittest.TestCase):
         true = self.window.true_scale() * self.window.shown.size[0]
         self.assertAlmostEqual(self.paper_width(), true, delta=2)
 
-    def paper_width(self):
+    def paper_width(self) -> Any:
         """The pixels of what is looked at, from left to right."""
         settle(0.2)
         return self.window.paper.get_allocated_width()
 
-    def test_a_click_begins_at_a_cell(self):
+    def test_a_click_begins_at_a_cell(self) -> None:
         self.open()
         settle(0.2)
         paper = self.window.paper
@@ -306,7 +318,7 @@ class WindowTest(unittest.TestCase):
         self.window.on_click(paper, mock.Mock(x=1, y=1))  # beside the cells
         self.assertEqual(self.window.choices()["first"], 5)
 
-    def test_a_chosen_row_shows_its_label(self):
+    def test_a_chosen_row_shows_its_label(self) -> None:
         """A row that is left out has no label, but one whose title is shortened has."""
         long = "Pencil for every shop in the country " * 9
         self.table.write_text(TABLE.replace("Soap", long))
@@ -319,11 +331,11 @@ class WindowTest(unittest.TestCase):
         settle(0.1)
         self.assertEqual(self.window.number.get_value_as_int(), 2)
 
-    def test_a_table_is_an_argument(self):
+    def test_a_table_is_an_argument(self) -> None:
         words = [TOOLS / "label-window", self.table]
         opened = []
 
-        def open_and_end(one, path):
+        def open_and_end(one: Any, path: Any) -> Any:
             opened.append((path, one.get_application()))
             GLib.idle_add(one.get_application().lookup_action("quit").activate, None)
 
@@ -348,7 +360,7 @@ class WindowTest(unittest.TestCase):
         self.assertEqual(ran.returncode, 1)
         self.assertIn("label-window: there is no screen", ran.stderr)
 
-    def test_help_opens_the_page_about_the_window(self):
+    def test_help_opens_the_page_about_the_window(self) -> None:
         with mock.patch.object(application.Gtk, "show_uri_on_window") as shown:
             application.Application().help()
         path = Gio.File.new_for_uri(shown.call_args[0][1]).get_path()
@@ -357,7 +369,7 @@ class WindowTest(unittest.TestCase):
         there = installed.parents[2] / application.PAGES[1].relative_to(application.TOP)
         self.assertEqual(there, Path("/usr/share/doc/labels/docs/WINDOW.md"))
 
-    def test_a_table_is_opened_by_the_button(self):
+    def test_a_table_is_opened_by_the_button(self) -> None:
         opener = mock.Mock()
         opener.run.return_value = Gtk.ResponseType.ACCEPT
         opener.get_filename.return_value = str(self.table)
@@ -365,7 +377,7 @@ class WindowTest(unittest.TestCase):
         self.window.open_button.clicked()
         self.until(lambda: self.window.has_labels)
 
-    def test_a_table_is_dropped(self):
+    def test_a_table_is_dropped(self) -> None:
         data = mock.Mock()
         data.get_uris.return_value = [Gio.File.new_for_path(str(self.table)).get_uri()]
         self.window.on_drop(None, None, 0, 0, data, 0, 0)
@@ -375,7 +387,7 @@ class WindowTest(unittest.TestCase):
         self.until(self.problem)
         self.assertIn("https:", self.problem())
 
-    def test_names_in_another_row(self):
+    def test_names_in_another_row(self) -> None:
         self.table.write_text("Prices of May;;;;;\n;;;;;\n" + TABLE)
         self.open()
         self.assertEqual(self.window.choices()["header-row"], 3)
@@ -389,7 +401,7 @@ class WindowTest(unittest.TestCase):
         self.until(lambda: self.window.has_labels)
         self.assertIn("1 label of 1 row", self.window.count.get_text())
 
-    def test_many_labels_are_asked_for(self):
+    def test_many_labels_are_asked_for(self) -> None:
         self.open()
         self.assertTrue(self.window.is_meant())
         self.table.write_text(TABLE.replace("5000;3", "5000;998"))
@@ -402,14 +414,14 @@ class WindowTest(unittest.TestCase):
         summary = dialog.get_property("secondary-text")
         self.assertIn("1001 labels of 3 rows", summary)
 
-    def test_a_queue_gets_the_file_as_it_is(self):
+    def test_a_queue_gets_the_file_as_it_is(self) -> None:
         for name, script in (
             ("lpstat", "printf 'office\\nzebra\\n'"),
             ("lp", f'echo "$@" > {self.folder}/words; cat > {self.folder}/sent'),
         ):
-            path = self.folder / name
-            path.write_text(f"#!/bin/sh\n{script}\n")
-            path.chmod(0o755)
+            program = self.folder / name
+            program.write_text(f"#!/bin/sh\n{script}\n")
+            program.chmod(0o755)
         self.open()
         self.change(roll=True, to="zpl", dpi="203")
         path = f"{self.folder}{os.pathsep}{os.environ['PATH']}"
@@ -434,7 +446,7 @@ class WindowTest(unittest.TestCase):
         roll = ("--paper", "60x40", "--to", "zpl", "--dpi", "203")
         self.assertEqual((self.folder / "sent").read_bytes(), self.by_commands(*roll))
 
-    def test_guesses_and_remembers_by_names(self):
+    def test_guesses_and_remembers_by_names(self) -> None:
         self.open()
         chosen = self.window.choices()
         self.assertEqual(
@@ -461,7 +473,7 @@ class WindowTest(unittest.TestCase):
         self.open(later)
         self.assertEqual(self.window.choices()["copies"], "")
 
-    def test_asks_where_only_the_keeper_knows(self):
+    def test_asks_where_only_the_keeper_knows(self) -> None:
         """Of two prices none is taken, and tables without names have nothing in common."""
         self.table.write_text("EAN;Name;Preis A;Preis B\n96385074;Gum, red;1,20;0,80\n")
         self.open()
@@ -478,7 +490,7 @@ class WindowTest(unittest.TestCase):
             self.change(price="3")
             self.saved(f"{prices}.pdf")
 
-    def test_prints_only_what_is_new(self):
+    def test_prints_only_what_is_new(self) -> None:
         """What went out is kept, and asked for once there is such a list."""
         self.open()
         self.assertFalse(self.window.new_only.get_visible())
@@ -499,7 +511,7 @@ class WindowTest(unittest.TestCase):
         self.change(new_only=True)
         self.assertIn("no label", self.problem())  # all went out
 
-    def test_only_labels_that_went_out_are_kept(self):
+    def test_only_labels_that_went_out_are_kept(self) -> None:
         """On a roll of 30x20 an EAN-13 does not fit: next time it is new all the same. So is what
         was not asked for.
         """
@@ -518,15 +530,15 @@ class WindowTest(unittest.TestCase):
         self.assertEqual(self.window.table.lines.count, 1)
         self.assertIn("0,80", self.window.table.lines.summary)
 
-    def printed(self):
+    def printed(self) -> Any:
         """The codes that went out, as they are kept."""
         return [record.data for record in self.window.table.printed_records()]
 
-    def ids(self):
+    def ids(self) -> Any:
         """The ids of what is chosen, which nobody should hear."""
         return {str(value) for value in self.window.choices().values() if value not in ("", None)}
 
-    def test_a_second_text_is_below_the_first(self):
+    def test_a_second_text_is_below_the_first(self) -> None:
         self.open()
         self.assertFalse(self.window.text_2.get_visible())
         self.window.more.clicked()
@@ -541,7 +553,7 @@ class WindowTest(unittest.TestCase):
         self.until(lambda: self.window.has_labels)
         self.assertEqual(self.window.choices()["text-2"], "")
 
-    def test_a_printer_of_a_language_of_its_own_has_its_usual_dots(self):
+    def test_a_printer_of_a_language_of_its_own_has_its_usual_dots(self) -> None:
         self.open()
         self.change(roll=True, to="zpl")
         self.assertEqual(self.window.choices()["dpi"], "203")
@@ -555,7 +567,7 @@ class WindowTest(unittest.TestCase):
         self.open()  # what is kept is not changed
         self.assertEqual(self.window.choices()["dpi"], "300")
 
-    def test_a_design_is_a_file(self):
+    def test_a_design_is_a_file(self) -> None:
         """It is drawn at once, what is said of it is in the list, and it is chosen the next time."""
         path = self.folder / "own.svg"
         code = '<rect id="code" x="1" y="12" width="52" height="20"/>'
@@ -584,7 +596,7 @@ class WindowTest(unittest.TestCase):
         self.change(design="article")
         self.assertEqual(self.shown()[0], built_in)
 
-    def test_setups_are_named_and_picked_again(self):
+    def test_setups_are_named_and_picked_again(self) -> None:
         self.open()
         self.change(roll=True, width=50, height=25, to="zpl")
         naming = self.window.naming = mock.Mock()
@@ -604,7 +616,7 @@ class WindowTest(unittest.TestCase):
         self.window.menu.fill()
         self.assertNotIn("shelf roll", self.in_menu())
 
-    def in_menu(self, model=None):
+    def in_menu(self, model: Any = None) -> Any:
         """The texts of the menu, and of its parts."""
         model = model or self.window.menu.model
         found = []
@@ -616,7 +628,7 @@ class WindowTest(unittest.TestCase):
                 found += self.in_menu(inner) if inner else []
         return found
 
-    def test_tables_that_were_opened_are_in_the_menu(self):
+    def test_tables_that_were_opened_are_in_the_menu(self) -> None:
         self.open()
         settle(1.0)  # GTK writes the list a little later
         self.assertIn(str(self.table), menu.recent_tables())
@@ -625,7 +637,7 @@ class WindowTest(unittest.TestCase):
         self.table.unlink()
         self.assertNotIn(str(self.table), menu.recent_tables())
 
-    def test_a_printer_of_other_dots_is_refused(self):
+    def test_a_printer_of_other_dots_is_refused(self) -> None:
         self.open()
         options = self.folder / "lpoptions"
         options.write_text("#!/bin/sh\necho 'Resolution/Resolution: *300dpi'\n")
@@ -652,7 +664,7 @@ class WindowTest(unittest.TestCase):
             self.window.check_printer(operation, None)
             self.assertEqual(self.problem(), "")
 
-    def test_a_file_is_read_next_week_as_this_week(self):
+    def test_a_file_is_read_next_week_as_this_week(self) -> None:
         """Its encoding is kept for its name: without it the names cannot be read."""
         self.table.write_bytes("EAN;Name\n96385074;Füller, blau\n".encode("cp1252"))
         self.open()
@@ -672,7 +684,7 @@ class WindowTest(unittest.TestCase):
         self.assertEqual(self.problem(), "")
         self.assertEqual(self.window.labels.labels[0].label.title, "Füller, rot")
 
-    def test_progress_has_numbers(self):
+    def test_progress_has_numbers(self) -> None:
         talk = self.window.talk
         talk.is_stopped = False
         talk.go_on(1200, 20000)
@@ -680,14 +692,14 @@ class WindowTest(unittest.TestCase):
         talk.go_on(0, 0)
         self.assertEqual(window.progress_text(talk), "")
 
-    def test_stop_while_a_table_is_read_says_so(self):
+    def test_stop_while_a_table_is_read_says_so(self) -> None:
         self.window.start(lambda talk: settle_until(lambda: talk.is_stopped), bool)
         self.window.stack.set_visible_child_name("work")
         self.window.on_stop_button(None)
         self.assertEqual(self.window.stack.get_visible_child_name(), "empty")
         self.assertTrue(self.window.done.get_visible())
 
-    def test_a_sheet_is_looked_for_when_its_name_is_whole(self):
+    def test_a_sheet_is_looked_for_when_its_name_is_whole(self) -> None:
         self.open()
         before = self.window.labels
         entry = mock.Mock()
@@ -701,7 +713,7 @@ class WindowTest(unittest.TestCase):
             self.assertTrue(make.called)
         self.assertIs(self.window.labels, before)
 
-    def test_reasons_wrap_at_the_edge_of_the_list(self):
+    def test_reasons_wrap_at_the_edge_of_the_list(self) -> None:
         self.open()
         widths = []
         for width in (800, 1180):
@@ -710,7 +722,7 @@ class WindowTest(unittest.TestCase):
             widths.append(self.window.reason.get_property("wrap-width"))
         self.assertLess(widths[0], widths[1])
 
-    def test_many_labels_are_compared_quickly(self):
+    def test_many_labels_are_compared_quickly(self) -> None:
         """What is compared dot for dot is not read by a second scanner, which took 19 ms each."""
         numbers = range(401_234_500_000, 401_234_500_400)
         rows = "".join(f"{support.ean13(one)};Title {one};1,00 €\n" for one in numbers)
@@ -720,13 +732,13 @@ class WindowTest(unittest.TestCase):
         self.saved("labels.pdf")
         self.assertLess(time.process_time() - before, 0.005 * len(numbers))
 
-    def test_a_child_that_is_not_there_is_seen_at_the_start(self):
+    def test_a_child_that_is_not_there_is_seen_at_the_start(self) -> None:
         self.assertEqual(window.lacking(self.window), [])
         count, self.window.count = self.window.count, None
         self.assertEqual(window.lacking(self.window), ["count"])
         self.window.count = count
 
-    def test_saves_beside_the_table(self):
+    def test_saves_beside_the_table(self) -> None:
         self.open()
         chooser = self.window.saver
         with (
@@ -738,7 +750,7 @@ class WindowTest(unittest.TestCase):
         folder_of.assert_called_once_with(str(self.table.parent))
         name_of.assert_called_once_with(f"{self.table.stem}-labels.pdf")
 
-    def test_offers_sheets_and_encodings(self):
+    def test_offers_sheets_and_encodings(self) -> None:
         self.table.write_bytes("EAN;Name\n96385074;Füller, blau\n".encode("cp1252"))
         self.open()
         (offer,) = self.window.offers.get_children()
@@ -748,7 +760,7 @@ class WindowTest(unittest.TestCase):
         self.assertEqual(self.problem(), "")
         self.assertEqual(self.window.choices()["for-table"], "--encoding cp1252")
 
-    def test_keeps_how_a_table_is_read(self):
+    def test_keeps_how_a_table_is_read(self) -> None:
         self.open()
         self.change(for_table="--where Name=Soap")
         self.saved("labels.pdf")
@@ -759,7 +771,7 @@ class WindowTest(unittest.TestCase):
         self.assertEqual(self.window.choices()["for-table"], "--where Name=Soap")
         self.assertIn("2 labels of 1 row:", self.window.count.get_text())
 
-    def test_a_file_that_is_no_table_is_said(self):
+    def test_a_file_that_is_no_table_is_said(self) -> None:
         for name, data in (
             ("old.xls", b"\xd0\xcf\x11\xe0"),
             ("empty.csv", b""),
@@ -775,7 +787,7 @@ class WindowTest(unittest.TestCase):
         self.open()
         self.assertEqual(self.problem(), "")
 
-    def test_wrong_words_are_said_and_the_page_stays(self):
+    def test_wrong_words_are_said_and_the_page_stays(self) -> None:
         self.open()
         before = self.window.shown
         for words, said in (("--no-such-option", "--no-such-option"), ("'open", "quotation")):
@@ -799,7 +811,7 @@ class WindowTest(unittest.TestCase):
             self.window.take({"for-table": "--help"})
             settle(0.5)
 
-    def test_a_table_of_old_windows_is_read_by_its_encoding(self):
+    def test_a_table_of_old_windows_is_read_by_its_encoding(self) -> None:
         self.table.write_bytes(TABLE.replace("Pencil", "Käse").encode("cp1252"))
         self.open()
         self.assertIn("--encoding", self.problem())
@@ -807,7 +819,7 @@ class WindowTest(unittest.TestCase):
         self.assertEqual(self.problem(), "")
         self.assertIn("6 labels of 3 rows", self.window.count.get_text())
 
-    def test_a_wrong_picture_stops_the_print(self):
+    def test_a_wrong_picture_stops_the_print(self) -> None:
         self.open()
         made = self.window.labels
         first, *others = made.laid_out.labels
@@ -822,7 +834,7 @@ class WindowTest(unittest.TestCase):
         self.assertIn("row 2", self.problem())
         self.assertFalse(path.exists())
 
-    def still_after(self, function, *values):
+    def still_after(self, function: Callable[..., Any], *values: Any) -> Any:
         """Whether the window stood still for too long while it called a function."""
         heart = Heart()
         called = []
@@ -831,14 +843,14 @@ class WindowTest(unittest.TestCase):
         heart.stop()
         return heart.stood_still()
 
-    def test_a_window_that_stands_still_is_found(self):
+    def test_a_window_that_stands_still_is_found(self) -> None:
         self.assertTrue(self.still_after(work_for, 0.7))
         self.assertFalse(self.still_after(work_for, 0.1))
         self.assertFalse(self.still_after(time.sleep, 0.7))
         with mock.patch(f"{__name__}.LONGEST_WAIT", 0.6):
             self.assertTrue(self.still_after(time.sleep, 0.7))
 
-    def heart_of(self, path):
+    def heart_of(self, path: Any) -> Heart:
         """The heart of a window that opens and saves a long file."""
         heart = Heart()
         self.open(path)
@@ -847,7 +859,7 @@ class WindowTest(unittest.TestCase):
         heart.stop()
         return heart
 
-    def test_long_work_keeps_beating_and_stops(self):
+    def test_long_work_keeps_beating_and_stops(self) -> None:
         numbers = range(401_234_500_000, 401_234_520_000)
         rows = "".join(f"{one};{support.ean13(one)};Title {one};1,00 €\n" for one in numbers)
         path = self.folder / "long.csv"
@@ -864,23 +876,23 @@ class WindowTest(unittest.TestCase):
         self.window.on_stop(None)  # the labels that are there are not those that are chosen
         self.assertFalse(self.window.print_button.is_sensitive())
 
-    def test_the_desktop_finds_the_window(self):
+    def test_the_desktop_finds_the_window(self) -> None:
         support.needs("desktop-file-validate", "appstreamcli")
         data = TOOLS / "data"
         entry = data / "org.labels.Window.desktop"
         about = data / "org.labels.Window.metainfo.xml"
         for words in (
-            ["desktop-file-validate", entry],
-            ["appstreamcli", "validate", "--no-net", about],
+            ["desktop-file-validate", str(entry)],
+            ["appstreamcli", "validate", "--no-net", str(about)],
         ):
             ran = subprocess.run(words, capture_output=True, text=True)
             self.assertEqual(ran.returncode, 0, ran.stdout + ran.stderr)
 
-    def test_speaks_german(self):
+    def test_speaks_german(self) -> None:
         locale = self.folder / "locale/de/LC_MESSAGES"
         locale.mkdir(parents=True)
-        catalogue = ["msgfmt", "--check-format", "-o", locale / "label-tools.mo"]
-        subprocess.run([*catalogue, TOOLS / "po/de.po"], check=True)
+        catalogue = ["msgfmt", "--check-format", "-o", str(locale / "label-tools.mo")]
+        subprocess.run([*catalogue, str(TOOLS / "po/de.po")], check=True)
         code = (
             "import sys; sys.path.insert(0, sys.argv[1])\n"
             "from labeltools import window\n"
@@ -900,7 +912,7 @@ class WindowTest(unittest.TestCase):
         )
         environment = {**os.environ, "LABELS_LOCALE": str(self.folder / "locale")}
         environment.update(LANGUAGE="de", LC_ALL="C.UTF-8")
-        words = [sys.executable, "-c", code, TOOLS]
+        words = [sys.executable, "-c", code, str(TOOLS)]
         ran = subprocess.run(words, env=environment, capture_output=True, text=True, check=True)
         said = ran.stdout.splitlines()
         self.assertEqual(said[0], "von 1")
@@ -910,7 +922,7 @@ class WindowTest(unittest.TestCase):
         self.assertGreater(len(texts), 40)
         self.assertEqual([one for one in texts if one in said and one not in same], [])
 
-    def test_each_control_has_a_name_and_fits_a_small_screen(self):
+    def test_each_control_has_a_name_and_fits_a_small_screen(self) -> None:
         self.open()
         controls = list(named(self.window))
         self.assertGreater(len(controls), 20)
