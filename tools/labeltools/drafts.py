@@ -15,7 +15,7 @@ from labeltools.money import MOST_DECIMALS, Money, NotMoney, currency_of, parse
 from labeltools.money import parse_unit_price, plain, text_price
 from labeltools.prices import ARITHMETIC, MOST_LOST, nearest
 from labeltools.names import is_repeated, looks_like, name_of
-from labeltools.rows import Row
+from labeltools.rows import Doubt, Row
 from labeltools.table_options import TableOptions
 
 DATE = re.compile(r"(?<![0-9.,])[0-9]{1,4}[./-][0-9]{1,2}(?:[./-](?:[0-9]{2,4})?)?(?![0-9,])")
@@ -76,7 +76,7 @@ class Noticed:
     """What is said of the rows at the end, each once: what another program has left in texts, by
     its template; dates, and texts like dates, by the places of their columns; values like those
     that rows are chosen by, by the same; an old price that is not above the price; prices that
-    are shown rounded, by the places of their columns.
+    are shown rounded, by the places of their columns; cells that are doubtful, by their columns.
     """
 
     left: dict[str, Found] = field(default_factory=dict)
@@ -85,6 +85,7 @@ class Noticed:
     like_values: dict[tuple[Column, str], Found] = field(default_factory=dict)
     low: Found | None = None
     rounded: dict[int, Found] = field(default_factory=dict)
+    doubts: dict[tuple[Column, Doubt], int] = field(default_factory=dict)
 
     def text(self, column: Column, row: Row, text: str) -> None:
         """Looks at a title or text; raises `RowError` for one that was encoded twice."""
@@ -103,6 +104,12 @@ class Noticed:
             return
         elif column.place not in self.like_dates and MARK.search(text) and DATE.search(text):
             self.like_dates[column.place] = Found(row.number, text)
+
+    def doubtful(self, columns: Sequence[Column], row: Row) -> None:
+        """Keeps the first row with a doubtful cell of each column."""
+        for column in columns:
+            if doubt := (row.doubts or {}).get(column.place):
+                self.doubts.setdefault((column, doubt), row.number)
 
     def value(self, column: Column, row: Row, wanted: str) -> None:
         """Looks at a value that is not the one that rows are chosen by."""
@@ -173,6 +180,8 @@ class RowReader:
         was = self.price(columns.old_price, row, currency) if columns.old_price else None
         if was:
             self.noticed.prices(row.number, price, was)
+        if row.doubts:
+            self.noticed.doubtful(columns.shown, row)
         return Draft(row.number, code, title, text, tuple(texts), copies, price, unit, was)
 
     def is_names(self, row: Row) -> bool:

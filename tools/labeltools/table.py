@@ -18,7 +18,7 @@ from labeltools.names import listed, said_of_empty, unlike
 from labeltools.number_format import Formatter, local_date, local_signs
 from labeltools.ods import rows_of_ods
 from labeltools.cells import seen
-from labeltools.rows import Row
+from labeltools.rows import Doubt, Row
 from labeltools.summary import summary
 from labeltools.table_options import TableOptions
 from labeltools.workbook import is_ods, named_errors, opened
@@ -223,6 +223,7 @@ class Work:
             text = Text("row {} has the currency {}, which is not known", row, quoted(currency))
             self.talk.say(text, Text("if it is right, name it by --currency-name"))
         self.say_of_texts()
+        self.say_of_doubts()
         if self.hidden:
             text = counted(
                 "{} hidden row is not printed", "{} hidden rows are not printed", self.hidden
@@ -338,19 +339,27 @@ class Work:
             )
             self.talk.say(text, Text("give --links to draw the address"))
 
-    def say_of_numbers(self) -> None:
-        """Shows how numbers and dates of .xlsx are printed, where the file does not say it, and in
-        which columns a condition may strike letters through.
+    def say_of_doubts(self) -> None:
+        """Says in which columns a condition may strike letters through, and where nobody sees
+        them.
         """
-        formatter = self.start.formatter
-        for column in self.columns.shown:
-            if row := formatter.may_strike.get(column.place):
+        for (column, doubt), row in self.reader.noticed.doubts.items():
+            text = Text(
+                "{} has a condition from row {} on that strikes letters through or hides them",
+                column.title,
+                row,
+            )
+            if doubt is Doubt.UNSEEN:
                 text = Text(
-                    "{} has a condition from row {} on that strikes letters through",
+                    "{} has letters from row {} on that nobody sees, in the colour of the cell",
                     column.title,
                     row,
                 )
-                self.talk.say(text, Text("are these rows to be printed? --where chooses rows"))
+            self.talk.say(text, Text("are these rows to be printed? --where chooses rows"))
+
+    def say_of_numbers(self) -> None:
+        """Shows how numbers and dates of .xlsx are printed, where the file does not say it."""
+        formatter = self.start.formatter
         is_given = self.options.file.decimal is not None or self.options.prices.pattern
         if formatter.first_number and not is_given:
             self.talk.say(
