@@ -20,6 +20,7 @@ from labeltools.table_options import TableOptions
 
 DATE = re.compile(r"(?<![0-9.,])[0-9]{1,4}[./-][0-9]{1,2}(?:[./-](?:[0-9]{2,4})?)?(?![0-9,])")
 MARK = re.compile("[0-9][./-]")  # a text without one is like no date
+OWN_TABLE = Text("make a table of its own of it")
 ZERO_HINT = Text("it is a zero, which its number format shows so")
 # a text without one of these has nothing that is looked at
 LOOKED_AT = re.compile("|".join([LEFT.pattern, TWICE.pattern, MARK.pattern]))
@@ -76,7 +77,8 @@ class Noticed:
     """What is said of the rows at the end, each once: what another program has left in texts, by
     its template; dates, and texts like dates, by the places of their columns; values like those
     that rows are chosen by, by the same; an old price that is not above the price; prices that
-    are shown rounded, by the places of their columns; cells that are doubtful, by their columns.
+    are shown rounded, by the places of their columns; cells that are doubtful, and texts that are
+    a zero, by their columns; words in columns of prices in rows without a code, by their places.
     """
 
     left: dict[str, Found] = field(default_factory=dict)
@@ -86,10 +88,14 @@ class Noticed:
     low: Found | None = None
     rounded: dict[int, Found] = field(default_factory=dict)
     doubts: dict[tuple[Column, Doubt], int] = field(default_factory=dict)
+    zeros: dict[Column, int] = field(default_factory=dict)
+    units: dict[int, str] = field(default_factory=dict)
 
     def text(self, column: Column, row: Row, text: str) -> None:
         """Looks at a title or text; raises `RowError` for one that was encoded twice."""
         cell = row.cells[column.place]
+        if text == "0":
+            self.zeros.setdefault(column, row.number)
         if isinstance(cell, str) and not LOOKED_AT.search(text):  # most texts, at once
             return
         if before := twice_encoded(text):
@@ -110,6 +116,13 @@ class Noticed:
         for column in columns:
             if doubt := (row.doubts or {}).get(column.place):
                 self.doubts.setdefault((column, doubt), row.number)
+
+    def unit(self, columns: Sequence[Column | None], row: Row) -> None:
+        """Keeps the words of a row without a code that are in columns of prices."""
+        for column in columns:
+            text = row.seen(column.place) if column else ""
+            if column and text and not any(map(str.isdigit, text.partition("/")[0])):
+                self.units.setdefault(column.place, text)
 
     def value(self, column: Column, row: Row, wanted: str) -> None:
         """Looks at a value that is not the one that rows are chosen by."""
@@ -159,13 +172,13 @@ class RowReader:
     noticed: Noticed = field(default_factory=Noticed)
     other_link: int = 0  # the first row whose code leads to another address
     other_currency: tuple[int, str] | None = None  # the first row with one that is not known
+    other_names: int = 0  # the row that names other columns, or the same in other places
 
     def draft(self, row: Row) -> Draft | None:
         """Returns what becomes of a row, None where it is not marked; raises `RowError`."""
         if row.problem:
             raise row.problem
-        if self.is_names(row):
-            raise RowError(Text("the row has the names of the columns again"))
+        self.refuse_names(row)
         if not self.is_marked(row):
             return None
         columns = self.columns
@@ -183,6 +196,37 @@ class RowReader:
         if row.doubts:
             self.noticed.doubtful(columns.shown, row)
         return Draft(row.number, code, title, text, tuple(texts), copies, price, unit, was)
+
+    def refuse_names(self, row: Row) -> None:
+        """Raises `RowError` for a row that has the names of the columns again, and for one that
+        names others, with all rows below it: these are another table.
+        """
+        if self.other_names:
+            what = Text("the row is below row {}, which names other columns", self.other_names)
+            raise RowError(what, OWN_TABLE)
+        if self.is_names(row):
+            raise RowError(Text("the row has the names of the columns again"))
+        if self.names_others(row):
+            self.other_names = row.number
+            raise RowError(Text("the row names other columns than the first one"), OWN_TABLE)
+
+    def names_others(self, row: Row) -> bool:
+        """Returns whether half of the cells of a row are names of columns, and one that is asked
+        for is in another place, or has another name in its place.
+        """
+        first = row.seen(self.columns.code.place)
+        if not self.names or first[:1].isdigit():  # most rows, at once
+            return False
+        texts = list(map(name_of, bare_texts(row)))
+        named = sum(text in self.names for text in texts if text)
+        if named < 2 or 2 * named < sum(map(bool, texts)):
+            return False
+        for column in self.columns.asked:
+            name = self.names[column.place] if column.place < len(self.names) else ""
+            text = texts[column.place] if column.place < len(texts) else ""
+            if text != name and (text or name in texts):
+                return True
+        return False
 
     def is_names(self, row: Row) -> bool:
         """Returns whether a row is the row of names again; its code is the name of the column
@@ -208,6 +252,9 @@ class RowReader:
         """Returns the code of a row; raises `RowError`."""
         rules = self.rules(row)
         column = self.columns.code
+        if not row.seen(column.place).strip():
+            prices = self.columns.price, self.columns.unit_price, self.columns.old_price
+            self.noticed.unit(prices, row)
         text = column.code(row, rules.is_free)
         if rules.is_free and (link := row.link(column.place)):
             text = self.linked(row, text, link)

@@ -13,7 +13,7 @@ from labeltools.csv_table import csv_table
 from labeltools.drafts import RowReader
 from labeltools.line_writer import LineWriter, contents_of
 from labeltools.messages import BAD_ARGUMENTS, Place, RowError, Talk, ToolError, quoted
-from labeltools.prices import is_of_cents
+from labeltools.prices import is_of_cents, is_of_many
 from labeltools.names import listed, said_of_empty, unlike
 from labeltools.number_format import Formatter, local_date, local_signs
 from labeltools.ods import rows_of_ods
@@ -264,7 +264,7 @@ class Work:
                 found.more,
             )
             self.talk.say(text)
-        self.say_of_cents()
+        self.say_of_units()
         if low := self.reader.noticed.low:
             self.talk.say(
                 Text(
@@ -275,13 +275,24 @@ class Work:
                 )
             )
 
-    def say_of_cents(self) -> None:
-        """Says which columns have cents by their names, and whole numbers."""
+    def say_of_units(self) -> None:
+        """Says which columns have cents, or prices of many articles, by their names, or by the row
+        of units below these.
+        """
         columns = (self.columns.price, self.columns.unit_price, self.columns.old_price)
         for column, prices in zip(columns, self.writer.columns):
-            if column and is_of_cents(column.name) and prices.are_bare:
+            if column is None:
+                continue
+            name = f"{column.name} {self.reader.noticed.units.get(column.place, '')}"
+            if is_of_cents(name) and prices.are_bare:
                 text = Text("{} has cents by its name, and is printed as it is", column.title)
                 self.talk.say(text, Text("make a column of prices of it"))
+            elif column is not self.columns.unit_price and is_of_many(name):
+                text = Text(
+                    "{} has prices of 100 or 1000 by its name, and is printed as it is",
+                    column.title,
+                )
+                self.talk.say(text, Text("make a column of prices of one"))
 
     def say_of_texts(self) -> None:
         """Says what is odd in titles and texts, and in the values that rows are chosen by."""
@@ -290,6 +301,9 @@ class Work:
             self.talk.say(
                 Text("row {} has {} with {}, which is printed as it is", row, quoted(text), more)
             )
+        for column, row in noticed.zeros.items():
+            text = Text("row {} has a zero as text, in {}", row, column.title)
+            self.talk.say(text, Text("is it the number of an empty cell?"))
         for place, row in noticed.dates.items():
             if like := noticed.like_dates.get(place):
                 text = Text(

@@ -531,6 +531,33 @@ class Texts(CellTest):
         data = f"EAN;Name\n{PENCIL};{text}\n"
         self.check(data, ["--code", "EAN", "--title", "Name"], [], [problem], 1)
 
+    def test_utf_8_that_was_read_as_another_encoding(self) -> None:
+        for text, encoding in (
+            ("Käse", "cp850"),
+            ("Käse", "mac_roman"),
+            ("Żółw", "cp1250"),
+            ("Чай", "cp1251"),
+            ("Tee – grün", "cp1252"),
+        ):
+            wrong = text.encode().decode(encoding)
+            for name, meant in ((wrong, text), (f"Größe {wrong}", f"Größe {text}")):
+                is_part = name != wrong
+                if is_part and encoding in ("cp1250", "cp1251"):
+                    continue  # these letters may be those of words
+                titles, said = self.ran(f"EAN;Name\n{PENCIL};{name}\n".encode(), *PRICED[:4])
+                self.assertEqual((titles, len(said)), ([], 1), name)
+                self.assertIn(f'which was encoded twice, for "{meant}"', said[0])
+        for text in ("NESCAFÉ®", "Mousse d’été", "OPCIÓ…", "Її сік", "«área»", "Cóż", "√2 ¬"):
+            titles, said = self.ran(f"EAN;Name\n{PENCIL};{text}\n".encode(), *PRICED[:4])
+            self.assertEqual((titles, said), ([text], []))
+
+    def test_a_zero_as_text_is_said(self) -> None:
+        data = f"EAN;Name\n{PENCIL};Tea\n{SMALL};0\n{SOAP};0\n{BOOK};7\n".encode()
+        titles, said = self.ran(data, *PRICED[:4])
+        wanted = 'row 3 has a zero as text, in column 2 ("Name"): '
+        wanted += "is it the number of an empty cell?"
+        self.assertEqual((titles, said), (["Tea", "0", "0", "7"], [wanted]))
+
     def test_what_a_program_writes_without_a_value(self) -> None:
         for text in ("(NULL)", "[none]", "\\N", "NA", "5,9E+12"):
             data = f"EAN;Name\n{PENCIL};{text}\n{SMALL};Na\n".encode()
@@ -545,12 +572,19 @@ class Texts(CellTest):
             ("'Earl Grey'", "quotes round it"),
             ("'+49 Tee", "an apostrophe in front, a spreadsheet's sign of text"),
             ("Tee &amp; Co", "HTML"),
+            ("Gr_x00FC_ntee", 'an escape, for "Grüntee"'),
+            ("Gr=C3=BCntee", 'an escape, for "Grüntee"'),
+            ('["Tee"]', "quotes round it"),
+            ("{{name}}", "the sign of a template"),
+            ("[:de]Tee[:fr]Thé[:]", "the sign of a template"),
+            ("Gr?ntee", "a question mark in a word, as for a lost letter"),
         ):
             data = f"EAN\tName\n{PENCIL}\t{text}\n{SMALL}\t{text}\n".encode()
             titles, said = self.ran(data, *PRICED[:4])
             wanted = f'row 2 has "{text}" with {left}, which is printed as it is'
             self.assertEqual((titles, said), ([text, text], [wanted]))
-        for text in ("'t Hof", "50%ige", "Salt & Pepper", "C:\\neu", "5' lang", "Rock 'n' Roll"):
+        right = ("'t Hof", "50%ige", "Salt & Pepper", "C:\\neu", "5' lang", "Rock 'n' Roll")
+        for text in (*right, "Wer? Wie?", "A=10=B", "{rot}", "[neu] Tee", "max_x2", "x=?"):
             data = f"EAN;Name\n{PENCIL};{text}\n".encode()
             self.assertEqual(self.ran(data, *PRICED[:4]), ([text], []))
 
@@ -578,6 +612,61 @@ class Texts(CellTest):
         )
         done = support.run_here("label-table", "--code", "EAN", "--where", "Print=2", input=data)
         self.assertEqual((len(parts_of(done.stdout)[1]), support.messages(done)), (2, []))
+
+
+class Heads(CellTest):
+    """A row may name columns again: what is below may be another table."""
+
+    def test_a_row_that_names_other_columns_ends_the_table(self) -> None:
+        words = ["--code", "EAN", "--title", "Name", "--price", "VK"]
+        names = "row 3: the row names other columns than the first one"
+        below = "row 4: the row is below row 3, which names other columns"
+        for head, row in (
+            ("EAN;Name;EK;VK", f"{SMALL};Tea;1,11;2,22"),
+            ("Name;EAN;Stock;VK", f"Tea;{SMALL};1;2,22"),
+            ("EAN;Name;;EK;VK", f"{SMALL};Tea;;1,11;2,22"),
+        ):
+            table = f"EAN;Name;VK;Stock;\n{PENCIL};Tea;3,33;7;\n"
+            fill = ";" * (4 - head.count(";"))
+            data = f"{table}{head}{fill}\n{row}{fill}\n".encode()
+            done = support.run_here("label-table", *words, input=data)
+            self.assertEqual([one["price"] for one, _ in parts_of(done.stdout)[1]], ["3,33"])
+            said = [one.partition(": ")[2] for one in support.messages(done)]
+            hint = "make a table of its own of it"
+            self.assertEqual(said[:2], [f"{names}: {hint}", f"{below}: {hint}"], head)
+
+    def test_the_same_names_end_no_table(self) -> None:
+        """Lists have them on each page; an article may be called as a column is."""
+        words = ["--code", "EAN", "--title", "Name", "--price", "VK"]
+        for head in ("EAN;Name;VK;Stock", "EAN;Name;VK;", ";Name;;"):
+            data = f"EAN;Name;VK;Stock\n{PENCIL};Tea;3,33;7\n{head}\n{SMALL};Tea;2,22;7\n"
+            self.assertEqual(self.ran(data.encode(), *words)[0], ["3,33", "2,22"], head)
+        data = f"Code;Name;VK\nName;VK;3,33\n{SMALL};Tea;2,22\n".encode()
+        free = ["--code", "Code", "--price", "VK", "--symbology", "code128"]
+        prices, said = self.ran(data, *free)
+        self.assertEqual((prices, "names other columns" in said[0]), ([], True))
+
+    def test_prices_of_many_are_said(self) -> None:
+        said = "has prices of 100 or 1000 by its name, and is printed as it is: "
+        said += "make a column of prices of one"
+        for name, units, is_said in (
+            ("Preis/100", "", True),
+            ("Preis (TEUR)", "", True),
+            ("price per 1000", "", True),
+            ("Preis", "EUR/100", True),
+            ("Preis", "EUR", False),
+            ("Preis / 100 g", "", False),
+            ("VK 1000", "", False),
+        ):
+            unit = f";;{units}\n" if units else ""
+            data = f"EAN;Name;{name}\n{unit}{PENCIL};Tea;3,33\n".encode()
+            prices, messages = self.ran(data, "--code", "EAN", "--price", name)
+            self.assertEqual(prices, ["3,33"])
+            self.assertEqual([said in one for one in messages].count(True), int(is_said), name)
+        data = f"EAN;Name;Preis\n;;ct\n{PENCIL};Tea;333\n".encode()
+        self.assertIn(
+            "has cents by its name", self.ran(data, "--code", "EAN", "--price", "Preis")[1][1]
+        )
 
 
 class Codes(CellTest):
