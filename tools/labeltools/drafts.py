@@ -23,7 +23,7 @@ MARK = re.compile("[0-9][./-]")  # a text without one is like no date
 OWN_TABLE = Text("make a table of its own of it")
 ZERO_HINT = Text("it is a zero, which its number format shows so")
 # a text without one of these has nothing that is looked at
-LOOKED_AT = re.compile("|".join([LEFT.pattern, TWICE.pattern, MARK.pattern]))
+LOOKED_AT = re.compile(f"{LEFT.pattern}|{MARK.pattern}")
 SHOWN_DECIMALS = 6  # of the number of a cell, in a message
 PROGRAM_DECIMALS = 17  # of a number that a program has calculated
 
@@ -96,7 +96,8 @@ class Noticed:
         cell = row.cells[column.place]
         if text == "0":
             self.zeros.setdefault(column, row.number)
-        if isinstance(cell, str) and not LOOKED_AT.search(text):  # most texts, at once
+        is_odd = LOOKED_AT.search(text) or not text.isascii() and TWICE.search(text)
+        if isinstance(cell, str) and not is_odd:  # most texts, at once
             return
         if before := twice_encoded(text):
             what = Text("has {}, which was encoded twice, for {}", quoted(text), quoted(before))
@@ -117,9 +118,11 @@ class Noticed:
             if doubt := (row.doubts or {}).get(column.place):
                 self.doubts.setdefault((column, doubt), row.number)
 
-    def unit(self, columns: Sequence[Column | None], row: Row) -> None:
-        """Keeps the words of a row without a code that are in columns of prices."""
-        for column in columns:
+    def units_in(self, row: Row, columns: Columns) -> None:
+        """Keeps the words in columns of prices of a row whose code is empty: they may be units."""
+        if row.seen(columns.code.place).strip():
+            return
+        for column in (columns.price, columns.unit_price, columns.old_price):
             text = row.seen(column.place) if column else ""
             if column and text and not any(map(str.isdigit, text.partition("/")[0])):
                 self.units.setdefault(column.place, text)
@@ -182,7 +185,11 @@ class RowReader:
         if not self.is_marked(row):
             return None
         columns = self.columns
-        code = self.code(row)
+        try:
+            code = self.code(row)
+        except RowError:
+            self.noticed.units_in(row, columns)
+            raise
         title = "\n".join(self.texts(columns.title, row, code).values())
         texts = self.texts(columns.text, row, code)
         text = tuple(texts.values())
@@ -214,12 +221,13 @@ class RowReader:
         """Returns whether half of the cells of a row are names of columns, and one that is asked
         for is in another place, or has another name in its place.
         """
-        first = row.seen(self.columns.code.place)
-        if not self.names or first[:1].isdigit():  # most rows, at once
+        place = self.columns.code.place
+        cell = row.cells[place] if place < len(row.cells) else ""
+        if not isinstance(cell, str) or cell[:1].isdigit():  # most rows, at once
             return False
         texts = list(map(name_of, bare_texts(row)))
         named = sum(text in self.names for text in texts if text)
-        if named < 2 or 2 * named < sum(map(bool, texts)):
+        if not self.names or named < 2 or 2 * named < sum(map(bool, texts)):
             return False
         for column in self.columns.asked:
             name = self.names[column.place] if column.place < len(self.names) else ""
@@ -252,9 +260,6 @@ class RowReader:
         """Returns the code of a row; raises `RowError`."""
         rules = self.rules(row)
         column = self.columns.code
-        if not row.seen(column.place).strip():
-            prices = self.columns.price, self.columns.unit_price, self.columns.old_price
-            self.noticed.unit(prices, row)
         text = column.code(row, rules.is_free)
         if rules.is_free and (link := row.link(column.place)):
             text = self.linked(row, text, link)
