@@ -9,7 +9,7 @@ from labeltools.text import NOTHING, Text
 from labeltools.cells import Cell, Kind
 from labeltools.codes import Code, CodeRules, code_of
 from labeltools.columns import Column, Columns, symbology_in
-from labeltools.leftovers import LEFT, TWICE, left_in, twice_encoded
+from labeltools.leftovers import BEHIND, LEFT, left_in, twice_encoded
 from labeltools.messages import RowError, quoted
 from labeltools.money import MOST_DECIMALS, Money, NotMoney, currency_of, parse
 from labeltools.money import parse_unit_price, plain, text_price
@@ -96,7 +96,7 @@ class Noticed:
         cell = row.cells[column.place]
         if text == "0":
             self.zeros.setdefault(column, row.number)
-        is_odd = LOOKED_AT.search(text) or not text.isascii() and TWICE.search(text)
+        is_odd = LOOKED_AT.search(text) or not (text.isascii() or BEHIND.isdisjoint(text))
         if isinstance(cell, str) and not is_odd:  # most texts, at once
             return
         if before := twice_encoded(text):
@@ -177,11 +177,19 @@ class RowReader:
     other_currency: tuple[int, str] | None = None  # the first row with one that is not known
     other_names: int = 0  # the row that names other columns, or the same in other places
 
+    def __post_init__(self) -> None:
+        place = self.columns.code.place
+        self.code_name = self.names[place] if place < len(self.names) else ""
+
     def draft(self, row: Row) -> Draft | None:
         """Returns what becomes of a row, None where it is not marked; raises `RowError`."""
         if row.problem:
             raise row.problem
-        self.refuse_names(row)
+        place = self.columns.code.place
+        cell = row.cells[place] if place < len(row.cells) else ""
+        is_number = isinstance(cell, str) and cell.isdigit() and cell != self.code_name
+        if not is_number or self.other_names:  # most rows have one
+            self.refuse_names(row)
         if not self.is_marked(row):
             return None
         columns = self.columns
@@ -221,10 +229,6 @@ class RowReader:
         """Returns whether half of the cells of a row are names of columns, and one that is asked
         for is in another place, or has another name in its place.
         """
-        place = self.columns.code.place
-        cell = row.cells[place] if place < len(row.cells) else ""
-        if not isinstance(cell, str) or cell[:1].isdigit():  # most rows, at once
-            return False
         texts = list(map(name_of, bare_texts(row)))
         named = sum(text in self.names for text in texts if text)
         if not self.names or named < 2 or 2 * named < sum(map(bool, texts)):
@@ -241,10 +245,8 @@ class RowReader:
         then.
         """
         place = self.columns.code.place
-        if place >= min(len(self.names), len(row.cells)):
-            return False
-        cell = row.cells[place]
-        if not isinstance(cell, str) or name_of(cell) != self.names[place]:
+        cell = row.cells[place] if place < len(row.cells) else None
+        if not isinstance(cell, str) or not self.names or name_of(cell) != self.code_name:
             return False
         return is_repeated(bare_texts(row), self.names)
 

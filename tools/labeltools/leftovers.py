@@ -2,6 +2,7 @@
 
 import re
 from contextlib import suppress
+from functools import cache
 from urllib.parse import unquote
 
 from labeltools.messages import quoted
@@ -29,20 +30,11 @@ TRADE = re.compile("[Ä-áã-ô][®™°»”’]")  # NESCAFÉ®, which cp1252 
 
 def behind(encoding: str) -> str:
     """Returns how an encoding reads the bytes behind the first one of a letter of UTF-8."""
-    return f"[{re.escape(bytes(range(0x80, 0xC0)).decode(encoding, 'ignore'))}]"
+    return bytes(range(0x80, 0xC0)).decode(encoding, "ignore")
 
 
-def first(encoding: str) -> str:
-    """Returns how an encoding reads the first bytes of letters of UTF-8."""
-    return f"[{re.escape(bytes(range(0xC2, 0xF5)).decode(encoding, 'ignore'))}]"
-
-
-PARTS = {one: re.compile(f"[{letters}]{behind(one)}+") for one, letters in FIRST.items()}
-TWICE = re.compile(
-    "|".join(
-        [first(one) + behind(one) for one in READ_AS] + [one.pattern for one in PARTS.values()]
-    )
-)
+# a text without one of these is as it was meant
+BEHIND = frozenset("".join(map(behind, (*READ_AS, *FIRST))))
 LEFT = re.compile(r"[<&%\\\"'?{\[_=]")  # a text without one has nothing that is looked for
 
 
@@ -100,16 +92,22 @@ def twice_encoded(text: str) -> str:
     >>> twice_encoded("Brötchen mit KÃ¤se"), twice_encoded("K├ñse")
     ('Brötchen mit Käse', 'Käse')
     """
-    if text.isascii() or not TWICE.search(text):  # most texts, at once
+    if text.isascii() or BEHIND.isdisjoint(text):  # most texts, at once
         return ""
     for encoding, least in READ_AS.items():
         before = meant(text, encoding)
         if len(text) - len(before) >= least and not TRADE.search(text):
             return before
     before = text
-    for encoding, part in PARTS.items():
-        before = part.sub(lambda found: meant(found[0], encoding), before)
+    for encoding in FIRST:
+        before = letters_of(encoding).sub(lambda found: meant(found[0], encoding), before)
     return before if before != text else ""
+
+
+@cache
+def letters_of(encoding: str) -> re.Pattern[str]:
+    """Returns the pattern of a letter of Western Europe in UTF-8, as an encoding reads it."""
+    return re.compile(f"[{FIRST[encoding]}][{re.escape(behind(encoding))}]+")
 
 
 def meant(text: str, encoding: str) -> str:
