@@ -253,7 +253,12 @@ def taken(cell: Cell, use: Use) -> str:
     """Returns what a column takes of a cell; raises `RowError` where it takes none of its kind, or
     its kind, value and text do not agree.
     """
-    text = plain_text(cell) if isinstance(cell, str) else taken_of(cell, use)
+    if not isinstance(cell, str):
+        text = taken_of(cell, use)
+    elif cell[:1] not in ODD_STARTS and cell.isascii() and len(cell) <= LONGEST_CELL:
+        text = cell  # most cells, at once
+    else:
+        text = plain_text(cell)
     if use is PRINTED or use is PRICE:
         refuse_no_value(text)
     return text
@@ -322,8 +327,6 @@ def plain_text(cell: str) -> str:
     """Returns a cell that is a text; raises `RowError` for what a spreadsheet writes in place of a
     value.
     """
-    if cell[:1] not in ODD_STARTS and cell.isascii() and len(cell) <= LONGEST_CELL:
-        return cell  # most cells, at once
     start = cell.lstrip()[:1]
     if start in SPECIAL_STARTS and start:
         refuse_special(cell)

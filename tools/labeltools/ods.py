@@ -261,7 +261,8 @@ def element_rows(element: Element, content: Content) -> Iterator[Row]:
     links: dict[int, str] = {}
     doubts: dict[int, Doubt] = {}
     cells = cells_of(element, content, links, doubts)
-    content.see_conditions(cells, doubts)
+    if content.conditions:
+        content.see_conditions(cells, doubts)
     is_hidden = element.get("visibility", "visible") != "visible"
     repeat = repeats(element.attrib, "number-rows-repeated")
     if is_hidden or any(cells):
@@ -281,12 +282,18 @@ def cells_of(
     has_links = next(row.iter("a"), None) is not None
     cells: list[Cell] = []
     place = 0
+    is_plain = content.styles.is_plain
     for element in row:
         attributes = element.attrib
         repeat = repeats(attributes, "number-columns-repeated")
         if "number-rows-spanned" in attributes or "number-columns-spanned" in attributes:
             add_merge(attributes, content, place)
-        for count, cell, why in cells_from(element, content, place, repeat):
+        found: Sequence[tuple[int, Cell, Doubt | None]]
+        if is_plain:
+            found = ((min(repeat, MOST_COLUMNS + 1), cell_of(element, content, NO_FORM), None),)
+        else:
+            found = cells_from(element, content, place, repeat)
+        for count, cell, why in found:
             if cell:
                 length = len(cell) if isinstance(cell, str) else 1
                 letters += length * count
@@ -309,8 +316,6 @@ def cells_from(
     """
     most = min(repeat, MOST_COLUMNS + 1)
     styles = content.styles
-    if styles.is_plain:
-        return ((most, cell_of(element, content, NO_FORM), None),)
     found = []
     for style, same in groupby(content.style(element, place + number) for number in range(most)):
         cell = cell_of(element, content, styles.form(CELL, style))
@@ -354,7 +359,7 @@ def cell_of(cell: Element, content: Content, form: Form) -> Cell:
     text = text_of(cell, content, form)
     if isinstance(text, Fault):
         return text
-    if form.wrong is OF_SIGNS:
+    if form is not NO_FORM and form.wrong is OF_SIGNS:
         return Signs(text)
     if kind in NUMBERS:
         value = cell.get("value", "")
@@ -373,8 +378,8 @@ def cell_of(cell: Element, content: Content, form: Form) -> Cell:
         return Truth(text)
     if not kind and not text and "formula" in cell.attrib and not content.is_calculated:
         return Fault(NOT_SAVED, NOT_SAVED_HINT)
-    own_text = cell.get("string-value", text)
-    if own_text.split() != text.split():
+    own_text = cell.get("string-value")
+    if own_text is not None and own_text.split() != text.split():
         what = Text("has the value {} and the text {}", quoted(own_text), quoted(text))
         return Fault(what, SAVE_AGAIN, text)
     return text
@@ -438,6 +443,8 @@ def decimals_of(number: str) -> tuple[int, ...]:
 def text_of(cell: Element, content: Content, form: Form) -> str | Fault:
     """Returns the text of a cell, without the comments and pictures that it has."""
     lines: list[str] = []
+    if content.styles.is_plain and len(cell) == 1 and cell[0].tag == "p" and not len(cell[0]):
+        return spaced(cell[0].text or "")  # most cells, at once
     for line in cell:
         if line.tag == "p":
             text: str | Fault = "".join(line.itertext()) if len(line) else line.text or ""
