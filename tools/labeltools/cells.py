@@ -12,6 +12,7 @@ import unicodedata
 from dataclasses import dataclass
 from decimal import Decimal
 from enum import Enum, auto
+from functools import lru_cache
 from typing import Iterable, NamedTuple, Union
 
 from labeltools.codes import IS_ROUNDED_DATA, PROGRAM_ERROR, ROUNDED, ROUNDED_HINT
@@ -34,7 +35,20 @@ UNSEEN_CODE = re.compile("C[cf]|Z[lps]|.*(?:SELECTOR|FILLER|JOINER|INHERENT|PATT
 UNSEEN_TEXT = re.compile("Cc|Z[lp]|Cf .*(?:EMBEDDING|OVERRIDE|ISOLATE|DIRECTIONAL)")
 UNSEEN_PRICE = re.compile("C[cf]|Z[lp]")
 STRUCK = Text("has letters that are struck through")
-STRUCK_HINT = Text("enter it again without them")
+UNSEEN = Text("has letters that nobody sees")
+OF_SIGNS = Text("has letters of a font that shows signs in their place")
+WITHOUT = Text("enter it again without them")
+SIZES = Text("has digits of two sizes side by side, as for cents without a decimal sign")
+SAME_SIZE = 0.9  # of two sizes of letters: a smaller share is another size
+# of the three parts of a colour: letters that differ less from what is behind them are not seen
+LEAST_CONTRAST = 8
+WHITE, BLACK = "FFFFFF", "000000"
+RED_GREEN_BLUE = re.compile("[0-9A-F]{6}")
+# fonts that show a tick for ü, or a hand for 7
+FONT_OF_SIGNS = re.compile(
+    r"(?:wing|web)dings *[0-9]?|symbol[0-9]?|marlett|mt extra|(?:itc )?zapf *dingbats(?: itc)?",
+    re.IGNORECASE,
+)
 SUPERSCRIPT = "superscript"
 SUBSCRIPT = "subscript"
 PLACES = {
@@ -135,6 +149,31 @@ class Fault(Special):
 
 
 @dataclass(frozen=True)
+class Signs(Special):
+    """Letters of a font that shows signs in their place, which choose rows, as a tick does, but
+    which no label can show.
+    """
+
+    value: str
+
+    def shown(self) -> str:
+        """Returns its letters."""
+        return self.value
+
+    def printed(self) -> str:
+        """Raises `RowError`."""
+        raise RowError(OF_SIGNS, AS_TEXT)
+
+    def digits(self) -> str:
+        """Raises `RowError`."""
+        raise RowError(OF_SIGNS, AS_TEXT)
+
+    def data(self) -> str:
+        """Raises `RowError`."""
+        raise RowError(OF_SIGNS, AS_TEXT)
+
+
+@dataclass(frozen=True)
 class Truth(Special):
     """A truth value, which chooses rows, but which no label can show; `value` is its text."""
 
@@ -156,35 +195,70 @@ Cell = Union[str, Special]
 
 class Run(NamedTuple):
     """Letters of one form in a cell; `place` is `SUPERSCRIPT`, `SUBSCRIPT`, empty for the usual
-    one.
+    one, `size` is in points, and `wrong` is why these letters are none: `STRUCK`, `UNSEEN`,
+    `OF_SIGNS`.
     """
 
     text: str
-    is_struck: bool = False
     place: str = ""
+    size: float = 0
+    wrong: Text = NOTHING
 
 
-def text_of_runs(runs: Iterable[Run]) -> str | Fault:
-    """Returns the text of runs: digits that are raised or lowered are such digits, and one with
-    letters that are struck through is none.
+def text_of_runs(runs: Iterable[Run], around: Text = NOTHING) -> str | Fault:
+    """Returns the text of runs: digits that are raised or lowered are such digits. There is none
+    where some letters are none, but for what is wrong with the whole cell, and where a number
+    goes on in letters of another size.
 
     >>> text_of_runs([Run("7"), Run("99", place="superscript")])
     '7⁹⁹'
-    >>> text_of_runs([Run("9", is_struck=True), Run("7,99")]).value
+    >>> text_of_runs([Run("9", wrong=STRUCK), Run("7,99")]).value
     '97,99'
+    >>> text_of_runs([Run("7", size=12), Run("99", size=8)]).what
+    'has digits of two sizes side by side, as for cents without a decimal sign'
     """
     found = [run._replace(text=run.text.translate(PLACES.get(run.place, {}))) for run in runs]
+    found = [run for run in found if run.text]
     text = "".join(run.text for run in found)
-    if any(run.is_struck and run.text.strip() for run in found):
-        return Fault(STRUCK, STRUCK_HINT, text)
+    for run in found:
+        if run.wrong != around and run.text.strip():
+            return Fault(run.wrong or around, WITHOUT, text)
+    if any(map(are_cut, found, found[1:])):
+        return Fault(SIZES, AS_TEXT, text)
     return text
+
+
+def are_cut(run: Run, after: Run) -> bool:
+    """Returns whether a number goes on in letters that are clearly larger or smaller."""
+    if not (run.text[-1].isdecimal() and after.text[0].isdecimal()):
+        return False
+    return min(run.size, after.size) < SAME_SIZE * max(run.size, after.size)
+
+
+@lru_cache(maxsize=256)
+def are_unseen(letters: str, ground: str) -> bool:
+    """Returns whether letters have nearly the colour of what is behind them: both are `RRGGBB`, or
+    else the name of a colour that only the file knows; empty where it is not known.
+
+    >>> are_unseen("FFFFFF", "FEFEFE"), are_unseen("FFFFFF", "F0F0F0"), are_unseen("theme 4", "")
+    (True, False, False)
+    """
+    if not (RED_GREEN_BLUE.fullmatch(letters) and RED_GREEN_BLUE.fullmatch(ground)):
+        return letters == ground != ""
+    parts = zip(bytes.fromhex(letters), bytes.fromhex(ground))
+    return all(abs(one - other) < LEAST_CONTRAST for one, other in parts)
 
 
 def taken(cell: Cell, use: Use) -> str:
     """Returns what a column takes of a cell; raises `RowError` where it takes none of its kind, or
     its kind, value and text do not agree.
     """
-    text = plain_text(cell) if isinstance(cell, str) else taken_of(cell, use)
+    if not isinstance(cell, str):
+        text = taken_of(cell, use)
+    elif cell[:1] not in ODD_STARTS and cell.isascii() and len(cell) <= LONGEST_CELL:
+        text = cell  # most cells, at once
+    else:
+        text = plain_text(cell)
     if use is PRINTED or use is PRICE:
         refuse_no_value(text)
     return text
@@ -253,8 +327,6 @@ def plain_text(cell: str) -> str:
     """Returns a cell that is a text; raises `RowError` for what a spreadsheet writes in place of a
     value.
     """
-    if cell[:1] not in ODD_STARTS and cell.isascii() and len(cell) <= LONGEST_CELL:
-        return cell  # most cells, at once
     start = cell.lstrip()[:1]
     if start in SPECIAL_STARTS and start:
         refuse_special(cell)

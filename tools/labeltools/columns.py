@@ -125,6 +125,12 @@ class Columns:
         prices = (one for one in (self.price, self.unit_price, self.old_price) if one is not None)
         return (self.code, *self.title, *self.text, *prices)
 
+    @property
+    def asked(self) -> tuple[Column, ...]:
+        """All of them."""
+        others = (one for one in (self.currency, self.copies, self.symbology) if one is not None)
+        return (*self.shown, *others, *(column for column, _ in self.where))
+
 
 @dataclass(frozen=True)
 class Head:

@@ -9,20 +9,21 @@ from labeltools.text import NOTHING, Text
 from labeltools.cells import Cell, Kind
 from labeltools.codes import Code, CodeRules, code_of
 from labeltools.columns import Column, Columns, symbology_in
-from labeltools.leftovers import LEFT, TWICE, left_in, twice_encoded
+from labeltools.leftovers import BEHIND, LEFT, left_in, twice_encoded
 from labeltools.messages import RowError, quoted
 from labeltools.money import MOST_DECIMALS, Money, NotMoney, currency_of, parse
 from labeltools.money import parse_unit_price, plain, text_price
 from labeltools.prices import ARITHMETIC, MOST_LOST, nearest
 from labeltools.names import is_repeated, looks_like, name_of
-from labeltools.rows import Row
+from labeltools.rows import Doubt, Row
 from labeltools.table_options import TableOptions
 
 DATE = re.compile(r"(?<![0-9.,])[0-9]{1,4}[./-][0-9]{1,2}(?:[./-](?:[0-9]{2,4})?)?(?![0-9,])")
 MARK = re.compile("[0-9][./-]")  # a text without one is like no date
+OWN_TABLE = Text("make a table of its own of it")
 ZERO_HINT = Text("it is a zero, which its number format shows so")
 # a text without one of these has nothing that is looked at
-LOOKED_AT = re.compile("|".join([LEFT.pattern, TWICE.pattern, MARK.pattern]))
+LOOKED_AT = re.compile(f"{LEFT.pattern}|{MARK.pattern}")
 SHOWN_DECIMALS = 6  # of the number of a cell, in a message
 PROGRAM_DECIMALS = 17  # of a number that a program has calculated
 
@@ -76,7 +77,8 @@ class Noticed:
     """What is said of the rows at the end, each once: what another program has left in texts, by
     its template; dates, and texts like dates, by the places of their columns; values like those
     that rows are chosen by, by the same; an old price that is not above the price; prices that
-    are shown rounded, by the places of their columns.
+    are shown rounded, by the places of their columns; cells that are doubtful, and texts that are
+    a zero, by their columns; words in columns of prices in rows without a code, by their places.
     """
 
     left: dict[str, Found] = field(default_factory=dict)
@@ -85,11 +87,17 @@ class Noticed:
     like_values: dict[tuple[Column, str], Found] = field(default_factory=dict)
     low: Found | None = None
     rounded: dict[int, Found] = field(default_factory=dict)
+    doubts: dict[tuple[Column, Doubt], int] = field(default_factory=dict)
+    zeros: dict[Column, int] = field(default_factory=dict)
+    units: dict[int, str] = field(default_factory=dict)
 
     def text(self, column: Column, row: Row, text: str) -> None:
         """Looks at a title or text; raises `RowError` for one that was encoded twice."""
         cell = row.cells[column.place]
-        if isinstance(cell, str) and not LOOKED_AT.search(text):  # most texts, at once
+        if text == "0":
+            self.zeros.setdefault(column, row.number)
+        is_odd = LOOKED_AT.search(text) or not (text.isascii() or BEHIND.isdisjoint(text))
+        if isinstance(cell, str) and not is_odd:  # most texts, at once
             return
         if before := twice_encoded(text):
             what = Text("has {}, which was encoded twice, for {}", quoted(text), quoted(before))
@@ -103,6 +111,21 @@ class Noticed:
             return
         elif column.place not in self.like_dates and MARK.search(text) and DATE.search(text):
             self.like_dates[column.place] = Found(row.number, text)
+
+    def doubtful(self, columns: Sequence[Column], row: Row) -> None:
+        """Keeps the first row with a doubtful cell of each column."""
+        for column in columns:
+            if doubt := (row.doubts or {}).get(column.place):
+                self.doubts.setdefault((column, doubt), row.number)
+
+    def units_in(self, row: Row, columns: Columns) -> None:
+        """Keeps the words in columns of prices of a row whose code is empty: they may be units."""
+        if row.seen(columns.code.place).strip():
+            return
+        for column in (columns.price, columns.unit_price, columns.old_price):
+            text = row.seen(column.place) if column else ""
+            if column and text and not any(map(str.isdigit, text.partition("/")[0])):
+                self.units.setdefault(column.place, text)
 
     def value(self, column: Column, row: Row, wanted: str) -> None:
         """Looks at a value that is not the one that rows are chosen by."""
@@ -152,17 +175,29 @@ class RowReader:
     noticed: Noticed = field(default_factory=Noticed)
     other_link: int = 0  # the first row whose code leads to another address
     other_currency: tuple[int, str] | None = None  # the first row with one that is not known
+    other_names: int = 0  # the row that names other columns, or the same in other places
+
+    def __post_init__(self) -> None:
+        place = self.columns.code.place
+        self.code_name = self.names[place] if place < len(self.names) else ""
 
     def draft(self, row: Row) -> Draft | None:
         """Returns what becomes of a row, None where it is not marked; raises `RowError`."""
         if row.problem:
             raise row.problem
-        if self.is_names(row):
-            raise RowError(Text("the row has the names of the columns again"))
+        place = self.columns.code.place
+        cell = row.cells[place] if place < len(row.cells) else ""
+        is_number = isinstance(cell, str) and cell.isdigit() and cell != self.code_name
+        if not is_number or self.other_names:  # most rows have one
+            self.refuse_names(row)
         if not self.is_marked(row):
             return None
         columns = self.columns
-        code = self.code(row)
+        try:
+            code = self.code(row)
+        except RowError:
+            self.noticed.units_in(row, columns)
+            raise
         title = "\n".join(self.texts(columns.title, row, code).values())
         texts = self.texts(columns.text, row, code)
         text = tuple(texts.values())
@@ -173,17 +208,45 @@ class RowReader:
         was = self.price(columns.old_price, row, currency) if columns.old_price else None
         if was:
             self.noticed.prices(row.number, price, was)
+        if row.doubts:
+            self.noticed.doubtful(columns.shown, row)
         return Draft(row.number, code, title, text, tuple(texts), copies, price, unit, was)
+
+    def refuse_names(self, row: Row) -> None:
+        """Raises `RowError` for a row that has the names of the columns again, and for one that
+        names others, with all rows below it: these are another table.
+        """
+        if self.other_names:
+            what = Text("the row is below row {}, which names other columns", self.other_names)
+            raise RowError(what, OWN_TABLE)
+        if self.is_names(row):
+            raise RowError(Text("the row has the names of the columns again"))
+        if self.names_others(row):
+            self.other_names = row.number
+            raise RowError(Text("the row names other columns than the first one"), OWN_TABLE)
+
+    def names_others(self, row: Row) -> bool:
+        """Returns whether half of the cells of a row are names of columns, and one that is asked
+        for is in another place, or has another name in its place.
+        """
+        texts = list(map(name_of, bare_texts(row)))
+        named = sum(text in self.names for text in texts if text)
+        if not self.names or named < 2 or 2 * named < sum(map(bool, texts)):
+            return False
+        for column in self.columns.asked:
+            name = self.names[column.place] if column.place < len(self.names) else ""
+            text = texts[column.place] if column.place < len(texts) else ""
+            if text != name and (text or name in texts):
+                return True
+        return False
 
     def is_names(self, row: Row) -> bool:
         """Returns whether a row is the row of names again; its code is the name of the column
         then.
         """
         place = self.columns.code.place
-        if place >= min(len(self.names), len(row.cells)):
-            return False
-        cell = row.cells[place]
-        if not isinstance(cell, str) or name_of(cell) != self.names[place]:
+        cell = row.cells[place] if place < len(row.cells) else None
+        if not isinstance(cell, str) or not self.names or name_of(cell) != self.code_name:
             return False
         return is_repeated(bare_texts(row), self.names)
 

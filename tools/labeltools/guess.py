@@ -28,7 +28,7 @@ NAMES = {
     "nome naam",
     "price": "vk verkauf ttc brutto retail pvp pvc avp rrp srp ladenpreis preis price prix precio "
     "prezzo prijs cena fiyat pris hinta preco pret cijena kaina hind цена ціна τιμη "
-    "eladasi fogyasztoi 税込 売価 定価 価格 零售 售价 售價 价格 價格 판매가 가격 uvp chf euro "
+    "tarif eladasi fogyasztoi 税込 売価 定価 価格 零售 售价 售價 价格 價格 판매가 가격 uvp chf euro "
     "eur",
     "copies": "etiketten labels etiquettes etiquetas etichette etykiet copies kopien exemplare",
 }
@@ -37,11 +37,11 @@ NAMES = {
 PAID = (
     r"ek\b einkauf achat pa\b cost kost acquisto compra custo inkoop inkop zakup nakup nabav"
     r" innpris innkjop osto alis\b beszerz закуп αγορ trade dealer handler wholesale grosshandel"
-    r" gros\b hurt pvd\b"
+    r" gros\b hurt pvd\b einstand landed tarif\spro\b cession"
 )
 OTHER_PRICES = (
-    r"ht\b net\b netto neto excl exkl ex\.?\svat alt\b alte alter statt old compare was\b ancien"
-    r" antiguo vecchio oude stara barre"
+    r"ht\b net\b netto neto excl exkl ex\.?\s(?:vat|gst|tax)\b alt\b alte alter statt old compare"
+    r" was\b ancien antiguo vecchio oude stara barre"
 )
 NO_PRICE = re.compile(
     rf"\b(?:{'|'.join(f'{PAID} {OTHER_PRICES}'.split())})"
@@ -50,7 +50,8 @@ NO_PRICE = re.compile(
 )
 # parts of names of other numbers with decimals, where they have no part of the name of a price
 OTHER_NUMBERS = re.compile(
-    r"\b(?:pfand|deposit|consigne|statiegeld|cauzione|kaucja|gewicht|weight|poids|peso|waga|vikt"
+    r"\b(?:pfand|kaution|miete|deposit|rent|gst\b|consigne|statiegeld|cauzione|kaucja|gewicht"
+    r"|weight|poids|peso|waga|vikt"
     r"|vekt|mass|inhalt|content|volum|mwst|tva|iva\b|btw|moms|vat\b|tax\b|steuer|marge|margin"
     r"|rating|bewertung|rabatt|discount|remise|sconto|descuento|lange|breite|hohe|length|width"
     r"|height|versand|porto|shipping|freight)|%"
@@ -60,7 +61,7 @@ OTHER_NUMBERS = re.compile(
 SALE = re.compile(
     r"\b(?:vk|pvp|pvc|avp|ttc|retail|laden|endkunden|public|venta|vente|vendita|venda"
     r"|verkoop|detal|satis|sprzed|prodej|predaj|prodaj|salg|utpris|utsalg|myynti|eladas|sales"
-    "|selling"
+    "|selling|unser|our\\b|notre|nostro|nuestro|particulier"
     "|рознич|πωλησ)"
     "|verkauf|brutto|ladenpreis|税込|売価|零售|售价|售價|판매"
 )
@@ -127,7 +128,10 @@ def guess(columns: Sequence[Sequence[str]], header: int) -> Guess:
             continue
         found[kind] = best
         others = rivals(kind, {place: (names[place], texts[place]) for place in free}, best)
-        if others:
+        sales = [place for place in (best, *others) if kind == "price" and is_sale(names[place])]
+        if len(sales) == 1 and share(texts[sales[0]], is_price) >= LEAST:
+            found[kind] = sales[0]
+        elif others:
             doubts[kind] = sorted([best, *others])
     symbology = AUTO
     code = found.get("code")
@@ -142,7 +146,7 @@ def guess(columns: Sequence[Sequence[str]], header: int) -> Guess:
 
 def rivals(kind: str, columns: Mapping[int, tuple[str, Sequence[str]]], best: int) -> list[int]:
     """Returns the places of columns that may be what the best one is taken for: other numbers that
-    are surely EAN or UPC, and other prices where not the best one alone is named as that of sale.
+    are surely EAN or UPC, and other prices.
     """
     texts = columns[best][1]
     if kind == "code":
@@ -162,8 +166,7 @@ def rivals(kind: str, columns: Mapping[int, tuple[str, Sequence[str]]], best: in
             continue
         if share(other, is_like) >= LEAST:
             others.append(place)
-    sales = [place for place in (best, *others) if SALE.search(plain(columns[place][0]))]
-    return [] if sales == [best] else others
+    return others
 
 
 def score(kind: str, name: str, texts: Sequence[str]) -> float:
@@ -180,6 +183,11 @@ def score(kind: str, name: str, texts: Sequence[str]) -> float:
         return by_name if share(texts, COPIES.fullmatch) == 1 else 0.0
     differ = len(set(texts)) / max(1, len(texts))
     return by_name + share(texts, WORDS.search) * differ - share(texts, is_price)
+
+
+def is_sale(name: str) -> bool:
+    """Returns whether a name is of what customers pay, whatever other prices there are."""
+    return SALE.search(plain(name)) is not None
 
 
 def is_no_price(name: str) -> bool:

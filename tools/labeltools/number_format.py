@@ -127,8 +127,7 @@ class Formatter:
     `signs` are those of formats without a language; `date_as` is how every date is shown, if it is
     not empty, and `local_date` how one is whose format leaves it to the language. `first_number`
     and `first_date` are what was shown first by these, for a message that asks whether that is
-    right; `may_strike` are the places of columns with letters that a condition may strike through,
-    with the first row of each.
+    right.
     """
 
     signs: Signs
@@ -136,7 +135,6 @@ class Formatter:
     local_date: str = "yyyy-mm-dd"
     first_number: str = field(default="", init=False)
     first_date: str = field(default="", init=False)
-    may_strike: dict[int, int] = field(default_factory=dict, init=False)
 
     def shown(self, number_format: str, value: Decimal, is_from_1904: bool = False) -> str:
         """Returns a number as its format shows it; raises `RowError` for a format that is not

@@ -9,12 +9,14 @@ from typing import Iterator, Mapping, Sequence
 from xml.etree.ElementTree import Element
 from zipfile import ZipFile
 
-from labeltools.text import Text
+from labeltools.text import NOTHING, Text
 from labeltools.messages import RowError, ToolError, quoted
 from labeltools.number_format import DAY_ZERO, Formatter, date_section, date_text, digits_of
-from labeltools.cells import RAISED, Cell, Fault, Kind, Run, Special, Truth, text_of_runs
-from labeltools.ods_styles import CELL, NO_FORM, PARAGRAPH, SPAN, Form, Styles, common_styles
-from labeltools.rows import Merge, Row
+from labeltools.cells import OF_SIGNS, RAISED, STRUCK, Cell, Fault, Kind, Run, Signs, Special, Truth
+from labeltools.cells import text_of_runs
+from labeltools.ods_styles import CELL, LETTERS, NO_FORM, PARAGRAPH, SPAN, Form, Styles
+from labeltools.ods_styles import common_styles
+from labeltools.rows import Doubt, Merge, Row
 from labeltools.workbook import (
     LARGEST_ROW,
     MOST_COLUMNS,
@@ -26,10 +28,13 @@ from labeltools.workbook import (
     TOO_LARGE,
     TYPED,
     Sheet,
+    areas_of,
     chosen,
+    doubt,
     elements,
     exact_of,
     filled,
+    has_word,
     merges_at,
 )
 from labeltools.workbook import repeats, rows_from, whole
@@ -42,7 +47,14 @@ GROUPS = (
 TABLE = "/document-content/body/spreadsheet/table"
 COLUMN = f"{TABLE}/table-column"
 STYLE = "/document-content/automatic-styles/style"
-HEADS = (STYLE, f"{STYLE}/table-properties", f"{STYLE}/text-properties", TABLE, COLUMN)
+CONDITION = f"{TABLE}/conditional-formats/conditional-format"
+MAP = f"{STYLE}/map"
+HEADS = (
+    *(STYLE, f"{STYLE}/table-properties", f"{STYLE}/text-properties"),
+    *(f"{STYLE}/table-cell-properties", MAP, TABLE, COLUMN),
+)
+# the corner of an area behind the name of its sheet
+CORNER = re.compile(r"(?:^|\.)\$?([A-Z]{1,3})\$?([0-9]{1,7})(?![^\s:])")
 NUMBERS = ("float", "percentage", "currency", "date", "time")
 # white space that counts, by signs that no XML has, and other white space
 SIGNS = {"s": "\0", "tab": "\1", "line-break": "\2"}
@@ -53,6 +65,8 @@ THOUSANDS = re.compile(r"(?<=[0-9])[.,'’\s](?=(?:[0-9]{3})+(?![0-9]))")
 DIGITS = re.compile(r"[0-9][0-9.,'’\u00a0\u202f ]*")
 # exponents, fractions and digits of other scripts are not compared with the value
 UNREAD = re.compile(r"[Ee][-+−]?[0-9]|[0-9] ?/ ?[0-9]|[^\x00-\x7f\W\d_]*[^\x00-\x7f\D]")
+WHOLE = re.compile("[0-9]+")
+DAY = re.compile("([0-9]{4})-([0-9]{2})-([0-9]{2})")
 LAST_SIGN = re.compile(r"[.,]([0-9]+)[^0-9]*\Z")
 SCALES = (0, -3, -6)  # as it is, thousands, millions
 ROUNDING = Decimal("0.5000001")  # of the last digit that is shown
@@ -79,11 +93,15 @@ class Number(Special):
         return self.exact
 
     def agree(self) -> None:
-        """Raises `RowError` where the text has a number that is not the value."""
-        if self.exact is None or is_surely(self.text, self.value):
-            return
-        if not is_text_of(self.text, self.exact):
-            what = Text("has the value {} and the text {}", self.value, quoted(self.text))
+        """Raises `RowError` where the text has a number, or a date, that is not the value."""
+        value = self.value
+        if self.exact is None:
+            value = self.moment
+            is_right = not value or is_date_of(self.text, value)
+        else:
+            is_right = is_surely(self.text, value) or is_text_of(self.text, self.exact)
+        if not is_right:
+            what = Text("has the value {} and the text {}", value, quoted(self.text))
             raise RowError(what, SAVE_AGAIN)
 
     def shown(self) -> str:
@@ -114,11 +132,14 @@ class Number(Special):
 
 @dataclass
 class Content:
-    """What is known of a file while its content is read."""
+    """What is known of a file while its content is read. `conditions` are areas of each sheet with
+    the styles that a condition may give to their cells; no style shows no value.
+    """
 
     formatter: Formatter
     is_calculated: bool
     styles: Styles
+    conditions: Mapping[str, Sequence[tuple[Merge, str]]]
     hidden: set[str] = field(default_factory=set)
     sheet: tuple[str, bool] = ("", True)
     columns: list[str] = field(default_factory=list)  # the styles of their cells
@@ -139,15 +160,18 @@ class Content:
         style = attributes.get("default-cell-style-name", "")
         self.columns += [style] * min(count, MOST_COLUMNS - len(self.columns))
 
-    def form(self, cell: Element, place: int) -> Form:
-        """Returns how the letters of a cell look that has no other style: that of the row, or else
-        that of the column (ISO/IEC 26300, table:default-cell-style-name).
+    def style(self, cell: Element, place: int) -> str:
+        """Returns the style of a cell: one without has that of the row, or else that of the column
+        (ISO/IEC 26300, table:default-cell-style-name).
         """
-        if self.styles.is_plain:
-            return NO_FORM
         of_column = self.columns[place] if place < len(self.columns) else ""
-        name = cell.get("style-name") or self.row or of_column
-        return self.styles.form(CELL, name)
+        return cell.get("style-name") or self.row or of_column
+
+    def see_conditions(self, cells: Sequence[Cell], doubts: dict[int, Doubt]) -> None:
+        """Adds the cells of a row that a condition may strike through or hide."""
+        for area, style in self.conditions.get(self.sheet[0], ()):
+            if not style or self.styles.strikes(style):
+                doubt(cells, self.number, area, doubts)
 
 
 def rows_of_ods(archive: ZipFile, wanted: str | None, formatter: Formatter) -> Iterator[Row]:
@@ -163,7 +187,9 @@ def sheet_rows(archive: ZipFile, formatter: Formatter) -> Iterator[tuple[tuple[s
     """Yields each row behind the name of its sheet, and whether that is visible; an empty one for
     each sheet.
     """
-    content = Content(formatter, is_calculated(archive), common_styles(archive))
+    content = Content(
+        formatter, is_calculated(archive), common_styles(archive), conditions_of(archive)
+    )
     for element in elements(archive, "content.xml", f"{TABLE}/table-row", HEADS, GROUPS):
         if element.tag == "table-row":
             for row in element_rows(element, content):
@@ -173,14 +199,46 @@ def sheet_rows(archive: ZipFile, formatter: Formatter) -> Iterator[tuple[tuple[s
         elif element.tag == "table-properties":
             if element.get("display") == "false":
                 content.hidden.add(content.styles.last[1])
-        elif element.tag == "text-properties":
+        elif element.tag in LETTERS:
             content.styles.take(element.attrib)
+        elif element.tag == "map":
+            content.styles.take_condition(element.attrib)
         elif element.tag == "table-column":
             content.add_columns(element.attrib)
         else:
             is_visible = element.get("style-name") not in content.hidden
             content.begin_sheet(element.get("name", ""), is_visible)
             yield content.sheet, Row(0, ())
+
+
+def conditions_of(archive: ZipFile) -> dict[str, list[tuple[Merge, str]]]:
+    """Returns the areas of each sheet that have conditions, which are below its rows, and the
+    styles of these.
+    """
+    found: dict[str, list[tuple[Merge, str]]] = {}
+    if not has_word(archive, "content.xml", b"conditional-format"):
+        return found
+    sheet = ""
+    read = elements(archive, "content.xml", CONDITION, [TABLE], GROUPS, f"{TABLE}/table-row")
+    for element in read:
+        if element.tag == "table":
+            sheet = element.get("name", "")
+            continue
+        names = {one.get("apply-style-name", "") for one in element.iterfind("condition")}
+        names |= {"" for one in element.iter() if one.get("show-value") == "false"}
+        reference = element.get("target-range-address", "")
+        areas = areas_of(" ".join(map(bare_area, reference.split())))
+        found.setdefault(sheet, []).extend(product(areas, names))
+    return found
+
+
+def bare_area(area: str) -> str:
+    """Returns an area without the name of its sheet.
+
+    >>> bare_area("Sheet1.C2:Sheet1.C9"), bare_area("$AB12.$C$2")
+    ('C2:C9', 'C2')
+    """
+    return ":".join("".join(corner) for corner in CORNER.findall(area))
 
 
 def is_calculated(archive: ZipFile) -> bool:
@@ -201,29 +259,41 @@ def element_rows(element: Element, content: Content) -> Iterator[Row]:
     content.row = element.get("default-cell-style-name", "")
     content.merges = merges_at(content.merges, number)
     links: dict[int, str] = {}
-    cells = cells_of(element, content, links)
+    doubts: dict[int, Doubt] = {}
+    cells = cells_of(element, content, links, doubts)
+    if content.conditions:
+        content.see_conditions(cells, doubts)
     is_hidden = element.get("visibility", "visible") != "visible"
     repeat = repeats(element.attrib, "number-rows-repeated")
     if is_hidden or any(cells):
         merges = tuple(content.merges)
-        yield from rows_from(Row(number, cells, None, is_hidden, merges, links), repeat)
+        row = Row(number, cells, None, is_hidden, merges, links, doubts=doubts)
+        yield from rows_from(row, repeat)
     content.number = number + repeat
 
 
-def cells_of(row: Element, content: Content, links: dict[int, str]) -> list[Cell]:
-    """Returns the cells of a row; adds the merged cells that begin in it, and the addresses that
-    cells lead to.
+def cells_of(
+    row: Element, content: Content, links: dict[int, str], doubts: dict[int, Doubt]
+) -> list[Cell]:
+    """Returns the cells of a row; adds the merged cells that begin in it, the addresses that cells
+    lead to, and what is doubtful of them.
     """
     letters = mark_spaces(row)
     has_links = next(row.iter("a"), None) is not None
     cells: list[Cell] = []
     place = 0
+    is_plain = content.styles.is_plain
     for element in row:
         attributes = element.attrib
         repeat = repeats(attributes, "number-columns-repeated")
         if "number-rows-spanned" in attributes or "number-columns-spanned" in attributes:
             add_merge(attributes, content, place)
-        for count, cell in cells_from(element, content, place, repeat):
+        found: Sequence[tuple[int, Cell, Doubt | None]]
+        if is_plain:
+            found = ((min(repeat, MOST_COLUMNS + 1), cell_of(element, content, NO_FORM), None),)
+        else:
+            found = cells_from(element, content, place, repeat)
+        for count, cell, why in found:
             if cell:
                 length = len(cell) if isinstance(cell, str) else 1
                 letters += length * count
@@ -232,21 +302,25 @@ def cells_of(row: Element, content: Content, links: dict[int, str]) -> list[Cell
                 if has_links:
                     add_link(element, place, links)
                 filled(cells, place).extend([cell] * count)
+                if why:
+                    doubts.update(dict.fromkeys(range(place, len(cells)), why))
             place = min(place + count, MOST_COLUMNS)
     return cells
 
 
 def cells_from(
     element: Element, content: Content, place: int, repeat: int
-) -> Sequence[tuple[int, Cell]]:
-    """Returns the cells that an element is for, each with how often it follows: columns may differ
-    in their styles.
+) -> Sequence[tuple[int, Cell, Doubt | None]]:
+    """Returns the cells that an element is for, each with how often it follows, and what is
+    doubtful of it: columns may differ in their styles.
     """
     most = min(repeat, MOST_COLUMNS + 1)
-    if content.styles.is_plain:
-        return ((most, cell_of(element, content, NO_FORM)),)
-    forms = groupby(content.form(element, place + number) for number in range(most))
-    return [(len(list(same)), cell_of(element, content, form)) for form, same in forms]
+    styles = content.styles
+    found = []
+    for style, same in groupby(content.style(element, place + number) for number in range(most)):
+        cell = cell_of(element, content, styles.form(CELL, style))
+        found.append((len(list(same)), cell, styles.doubt(style)))
+    return found
 
 
 def mark_spaces(row: Element) -> int:
@@ -285,6 +359,8 @@ def cell_of(cell: Element, content: Content, form: Form) -> Cell:
     text = text_of(cell, content, form)
     if isinstance(text, Fault):
         return text
+    if form is not NO_FORM and form.wrong is OF_SIGNS:
+        return Signs(text)
     if kind in NUMBERS:
         value = cell.get("value", "")
         if form.place:
@@ -302,6 +378,10 @@ def cell_of(cell: Element, content: Content, form: Form) -> Cell:
         return Truth(text)
     if not kind and not text and "formula" in cell.attrib and not content.is_calculated:
         return Fault(NOT_SAVED, NOT_SAVED_HINT)
+    own_text = cell.get("string-value")
+    if own_text is not None and own_text.split() != text.split():
+        what = Text("has the value {} and the text {}", quoted(own_text), quoted(text))
+        return Fault(what, SAVE_AGAIN, text)
     return text
 
 
@@ -334,6 +414,21 @@ def is_text_of(text: str, value: Decimal) -> bool:
     return False
 
 
+def is_date_of(text: str, moment: str) -> bool:
+    """Returns whether three numbers in a text are those of a date; a text with fewer or more may
+    show anything.
+
+    >>> is_date_of("4.5.26", "2026-05-04"), is_date_of("4.6.26", "2026-05-04")
+    (True, False)
+    """
+    numbers = sorted(map(int, WHOLE.findall(text)))
+    found = DAY.match(moment)
+    if len(numbers) != 3 or found is None:
+        return True
+    year, month, day = map(int, found.groups())
+    return numbers in (sorted((year, month, day)), sorted((year % 100, month, day)))
+
+
 def decimals_of(number: str) -> tuple[int, ...]:
     """Returns how many decimals a number may have: a sign before three digits may be of thousands.
 
@@ -348,11 +443,14 @@ def decimals_of(number: str) -> tuple[int, ...]:
 def text_of(cell: Element, content: Content, form: Form) -> str | Fault:
     """Returns the text of a cell, without the comments and pictures that it has."""
     lines: list[str] = []
+    if content.styles.is_plain and len(cell) == 1 and cell[0].tag == "p" and not len(cell[0]):
+        return spaced(cell[0].text or "")  # most cells, at once
     for line in cell:
         if line.tag == "p":
             text: str | Fault = "".join(line.itertext()) if len(line) else line.text or ""
             if text and not content.styles.is_plain:
-                text = text_of_runs(runs_of(line, content.styles, form))
+                around = NOTHING if form.wrong is STRUCK else form.wrong
+                text = text_of_runs(runs_of(line, content.styles, form), around)
             if isinstance(text, Fault):
                 return text
             lines.append(spaced(text))
@@ -374,7 +472,7 @@ def runs_of(element: Element, styles: Styles, around: Form) -> Iterator[Run]:
 
 def run_of(text: str | None, form: Form) -> Run:
     """Returns letters of a form."""
-    return Run(text or "", bool(form.is_struck), form.place or "")
+    return Run(text or "", form.place or "", form.points, form.wrong)
 
 
 def spaced(text: str) -> str:

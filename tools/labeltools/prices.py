@@ -16,6 +16,12 @@ OF_CENTS = re.compile(
     r"|haléřů?|minor)\b",
     re.IGNORECASE,
 )
+OF_MANY = re.compile(
+    r"\b(?:tausend|tsd|thousands?|teur|t€|keur|k€)(?!\w)"
+    r"|(?:/|\b(?:per|pro|je|par|por|for|für|pour|in)) *\(?(?:100|1[., ]?000)\b"
+    r"(?! *(?:g|gr?|kg|mg|m|cm|mm|l|ml|cl)\b)|\b1[., ]?000 *(?:eur|usd|chf|gbp|[€$£])",
+    re.IGNORECASE,
+)
 ARITHMETIC = Decimal("1e-9")  # what a program's arithmetic may leave
 MOST_LOST = Decimal("0.01")  # of a price that is rounded
 THOUSANDS_OR_DECIMALS = Text("may have thousands or decimals")
@@ -147,6 +153,15 @@ def is_of_cents(name: str) -> bool:
     """
     words = re.sub(r"(?<=[a-z])(?=[A-Z])|_", " ", name)
     return OF_CENTS.search(words) is not None
+
+
+def is_of_many(name: str) -> bool:
+    """Returns whether the name of a column says that its prices are those of many articles.
+
+    >>> [is_of_many(name) for name in ("Preis/100", "Preis (TEUR)", "Preis / 100 g", "VK 2026")]
+    [True, True, False, False]
+    """
+    return OF_MANY.search(name) is not None
 
 
 def see(found: dict[str, Seen], kind: str, row: int, text: str) -> None:

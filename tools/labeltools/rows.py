@@ -1,5 +1,6 @@
 """Rows of a table, of whatever kind its file is."""
 
+from enum import Enum, auto
 from typing import Iterator, Mapping, NamedTuple, Protocol, Sequence
 
 from labeltools.cells import Cell, Fault, seen
@@ -18,12 +19,19 @@ class Merge(NamedTuple):
     last_place: int
 
 
+class Doubt(Enum):
+    """Why a cell may not be meant, though it is read."""
+
+    CONDITION = auto()  # that strikes its letters through, or hides them
+    UNSEEN = auto()  # its letters have the colour of the cell
+
+
 class Row(NamedTuple):
     """A row with the number that a spreadsheet shows.
 
     `problem` leaves the row out. `merges` are the merged cells that cross the row, `links` the
-    addresses that cells lead to, by their places. A hidden row that is blank may be there
-    `repeat` times, from `number` on.
+    addresses that cells lead to and `doubts` what is doubtful of them, by their places. A hidden
+    row that is blank may be there `repeat` times, from `number` on.
     """
 
     number: int
@@ -33,6 +41,7 @@ class Row(NamedTuple):
     merges: Sequence[Merge] = ()
     links: Mapping[int, str] | None = None
     repeat: int = 1
+    doubts: Mapping[int, Doubt] | None = None
 
     def is_blank(self) -> bool:
         """Returns whether the row has nothing in it."""

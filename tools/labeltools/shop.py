@@ -43,7 +43,6 @@ class Talk:
         self.done = 0  # of the work
         self.total = 0  # of it, where that is known
         self.is_stopped = False
-        self.looks = 0  # that were taken at the work
 
     def note(self, place: Place | None, cell: str, reason: Text, hint: Text) -> None:
         """Keeps why a row is left out."""

@@ -13,12 +13,12 @@ from labeltools.csv_table import csv_table
 from labeltools.drafts import RowReader
 from labeltools.line_writer import LineWriter, contents_of
 from labeltools.messages import BAD_ARGUMENTS, Place, RowError, Talk, ToolError, quoted
-from labeltools.prices import is_of_cents
+from labeltools.prices import is_of_cents, is_of_many
 from labeltools.names import listed, said_of_empty, unlike
 from labeltools.number_format import Formatter, local_date, local_signs
 from labeltools.ods import rows_of_ods
 from labeltools.cells import seen
-from labeltools.rows import Row
+from labeltools.rows import Doubt, Row
 from labeltools.summary import summary
 from labeltools.table_options import TableOptions
 from labeltools.workbook import is_ods, named_errors, opened
@@ -223,6 +223,7 @@ class TableRun:
             text = Text("row {} has the currency {}, which is not known", row, quoted(currency))
             self.talk.say(text, Text("if it is right, name it by --currency-name"))
         self.say_of_texts()
+        self.say_of_doubts()
         if self.hidden:
             text = counted(
                 "{} hidden row is not printed", "{} hidden rows are not printed", self.hidden
@@ -263,7 +264,7 @@ class TableRun:
                 found.more,
             )
             self.talk.say(text)
-        self.say_of_cents()
+        self.say_of_units()
         if low := self.reader.noticed.low:
             self.talk.say(
                 Text(
@@ -274,13 +275,24 @@ class TableRun:
                 )
             )
 
-    def say_of_cents(self) -> None:
-        """Says which columns have cents by their names, and whole numbers."""
+    def say_of_units(self) -> None:
+        """Says which columns have cents, or prices of many articles, by their names, or by the row
+        of units below these.
+        """
         columns = (self.columns.price, self.columns.unit_price, self.columns.old_price)
         for column, prices in zip(columns, self.writer.columns):
-            if column and is_of_cents(column.name) and prices.are_bare:
+            if column is None:
+                continue
+            name = f"{column.name} {self.reader.noticed.units.get(column.place, '')}"
+            if is_of_cents(name) and prices.are_bare:
                 text = Text("{} has cents by its name, and is printed as it is", column.title)
                 self.talk.say(text, Text("make a column of prices of it"))
+            elif column is not self.columns.unit_price and is_of_many(name):
+                text = Text(
+                    "{} has prices of 100 or 1000 by its name, and is printed as it is",
+                    column.title,
+                )
+                self.talk.say(text, Text("make a column of prices of one"))
 
     def say_of_texts(self) -> None:
         """Says what is odd in titles and texts, and in the values that rows are chosen by."""
@@ -289,6 +301,9 @@ class TableRun:
             self.talk.say(
                 Text("row {} has {} with {}, which is printed as it is", row, quoted(text), more)
             )
+        for column, row in noticed.zeros.items():
+            text = Text("row {} has a zero as text, in {}", row, column.title)
+            self.talk.say(text, Text("is it the number of an empty cell?"))
         for place, row in noticed.dates.items():
             if like := noticed.like_dates.get(place):
                 text = Text(
@@ -338,19 +353,27 @@ class TableRun:
             )
             self.talk.say(text, Text("give --links to draw the address"))
 
-    def say_of_numbers(self) -> None:
-        """Shows how numbers and dates of .xlsx are printed, where the file does not say it, and in
-        which columns a condition may strike letters through.
+    def say_of_doubts(self) -> None:
+        """Says in which columns a condition may strike letters through, and where nobody sees
+        them.
         """
-        formatter = self.start.formatter
-        for column in self.columns.shown:
-            if row := formatter.may_strike.get(column.place):
+        for (column, doubt), row in self.reader.noticed.doubts.items():
+            text = Text(
+                "{} has a condition from row {} on that strikes letters through or hides them",
+                column.title,
+                row,
+            )
+            if doubt is Doubt.UNSEEN:
                 text = Text(
-                    "{} has a condition from row {} on that strikes letters through",
+                    "{} has letters from row {} on that nobody sees, in the colour of the cell",
                     column.title,
                     row,
                 )
-                self.talk.say(text, Text("are these rows to be printed? --where chooses rows"))
+            self.talk.say(text, Text("are these rows to be printed? --where chooses rows"))
+
+    def say_of_numbers(self) -> None:
+        """Shows how numbers and dates of .xlsx are printed, where the file does not say it."""
+        formatter = self.start.formatter
         is_given = self.options.file.decimal is not None or self.options.prices.pattern
         if formatter.first_number and not is_given:
             self.talk.say(

@@ -17,7 +17,7 @@ from labeltools.forms import PBM, SVG
 from labeltools.forms.pdf import POINTS
 from labeltools.messages import Offers, ToolError, of_system
 from labeltools import setups
-from labeltools.gtk import Gdk, Gio, GLib, Gtk
+from labeltools.gtk import Gdk, Gio, GLib, Gtk, Pango
 from labeltools.menu import Menu, add_recent
 from labeltools.own_design import is_file
 from labeltools.preview import Preview
@@ -41,9 +41,9 @@ MANY = 1000  # labels above it are asked for before they are printed
 MOST_NOTES = 2000
 DOT = 2  # pixels of a dot, where dots are looked at
 SCREEN = 96 / MILLIMETRES  # pixels of a millimetre of a monitor that does not say its size
-LOOK = 50  # milliseconds between two looks at the work
-PATIENCE = 10  # looks after which work is shown
+PATIENCE = 500  # milliseconds after which work is shown, and how far it is from then on
 USUAL_DPI = {"zpl": "203", "escpos": "203"}  # of the printers of these languages
+LETTERS = 14  # that a choice shows at least
 LEAST_WRAP = 150  # pixels in which reasons are wrapped
 WRAP_MARGIN = 20  # pixels of the list beside the reasons
 
@@ -51,6 +51,19 @@ WRAP_MARGIN = 20  # pixels of the list beside the reasons
 def child(name: str = "") -> Any:
     """Returns a widget of window.ui, by its id, or else by the name of the attribute."""
     return Gtk.Template.Child(name or None)
+
+
+class Choice(Gtk.ComboBox):
+    """A choice from a list whose rows have a text, and an id behind it."""
+
+    __gtype_name__ = "LabelsChoice"
+
+    def __init__(self, **properties: Any) -> None:
+        super().__init__(**properties)
+        letters = Gtk.CellRendererText(ellipsize=Pango.EllipsizeMode.END, width_chars=LETTERS)
+        self.pack_start(letters, True)
+        self.add_attribute(letters, "text", 0)
+        self.set_id_column(1)
 
 
 @Gtk.Template(filename=str(FILE))
@@ -146,20 +159,25 @@ class Window(Gtk.ApplicationWindow):
         self.info.hide()
         self.done.hide()
         self.let_out(False)
-        GLib.timeout_add(LOOK, self.look, self.talk, self.thread.submit(work, self.talk), then)
+        future = self.thread.submit(work, self.talk)
+        future.add_done_callback(partial(GLib.idle_add, self.end_work, self.talk, then))
+        GLib.timeout_add(PATIENCE, self.show_progress, self.talk)
 
-    def look(self, talk: Talk, future: "Future[Any]", then: Callable[[Any], object]) -> bool:
-        """Shows how far work is, or what came of it; returns whether it goes on."""
-        if future.done() and not talk.is_stopped:
-            self.on_stop()
-            try:
-                with suppress(SystemExit):  # --help was typed
-                    then(future.result())
-            except (ToolError, OSError) as error:
-                self.show_problem(of_system(error) if isinstance(error, OSError) else error)
-        elif not talk.is_stopped:
-            talk.looks += 1
-            self.working.set_visible(talk.looks > PATIENCE)
+    def end_work(self, talk: Talk, then: Callable[[Any], object], future: "Future[Any]") -> None:
+        """Shows what came of work, but of what nobody wants any more."""
+        if talk.is_stopped:
+            return
+        self.on_stop()
+        try:
+            with suppress(SystemExit):  # --help was typed
+                then(future.result())
+        except (ToolError, OSError) as error:
+            self.show_problem(of_system(error) if isinstance(error, OSError) else error)
+
+    def show_progress(self, talk: Talk) -> bool:
+        """Shows how far work is; returns whether it goes on."""
+        if not talk.is_stopped:
+            self.working.show()
             self.progress.set_fraction(talk.done / talk.total if talk.total else 0.0)
             self.progress.set_text(progress_text(talk))
         return not talk.is_stopped
@@ -212,7 +230,9 @@ class Window(Gtk.ApplicationWindow):
         self.table = None
         self.has_labels = False
         self.columns.clear()
+        self.take({"symbology": None})  # a table that cannot be read has none
         self.guessed.hide()
+        self.new_only.hide()
         self.result.hide()
         self.head.set_subtitle(path.name)
         self.stack.set_visible_child_name("work")

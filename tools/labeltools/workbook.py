@@ -4,11 +4,12 @@ A file may be hostile: a document type, and a part, a row or a nesting that no s
 are refused before they take memory.
 """
 
+import re
 import struct
 import zlib
 from contextlib import contextmanager
 from decimal import Decimal
-from functools import partial
+from functools import lru_cache, partial, reduce
 from io import BytesIO
 from itertools import chain, pairwise
 from typing import Iterable, Iterator, Mapping, NamedTuple, Sequence
@@ -18,7 +19,7 @@ from zipfile import ZIP_DEFLATED, ZIP_STORED, BadZipFile, ZipFile
 from labeltools.text import Text, counted
 from labeltools.messages import BAD_ARGUMENTS, ToolError, quoted
 from labeltools.cells import Cell
-from labeltools.rows import Merge, Row
+from labeltools.rows import Doubt, Merge, Row
 
 MOST_ROWS = 1048576
 MOST_COLUMNS = 16384
@@ -45,6 +46,7 @@ DAMAGE = (
     ValueError,
     ArithmeticError,
 )
+REFERENCE = re.compile("([A-Z]{1,3})([0-9]{1,7})")
 SAVE_AGAIN = Text("open it in the spreadsheet and save it again")
 TOO_LARGE = Text("has a row or another element of more than 1 MB, or elements {} deep", DEEPEST)
 TRUE = ("1", "true")
@@ -302,7 +304,7 @@ def rows_from(row: Row, repeat: int) -> Iterator[Row]:
         return
     yield row
     for number in range(row.number + 1, row.number + repeat):
-        yield Row(number, row.cells, None, row.is_hidden, row.merges, row.links)
+        yield row._replace(number=number)
 
 
 def merges_at(merges: list[Merge], number: int) -> list[Merge]:
@@ -347,3 +349,36 @@ def whole(value: str, least: int = 0) -> int:
     ):
         raise ValueError(f"number {value:.30}")
     return int(value)
+
+
+def corners_of(reference: str) -> list[tuple[int, int]]:
+    """Returns the rows, from 1, and the places, from 0, of a range of cells.
+
+    >>> corners_of("A2:B3"), corners_of("C1")
+    ([(2, 0), (3, 1)], [(1, 2)])
+    """
+    return [(int(row), place_of(letters)) for letters, row in REFERENCE.findall(reference)]
+
+
+@lru_cache(maxsize=MOST_COLUMNS)
+def place_of(letters: str) -> int:
+    """Returns the place of a column, from 0.
+
+    >>> place_of("A"), place_of("AB")
+    (0, 27)
+    """
+    return reduce(lambda place, letter: place * 26 + ord(letter) - 64, letters[:4], 0) - 1
+
+
+def areas_of(references: str) -> list[Merge]:
+    """Returns the areas of some references, as `A2:B3 C1`."""
+    corners = (corners_of(one) for one in references.split())
+    return [Merge(*found[0], *found[-1]) for found in corners if found]
+
+
+def doubt(cells: Sequence[Cell], number: int, area: Merge, doubts: dict[int, Doubt]) -> None:
+    """Adds the cells of a row that a condition in an area may strike through or hide."""
+    if area.row <= number <= area.last_row:
+        for place in range(area.place, min(area.last_place + 1, len(cells))):
+            if cells[place]:
+                doubts[place] = Doubt.CONDITION

@@ -4,33 +4,35 @@ import posixpath
 import re
 from dataclasses import dataclass, field
 from decimal import Decimal
-from functools import lru_cache, reduce
-from typing import Iterator, Mapping, NamedTuple
+from typing import Iterator, Mapping, NamedTuple, Sequence
 from xml.etree.ElementTree import Element
 from zipfile import ZipFile
 
 from labeltools import number_format
-from labeltools.text import Text
+from labeltools.text import NOTHING, Text
 from labeltools.messages import RowError, ToolError, quoted
 from labeltools.number_format import BUILT_IN, BUILT_IN_DATES, LANGUAGE, Formatter
-from labeltools.cells import RAISED, STRUCK, STRUCK_HINT, SUBSCRIPT, SUPERSCRIPT, Cell, Fault
-from labeltools.cells import Kind, Run, Special, Truth, text_of_runs
-from labeltools.rows import Merge, Row
-from labeltools.workbook import LARGEST_TEXTS, MOST_COLUMNS, NOT_SAVED, NOT_SAVED_HINT
+from labeltools.cells import BLACK, FONT_OF_SIGNS, OF_SIGNS, RAISED, STRUCK, SUBSCRIPT, SUPERSCRIPT
+from labeltools.cells import UNSEEN, WHITE, WITHOUT, Cell, Fault, Kind, Run, Signs, Special, Truth
+from labeltools.cells import are_unseen, text_of_runs
+from labeltools.rows import Doubt, Merge, Row
+from labeltools.workbook import LARGEST_TEXTS, NOT_SAVED, NOT_SAVED_HINT
 from labeltools.workbook import (
     SAVE_AGAIN,
     TOO_LARGE,
     TRUE,
     TYPED,
     Sheet,
+    areas_of,
     chosen,
+    corners_of,
+    doubt,
     elements,
     exact_of,
 )
-from labeltools.workbook import filled, has_word, merges_at, rows_from, whole
+from labeltools.workbook import filled, has_word, merges_at, place_of, rows_from, whole
 
 ESCAPED = re.compile("_x([0-9A-Fa-f]{4})_")
-REFERENCE = re.compile("([A-Z]{1,3})([0-9]{1,7})")
 # an address and a text, as a formula has them
 HYPERLINK = re.compile(r'\s*HYPERLINK\("([^"]+)"[,)].*', re.DOTALL | re.IGNORECASE)
 ROW = "/worksheet/sheetData/row"
@@ -40,6 +42,10 @@ LATER_CONDITION = "/worksheet/extLst/ext/conditionalFormattings/conditionalForma
 CONDITIONAL = Text("has a number format that depends on a condition")
 NO_VALUE = Fault(NOT_SAVED, NOT_SAVED_HINT)
 PLAIN = Run("")  # the form of most letters
+FALSE = ("0", "false")
+# colours by the numbers of themes and of palettes (18.8.3, 18.8.27); others are compared by number
+THEME = {"0": WHITE, "1": BLACK}
+PALETTE = {"0": BLACK, "1": WHITE, "8": BLACK, "9": WHITE, "64": BLACK, "65": WHITE}
 
 
 class Target(NamedTuple):
@@ -49,15 +55,53 @@ class Target(NamedTuple):
     path: str
 
 
+class Font(NamedTuple):
+    """How letters look: `form` is a run without letters, and the colour is as in `are_unseen`."""
+
+    form: Run = PLAIN
+    colour: str = BLACK
+
+
+class Look(NamedTuple):
+    """How the letters of a style look, and the colour behind them."""
+
+    font: Font = Font()
+    ground: str = WHITE
+
+    @property
+    def form(self) -> Run:
+        """The form of the letters, which may be those that nobody sees."""
+        form = self.font.form
+        if not form.wrong and are_unseen(self.font.colour, self.ground):
+            return form._replace(wrong=UNSEEN)
+        return form
+
+
+class Rich(NamedTuple):
+    """A text in letters of several forms; those without a font have that of the cell."""
+
+    runs: Sequence[tuple[str, Font | None]]
+
+    def within(self, cell: Look) -> str | Fault:
+        """Returns the text in a cell of a style."""
+        size = cell.font.form.size
+        runs = []
+        for text, font in self.runs:
+            form = cell._replace(font=font or cell.font).form
+            runs.append(form._replace(text=text, size=form.size or size))
+        return text_of_runs(runs, UNSEEN if cell.form.wrong is UNSEEN else NOTHING)
+
+
 @dataclass(frozen=True)
 class Styles:
-    """The styles of a file by their numbers: their number formats, and the form of their letters
-    where that changes what these mean. `conditional` are the numbers of the formats that a
-    condition gives to cells, where these have a number format; `striking` are those that strike
-    letters through.
+    """The styles of a file by their numbers: their number formats, how their letters look, and
+    the form of these where that changes what they mean. `conditional` are the numbers of the
+    formats that a condition gives to cells, where these have a number format; `striking` are those
+    that strike letters through, or hide them.
     """
 
     formats: list[str]
+    looks: list[Look]
     letters: Mapping[int, Run]
     conditional: frozenset[int]
     striking: frozenset[int]
@@ -100,7 +144,7 @@ class Book:
     nothing.
     """
 
-    strings: list[str | Fault]
+    strings: list[str | Rich]
     styles: Styles
     formatter: Formatter
     is_from_1904: bool
@@ -218,14 +262,17 @@ def is_uncalculated(calculation: Element) -> bool:
     return is_asked or calculation.get("calcCompleted", "1") not in TRUE
 
 
-def strings_of(archive: ZipFile, part: str) -> list[str | Fault]:
+def strings_of(archive: ZipFile, part: str) -> list[str | Rich]:
     """Returns the shared strings."""
-    strings: list[str | Fault] = []
+    strings: list[str | Rich] = []
     letters = 0
     for element in elements(archive, part, "/sst/si"):
         string = string_of(element)
         strings.append(string)
-        letters += len(string if isinstance(string, str) else string.value)
+        if isinstance(string, str):
+            letters += len(string)
+        else:
+            letters += sum(len(text) for text, _ in string.runs)
         if letters > LARGEST_TEXTS:
             raise ToolError(TOO_LARGE, SAVE_AGAIN)
     return strings
@@ -236,25 +283,39 @@ def styles_of(archive: ZipFile, part: str) -> Styles:
     by_number = {**BUILT_IN, **BUILT_IN_DATES}
     for element in elements(archive, part, "/styleSheet/numFmts/numFmt"):
         by_number[element.attrib["numFmtId"]] = element.attrib["formatCode"]
-    fonts = list(map(form_of, elements(archive, part, "/styleSheet/fonts/font")))
-    is_plain = fonts.count(PLAIN) == len(fonts)
+    fonts = list(map(font_of, elements(archive, part, "/styleSheet/fonts/font")))
+    grounds = list(map(ground_of, elements(archive, part, "/styleSheet/fills/fill")))
+    crossed = list(map(is_crossed, elements(archive, part, "/styleSheet/borders/border")))
     formats: list[str] = []
+    looks: list[Look] = []
     letters: dict[int, Run] = {}
     for number, style in enumerate(elements(archive, part, "/styleSheet/cellXfs/xf")):
         formats.append(by_number.get(style.get("numFmtId", "0"), LANGUAGE))
-        form = PLAIN if is_plain else fonts[whole(style.get("fontId", "0"))]
+        font = fonts[whole(style.get("fontId", "0"))] if fonts else Font()
+        if formats[-1].casefold().startswith("[white]"):
+            font = font._replace(colour=WHITE)
+        if crossed and crossed[whole(style.get("borderId", "0"))]:
+            font = font._replace(form=font.form._replace(wrong=STRUCK))
+        look = Look(font, grounds[whole(style.get("fillId", "0"))] if grounds else WHITE)
+        looks.append(look)
+        form = look.form._replace(size=0)
         if form != PLAIN:
             letters[number] = form
     dxfs = list(elements(archive, part, "/styleSheet/dxfs/dxf"))
     conditional = frozenset(at for at, dxf in enumerate(dxfs) if dxf.find("numFmt") is not None)
     striking = frozenset(at for at, dxf in enumerate(dxfs) if strikes(dxf))
-    return Styles(formats or ["General"], letters, conditional, striking)
+    return Styles(formats or ["General"], looks or [Look()], letters, conditional, striking)
 
 
-def strikes(form: Element | None) -> bool:
-    """Returns whether the format of a condition strikes letters through."""
-    font = None if form is None else form.find("font")
-    return font is not None and form_of(font).is_struck
+def strikes(form: Element) -> bool:
+    """Returns whether the format of a condition strikes letters through, or hides them."""
+    font = form.find("font")
+    if font is None:
+        return False
+    fill = form.find("fill")
+    # the fill of a condition has its colour as that of the background
+    behind = None if fill is None else fill.find("patternFill/bgColor")
+    return Look(font_of(font), colour_of(behind, WHITE)).form.wrong in (STRUCK, UNSEEN)
 
 
 def relations(archive: ZipFile, path: str) -> dict[str, Target]:
@@ -294,17 +355,22 @@ def sheet_rows(archive: ZipFile, path: str, book: Book) -> Iterator[Row]:
         row_links = dict(links.get(number, {}))
         around.row = whole(element.get("s", "0"))
         cells = cells_of(element, number, book, row_links)
+        doubts: dict[int, Doubt] = {}
         if book.styles.letters:
-            take_letters(element, cells, around, book)
+            take_letters(element, cells, around, book, doubts)
         for area in conditions.formats:
             if area.row <= number <= area.last_row:
                 refuse_condition(cells, area)
         for area in conditions.strikes:
-            if area.row <= number <= area.last_row:
-                see_strikes(cells, area, number, book.formatter)
+            doubt(cells, number, area, doubts)
         merges = merges_at(merges, number) + beginning.get(number, [])
-        is_hidden = element.get("hidden") in TRUE
-        yield from rows_from(Row(number, cells, None, is_hidden, merges, row_links), 1)
+        row = Row(number, cells, None, is_unseen(element), merges, row_links, doubts=doubts)
+        yield from rows_from(row, 1)
+
+
+def is_unseen(row: Element) -> bool:
+    """Returns whether a row is hidden, or has no height."""
+    return row.get("hidden") in TRUE or row.get("ht", "1").strip("0.") == ""
 
 
 def out_of_order(number: int) -> ToolError:
@@ -330,8 +396,12 @@ def cells_of(row: Element, number: int, book: Book, links: dict[int, str]) -> li
     return cells
 
 
-def take_letters(row: Element, cells: list[Cell], around: Around, book: Book) -> None:
-    """Puts the form of letters into the cells of a row whose style has one."""
+def take_letters(
+    row: Element, cells: list[Cell], around: Around, book: Book, doubts: dict[int, Doubt]
+) -> None:
+    """Puts the form of letters into the cells of a row whose style has one; adds those that nobody
+    sees.
+    """
     place = -1
     for element in row.iterfind("c"):
         reference = element.get("r")
@@ -340,15 +410,21 @@ def take_letters(row: Element, cells: list[Cell], around: Around, book: Book) ->
         form = book.styles.letters.get(whole(style) if style else around.style(place))
         if form is not None and cells[place]:
             cells[place] = formed(cells[place], form)
+            if form.wrong is UNSEEN:
+                doubts[place] = Doubt.UNSEEN
 
 
 def formed(cell: Cell, form: Run) -> Cell:
     """Returns a cell whose letters have a form."""
     text = cell if isinstance(cell, str) else cell.value
-    if form.is_struck:
-        return Fault(STRUCK, STRUCK_HINT, text)
+    if form.wrong is STRUCK:
+        return Fault(STRUCK, WITHOUT, text)
+    if form.wrong is OF_SIGNS and not isinstance(cell, Fault):
+        return Signs(text)
+    if not form.place:
+        return cell
     if isinstance(cell, str):
-        return text_of_runs([form._replace(text=cell)])
+        return text_of_runs([Run(cell, form.place)])
     return Fault(RAISED, TYPED, text) if isinstance(cell, (Number, Framed)) else cell
 
 
@@ -374,18 +450,19 @@ def conditions_of(archive: ZipFile, path: str, styles: Styles) -> Conditions:
         numbers = {whole(rule.get("dxfId", "")) for rule in rules if rule.get("dxfId")}
         areas = areas_of(element.get("sqref", ""))
         found.formats.extend(areas if styles.conditional & numbers else ())
-        found.strikes.extend(areas if styles.striking & numbers else ())
+        is_struck = styles.striking & numbers or shows_no_value(element)
+        found.strikes.extend(areas if is_struck else ())
     for element in elements(archive, path, LATER_CONDITION, passed=ROW):
         areas = areas_of(element.findtext("sqref", ""))
         found.formats.extend(areas if element.find("cfRule/dxf/numFmt") is not None else ())
-        found.strikes.extend(areas if any(map(strikes, element.iterfind("cfRule/dxf"))) else ())
+        is_struck = any(map(strikes, element.iterfind("cfRule/dxf"))) or shows_no_value(element)
+        found.strikes.extend(areas if is_struck else ())
     return found
 
 
-def areas_of(references: str) -> list[Merge]:
-    """Returns the areas of some references, as `A2:B3 C1`."""
-    corners = (corners_of(one) for one in references.split())
-    return [Merge(*found[0], *found[-1]) for found in corners if found]
+def shows_no_value(condition: Element) -> bool:
+    """Returns whether a condition shows a bar or an icon alone in place of a number."""
+    return any(one.get("showValue") in FALSE for one in condition.iter())
 
 
 def refuse_condition(cells: list[Cell], area: Merge) -> None:
@@ -394,13 +471,6 @@ def refuse_condition(cells: list[Cell], area: Merge) -> None:
         cell = cells[place]
         if isinstance(cell, Number):
             cells[place] = Fault(CONDITIONAL, TYPED, cell.value)
-
-
-def see_strikes(cells: list[Cell], area: Merge, number: int, formatter: Formatter) -> None:
-    """Keeps the first row in which a condition may strike the letters of a column through."""
-    for place in range(area.place, min(area.last_place + 1, len(cells))):
-        if cells[place]:
-            formatter.may_strike.setdefault(place, number)
 
 
 def links_of(archive: ZipFile, path: str) -> dict[int, dict[int, str]]:
@@ -425,25 +495,6 @@ def fragment(location: str) -> str:
     return f"#{location}" if location else ""
 
 
-def corners_of(reference: str) -> list[tuple[int, int]]:
-    """Returns the rows, from 1, and the places, from 0, of a range of cells.
-
-    >>> corners_of("A2:B3"), corners_of("C1")
-    ([(2, 0), (3, 1)], [(1, 2)])
-    """
-    return [(int(row), place_of(letters)) for letters, row in REFERENCE.findall(reference)]
-
-
-@lru_cache(maxsize=MOST_COLUMNS)
-def place_of(letters: str) -> int:
-    """Returns the place of a column, from 0.
-
-    >>> place_of("A"), place_of("AB")
-    (0, 27)
-    """
-    return reduce(lambda place, letter: place * 26 + ord(letter) - 64, letters[:4], 0) - 1
-
-
 def cell_of(cell: Element, book: Book) -> Cell:
     """Returns a cell by its type, and its value, if there is one."""
     kind = cell.get("t", "n")
@@ -455,17 +506,17 @@ def cell_of(cell: Element, book: Book) -> Cell:
             return NO_VALUE
     elif not value and kind != "inlineStr":
         return ""
-    return value_of(cell, kind, value or "", style, book)
-
-
-def value_of(cell: Element, kind: str, value: str, style: str, book: Book) -> Cell:
-    """Returns a cell that has a value."""
     if kind == "s":
-        return text_of(book.strings[whole(value)], style)
+        return text_of(book.strings[whole(value or "")], style, book.styles.looks[number])
+    if kind in ("str", "inlineStr"):
+        return text_of(string_of(cell), style, book.styles.looks[number])
+    return value_of(kind, value or "", style, book)
+
+
+def value_of(kind: str, value: str, style: str, book: Book) -> Cell:
+    """Returns a cell that has a value, which is no text."""
     if kind == "n":
         return Number(value, exact_of(value), style, book)
-    if kind in ("str", "inlineStr"):
-        return text_of(string_of(cell), style)
     if kind == "e":
         what = Text(
             "has {}, which the spreadsheet writes where it has no value to show", quoted(value)
@@ -474,37 +525,80 @@ def value_of(cell: Element, kind: str, value: str, style: str, book: Book) -> Ce
     return Truth({"1": "TRUE", "0": "FALSE"}.get(value, value))
 
 
-def text_of(text: str | Fault, style: str) -> Cell:
+def text_of(text: str | Rich, style: str, look: Look) -> Cell:
     """Returns a text, with its format where that puts something around it."""
-    if isinstance(text, Fault) or "@" not in style or style == "@" or not text:
-        return text
-    return Framed(text, style)
+    found = text if isinstance(text, str) else text.within(look)
+    if isinstance(found, Fault) or "@" not in style or style == "@" or not found:
+        return found
+    return Framed(found, style)
 
 
-def form_of(properties: Element) -> Run:
-    """Returns the form of letters that a font, or the properties of a run, give."""
-    strike = properties.find("strike")
-    is_struck = strike is not None and strike.get("val", "1") in TRUE
-    align = properties.find("vertAlign")
-    place = "" if align is None else align.get("val", "")
-    return Run("", is_struck, place if place in (SUPERSCRIPT, SUBSCRIPT) else "")
+def font_of(properties: Element) -> Font:
+    """Returns the font that a style, or the properties of a run, give."""
+    values = {one.tag: one.get("val") for one in properties}
+    wrong = NOTHING
+    if "strike" in values and values["strike"] not in FALSE:
+        wrong = STRUCK
+    elif FONT_OF_SIGNS.fullmatch(values.get("rFont") or values.get("name") or ""):
+        wrong = OF_SIGNS
+    place = values.get("vertAlign") or ""
+    size = float(exact_of(values.get("sz") or "0"))
+    form = Run("", place if place in (SUPERSCRIPT, SUBSCRIPT) else "", size, wrong)
+    return Font(form, colour_of(properties.find("color"), BLACK))
 
 
-def run_of(element: Element) -> Run:
-    """Returns a run of letters."""
-    text = element.findtext("t", "") or element.findtext("v", "")
+def is_crossed(border: Element) -> bool:
+    """Returns whether lines from corner to corner cross a cell out."""
+    line = border.find("diagonal")
+    is_drawn = line is not None and line.get("style", "none") != "none"
+    return is_drawn and "1" in (border.get("diagonalUp"), border.get("diagonalDown"))
+
+
+def ground_of(fill: Element) -> str:
+    """Returns the colour behind the letters of a cell; empty where it has several."""
+    pattern = fill.find("patternFill")
+    if pattern is None:
+        return ""
+    kind = pattern.get("patternType", "none")
+    if kind == "none":
+        return WHITE
+    return colour_of(pattern.find("fgColor"), "") if kind == "solid" else ""
+
+
+def colour_of(element: Element | None, usual: str) -> str:
+    """Returns a colour, as in `are_unseen`."""
+    if element is None or element.get("auto") in TRUE:
+        return usual
+    if found := element.get("rgb"):
+        return found[-6:].upper()
+    if found := element.get("theme"):
+        tint = float(exact_of(element.get("tint", "0")))
+        return f"theme {found} {tint}" if tint or found not in THEME else THEME[found]
+    number = element.get("indexed", "")
+    return PALETTE.get(number, f"palette {number}")
+
+
+def run_of(element: Element) -> tuple[str, Font | None]:
+    """Returns a run of letters, and its font where it has its own."""
+    text = unescaped(element.findtext("t", "") or element.findtext("v", ""))
     properties = element.find("rPr")
-    return Run(text) if properties is None else form_of(properties)._replace(text=text)
+    return text, None if properties is None else font_of(properties)
 
 
-def string_of(element: Element) -> str | Fault:
-    """Returns a string without its own escapes: `_x000D_` is a carriage return (ST_Xstring)."""
+def string_of(element: Element) -> str | Rich:
+    """Returns a string without its own escapes."""
     if len(element) == 1 and element[0].tag == "t":  # most strings, at once
-        text: str | Fault = element[0].text or ""
-    else:
-        runs = [element, *element.findall("r"), *element.findall("is"), *element.findall("is/r")]
-        text = text_of_runs(map(run_of, runs))
-    if isinstance(text, str) and "_x" in text:
+        return unescaped(element[0].text or "")
+    parts = [element, *element.findall("r"), *element.findall("is"), *element.findall("is/r")]
+    runs = [run for run in map(run_of, parts) if run[0]]
+    if any(font for _, font in runs):
+        return Rich(runs)
+    return "".join(text for text, _ in runs)
+
+
+def unescaped(text: str) -> str:
+    """Returns a text without escapes: `_x000D_` is a carriage return (ST_Xstring)."""
+    if "_x" in text:
         text = ESCAPED.sub(lambda match: chr(int(match[1], 16)), text)
         text = text.encode("utf-16", "surrogatepass").decode("utf-16", "replace")
     return text

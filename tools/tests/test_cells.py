@@ -92,6 +92,14 @@ STRIKES_NOT = 'style:text-line-through-style="none" style:text-line-through-type
 RAISES = 'style:text-position="super 58%"'
 IS_STRUCK = "has letters that are struck through"
 IS_RAISED = "is a number that is raised or lowered"
+IS_CUT = "has digits of two sizes side by side"
+IS_UNSEEN = "has letters that nobody sees: enter it again without them"
+IS_SIGNS = "has letters of a font that shows signs in their place"
+IN_PRICES = 'column 3 ("Price")'
+IS_DOUBTFUL = "has a condition from row 2 on that strikes letters through or hides them"
+IS_WHITE = "has letters from row 2 on that nobody sees, in the colour of the cell"
+ASKED = "are these rows to be printed? --where chooses rows"
+COLOURS = 'xmlns:fo="urn:oasis:names:tc:opendocument:xmlns:xsl-fo-compatible:1.0"'
 
 
 class Styles(CellTest):
@@ -193,8 +201,7 @@ class Styles(CellTest):
         styles = "<dxfs><dxf><font><b/></font></dxf><dxf><font><strike/></font></dxf></dxfs>"
         rule = '<conditionalFormatting sqref="{}"><cfRule type="expression" dxfId="{}">'
         rule += "<formula>$D2=0</formula></cfRule></conditionalFormatting>"
-        said = 'column 3 ("Price") has a condition from row 2 on that strikes letters through: are'
-        said += " these rows to be printed? --where chooses rows"
+        said = f"{IN_PRICES} {IS_DOUBTFUL}: {ASKED}"
         for area, number, is_said in (
             ("C2:C9", 1, True),
             ("C2:C9", 0, False),
@@ -204,6 +211,193 @@ class Styles(CellTest):
             sheet = rows(HEAD, [PENCIL, "Tea", 14.25])
             data = xlsx(sheet, styles=styles, after=rule.format(area, number))
             self.assertEqual(self.ran(data, *PRICED), (["14.25"], [said] * is_said))
+
+
+class Looks(CellTest):
+    """Letters that are smaller, that nobody sees, or that a font shows as signs."""
+
+    def of_xlsx(self, *runs: Tuple[str, str], font: str = "", fill: str = "") -> bytes:
+        """An .xlsx with a price of runs; a run with the form "-" has that of its cell."""
+        text = shared(*runs).replace("<rPr>-</rPr>", "")
+        fonts = f"<fonts><font><sz val='11'/></font><font>{font}</font></fonts>"
+        fills = f"<fills><fill><patternFill/></fill><fill>{fill}</fill></fills>"
+        styles = f'{fonts}{fills}<cellXfs><xf fontId="1" fillId="{int(fill != "")}"/></cellXfs>'
+        price = SHARED.replace("<c ", '<c s="1" ')
+        return xlsx(rows(HEAD, [PENCIL, "Tea", price]), strings=text, styles=styles)
+
+    def of_ods(self, text: str, *styles: Tuple[str, str, str], own: str = "") -> bytes:
+        """An .ods with a price, and styles by name, family and properties."""
+        made = (ods_style(name, family, f"{COLOURS} {looks}") for name, family, looks in styles)
+        price = ods_cell(text, more='table:style-name="ce1"')
+        return ods(table(HEAD, [PENCIL, "Tea", price]), styles="".join(made) + own)
+
+    def test_a_number_goes_on_in_letters_of_its_size(self) -> None:
+        """The cents of a price are typed smaller in place of a decimal sign."""
+        small, usual, near = "<sz val='7'/>", "<sz val='11'/>", "<sz val='10'/>"
+        for runs, price in (
+            ([("12", "-"), ("49", small)], None),
+            ([("12", usual), ("49", small)], None),
+            ([("12", small), ("49", "-")], None),
+            ([("12", "-"), ("49", near)], "1249"),
+            ([("12", "-"), ("49", usual)], "1249"),
+            ([("12.", "-"), ("49", small)], "12.49"),
+            ([("12.49", "-"), (" €", small)], "12.49 €"),
+            ([("12", small), ("49", small)], "1249"),
+        ):
+            data = self.of_xlsx(*runs, font="<sz val='11'/>")
+            self.check_price(data, price, "" if price else IS_CUT)
+        self.check_price(
+            self.of_xlsx(("12", "-"), ("49", usual), font="<sz val='20'/>"), None, IS_CUT
+        )
+
+    def test_the_sizes_of_ods_are_those_of_what_is_around(self) -> None:
+        span = '12<text:span text:style-name="T1">49</text:span>'
+        inner = '<text:span text:style-name="T1">12<text:span text:style-name="T2">49</text:span>'
+        for text, large, small, price in (
+            (span, "", 'fo:font-size="6pt"', None),
+            (span, "", 'fo:font-size="58%"', None),
+            (span, "", 'style:text-position="0% 58%"', None),
+            (span, 'fo:font-size="20pt"', 'fo:font-size="10pt"', None),
+            (span, 'fo:font-size="0.5cm"', 'fo:font-size="14.2pt"', "1249"),
+            (span, 'fo:font-size="20pt"', 'fo:font-size="95%"', "1249"),
+            (f"{inner}</text:span>", "", 'fo:font-size="50%"', None),
+            (
+                "12.<text:span text:style-name='T1'>49</text:span>",
+                "",
+                'fo:font-size="6pt"',
+                "12.49",
+            ),
+        ):
+            styles = ("ce1", "table-cell", large), ("T1", "text", small), ("T2", "text", small)
+            self.check_price(self.of_ods(text, *styles), price, "" if price else IS_CUT)
+
+    def test_letters_that_nobody_sees_leave_their_row_out(self) -> None:
+        white, theme, red = (
+            "<color rgb='00FFFFFF'/>",
+            "<color theme='0'/>",
+            "<color rgb='FFFF0000'/>",
+        )
+        dark = "<patternFill patternType='solid'><fgColor theme='1'/></patternFill>"
+        for hides, fill, price in (
+            (white, "", None),
+            (theme, "", None),
+            ("<color indexed='9'/>", "", None),
+            ("", dark, None),
+            (red, "", "1249"),
+            ("<color theme='0' tint='-0.5'/>", "", "1249"),
+            ("<color auto='1'/>", "", "1249"),
+        ):
+            seen = white if fill else ""
+            data = self.of_xlsx(("12", seen), ("49", hides), fill=fill)
+            self.check_price(data, price, "" if price else IS_UNSEEN)
+        span = '12<text:span text:style-name="T1">49</text:span>'
+        for looks, price in (
+            ('fo:color="#ffffff"', None),
+            ('text:display="none"', None),
+            ('fo:color="#ffffff" fo:background-color="#000000"', "1249"),
+            ('fo:color="#ffffff" style:use-window-font-color="true"', "1249"),
+        ):
+            data = self.of_ods(span, ("T1", "text", looks))
+            self.check_price(data, price, "" if price else IS_UNSEEN)
+
+    def test_a_cell_that_nobody_sees_is_said(self) -> None:
+        dark = "<patternFill patternType='solid'><fgColor rgb='FF202020'/></patternFill>"
+        white = "<color rgb='FFFFFFFF'/>"
+        for fill, said in (("", [f"{IN_PRICES} {IS_WHITE}: {ASKED}"]), (dark, [])):
+            data = self.of_xlsx(("12.49", "-"), font=white, fill=fill)
+            self.assertEqual(self.ran(data, *PRICED), (["12.49"], said))
+        data = xlsx(rows(HEAD, [PENCIL, "Tea", cell(12.49, style=1)]), formats=["[White]0.00"])
+        self.assertEqual(self.ran(data, *PRICED)[1], [f"{IN_PRICES} {IS_WHITE}: {ASKED}"])
+        for ground, said in (
+            ("", [f"{IN_PRICES} {IS_WHITE}: {ASKED}"]),
+            ('<style:table-cell-properties {} fo:background-color="#202020"/>', []),
+        ):
+            style = ods_style("ce1", "table-cell", f'{COLOURS} fo:color="#ffffff"')
+            style = style.replace("</style:style>", f"{ground.format(COLOURS)}</style:style>")
+            self.assertEqual(self.ran(self.of_ods("12.49", own=style), *PRICED), (["12.49"], said))
+
+    def test_letters_of_a_font_of_signs_choose_rows_alone(self) -> None:
+        tick = '<rFont val="Wingdings"/>'
+        self.check_price(self.of_xlsx(("12", "-"), ("49", tick)), None, IS_SIGNS)
+        data = self.of_xlsx(("12", "-"), font='<name val="Wingdings 2"/>')
+        self.check_price(data, None, IS_SIGNS)
+        words = ["--code", "EAN", "--title", "Name", "--where", "Price=12"]
+        self.assertEqual(self.ran(data, *words), (["Tea"], []))
+        data = self.of_xlsx(("12", "-"), font='<name val="Segoe UI Symbol"/>')
+        self.check_price(data, "12")
+        data = self.of_ods("12", ("ce1", "table-cell", 'style:font-name="Webdings"'))
+        self.check_price(data, None, IS_SIGNS)
+        self.assertEqual(self.ran(data, *words), (["Tea"], []))
+
+    def test_a_cell_that_is_crossed_out_is_struck(self) -> None:
+        line = '<border diagonalUp="1"><diagonal style="thin"/></border>'
+        for border, said in ((line, IS_STRUCK), (line.replace(' diagonalUp="1"', ""), "")):
+            styles = f'<borders><border/>{border}</borders><cellXfs><xf borderId="1"/></cellXfs>'
+            data = xlsx(rows(HEAD, [PENCIL, "Tea", cell(12.49, style=1)]), styles=styles)
+            self.check_price(data, None if said else "12.49", said)
+        style = '<style:style style:name="ce1" style:family="table-cell">'
+        style += '<style:table-cell-properties style:diagonal-bl-tr="0.06pt solid #000000"/>'
+        self.check_price(self.of_ods("12.49", own=f"{style}</style:style>"), None, IS_STRUCK)
+
+    def test_a_row_without_height_is_hidden(self) -> None:
+        for height, prices in (("0", []), ("15", ["14.25"])):
+            lines = rows(HEAD, [PENCIL, "Tea", 14.25], [SMALL, "Tea", 14.25])
+            lines = lines.replace('<row r="2">', f'<row r="2" ht="{height}" customHeight="1">')
+            found, said = self.ran(xlsx(lines), *PRICED)
+            self.assertEqual(found, [*prices, "14.25"])
+            self.assertEqual(["hidden row" in one for one in said], [True] * (not prices))
+
+    def test_a_condition_that_hides_a_number_is_said(self) -> None:
+        said = [f"{IN_PRICES} {IS_DOUBTFUL}: {ASKED}"]
+        white = "<font><color rgb='FFFFFFFF'/></font>"
+        red = "<fill><patternFill><bgColor rgb='FFFF0000'/></patternFill></fill>"
+        area = '<conditionalFormatting sqref="C2:C9"><cfRule type="{}"{}</cfRule>'
+        for dxf, rule, is_said in (
+            (white, ("cellIs", ' dxfId="0">'), True),
+            (white + red, ("cellIs", ' dxfId="0">'), False),
+            ("", ("dataBar", '><dataBar showValue="0"/>'), True),
+            ("", ("dataBar", "><dataBar/>"), False),
+        ):
+            after = f"{area.format(*rule)}</conditionalFormatting>"
+            sheet = rows(HEAD, [PENCIL, "Tea", 14.25])
+            data = xlsx(sheet, styles=f"<dxfs><dxf>{dxf}</dxf></dxfs>", after=after)
+            self.assertEqual(self.ran(data, *PRICED), (["14.25"], said * is_said))
+
+    def test_conditions_of_ods_are_said_too(self) -> None:
+        said = [f"{IN_PRICES} {IS_DOUBTFUL}: {ASKED}"]
+        styles = ods_style("Gone", "table-cell", STRIKES) + ods_style("Kept", "table-cell", "")
+        number = ods_cell("14.25", "float", 'office:value="14.25" table:style-name="ce1"')
+        for name in ("Gone", "Kept"):
+            mapped = (
+                f'<style:map style:condition="cell-content()>1" style:apply-style-name="{name}"/>'
+            )
+            own = f'<style:style style:name="ce1" style:family="table-cell">{mapped}</style:style>'
+            data = ods(table(HEAD, [PENCIL, "Tea", number]), styles=styles + own)
+            self.assertEqual(self.ran(data, *PRICED), (["14.25"], said * (name == "Gone")))
+        for area, condition, is_said in (
+            (
+                "Tabelle1.C2:Tabelle1.C9",
+                '<calcext:condition calcext:apply-style-name="Gone"/>',
+                True,
+            ),
+            ("$KW45.$C$2", '<calcext:condition calcext:apply-style-name="Gone"/>', True),
+            (
+                "Tabelle1.C2:Tabelle1.C9",
+                '<calcext:condition calcext:apply-style-name="Kept"/>',
+                False,
+            ),
+            (
+                "Tabelle1.D2:Tabelle1.D9",
+                '<calcext:condition calcext:apply-style-name="Gone"/>',
+                False,
+            ),
+            ("Tabelle1.C2:Tabelle1.C9", '<calcext:data-bar calcext:show-value="false"/>', True),
+        ):
+            end = f'<calcext:conditional-format calcext:target-range-address="{area}">{condition}'
+            end = f"<calcext:conditional-formats>{end}</calcext:conditional-format>"
+            end += "</calcext:conditional-formats>"
+            data = ods(table(HEAD, [PENCIL, "Tea", number], end=end), styles=styles)
+            self.assertEqual(self.ran(data, *PRICED), (["14.25"], said * is_said))
 
 
 class Kinds(CellTest):
@@ -289,6 +483,19 @@ class Kinds(CellTest):
             self.assertEqual(found, [text] if is_right else [])
             self.assertEqual(["has the value" in one for one in said], [] if is_right else [True])
 
+    def test_a_text_or_date_of_ods_is_its_value(self) -> None:
+        for kind, value, text, is_right in (
+            ("string", 'office:string-value="Green tea"', "Green tea", True),
+            ("string", 'office:string-value="Green tea"', "Black tea", False),
+            ("date", 'office:date-value="2026-05-04"', "04.05.26", True),
+            ("date", 'office:date-value="2026-05-04"', "May 4, 2026", True),
+            ("date", 'office:date-value="2026-05-04"', "05.06.2026", False),
+        ):
+            data = ods(table(["EAN", "Name"], [PENCIL, ods_cell(text, kind, value)]))
+            found, said = self.ran(data, *PRICED[:4])
+            self.assertEqual(found, [text] if is_right else [])
+            self.assertEqual(["has the value" in one for one in said], [] if is_right else [True])
+
     def test_what_was_not_calculated_has_no_value(self) -> None:
         price = "<c><f>D2*2</f><v>3</v></c>"
         for calculation, wanted in (
@@ -324,6 +531,33 @@ class Texts(CellTest):
         data = f"EAN;Name\n{PENCIL};{text}\n"
         self.check(data, ["--code", "EAN", "--title", "Name"], [], [problem], 1)
 
+    def test_utf_8_that_was_read_as_another_encoding(self) -> None:
+        for text, encoding in (
+            ("Käse", "cp850"),
+            ("Käse", "mac_roman"),
+            ("Żółw", "cp1250"),
+            ("Чай", "cp1251"),
+            ("Tee – grün", "cp1252"),
+        ):
+            wrong = text.encode().decode(encoding)
+            for name, meant in ((wrong, text), (f"Größe {wrong}", f"Größe {text}")):
+                is_part = name != wrong
+                if is_part and encoding in ("cp1250", "cp1251"):
+                    continue  # these letters may be those of words
+                titles, said = self.ran(f"EAN;Name\n{PENCIL};{name}\n".encode(), *PRICED[:4])
+                self.assertEqual((titles, len(said)), ([], 1), name)
+                self.assertIn(f'which was encoded twice, for "{meant}"', said[0])
+        for text in ("NESCAFÉ®", "Mousse d’été", "OPCIÓ…", "Її сік", "«área»", "Cóż", "√2 ¬"):
+            titles, said = self.ran(f"EAN;Name\n{PENCIL};{text}\n".encode(), *PRICED[:4])
+            self.assertEqual((titles, said), ([text], []))
+
+    def test_a_zero_as_text_is_said(self) -> None:
+        data = f"EAN;Name\n{PENCIL};Tea\n{SMALL};0\n{SOAP};0\n{BOOK};7\n".encode()
+        titles, said = self.ran(data, *PRICED[:4])
+        wanted = 'row 3 has a zero as text, in column 2 ("Name"): '
+        wanted += "is it the number of an empty cell?"
+        self.assertEqual((titles, said), (["Tea", "0", "0", "7"], [wanted]))
+
     def test_what_a_program_writes_without_a_value(self) -> None:
         for text in ("(NULL)", "[none]", "\\N", "NA", "5,9E+12"):
             data = f"EAN;Name\n{PENCIL};{text}\n{SMALL};Na\n".encode()
@@ -338,12 +572,19 @@ class Texts(CellTest):
             ("'Earl Grey'", "quotes round it"),
             ("'+49 Tee", "an apostrophe in front, a spreadsheet's sign of text"),
             ("Tee &amp; Co", "HTML"),
+            ("Gr_x00FC_ntee", 'an escape, for "Grüntee"'),
+            ("Gr=C3=BCntee", 'an escape, for "Grüntee"'),
+            ('["Tee"]', "quotes round it"),
+            ("{{name}}", "the sign of a template"),
+            ("[:de]Tee[:fr]Thé[:]", "the sign of a template"),
+            ("Gr?ntee", "a question mark in a word, as for a lost letter"),
         ):
             data = f"EAN\tName\n{PENCIL}\t{text}\n{SMALL}\t{text}\n".encode()
             titles, said = self.ran(data, *PRICED[:4])
             wanted = f'row 2 has "{text}" with {left}, which is printed as it is'
             self.assertEqual((titles, said), ([text, text], [wanted]))
-        for text in ("'t Hof", "50%ige", "Salt & Pepper", "C:\\neu", "5' lang", "Rock 'n' Roll"):
+        right = ("'t Hof", "50%ige", "Salt & Pepper", "C:\\neu", "5' lang", "Rock 'n' Roll")
+        for text in (*right, "Wer? Wie?", "A=10=B", "{rot}", "[neu] Tee", "max_x2", "x=?"):
             data = f"EAN;Name\n{PENCIL};{text}\n".encode()
             self.assertEqual(self.ran(data, *PRICED[:4]), ([text], []))
 
@@ -371,6 +612,61 @@ class Texts(CellTest):
         )
         done = support.run_here("label-table", "--code", "EAN", "--where", "Print=2", input=data)
         self.assertEqual((len(parts_of(done.stdout)[1]), support.messages(done)), (2, []))
+
+
+class Heads(CellTest):
+    """A row may name columns again: what is below may be another table."""
+
+    def test_a_row_that_names_other_columns_ends_the_table(self) -> None:
+        words = ["--code", "EAN", "--title", "Name", "--price", "VK"]
+        names = "row 3: the row names other columns than the first one"
+        below = "row 4: the row is below row 3, which names other columns"
+        for head, row in (
+            ("EAN;Name;EK;VK", f"{SMALL};Tea;1,11;2,22"),
+            ("Name;EAN;Stock;VK", f"Tea;{SMALL};1;2,22"),
+            ("EAN;Name;;EK;VK", f"{SMALL};Tea;;1,11;2,22"),
+        ):
+            table = f"EAN;Name;VK;Stock;\n{PENCIL};Tea;3,33;7;\n"
+            fill = ";" * (4 - head.count(";"))
+            data = f"{table}{head}{fill}\n{row}{fill}\n".encode()
+            done = support.run_here("label-table", *words, input=data)
+            self.assertEqual([one["price"] for one, _ in parts_of(done.stdout)[1]], ["3,33"])
+            said = [one.partition(": ")[2] for one in support.messages(done)]
+            hint = "make a table of its own of it"
+            self.assertEqual(said[:2], [f"{names}: {hint}", f"{below}: {hint}"], head)
+
+    def test_the_same_names_end_no_table(self) -> None:
+        """Lists have them on each page; an article may be called as a column is."""
+        words = ["--code", "EAN", "--title", "Name", "--price", "VK"]
+        for head in ("EAN;Name;VK;Stock", "EAN;Name;VK;", ";Name;;"):
+            data = f"EAN;Name;VK;Stock\n{PENCIL};Tea;3,33;7\n{head}\n{SMALL};Tea;2,22;7\n"
+            self.assertEqual(self.ran(data.encode(), *words)[0], ["3,33", "2,22"], head)
+        data = f"Code;Name;VK\nName;VK;3,33\n{SMALL};Tea;2,22\n".encode()
+        free = ["--code", "Code", "--price", "VK", "--symbology", "code128"]
+        prices, said = self.ran(data, *free)
+        self.assertEqual((prices, "names other columns" in said[0]), ([], True))
+
+    def test_prices_of_many_are_said(self) -> None:
+        said = "has prices of 100 or 1000 by its name, and is printed as it is: "
+        said += "make a column of prices of one"
+        for name, units, is_said in (
+            ("Preis/100", "", True),
+            ("Preis (TEUR)", "", True),
+            ("price per 1000", "", True),
+            ("Preis", "EUR/100", True),
+            ("Preis", "EUR", False),
+            ("Preis / 100 g", "", False),
+            ("VK 1000", "", False),
+        ):
+            unit = f";;{units}\n" if units else ""
+            data = f"EAN;Name;{name}\n{unit}{PENCIL};Tea;3,33\n".encode()
+            prices, messages = self.ran(data, "--code", "EAN", "--price", name)
+            self.assertEqual(prices, ["3,33"])
+            self.assertEqual([said in one for one in messages].count(True), int(is_said), name)
+        data = f"EAN;Name;Preis\n;;ct\n{PENCIL};Tea;333\n".encode()
+        self.assertIn(
+            "has cents by its name", self.ran(data, "--code", "EAN", "--price", "Preis")[1][1]
+        )
 
 
 class Codes(CellTest):

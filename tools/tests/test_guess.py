@@ -196,6 +196,20 @@ PRICES = (
     ("Name;EAN;Preis 1;Preis 2", 0),
     ("Name;EAN;Margin;Price", 4),
     ("Name;EAN;A;B", 0),
+    ("Item;GTIN;Price ex. GST;Price inc. GST", 4),
+    ("Gerät;EAN;Kaution;Kaufpreis", 4),
+    ("Gerät;EAN;Miete pro Tag;Kaufpreis", 4),
+    ("Item;UPC;List price;Our price", 4),
+    ("Spielzeug;EAN;UVP;Unser Preis", 4),
+    ("Ware;EAN;Einstand;VK inkl.", 4),
+    ("Produit;EAN;Tarif pro;Tarif particulier", 4),
+    ("Désignation;Gencod;Prix cession;PVC conseillé", 4),
+    ("Pflanze;EAN;Gärtnerpreis;Abgabepreis", 0),
+    ("Buch;ISBN;Ladenpreis D;Ladenpreis A", 0),
+    ("Titre;EAN;Prix éditeur;Prix occasion", 0),
+    ("Käse;EAN;Preis/kg;Stückpreis", 4),
+    ("Plante;Code-barres;Prix barré;Prix soldé", 4),
+    ("Book;ISBN-13;Trade price;Cover price", 4),
 )
 CODES = ("4006381333931", "9780306406157", "5901234123457")
 LOW, HIGH = ("1,20", "8,40", "2,05"), ("1,99", "12,49", "3,10")

@@ -684,6 +684,31 @@ class WindowTest(unittest.TestCase):
         self.assertEqual(self.problem(), "")
         self.assertEqual(self.window.labels.labels[0].label.title, "Füller, rot")
 
+    def test_a_table_that_cannot_be_read_shows_nothing_of_the_last_one(self) -> None:
+        self.open()
+        self.assertTrue(self.window.guessed.get_visible())
+        self.assertEqual(self.window.choices()["symbology"], "auto")
+        self.window.open(self.folder / "none.csv")
+        self.until(self.problem)
+        shown = self.window.choices()
+        self.assertEqual({shown[one] for one in ("code", "price", "symbology")}, {None})
+        for one in ("guessed", "new_only", "result"):
+            self.assertFalse(getattr(self.window, one).get_visible(), one)
+
+    def test_what_came_of_work_is_shown_at_once(self) -> None:
+        """Nothing looks at the work again and again; how far it is, is shown twice a second."""
+        wait = mock.Mock(side_effect=window.GLib.timeout_add)
+        with mock.patch.object(window.GLib, "timeout_add", wait):
+            self.open()
+        self.assertEqual({call.args[0] for call in wait.mock_calls}, {window.PATIENCE})
+        self.window.start(lambda talk: settle_until(lambda: talk.is_stopped), bool)
+        self.window.talk.go_on(1200, 20000)
+        self.assertFalse(self.window.working.get_visible())
+        self.until(self.window.working.get_visible)
+        self.assertEqual(self.window.progress.get_text(), "1200 of 20000")
+        self.window.on_stop()
+        self.assertFalse(self.window.working.get_visible())
+
     def test_progress_has_numbers(self) -> None:
         talk = self.window.talk
         talk.is_stopped = False
