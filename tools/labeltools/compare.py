@@ -33,6 +33,7 @@ from labeltools.text import Text
 
 Labels = Sequence[tuple[LaidOut, tuple[int, int]]]
 Rows = Sequence[bytes]
+Inks = tuple[Ink, ...]
 LONGER = 5  # modules by which guards are longer (GS1 General Specifications, 5.2)
 # modules of the longer bars, from the first bar on: ISO/IEC 15420
 GUARDS = {
@@ -50,16 +51,22 @@ ZONES = {
     "qr": (4, 4, 4),
 }
 KNOWN = 4096  # geometries that are kept: most labels share some
+PAGES = 64  # pages whose symbols are kept by their places
 DIGITS = bytes.maketrans(b"\0\1", b"01")
 FAULT = Text("this is a fault of label-print: nothing of it has gone out; report it")
 
 
 class Different(Exception):
-    """What differs in a label, and its line where that is not the one that is looked at."""
+    """What differs in a label: that which is looked at, or which has a symbol at a place, or which
+    has some rows of the page.
+    """
 
-    def __init__(self, what: Text, record: Optional[LineRecord] = None) -> None:
+    def __init__(
+        self, what: Text, place: Optional["Geometry"] = None, record: Optional[LineRecord] = None
+    ) -> None:
         super().__init__(what)
         self.what = what
+        self.place = place
         self.record = record
 
 
@@ -116,11 +123,49 @@ class Wanted(NamedTuple):
     place: Geometry
 
 
-class Region(NamedTuple):
-    """Where a symbol is on a page, and its line."""
+class Regions:
+    """The symbols of a page by where they are, so that few are looked at for some ink; `clear` is
+    ink that is known to meet none of them.
+    """
 
-    place: Geometry
-    record: LineRecord
+    def __init__(self, places: Sequence[Geometry]) -> None:
+        found: dict[tuple[int, int], list[Geometry]] = {}
+        for place in places:
+            box = place.picture
+            found.setdefault((box.top, box.bottom), []).append(place)
+        self.rows = [(*span, sorted(row, key=left_of)) for span, row in found.items()]
+        self.wide = max([place.picture.width for place in places], default=0)
+        self.clear: set[Inks] = set()
+
+    def met_by(self, ink: Ink) -> Optional[Geometry]:
+        """Returns a symbol that ink of letters, lines or pictures meets, if there is one."""
+        left, upper, right, lower = ink
+        for top, bottom, row in self.rows:
+            if upper >= bottom or lower <= top:
+                continue
+            first = bisect_left(row, left - self.wide, key=left_of) if len(row) > 1 else 0
+            for place in islice(row, first, None):
+                if left_of(place) >= right:
+                    break
+                if place.is_met_by(ink):
+                    return place
+        return None
+
+    def is_clear_of(self, inks: Inks) -> bool:
+        """Returns whether ink meets no symbol."""
+        if inks in self.clear:
+            return True
+        if any(map(self.met_by, inks)):
+            return False
+        if len(self.clear) > KNOWN:
+            self.clear.clear()
+        self.clear.add(inks)
+        return True
+
+
+def left_of(place: Geometry) -> int:
+    """Returns where a symbol begins."""
+    return place.picture.left
 
 
 class Comparison:
@@ -137,6 +182,7 @@ class Comparison:
         self.area = Box(0, 0, area.width, area.height)
         self.cells = dict(zip(plan.places, plan.sheet.places))
         self.known: dict[tuple[object, ...], Geometry] = {}
+        self.regions = lru_cache(PAGES)(Regions)
 
     def check(
         self, data: bytes, pages: Sequence[Labels], copies: int = 1, rows: Optional[Rows] = None
@@ -146,19 +192,21 @@ class Comparison:
         """
         is_alone = len(pages) == len(pages[0]) == 1
         record = pages[0][0][0].label.record if is_alone else None
+        symbols: dict[Geometry, LineRecord] = {}
         try:
             for labels, page in zip(pages, self.read(data, pages, copies, rows)):
-                regions = []
+                symbols = {}
                 for item, at in labels:
                     record = item.label.record
                     for spot in spots_of(item, self.area):
                         wanted = self.wanted(spot, at)
                         page.check(wanted)
-                        regions.append(Region(wanted.place, record))
+                        symbols[wanted.place] = record
                 record = record if is_alone else None
-                page.check_rest(regions)
+                page.check_rest(self.regions(tuple(symbols)))
         except Different as error:
-            raise fault(error.what, error.record or record) from error
+            of_place = symbols.get(error.place) if error.place else None
+            raise fault(error.what, error.record or of_place or record) from error
         except NotDecoded as error:
             raise fault(error.what, record) from error
 
@@ -200,7 +248,7 @@ class Comparison:
         what = Text("its dots are wrong as they go out, {:.1f} mm down", number * self.plan.dot)
         high = self.plan.area.height
         there = [item for item, (_, top) in labels if top <= number < top + high]
-        raise Different(what, there[0].label.record if there else None)
+        raise Different(what, record=there[0].label.record if there else None)
 
     def code(self, spot: Spot) -> Any:
         """Returns the symbol of a spot, drawn anew from its line; raises `Different` where that
@@ -303,9 +351,9 @@ class DotsOfPage:
                     raise Different(said(column * self.dot, down * self.dot))
             start = end
 
-    def check_rest(self, regions: Sequence[Region]) -> None:
+    def check_rest(self, symbols: Regions) -> None:
         """Raises `Different` where something is drawn over a symbol."""
-        Regions(regions, self.dot).check(self.inks)
+        check_inks(self.inks, symbols, self.dot)
 
 
 class CodesOfPage:
@@ -332,60 +380,28 @@ class CodesOfPage:
                 return self.page.codes.pop(number)
         return None
 
-    def check_rest(self, regions: Sequence[Region]) -> None:
+    def check_rest(self, symbols: Regions) -> None:
         """Raises `Different` where something is drawn over a symbol, or a picture is left."""
-        symbols = Regions(regions, self.dot)
-        symbols.check(self.page.inks + [code.ink for code in self.page.codes])
         for letters in self.page.letters:
-            if any(map(symbols.met_by, letters.rough)):
-                symbols.check(letters.inks())
+            if not symbols.is_clear_of(letters.rough):
+                check_inks(letters.inks(), symbols, self.dot)
+        check_inks(self.page.inks + [code.ink for code in self.page.codes], symbols, self.dot)
         if self.page.codes:
             raise Different(Text("a page goes out with a code of no label"))
+
+
+def check_inks(inks: Iterable[Ink], symbols: Regions, dot: float) -> None:
+    """Raises `Different` where ink meets a symbol."""
+    for ink in inks:
+        place = symbols.met_by(ink)
+        if place:
+            raise Different(said(ink.left * dot, ink.top * dot), place)
 
 
 def fault(what: Text, record: Optional[LineRecord]) -> ToolError:
     """Returns the error of a document that is wrong."""
     whole = Text("{}: {}", record.place.text, what) if record else what
     return ToolError(whole, FAULT, LABELS_FAILED)
-
-
-class Regions:
-    """The symbols of a page by where they are, so that few are looked at for some ink."""
-
-    def __init__(self, regions: Sequence[Region], dot: float) -> None:
-        self.dot = dot
-        found: dict[tuple[int, int], list[Region]] = {}
-        for region in regions:
-            box = region.place.picture
-            found.setdefault((box.top, box.bottom), []).append(region)
-        self.rows = [(*span, sorted(row, key=left_of)) for span, row in found.items()]
-        self.wide = max([region.place.picture.width for region in regions], default=0)
-
-    def check(self, inks: Iterable[Ink]) -> None:
-        """Raises `Different` where ink of letters, lines or pictures meets a symbol."""
-        for ink in inks:
-            region = self.met_by(ink)
-            if region:
-                raise Different(said(ink.left * self.dot, ink.top * self.dot), region.record)
-
-    def met_by(self, ink: Ink) -> Optional[Region]:
-        """Returns a symbol that ink meets, if there is one."""
-        left, upper, right, lower = ink
-        for top, bottom, row in self.rows:
-            if upper >= bottom or lower <= top:
-                continue
-            first = bisect_left(row, left - self.wide, key=left_of) if len(row) > 1 else 0
-            for region in islice(row, first, None):
-                if left_of(region) >= right:
-                    break
-                if region.place.is_met_by(ink):
-                    return region
-        return None
-
-
-def left_of(region: Region) -> int:
-    """Returns where a region begins."""
-    return region.place.picture.left
 
 
 def spots_of(item: LaidOut, area: Box) -> Iterator[Spot]:

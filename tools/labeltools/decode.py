@@ -14,9 +14,7 @@ from labeltools.kept import Kept
 from labeltools.text import Text
 
 ZPL_HEAD = re.compile(rb"\^XA\^PON\^LH0,0\^LS0\^PW([0-9]+)\^LL([0-9]+)\n")
-ZPL_FIELD = re.compile(
-    rb"\^FO([0-9]+),([0-9]+)\^GFA,([0-9]+),([0-9]+),([0-9]+),([0-9A-Zg-z:,!]*)\^FS\n"
-)
+ZPL_FIELD = re.compile(rb"\^FO([0-9]+),([0-9]+)\^GFA,([0-9]+),([0-9]+),([0-9]+),([^^]*)\^FS\n")
 ZPL_END = re.compile(rb"(?:\^PQ([0-9]+)\n)?\^XZ\n")
 COUNTS = b"GHIJKLMNOPQRSTUVWXYghijklmnopqrstuvwxyz"
 OTHERS = b"0123456789ABCDEF+:,!"
@@ -121,7 +119,8 @@ def dots_of_escpos(data: bytes, width: int) -> Dots:
             raise NotDecoded(Text("an image of {} bytes for {}", size, stride))
         at += 8
         image = whole(data[at : at + size * count], size * count)
-        images.append(apart(rows_in(image, size), stride))
+        has_dots = image.strip(b"\0")
+        images.append(apart(rows_in(image, size), stride) if has_dots else bytes(stride * count))
         height += count
         at += size * count
     return Dots(width, height, b"".join(images))
@@ -136,6 +135,7 @@ def dots_of_zpl(data: bytes, _: int) -> Dots:
     height = int(head[2])
     stride = (width + 7) // 8
     page = bytearray(stride * height)
+    used = 0
     at = head.end()
     while found := ZPL_FIELD.match(data, at):
         left, top, length, again, size = map(int, found.group(1, 2, 3, 4, 5))
@@ -147,7 +147,8 @@ def dots_of_zpl(data: bytes, _: int) -> Dots:
         field = rows_of_field(found[6], size)
         if len(field) != end - top:
             raise NotDecoded(Text("zpl with {} rows, which has {}", end - top, len(field)))
-        add(page, stride * top + left // 8, apart(field, stride))
+        start = stride * top + left // 8
+        used = add(page, start, apart(field, stride), used)
         at = found.end()
     end_of_label = ZPL_END.fullmatch(data, at)
     if not end_of_label:
@@ -161,15 +162,17 @@ def apart(rows: Sequence[bytes], stride: int) -> bytes:
     return white.join(rows) + white
 
 
-def add(page: bytearray, start: int, rows: bytes) -> None:
-    """Adds rows to a page from a byte on; dark dots of both are dark."""
+def add(page: bytearray, start: int, rows: bytes, used: int) -> int:
+    """Adds rows to a page from a byte on, of which only those below `used` may have dots; dark dots
+    of both are dark. Returns which bytes may have dots then.
+    """
     rows = rows[: len(page) - start]  # what is left away there is the white behind the last row
     end = start + len(rows)
-    there = page[start:end]
-    if there != bytes(len(there)):
-        both = int.from_bytes(there, "big") | int.from_bytes(rows, "big")
+    if start < used:
+        both = int.from_bytes(page[start:end], "big") | int.from_bytes(rows, "big")
         rows = both.to_bytes(len(rows), "big")
     page[start:end] = rows
+    return max(used, end)
 
 
 def rows_of_field(text: bytes, size: int) -> Sequence[bytes]:
@@ -209,8 +212,8 @@ def expanded(text: bytes) -> str:
     'FFFFA'
     """
     kinds = text.translate(KINDS)
-    if b"G," in kinds:
-        raise NotDecoded(Text("zpl with a count of what is no digit"))
+    if text.translate(None, COUNTS + OTHERS) or b"G," in kinds:
+        raise NotDecoded(Text("zpl with signs that are no run lengths"))
     pieces = (b"+" + text).translate(WITHOUT_COUNTS).decode("ascii").split()
     counts = text.translate(COUNTS_ALONE).decode("ascii").split()
     found = [""] * (len(pieces) + len(counts))
@@ -218,25 +221,8 @@ def expanded(text: bytes) -> str:
     if b"GF" in kinds:
         found[1::2] = map(mul, map(itemgetter(0), pieces[1:]), map(times, counts))
     else:
-        found[1::2] = map(zeros, counts)
+        found[1::2] = map(ZEROS.__getitem__, counts)
     return "".join(found)[1:]
-
-
-@cache
-def zeros(count: str) -> str:
-    """Returns the zeros that a count says, but for the one that follows it."""
-    return "0" * times(count)
-
-
-@cache
-def times(count: str) -> int:
-    """Returns how often a count says a digit that follows once itself: G to Y are 1 to 19, g to z
-    are 20 to 400.
-
-    >>> times("I"), times("zgM")
-    (2, 426)
-    """
-    return sum(ord(one) - 70 if one <= "Y" else 20 * (ord(one) - 102) for one in count) - 1
 
 
 def rows_in(data: bytes, size: int) -> list[bytes]:
@@ -251,6 +237,26 @@ def whole(data: bytes, length: int) -> bytes:
     return data
 
 
+@cache
+def times(count: str) -> int:
+    """Returns how often a count says a digit that follows once itself: G to Y are 1 to 19, g to z
+    are 20 to 400.
+
+    >>> times("I"), times("zgM")
+    (2, 426)
+    """
+    return sum(ord(one) - 70 if one <= "Y" else 20 * (ord(one) - 102) for one in count) - 1
+
+
+class Zeros(dict[str, str]):
+    """The zeros that counts say, but for the one that follows each of them."""
+
+    def __missing__(self, count: str) -> str:
+        self[count] = "0" * times(count)
+        return self[count]
+
+
+ZEROS = Zeros()
 DECODERS = {
     "pbm": dots_of_pbm,
     "png": dots_of_png,

@@ -54,6 +54,11 @@ class Matrix(NamedTuple):
             self.e * other.b + self.f * other.d + other.f,
         )
 
+    def moved(self, x: float, y: float) -> "Matrix":
+        """Returns this matrix behind a move."""
+        a, b, c, d, e, f = self
+        return Matrix(a, b, c, d, a * x + c * y + e, b * x + d * y + f)
+
     def of(self, x: float, y: float) -> tuple[float, float]:
         """Returns where a point goes."""
         return self.a * x + self.c * y + self.e, self.b * x + self.d * y + self.f
@@ -101,7 +106,7 @@ class Letters(Protocol):
     """Letters on a page."""
 
     @property
-    def rough(self) -> Sequence[Ink]:
+    def rough(self) -> tuple[Ink, ...]:
         """Rectangles in which all of their ink is for certain, which is quick to say."""
 
     def inks(self) -> Sequence[Ink]:

@@ -208,7 +208,7 @@ class Reader:
             is_new = steps.line is not None or steps.moves
             line = steps.line or line
             for move in steps.moves:
-                line = Matrix(1, 0, 0, 1, *move).before(line)
+                line = line.moved(*move)
             if number:
                 self.draw(int(number), around, found)
                 continue
@@ -221,7 +221,7 @@ class Reader:
                 continue
             if not is_new:
                 last = shown[-1]
-                line = Matrix(1, 0, 0, 1, last.font.advance(last.letters), 0).before(last.matrix)
+                line = last.matrix.moved(last.font.advance(last.letters), 0)
             shown.append(Shown(line, self.pdf.font(font), letters))
         spans = {(code.ink.top, code.ink.bottom) for code in found.codes}
         found.letters += [letters for letters in shown if is_beside(letters, spans)]
