@@ -10,13 +10,16 @@ Where the library reads symbols, what it reads of these dots is to be the data o
 belongs into `Comparison.code`, beside what the library says that it drew.
 """
 
-from functools import cache
-from itertools import groupby
+from bisect import bisect_left
+from dataclasses import dataclass, field
+from functools import cache, lru_cache
+from itertools import islice
+from operator import mul
 from typing import Any, Iterable, Iterator, NamedTuple, Optional, Sequence
 
 from labeltools.area import Plan
 from labeltools.decode import Dots, NotDecoded, dots_of
-from labeltools.drawn_codes import DrawnCode, DrawnPage, Ink
+from labeltools.drawn_codes import DrawnCode, DrawnPage, Ink, is_at
 from labeltools.drawn_pdf import pages_of_pdf
 from labeltools.drawn_svg import page_of_svg
 from labeltools.engine import LABELS_FAILED, Engine, Refused, bytes_a_row
@@ -26,10 +29,11 @@ from labeltools.lines_file import LineRecord
 from labeltools.messages import ToolError
 from labeltools.own_design import PARTS, Place, key_of
 from labeltools.own_layout import OwnLayout, OwnSymbol
-from labeltools.text import NOTHING, Text
+from labeltools.text import Text
 
 Labels = Sequence[tuple[LaidOut, tuple[int, int]]]
 Rows = Sequence[bytes]
+Inks = tuple[Ink, ...]
 LONGER = 5  # modules by which guards are longer (GS1 General Specifications, 5.2)
 # modules of the longer bars, from the first bar on: ISO/IEC 15420
 GUARDS = {
@@ -47,18 +51,23 @@ ZONES = {
     "qr": (4, 4, 4),
 }
 KNOWN = 4096  # geometries that are kept: most labels share some
-FEW = 2  # symbols of a page that are looked at one by one
+PAGES = 64  # pages whose symbols are kept by their places
 DIGITS = bytes.maketrans(b"\0\1", b"01")
 FAULT = Text("this is a fault of label-print: nothing of it has gone out; report it")
 
 
 class Different(Exception):
-    """What differs in a label, and its place where that is not the one that is looked at."""
+    """What differs in a label: that which is looked at, or which has a symbol at a place, or which
+    has some rows of the page.
+    """
 
-    def __init__(self, what: Text, place: Text = NOTHING) -> None:
+    def __init__(
+        self, what: Text, place: Optional["Geometry"] = None, record: Optional[LineRecord] = None
+    ) -> None:
         super().__init__(what)
         self.what = what
         self.place = place
+        self.record = record
 
 
 class Spot(NamedTuple):
@@ -76,29 +85,35 @@ class Spot(NamedTuple):
     module: int
 
 
-class Part(NamedTuple):
-    """Rows of a page that are alike: dots from `left` on and `wide`, as a number."""
-
-    top: int
-    high: int
-    left: int
-    wide: int
-    dots: int
-
-
-class Geometry(NamedTuple):
+@dataclass(frozen=True, eq=False)
+class Geometry:
     """Where a symbol has to be on a page: its bars, its longer guards with their first and last
     modules, and the picture of both; the quarters by which it is turned; the dots of a module; as
-    it is read its modules from left to right, and the dots of its bars from top to bottom.
+    it is read its modules from left to right, the dots of its bars from top to bottom, and those
+    of each of its rows and of what guards are longer. `clear` is ink that is known not to meet it.
     """
 
     bars: Box
-    guards: Sequence[tuple[Box, tuple[int, int]]]
+    guards: tuple[tuple[Box, tuple[int, int]], ...]
     picture: Box
     quarters: int
     scale: int
     wide: int
     high: int
+    bands: tuple[int, ...]
+    clear: set[Ink] = field(default_factory=set)
+
+    def is_met_by(self, ink: Ink) -> bool:
+        """Returns whether ink meets it."""
+        if ink in self.clear:
+            return False
+        if ink.meets(self.picture):
+            if ink.meets(self.bars) or any(ink.meets(box) for box, _ in self.guards):
+                return True
+        if len(self.clear) > KNOWN:
+            self.clear.clear()
+        self.clear.add(ink)
+        return False
 
 
 class Wanted(NamedTuple):
@@ -107,20 +122,50 @@ class Wanted(NamedTuple):
     symbol: Any
     place: Geometry
 
-    def parts(self) -> Iterator[Part]:
-        """Yields the parts of a page that have to be so."""
-        symbol, place = self
-        yield from parts_of(rows_of(symbol), place.bars, place.quarters)
-        for box, (first, last) in place.guards:
-            modules = symbol.modules[first:last].translate(DIGITS).decode("ascii")
-            yield from parts_of([modules], box, place.quarters)
 
-    def is_met_by(self, ink: Ink) -> bool:
-        """Returns whether ink meets it."""
-        place = self.place
-        if not ink.meets(place.picture):
+class Regions:
+    """The symbols of a page by where they are, so that few are looked at for some ink; `clear` is
+    ink that is known to meet none of them.
+    """
+
+    def __init__(self, places: Sequence[Geometry]) -> None:
+        found: dict[tuple[int, int], list[Geometry]] = {}
+        for place in places:
+            box = place.picture
+            found.setdefault((box.top, box.bottom), []).append(place)
+        self.rows = [(*span, sorted(row, key=left_of)) for span, row in found.items()]
+        self.wide = max([place.picture.width for place in places], default=0)
+        self.clear: set[Inks] = set()
+
+    def met_by(self, ink: Ink) -> Optional[Geometry]:
+        """Returns a symbol that ink of letters, lines or pictures meets, if there is one."""
+        left, upper, right, lower = ink
+        for top, bottom, row in self.rows:
+            if upper >= bottom or lower <= top:
+                continue
+            first = bisect_left(row, left - self.wide, key=left_of) if len(row) > 1 else 0
+            for place in islice(row, first, None):
+                if left_of(place) >= right:
+                    break
+                if place.is_met_by(ink):
+                    return place
+        return None
+
+    def is_clear_of(self, inks: Inks) -> bool:
+        """Returns whether ink meets no symbol."""
+        if inks in self.clear:
+            return True
+        if any(map(self.met_by, inks)):
             return False
-        return ink.meets(place.bars) or any(ink.meets(box) for box, _ in place.guards)
+        if len(self.clear) > KNOWN:
+            self.clear.clear()
+        self.clear.add(inks)
+        return True
+
+
+def left_of(place: Geometry) -> int:
+    """Returns where a symbol begins."""
+    return place.picture.left
 
 
 class Comparison:
@@ -137,6 +182,7 @@ class Comparison:
         self.area = Box(0, 0, area.width, area.height)
         self.cells = dict(zip(plan.places, plan.sheet.places))
         self.known: dict[tuple[object, ...], Geometry] = {}
+        self.regions = lru_cache(PAGES)(Regions)
 
     def check(
         self, data: bytes, pages: Sequence[Labels], copies: int = 1, rows: Optional[Rows] = None
@@ -145,22 +191,24 @@ class Comparison:
         a form of dots, not the dots of the page that was drawn.
         """
         is_alone = len(pages) == len(pages[0]) == 1
-        place = pages[0][0][0].label.record.place.text if is_alone else NOTHING
+        record = pages[0][0][0].label.record if is_alone else None
+        symbols: dict[Geometry, LineRecord] = {}
         try:
             for labels, page in zip(pages, self.read(data, pages, copies, rows)):
-                regions = []
+                symbols = {}
                 for item, at in labels:
-                    place = item.label.record.place.text
+                    record = item.label.record
                     for spot in spots_of(item, self.area):
                         wanted = self.wanted(spot, at)
                         page.check(wanted)
-                        regions.append((wanted, place))
-                place = place if is_alone else NOTHING
-                page.check_rest(regions)
+                        symbols[wanted.place] = record
+                record = record if is_alone else None
+                page.check_rest(self.regions(tuple(symbols)))
         except Different as error:
-            raise fault(error.what, error.place or place) from error
+            of_place = symbols.get(error.place) if error.place else None
+            raise fault(error.what, error.record or of_place or record) from error
         except NotDecoded as error:
-            raise fault(error.what, place) from error
+            raise fault(error.what, record) from error
 
     def read(
         self, data: bytes, pages: Sequence[Labels], copies: int, rows: Optional[Rows]
@@ -174,7 +222,7 @@ class Comparison:
             drawing = page_of_svg(data, self.plan.dpi, self.plan.page)
             yield DotsOfPage(drawing.dots, dot, drawing.inks)
         else:
-            dots = dots_of(self.form, data)
+            dots = dots_of(self.form, data, self.plan.page[0])
             self.check_size(dots, copies)
             if rows is not None:
                 self.check_rows(dots, rows, pages[0])
@@ -183,8 +231,8 @@ class Comparison:
     def check_size(self, dots: Dots, copies: int) -> None:
         """Raises `Different` where a page has not its size, or not its copies."""
         width, height = self.plan.page
-        if dots.width not in (0, width) or len(dots.rows) != height:
-            found = Text("{} by {}", dots.width, len(dots.rows))
+        if (dots.width, dots.height) != (width, height):
+            found = Text("{} by {}", dots.width, dots.height)
             its = Text("{} by {}", width, height)
             raise Different(Text("a page goes out with {} dots and has {}", found, its))
         if dots.copies != copies:
@@ -193,17 +241,14 @@ class Comparison:
 
     def check_rows(self, dots: Dots, rows: Rows, labels: Labels) -> None:
         """Raises `Different` where dots are not those of the rows of a page that was drawn."""
-        if dots.rows == list(rows):
+        if dots.packed == b"".join(rows):
             return
-        for number, (found, row) in enumerate(zip(dots.rows, rows)):
-            if found == row or not dots.width and found.ljust(len(row), b"\0") == row:
-                continue
-            down = number * self.plan.dot
-            what = Text("its dots are wrong as they go out, {:.1f} mm down", down)
-            high = self.plan.area.height
-            there = [item for item, (_, top) in labels if top <= number < top + high]
-            place = there[0].label.record.place.text if there else NOTHING
-            raise Different(what, place)
+        pairs = enumerate(zip(dots.rows, rows))
+        number = next(number for number, (found, row) in pairs if found != row)
+        what = Text("its dots are wrong as they go out, {:.1f} mm down", number * self.plan.dot)
+        high = self.plan.area.height
+        there = [item for item, (_, top) in labels if top <= number < top + high]
+        raise Different(what, record=there[0].label.record if there else None)
 
     def code(self, spot: Spot) -> Any:
         """Returns the symbol of a spot, drawn anew from its line; raises `Different` where that
@@ -239,16 +284,17 @@ class Comparison:
         high = bars.height if is_linear else scale * (symbol.rows + 2 * above)
         if rest or not scale or high != bars.height or scale != spot.module:
             raise Different(Text("its modules are no whole dots"))
-        longer = LONGER * scale
+        spans = GUARDS.get(symbol.symbology, ()) if is_linear else ()
+        longer = LONGER * scale * bool(spans)
         guards = []
-        for first, last in GUARDS.get(symbol.symbology, ()) if is_linear else ():
-            start = bars.left + (left + first) * scale
-            box = Box(start, bars.bottom, (last - first) * scale, longer)
+        for first, last in ((left + first, left + last) for first, last in spans):
+            box = Box(bars.left + first * scale, bars.bottom, (last - first) * scale, longer)
             guards.append((self.on_page(spot, box, at), (first, last)))
-        picture = bars._replace(height=bars.height + longer * bool(guards))
-        boxes = self.on_page(spot, bars, at), guards, self.on_page(spot, picture, at)
+        picture = bars._replace(height=bars.height + longer)
+        boxes = self.on_page(spot, bars, at), tuple(guards), self.on_page(spot, picture, at)
         self.check_cell(at, boxes[2])
-        return Geometry(*boxes, (spot.quarters + self.is_turned) % 4, scale, wide, high)
+        bands = (high, longer) if is_linear else (scale,) * (high // scale)
+        return Geometry(*boxes, (spot.quarters + self.is_turned) % 4, scale, wide, high, bands)
 
     def on_page(self, spot: Spot, box: Box, at: tuple[int, int]) -> Box:
         """Returns where a box in the room of a spot is on the page."""
@@ -279,38 +325,35 @@ class DotsOfPage:
     """A page that was read back as dots, with ink of a drawing that is none of its dots."""
 
     def __init__(self, dots: Dots, dot: float, inks: Sequence[Ink] = ()) -> None:
-        self.rows = dots.rows
+        self.dots = dots
         self.dot = dot
         self.inks = inks
 
     def check(self, wanted: Wanted) -> None:
         """Raises `Different` where dots are not those of a symbol."""
-        for part in wanted.parts():
-            if part.top < 0 or part.top + part.high > len(self.rows) or part.left < 0:
-                raise Different(Text("its code leaves the page"))
-            self.check_part(part)
+        box = wanted.place.picture
+        is_across = 0 <= box.left and box.right <= self.dots.width
+        if not is_across or not 0 <= box.top <= box.bottom <= self.dots.height:
+            raise Different(Text("its code leaves the page"))
+        first = box.left // 8
+        size = (box.right + 7) // 8 - first
+        stride = self.dots.stride
+        packed = self.dots.packed
+        start = box.top * stride + first
+        for (dots, high), mask in zip(dots_of_symbol(wanted), mask_of(wanted.place)):
+            end = start + high * stride
+            rows = [packed[at : at + size] for at in range(start, end, stride)]
+            for row in dict.fromkeys(rows):
+                other = (number_of(row) ^ dots) & mask
+                if other:
+                    column = 8 * (first + size) - other.bit_length()
+                    down = start // stride + rows.index(row)
+                    raise Different(said(column * self.dot, down * self.dot))
+            start = end
 
-    def check_part(self, part: Part) -> None:
-        """Raises `Different` where dots are not those of a part of a page."""
-        first = part.left // 8
-        last = (part.left + part.wide + 7) // 8
-        shift = 8 * last - part.left - part.wide
-        mask = (1 << part.wide) - 1
-        before = None
-        for number, row in enumerate(self.rows[part.top : part.top + part.high], part.top):
-            piece = row[first:last]
-            if piece == before:
-                continue
-            missing = 8 * (last - first - len(piece))  # light dots at the right are not sent
-            found = int.from_bytes(piece, "big") << missing >> shift & mask
-            if found != part.dots:
-                column = part.left + part.wide - (found ^ part.dots).bit_length()
-                raise Different(said(column * self.dot, number * self.dot))
-            before = piece
-
-    def check_rest(self, regions: Sequence[tuple[Wanted, Text]]) -> None:
+    def check_rest(self, symbols: Regions) -> None:
         """Raises `Different` where something is drawn over a symbol."""
-        check_inks(self.inks, regions, self.dot)
+        check_inks(self.inks, symbols, self.dot)
 
 
 class CodesOfPage:
@@ -333,53 +376,32 @@ class CodesOfPage:
     def taken(self, box: Box, quarters: int) -> Optional[DrawnCode]:
         """Returns the picture that fills a box, and takes it away."""
         for number, code in enumerate(self.page.codes):
-            if code.is_at(box, quarters):
+            if is_at(code.corners, box, quarters):
                 return self.page.codes.pop(number)
         return None
 
-    def check_rest(self, regions: Sequence[tuple[Wanted, Text]]) -> None:
+    def check_rest(self, symbols: Regions) -> None:
         """Raises `Different` where something is drawn over a symbol, or a picture is left."""
-        check_inks(self.page.inks + [code.ink for code in self.page.codes], regions, self.dot)
+        for letters in self.page.letters:
+            if not symbols.is_clear_of(letters.rough):
+                check_inks(letters.inks(), symbols, self.dot)
+        check_inks(self.page.inks + [code.ink for code in self.page.codes], symbols, self.dot)
         if self.page.codes:
             raise Different(Text("a page goes out with a code of no label"))
 
 
-def fault(what: Text, place: Text) -> ToolError:
-    """Returns the error of a document that is wrong."""
-    return ToolError(Text("{}: {}", place, what) if place else what, FAULT, LABELS_FAILED)
-
-
-def check_inks(inks: Iterable[Ink], regions: Sequence[tuple[Wanted, Text]], dot: float) -> None:
-    """Raises `Different` where ink of letters, lines or pictures meets a symbol."""
-    squares = Regions(regions) if len(regions) > FEW else None
+def check_inks(inks: Iterable[Ink], symbols: Regions, dot: float) -> None:
+    """Raises `Different` where ink meets a symbol."""
     for ink in inks:
-        for wanted, place in squares.near(ink) if squares else regions:
-            if wanted.is_met_by(ink):
-                raise Different(said(ink.left * dot, ink.top * dot), place)
+        place = symbols.met_by(ink)
+        if place:
+            raise Different(said(ink.left * dot, ink.top * dot), place)
 
 
-class Regions:
-    """The symbols of a page by where they are, so that few are looked at for some ink."""
-
-    def __init__(self, regions: Sequence[tuple[Wanted, Text]]) -> None:
-        pictures = [wanted.place.picture for wanted, _ in regions]
-        self.size = max(max(box.width, box.height) for box in pictures)
-        self.found: dict[tuple[int, int], list[tuple[Wanted, Text]]] = {}
-        for box, region in zip(pictures, regions):
-            for key in self.keys(Ink(box.left, box.top, box.right, box.bottom)):
-                self.found.setdefault(key, []).append(region)
-
-    def keys(self, ink: Ink) -> Iterator[tuple[int, int]]:
-        """Yields the squares of a page that ink is in."""
-        size = self.size
-        for column in range(int(ink.left // size), int(ink.right // size) + 1):
-            for row in range(int(ink.top // size), int(ink.bottom // size) + 1):
-                yield column, row
-
-    def near(self, ink: Ink) -> Iterator[tuple[Wanted, Text]]:
-        """Yields symbols that ink may meet."""
-        for key in self.keys(ink):
-            yield from self.found.get(key, ())
+def fault(what: Text, record: Optional[LineRecord]) -> ToolError:
+    """Returns the error of a document that is wrong."""
+    whole = Text("{}: {}", record.place.text, what) if record else what
+    return ToolError(whole, FAULT, LABELS_FAILED)
 
 
 def spots_of(item: LaidOut, area: Box) -> Iterator[Spot]:
@@ -442,36 +464,57 @@ def said(across: float, down: float) -> Text:
     )
 
 
-def rows_of(symbol: Any) -> list[str]:
-    """Returns the modules of a symbol of the library, with quiet zones, as rows of digits."""
+def dots_of_symbol(wanted: Wanted) -> list[tuple[int, int]]:
+    """Returns the dots of a symbol as it is on a page: those of each of its rows in the bytes that
+    its picture touches, as a number, with how many rows of dots are so.
+    """
+    symbol, place = wanted
     digits = symbol.modules.translate(DIGITS).decode("ascii")
     left, right, above = ZONES[symbol.symbology]
-    starts = range(0, len(digits), symbol.width)
     before = "0" * left
     behind = "0" * right
+    starts = range(0, len(digits), symbol.width)
     rows = [before + digits[start : start + symbol.width] + behind for start in starts]
-    blank = ["0" * len(rows[0])] * above
-    return [*blank, *rows, *blank]
+    blank = ["0" * place.wide] * above
+    return dots_of_rows([*blank, *rows, *blank] if symbol.rows > 1 else rows * 2, place)
 
 
-def parts_of(rows: Sequence[str], box: Box, quarters: int) -> Iterator[Part]:
-    """Yields the parts of a page that rows of modules fill, turned to the right."""
-    for _ in range(quarters):
-        rows = ["".join(column) for column in zip(*reversed(rows))]
-    scale = box.width // len(rows[0])
-    step = box.height // len(rows)
-    top = box.top
-    for row, group in groupby(rows):
-        high = len(list(group)) * step
-        yield Part(top, high, box.left, box.width, wide(row, scale))
-        top += high
+@lru_cache(KNOWN)
+def mask_of(place: Geometry) -> list[int]:
+    """Returns where the dots of a symbol are looked at, as `dots_of_symbol` does: all of them, but
+    between longer guards.
+    """
+    rows = ["1" * place.wide] * len(place.bands)
+    if place.guards:
+        guards = list("0" * place.wide)
+        for _, (first, last) in place.guards:
+            guards[first:last] = "1" * (last - first)
+        rows[1] = "".join(guards)
+    return [dots for dots, _ in dots_of_rows(rows, place)]
 
 
-def wide(row: str, scale: int) -> int:
+def dots_of_rows(rows: Sequence[str], place: Geometry) -> list[tuple[int, int]]:
+    """Returns rows of modules as they are on a page, as `dots_of_symbol` does."""
+    if place.quarters % 2:
+        columns = zip(*reversed(rows))
+        highs = place.bands[::-1]
+        found = [("".join(map(mul, column, highs)), place.scale) for column in columns]
+    else:
+        found = [(wide(row, place.scale), high) for row, high in zip(rows, place.bands)]
+    if place.quarters >= 2:
+        found = [(dots[::-1], high) for dots, high in reversed(found)]
+    shift = -place.picture.right % 8
+    return [(int(dots, 2) << shift, high) for dots, high in found]
+
+
+def wide(row: str, scale: int) -> str:
     """Returns a row of modules as dots."""
-    if scale > 1:
-        row = row.replace("1", "x").replace("0", "0" * scale).replace("x", "1" * scale)
-    return int(row, 2)
+    return row.replace("1", "x").replace("0", "0" * scale).replace("x", "1" * scale)
+
+
+def number_of(packed: bytes) -> int:
+    """Returns dots as a number."""
+    return int.from_bytes(packed, "big")
 
 
 def modules_of(wanted: Wanted) -> bytes:

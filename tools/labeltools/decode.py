@@ -6,19 +6,23 @@ import re
 import struct
 import zlib
 from dataclasses import dataclass
-from functools import cache, lru_cache
+from functools import cache
+from operator import itemgetter, mul
 from typing import Sequence
 
+from labeltools.kept import Kept
 from labeltools.text import Text
 
 ZPL_HEAD = re.compile(rb"\^XA\^PON\^LH0,0\^LS0\^PW([0-9]+)\^LL([0-9]+)\n")
 ZPL_FIELD = re.compile(rb"\^FO([0-9]+),([0-9]+)\^GFA,([0-9]+),([0-9]+),([0-9]+),([^^]*)\^FS\n")
 ZPL_END = re.compile(rb"(?:\^PQ([0-9]+)\n)?\^XZ\n")
-COUNTED = re.compile(r"([G-Yg-z]+[0-9A-F])")
-UNSIGNED = re.compile(r"(?<=[0-9A-F]):")  # a row comes again that has no sign at its end
-MOST_KNOWN = 4096  # texts of rows of ZPL that are kept as they were read: most labels share some
-KNOWN = 256  # fields that are kept as they were read: what is alike on all labels
-RESTS = {",": "0", "!": "F"}
+COUNTS = b"GHIJKLMNOPQRSTUVWXYghijklmnopqrstuvwxyz"
+OTHERS = b"0123456789ABCDEF+:,!"
+WITHOUT_COUNTS = bytes.maketrans(COUNTS, b" " * len(COUNTS))
+COUNTS_ALONE = bytes.maketrans(OTHERS, b" " * len(OTHERS))
+# counts, signs, and digits of which counts are rare
+KINDS = bytes.maketrans(COUNTS + b":!123456789ABCDE", b"G" * len(COUNTS) + b",," + b"F" * 14)
+FIELDS: Kept[tuple[bytes, int], Sequence[bytes]] = Kept(1024)
 RASTER = b"\x1dv0\0"
 LINES_AND_CUT = b"\x1bd\x03\x1dV\x42\x00"
 RESET = b"\x1b@"
@@ -36,34 +40,45 @@ class NotDecoded(Exception):
 
 @dataclass(frozen=True)
 class Dots:
-    """A page in dots, of which 1 is dark: rows of whole bytes from the left, and how often it is
-    printed. Where a form does not send what is white at the right, as ESC/POS, the width is 0 and
-    rows may be shorter than the page.
+    """A page in dots, of which 1 is dark: its rows of whole bytes from the left, one behind
+    another, and how often it is printed.
     """
 
     width: int
-    rows: Sequence[bytes]
+    height: int
+    packed: bytes
     copies: int = 1
 
+    @property
+    def stride(self) -> int:
+        """The bytes of a row."""
+        return (self.width + 7) // 8
 
-def dots_of(form: str, data: bytes) -> Dots:
-    """Returns the dots of one label or page; raises `NotDecoded`."""
+    @property
+    def rows(self) -> list[bytes]:
+        """The rows."""
+        return rows_in(self.packed, self.stride)
+
+
+def dots_of(form: str, data: bytes, width: int) -> Dots:
+    """Returns the dots of one label or page; raises `NotDecoded`. The width is that which a page
+    has to have, of which ESC/POS does not say what is white at the right.
+    """
     try:
-        return DECODERS[form](data)
+        return DECODERS[form](data, width)
     except (ValueError, IndexError, zlib.error, struct.error) as error:
         raise NotDecoded(Text("no {}: {}", form, error)) from error
 
 
-def dots_of_pbm(data: bytes) -> Dots:
+def dots_of_pbm(data: bytes, _: int) -> Dots:
     """Reads raw PBM."""
     kind, size, rest = data.split(b"\n", 2)
     width, height = map(int, size.split())
-    stride = (width + 7) // 8
-    rest = whole(rest, stride * height if kind == b"P4" else -1)
-    return Dots(width, rows_in(rest, stride))
+    length = (width + 7) // 8 * height
+    return Dots(width, height, whole(rest, length if kind == b"P4" else -1))
 
 
-def dots_of_png(data: bytes) -> Dots:
+def dots_of_png(data: bytes, _: int) -> Dots:
     """Reads PNG of one bit a pixel without filters."""
     if data[:8] != PNG_HEAD:
         raise NotDecoded(Text("no png"))
@@ -86,123 +101,128 @@ def dots_of_png(data: bytes) -> Dots:
         raise NotDecoded(Text("png with filters"))
     light = rows.translate(INVERTED)
     starts = range(1, len(light), 1 + stride)
-    return Dots(width, [light[start : start + stride] for start in starts])
+    return Dots(width, height, b"".join([light[start : start + stride] for start in starts]))
 
 
-def dots_of_escpos(data: bytes) -> Dots:
+def dots_of_escpos(data: bytes, width: int) -> Dots:
     """Reads raster images, one below the other."""
-    rows: list[bytes] = []
+    stride = (width + 7) // 8
+    images = []
+    height = 0
     at = len(RESET) if data.startswith(RESET) else 0
     end = len(data) - len(LINES_AND_CUT) if data.endswith(LINES_AND_CUT) else len(data)
     while at < end:
         if not data.startswith(RASTER, at):
             raise NotDecoded(Text("no escpos of label-print"))
         size, count = struct.unpack_from("<HH", data, at + 4)
+        if not 0 < size <= stride:
+            raise NotDecoded(Text("an image of {} bytes for {}", size, stride))
         at += 8
-        rows += rows_in(whole(data[at : at + size * count], size * count), size)
+        image = whole(data[at : at + size * count], size * count)
+        has_dots = image.strip(b"\0")
+        images.append(apart(rows_in(image, size), stride) if has_dots else bytes(stride * count))
+        height += count
         at += size * count
-    return Dots(0, rows)
+    return Dots(width, height, b"".join(images))
 
 
-def dots_of_zpl(data: bytes) -> Dots:
+def dots_of_zpl(data: bytes, _: int) -> Dots:
     """Reads the graphic fields of a label, which is white where none is."""
     head = ZPL_HEAD.match(data)
     if not head:
         raise NotDecoded(Text("no zpl of label-print"))
     width = int(head[1])
     height = int(head[2])
-    blank = bytes((width + 7) // 8)
-    rows = [blank] * height
+    stride = (width + 7) // 8
+    page = bytearray(stride * height)
+    used = 0
     at = head.end()
     while found := ZPL_FIELD.match(data, at):
-        left, top, length, again, size = (int(found[number]) for number in range(1, 6))
-        end = top + length // size
+        left, top, length, again, size = map(int, found.group(1, 2, 3, 4, 5))
         if length != again or length % size or left % 8:
             raise NotDecoded(Text("zpl with a field that is no whole bytes"))
-        if end > height or left // 8 + size > len(blank):
+        end = top + length // size
+        if end > height or left // 8 + size > stride:
             raise NotDecoded(Text("zpl with a field that leaves the label"))
-        field = rows_of_field(found[6].decode("ascii"), size)
+        field = rows_of_field(found[6], size)
         if len(field) != end - top:
             raise NotDecoded(Text("zpl with {} rows, which has {}", end - top, len(field)))
-        rows[top:end] = together(rows[top:end], field, left // 8, blank)
+        start = stride * top + left // 8
+        used = add(page, start, apart(field, stride), used)
         at = found.end()
     end_of_label = ZPL_END.fullmatch(data, at)
     if not end_of_label:
         raise NotDecoded(Text("zpl without an end"))
-    return Dots(width, rows, int(end_of_label[1] or 1))
+    return Dots(width, height, bytes(page), int(end_of_label[1] or 1))
 
 
-def together(rows: list[bytes], field: list[bytes], left: int, blank: bytes) -> list[bytes]:
-    """Returns rows with those of a field from a byte on; dark dots of both are dark."""
-    size = len(field[0])
-    end = left + size
-    there = [row[left:end] for row in rows]
-    if there.count(bytes(size)) < len(there):
-        both = zip(there, field)
-        dots = (int.from_bytes(one, "big") | int.from_bytes(other, "big") for one, other in both)
-        field = [dot.to_bytes(size, "big") for dot in dots]
-    if rows.count(blank) == len(rows):
-        before = blank[:left]
-        behind = blank[end:]
-        return [before + piece + behind for piece in field]
-    return [row[:left] + piece + row[end:] for row, piece in zip(rows, field)]
+def apart(rows: Sequence[bytes], stride: int) -> bytes:
+    """Returns rows of one size as rows of a page, of `stride` bytes, with white behind them."""
+    white = bytes(stride - len(rows[0])) if rows else b""
+    return white.join(rows) + white
 
 
-@lru_cache(KNOWN)
-def rows_of_field(text: str, size: int) -> list[bytes]:
-    """Returns the rows of a graphic field in run lengths; raises `NotDecoded`."""
-    # each piece has signs of rows that come again, and a row that ends with the sign that fills it;
-    # rows without one are together with the next row
-    signed = UNSIGNED.sub("\n:", text).replace(",", ",\n").replace("!", "!\n")
-    pieces = signed.split("\n")
-    texts = [piece.lstrip(":") for piece in pieces]
-    known = known_rows(size)
-    if len(known) > MOST_KNOWN:
-        known.clear()
-        known[""] = []
-    new = [one for one in dict.fromkeys(texts) if one not in known]
-    if new:
-        learn(known, new, 2 * size)
-    rows: list[bytes] = []
-    for piece, one in zip(pieces, texts):
-        rows += rows[-1:] * (len(piece) - len(one))
-        rows += known[one]
-    return rows
-
-
-@cache
-def known_rows(size: int) -> dict[str, list[bytes]]:
-    """Returns the rows of so many bytes that were read before, by their texts."""
-    return {"": []}
-
-
-def learn(known: dict[str, list[bytes]], texts: Sequence[str], digits: int) -> None:
-    """Reads texts of rows, all at once, which is quicker; raises `NotDecoded`."""
-    for text, plain in zip(texts, expanded("\n".join(texts)).split("\n")):
-        rest = RESTS.get(plain[-1:])
-        if rest:  # it fills the row, or a whole one where a row has just ended
-            plain = plain[:-1].ljust((len(plain) + digits - 1) // digits * digits, rest)
-        if len(plain) % digits:
-            raise NotDecoded(Text("a row of the zpl has not its length"))
-        known[text] = rows_in(bytes.fromhex(plain), digits // 2)
-
-
-def expanded(text: str) -> str:
-    """Returns digits for counts and digits."""
-    pieces = COUNTED.split(text)
-    pieces[1::2] = map(repeated, pieces[1::2])
-    return "".join(pieces)
-
-
-@cache
-def repeated(run: str) -> str:
-    """Returns the digits of a count and a digit: G to Y are 1 to 19, g to z are 20 to 400.
-
-    >>> repeated("IF"), len(repeated("zgM0"))
-    ('FFF', 427)
+def add(page: bytearray, start: int, rows: bytes, used: int) -> int:
+    """Adds rows to a page from a byte on, of which only those below `used` may have dots; dark dots
+    of both are dark. Returns which bytes may have dots then.
     """
-    count = sum(ord(one) - 70 if one <= "Y" else 20 * (ord(one) - 102) for one in run[:-1])
-    return run[-1] * count
+    rows = rows[: len(page) - start]  # what is left away there is the white behind the last row
+    end = start + len(rows)
+    if start < used:
+        both = int.from_bytes(page[start:end], "big") | int.from_bytes(rows, "big")
+        rows = both.to_bytes(len(rows), "big")
+    page[start:end] = rows
+    return max(used, end)
+
+
+def rows_of_field(text: bytes, size: int) -> Sequence[bytes]:
+    """Returns the rows of a graphic field in run lengths; raises `NotDecoded`."""
+    return FIELDS.get((text, size), new_rows)
+
+
+def new_rows(field: tuple[bytes, int]) -> Sequence[bytes]:
+    """Reads a graphic field of rows of some bytes."""
+    text, size = field
+    rows: list[bytes] = []
+    for part in filled(expanded(text), 2 * size).split("\n"):
+        if part:
+            dots = bytes.fromhex(part)
+            if len(dots) % size:
+                raise NotDecoded(Text("a row of the zpl has not its length"))
+            rows += rows_in(dots, size)
+        rows.append(rows[-1])  # for the sign behind this part
+    return rows[:-1]
+
+
+def filled(text: str, digits: int) -> str:
+    """Returns digits for signs that fill the rest of a row, as tabs do with spaces, and a line end
+    for each sign of a row that comes again.
+    """
+    text = text.replace(":", "\n").replace("!", "!\r")  # both begin a row
+    text = text.replace(",", "\t").expandtabs(digits).replace(" ", "0")
+    if "!" in text:
+        text = text.replace("!", "\t").expandtabs(digits).replace(" ", "F").replace("\r", "")
+    return text
+
+
+def expanded(text: bytes) -> str:
+    """Returns digits for counts and digits.
+
+    >>> expanded(b"FIFA")
+    'FFFFA'
+    """
+    kinds = text.translate(KINDS)
+    if text.translate(None, COUNTS + OTHERS) or b"G," in kinds:
+        raise NotDecoded(Text("zpl with signs that are no run lengths"))
+    pieces = (b"+" + text).translate(WITHOUT_COUNTS).decode("ascii").split()
+    counts = text.translate(COUNTS_ALONE).decode("ascii").split()
+    found = [""] * (len(pieces) + len(counts))
+    found[0::2] = pieces
+    if b"GF" in kinds:
+        found[1::2] = map(mul, map(itemgetter(0), pieces[1:]), map(times, counts))
+    else:
+        found[1::2] = map(ZEROS.__getitem__, counts)
+    return "".join(found)[1:]
 
 
 def rows_in(data: bytes, size: int) -> list[bytes]:
@@ -217,6 +237,26 @@ def whole(data: bytes, length: int) -> bytes:
     return data
 
 
+@cache
+def times(count: str) -> int:
+    """Returns how often a count says a digit that follows once itself: G to Y are 1 to 19, g to z
+    are 20 to 400.
+
+    >>> times("I"), times("zgM")
+    (2, 426)
+    """
+    return sum(ord(one) - 70 if one <= "Y" else 20 * (ord(one) - 102) for one in count) - 1
+
+
+class Zeros(dict[str, str]):
+    """The zeros that counts say, but for the one that follows each of them."""
+
+    def __missing__(self, count: str) -> str:
+        self[count] = "0" * times(count)
+        return self[count]
+
+
+ZEROS = Zeros()
 DECODERS = {
     "pbm": dots_of_pbm,
     "png": dots_of_png,

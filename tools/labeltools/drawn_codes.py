@@ -3,13 +3,18 @@ Lengths are in dots of the page, from its upper left corner.
 """
 
 from dataclasses import dataclass, field
-from typing import NamedTuple, Sequence
+from functools import lru_cache
+from typing import NamedTuple, Protocol, Sequence
 
 from labeltools.frames import Box
 
 POINTS = 72  # in an inch
 NEAR = 0.25  # of a dot, by which the place of a code may be off
+KNOWN = 4096  # places that are kept: most pages share them
 TOUCHING = 0.75  # of a dot, which ink may reach into a code by its rounding
+
+
+Corners = tuple[tuple[float, float], ...]
 
 
 class Ink(NamedTuple):
@@ -49,19 +54,26 @@ class Matrix(NamedTuple):
             self.e * other.b + self.f * other.d + other.f,
         )
 
+    def moved(self, x: float, y: float) -> "Matrix":
+        """Returns this matrix behind a move."""
+        a, b, c, d, e, f = self
+        return Matrix(a, b, c, d, a * x + c * y + e, b * x + d * y + f)
+
     def of(self, x: float, y: float) -> tuple[float, float]:
         """Returns where a point goes."""
         return self.a * x + self.c * y + self.e, self.b * x + self.d * y + self.f
 
     def ink(self, left: float, top: float, right: float, bottom: float) -> Ink:
         """Returns the rectangle in which another one is when it was moved."""
-        if not (self.b or self.c) or not (self.a or self.d):  # two corners say it
-            x0, y0 = self.of(left, top)
-            x1, y1 = self.of(right, bottom)
-            return Ink(min(x0, x1), min(y0, y1), max(x0, x1), max(y0, y1))
-        points = (self.of(left, top), self.of(right, top), self.of(left, bottom))
-        corners = (*points, self.of(right, bottom))
-        return ink_of(corners)
+        a, b, c, d, e, f = self
+        if b or c:
+            points = (self.of(left, top), self.of(right, top), self.of(left, bottom))
+            return ink_of((*points, self.of(right, bottom)))
+        left, right = a * left + e, a * right + e
+        top, bottom = d * top + f, d * bottom + f
+        if left > right:
+            left, right = right, left
+        return Ink(left, top, right, bottom) if top < bottom else Ink(left, bottom, right, top)
 
 
 PLAIN = Matrix(1, 0, 0, 1, 0, 0)
@@ -69,35 +81,44 @@ PLAIN = Matrix(1, 0, 0, 1, 0, 0)
 
 @dataclass(frozen=True)
 class DrawnCode:
-    """The picture of a code: its modules in rows of whole bytes, and where the upper left, the
-    upper right and the lower left corner of it are on the page.
+    """The picture of a code: its modules in rows of whole bytes, where the upper left, the upper
+    right and the lower left corner of it are on the page, and the rectangle that it fills.
     """
 
     width: int
     height: int
     modules: bytes
-    corners: Sequence[tuple[float, float]]
+    corners: Corners
+    ink: Ink
+
+
+@lru_cache(KNOWN)
+def is_at(corners: Corners, box: Box, quarters: int) -> bool:
+    """Returns whether corners are those of a box, turned to the right by some quarters."""
+    around = ((box.left, box.top), (box.right, box.top), (box.right, box.bottom))
+    points = (*around, (box.left, box.bottom))
+    wanted = (points[quarters], points[(quarters + 1) % 4], points[quarters - 1])
+    pairs = zip(corners, wanted)
+    return all(abs(x - u) < NEAR and abs(y - v) < NEAR for (x, y), (u, v) in pairs)
+
+
+class Letters(Protocol):
+    """Letters on a page."""
 
     @property
-    def ink(self) -> Ink:
-        """The rectangle that it fills."""
-        (left, top), right, below = self.corners
-        return ink_of((right, below, (right[0] + below[0] - left, right[1] + below[1] - top)))
+    def rough(self) -> tuple[Ink, ...]:
+        """Rectangles in which all of their ink is for certain, which is quick to say."""
 
-    def is_at(self, box: Box, quarters: int) -> bool:
-        """Returns whether it fills a box, turned to the right by some quarters."""
-        around = ((box.left, box.top), (box.right, box.top), (box.right, box.bottom))
-        points = (*around, (box.left, box.bottom))
-        wanted = (points[quarters], points[(quarters + 1) % 4], points[quarters - 1])
-        pairs = zip(self.corners, wanted)
-        return all(abs(x - u) < NEAR and abs(y - v) < NEAR for (x, y), (u, v) in pairs)
+    def inks(self) -> Sequence[Ink]:
+        """Returns the rectangles in which their ink is."""
 
 
 @dataclass
 class DrawnPage:
-    """The codes of a page, and the ink of letters, lines and what else is drawn on it."""
+    """The codes of a page, its letters, and the ink of lines and what else is drawn on it."""
 
     codes: list[DrawnCode] = field(default_factory=list)
+    letters: list[Letters] = field(default_factory=list)
     inks: list[Ink] = field(default_factory=list)
 
 

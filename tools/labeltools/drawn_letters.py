@@ -69,6 +69,12 @@ class Font:
         self.bottom = min(self.bottoms)
         self.top = max(self.tops)
         self.word = lru_cache(KNOWN)(self.new_word)
+        self.strings = lru_cache(KNOWN)(self.new_strings)
+        self.blocks = lru_cache(KNOWN)(self.new_blocks)
+        shown = [letter for letter in self.letters if letter.top > -math.inf]
+        advances = {letter.advance for letter in shown}
+        self.even = advances.pop() if len(advances) == 1 else 0.0  # of letters that go alike far
+        self.white = min([min(letter.left, letter.right) for letter in shown], default=0.0)
 
     def codes(self, text: bytes) -> Sequence[int]:
         """Returns the codes of a text."""
@@ -89,10 +95,40 @@ class Font:
             max(map(self.tops.__getitem__, codes)),
         )
 
-    def extents(self, shown: bytes) -> tuple[list[Extent], float]:
+    def extents(self, shown: bytes) -> tuple[Extent, ...]:
         """Returns where the letters of `Tj` or `TJ` have ink, words that are far from one another
-        by themselves, and how far all of them go.
+        by themselves.
         """
+        return self.strings(shown)[0]
+
+    def advance(self, shown: bytes) -> float:
+        """Returns how far the letters of `Tj` or `TJ` go."""
+        return self.strings(shown)[1]
+
+    def rough(self, shown: bytes) -> tuple[Extent, ...]:
+        """Returns where the letters of `Tj` or `TJ` have ink at the most: where all letters go
+        alike far, as digits below bars, what they say is not looked at.
+        """
+        if not self.even or b"\\" in shown:
+            return self.extents(shown)
+        steps = STRING.findall(shown)
+        return self.blocks(
+            tuple([(len(plain) + len(coded) // 2, by) for plain, coded, by in steps])
+        )
+
+    def new_blocks(self, steps: tuple[tuple[int, bytes], ...]) -> tuple[Extent, ...]:
+        """Returns where letters that go alike far have ink at the most."""
+        found = []
+        at = 0.0
+        for letters, by in steps:
+            start = at
+            at += letters // self.size * self.even - float(by or 0) / EM
+            if letters:
+                found.append(Extent(start + self.white, self.bottom, at - self.white, self.top))
+        return tuple(found)
+
+    def new_strings(self, shown: bytes) -> tuple[tuple[Extent, ...], float]:
+        """Returns where letters have ink, and how far all of them go."""
         found: list[Extent] = []
         at = 0.0
         is_apart = True
@@ -102,18 +138,17 @@ class Font:
                 at -= by
                 is_apart = is_apart or abs(by) > APART
                 continue
-            word = self.word(plain, coded)
+            advance, left, right, bottom, top = self.word(plain, coded)
             start = at
-            at += word.advance
-            if word.top == -math.inf:
+            at += advance
+            if top == -math.inf:
                 continue
-            ink = Extent(start + word.left, word.bottom, at - word.right, word.top)
             if is_apart:
-                found.append(ink)
+                found.append(Extent(start + left, bottom, at - right, top))
             else:
-                found[-1] = found[-1].joined(ink)
+                found[-1] = found[-1].joined(Extent(start + left, bottom, at - right, top))
             is_apart = False
-        return found, at
+        return tuple(found), at
 
 
 def unescaped(text: bytes) -> bytes:

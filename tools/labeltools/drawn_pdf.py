@@ -1,9 +1,14 @@
-"""Reads a PDF of Cairo: the pictures of codes on each page, and where else there is ink."""
+"""Reads a PDF of Cairo: the pictures of codes on each page, and where else there is ink.
+
+Most of what pages do is the same on many of them. So a page is parted at what differs, which are
+its pictures and letters, and what is between them is read once for each place where it comes.
+"""
 
 import re
 import zlib
+from dataclasses import dataclass, field
 from functools import lru_cache
-from typing import Iterator, NamedTuple, Optional
+from typing import Iterable, Iterator, NamedTuple, Optional
 
 from labeltools.decode import NotDecoded
 from labeltools.drawn_codes import PLAIN, POINTS, DrawnCode, DrawnPage, Ink, Matrix, ink_of
@@ -11,19 +16,22 @@ from labeltools.drawn_letters import Extent, Font, font_of
 from labeltools.text import Text
 
 N = rb"[-0-9.]++"
-TEXT = rb"\((?:[^\\()]|\\.)*\)|<[0-9A-Fa-f]*>"
-# what a page does: keeps and brings back its matrix, moves, draws an object, begins a line of
-# text, names its font, shows letters, fills or strokes a path
+PLAIN_TEXT = rb"[^\\()]*(?:\\.[^\\()]*)*"
+# an object that a page draws, and letters that it shows: several strings, or one
+DIFFERENT = re.compile(
+    rb"/x([0-9]+) Do\b|\[((?:\(%b\)|<[0-9A-Fa-f]*>|[-0-9.\s]+)*)\]TJ\b"
+    rb"|\((%b)\)\s*Tj\b|<([0-9A-Fa-f]*)>\s*Tj\b" % (PLAIN_TEXT, PLAIN_TEXT),
+    re.DOTALL,
+)
+# what a page does between them: keeps and brings back its matrix, moves, begins a line of text,
+# names its font, fills or strokes a path
 STEP = re.compile(
     rb"\b(?P<kept>[qQ])\s"
     rb"|(?P<six>(?:%b\s+){6})(?P<matrix>cm|Tm)\b"
-    rb"|/x(?P<object>[0-9]+) Do\b"
     rb"|(?P<two>(?:%b\s+){2})Td\b"
     rb"|/(?P<font>f-[0-9]+-[0-9]+) 1 Tf\b"
-    rb"|(?P<shown>\[(?:%b|[-0-9.\s])*\]TJ\b|(?:%b)\s*Tj\b)"
     rb"|(?P<path>(?:(?:%b\s+)+(?:m|l|c|v|y|re)\s+|h\s+)+)(?P<how>[fFSsBb]\*?|W\*? n|n)\s"
-    % (N, N, TEXT, TEXT, N),
-    re.DOTALL,
+    % (N, N, N)
 )
 PART = re.compile(rb"((?:%b\s+)+)(m|l|c|v|y|re)\b" % N)
 CONTENT = re.compile(rb"/Contents ([0-9]+) 0 R")
@@ -55,8 +63,51 @@ class Shown(NamedTuple):
     """Letters that a page shows: what takes them to dots, their font, and themselves."""
 
     matrix: Matrix
-    font: bytes
+    font: Font
     letters: bytes
+
+    @property
+    def rough(self) -> tuple[Ink, ...]:
+        """Rectangles in which all of their ink is for certain."""
+        return inks_at(self.matrix, self.font.rough(self.letters))
+
+    def inks(self) -> tuple[Ink, ...]:
+        """Returns the rectangles in which their ink is."""
+        return tuple(self.matrix.ink(*extent) for extent in self.font.extents(self.letters))
+
+
+@lru_cache(KNOWN)
+def inks_at(matrix: Matrix, extents: tuple[Extent, ...]) -> tuple[Ink, ...]:
+    """Returns the rectangles in which ink is when it was moved."""
+    return tuple(matrix.ink(*extent) for extent in extents)
+
+
+@dataclass(eq=False)
+class Around:
+    """What is around a part of a page: the matrix that takes it to dots, and those that are kept.
+    Where a picture fills this place it has these corners and this ink. What was read here before is
+    known by its bytes.
+    """
+
+    matrix: Matrix
+    kept: tuple[Matrix, ...] = ()
+    known: dict[bytes, "Steps"] = field(default_factory=dict)
+
+    def __post_init__(self) -> None:
+        self.corners = tuple(self.matrix.of(x, y) for x, y in ((0, 1), (1, 1), (0, 0)))
+        self.ink = self.matrix.ink(0, 0, 1, 1)
+
+
+class Steps(NamedTuple):
+    """What steps of a page do: what is around those that follow; the line of text that they begin,
+    to dots, or by how much they move the last one; the font that they name; the ink of their paths.
+    """
+
+    around: Around
+    line: Optional[Matrix]
+    moves: tuple[tuple[float, float], ...]
+    font: bytes
+    inks: tuple[Ink, ...]
 
 
 class Pdf:
@@ -73,7 +124,7 @@ class Pdf:
         self.table = table.end()
         self.fonts = {name: int(number) for name, number in FONTS.findall(data)}
         self.font = lru_cache(None)(self.new_font)
-        self.extents = lru_cache(KNOWN)(self.new_extents)
+        self.reader = Reader(self)
 
     def start(self, number: int) -> int:
         """Returns where an object begins."""
@@ -96,10 +147,6 @@ class Pdf:
         """Returns a font by its name."""
         return font_of(self.dictionary, self.stream, self.fonts[name])
 
-    def new_extents(self, name: bytes, shown: bytes) -> tuple[list[Extent], float]:
-        """Returns where letters of a font have ink, and how far they go."""
-        return self.font(name).extents(shown)
-
     def pages(self) -> list[int]:
         """Returns the objects that are pages."""
         kids = KIDS.search(self.data)
@@ -113,15 +160,18 @@ class Pdf:
         if content is None or size is None:
             raise ValueError("a page without content")
         upright = Matrix(self.scale, 0, 0, -self.scale, 0, self.scale * float(size[2]))
-        return Reader(self, upright).page(self.stream(int(content[1])))
+        return self.reader.page(upright, self.stream(int(content[1])))
 
     def picture(self, number: int) -> Optional[Picture]:
         """Returns the picture that an object is; None where it is another thing."""
-        head = self.dictionary(number)
-        mask = MASK.search(head)
-        if mask is None or DARK not in head:
+        start = self.start(number)
+        middle = self.data.index(STREAM, start)
+        mask = MASK.search(self.data, start, middle)
+        if mask is None or self.data.find(DARK, mask.end(), middle) < 0:
             return None
-        return Picture(int(mask[1]), int(mask[2]), self.stream(number))
+        begin = middle + len(STREAM)
+        packed = self.data[begin : self.data.index(END_OF_STREAM, begin)]
+        return Picture(int(mask[1]), int(mask[2]), zlib.decompress(packed))
 
     def form(self, number: int) -> tuple[float, float, float, float]:
         """Returns in which rectangle an object draws."""
@@ -133,110 +183,132 @@ class Pdf:
 
 
 class Reader:
-    """Reads a page; `upright` takes its points to dots from the upper left corner."""
+    """Reads pages."""
 
-    def __init__(self, pdf: Pdf, upright: Matrix) -> None:
+    def __init__(self, pdf: Pdf) -> None:
         self.pdf = pdf
-        self.matrix = upright
-        self.kept: list[Matrix] = []
-        self.line = PLAIN
-        self.name = b""
-        self.shown: list[Shown] = []
-        self.advance = 0.0  # how far letters went on their line
-        self.is_continued = False  # whether letters follow others there
-        self.found = DrawnPage()
+        self.around: dict[tuple[Matrix, tuple[Matrix, ...]], Around] = {}
 
-    def page(self, content: bytes) -> DrawnPage:
-        """Returns what a page has."""
-        for step in STEP.finditer(content):
+    def page(self, upright: Matrix, content: bytes) -> DrawnPage:
+        """Returns what a page has; `upright` takes its points to dots from the upper left
+        corner.
+        """
+        found = DrawnPage()
+        shown: list[Shown] = []
+        around = self.place(upright, ())
+        line = PLAIN
+        font = b""
+        parts = [*DIFFERENT.split(content), None, None, None, None]
+        columns = (parts[place::5] for place in range(5))
+        for part, number, strings, plain, coded in zip(*columns):
+            steps = around.known.get(part) or self.steps(around, part)
+            around = steps.around
+            font = steps.font or font
+            found.inks += steps.inks
+            is_new = steps.line is not None or steps.moves
+            line = steps.line or line
+            for move in steps.moves:
+                line = line.moved(*move)
+            if number:
+                self.draw(int(number), around, found)
+                continue
+            letters = strings
+            if plain is not None:
+                letters = b"(%b)" % plain
+            elif coded is not None:
+                letters = b"<%b>" % coded
+            if letters is None:
+                continue
+            if not is_new:
+                last = shown[-1]
+                line = last.matrix.moved(last.font.advance(last.letters), 0)
+            shown.append(Shown(line, self.pdf.font(font), letters))
+        spans = {(code.ink.top, code.ink.bottom) for code in found.codes}
+        found.letters += [letters for letters in shown if is_beside(letters, spans)]
+        return found
+
+    def place(self, matrix: Matrix, kept: tuple[Matrix, ...]) -> Around:
+        """Returns what is around a part of a page, the same for the same matrices."""
+        found = self.around.get((matrix, kept))
+        if found is None:
+            if len(self.around) > KNOWN:
+                self.around.clear()
+            found = self.around[matrix, kept] = Around(matrix, kept)
+        return found
+
+    def steps(self, around: Around, part: bytes) -> Steps:
+        """Returns what a part of a page does, and keeps it."""
+        matrix, kept = around.matrix, around.kept
+        line = None
+        moves: list[tuple[float, float]] = []
+        font = b""
+        inks: list[Ink] = []
+        for step in STEP.finditer(part):
             kind = step.lastgroup
-            if kind == "kept":
-                self.keep(step[0][:1])
+            if kind == "kept" and step["kept"] == b"q":
+                kept = (*kept, matrix)
+            elif kind == "kept":
+                *rest, matrix = kept
+                kept = tuple(rest)
             elif kind == "matrix":
-                self.move(step["six"], step["matrix"])
-            elif kind == "shown":
-                self.show(step["shown"])
-            elif kind == "font":
-                self.name = step["font"]
+                moved = Matrix(*map(float, step["six"].split())).before(matrix)
+                if step["matrix"] == b"Tm":
+                    line = moved
+                    moves = []
+                else:
+                    matrix = moved
             elif kind == "two":
                 x, y = map(float, step["two"].split())
-                self.begin_line(Matrix(1, 0, 0, 1, x, y).before(self.line))
-            elif kind == "object":
-                self.draw(int(step["object"]))
+                moves.append((x, y))
+            elif kind == "font":
+                font = step["font"]
             elif not step["how"].endswith(b"n"):
-                self.found.inks += self.inks_of_path(step["path"])
-        self.read_letters()
-        return self.found
+                inks += inks_of_path(step["path"], matrix)
+        if len(around.known) > KNOWN:
+            around.known.clear()
+        found = Steps(self.place(matrix, kept), line, tuple(moves), font, tuple(inks))
+        around.known[part] = found
+        return found
 
-    def keep(self, step: bytes) -> None:
-        """Keeps the matrix, or brings it back."""
-        if step == b"q":
-            self.kept.append(self.matrix)
-        else:
-            self.matrix = self.kept.pop()
-
-    def move(self, numbers: bytes, kind: bytes) -> None:
-        """Moves what follows, or the next line of text."""
-        matrix = Matrix(*map(float, numbers.split()))
-        if kind == b"Tm":
-            self.begin_line(matrix)
-        else:
-            self.matrix = matrix.before(self.matrix)
-
-    def begin_line(self, matrix: Matrix) -> None:
-        """Begins a line of text."""
-        self.line = matrix
-        self.advance = 0.0
-        self.is_continued = False
-
-    def show(self, letters: bytes) -> None:
-        """Shows letters. Most of them are far from all codes, so they are read at the end."""
-        if self.is_continued:
-            self.advance += self.pdf.extents(self.shown[-1].font, self.shown[-1].letters)[1]
-        start = Matrix(1, 0, 0, 1, self.advance, 0).before(self.line) if self.advance else self.line
-        self.shown.append(Shown(start.before(self.matrix), self.name, letters))
-        self.is_continued = True
-
-    def read_letters(self) -> None:
-        """Takes the ink of letters that are as high on the page as a code."""
-        spans = {(code.ink.top, code.ink.bottom) for code in self.found.codes}
-        for matrix, name, letters in self.shown:
-            font = self.pdf.font(name)
-            if not matrix.b and not matrix.c:
-                high = matrix.f + matrix.d * font.top
-                low = matrix.f + matrix.d * font.bottom
-                top, bottom = min(high, low), max(high, low)
-                if not any(top < last and bottom > first for first, last in spans):
-                    continue
-            extents, _ = self.pdf.extents(name, letters)
-            self.found.inks += [matrix.ink(*extent) for extent in extents]
-
-    def draw(self, number: int) -> None:
+    def draw(self, number: int, around: Around, found: DrawnPage) -> None:
         """Draws an object: a picture of a code, or another one, such as the drawing of a design,
         which may be below codes and not over them.
         """
-        codes = self.found.codes
         picture = self.pdf.picture(number)
         if picture is not None:
-            corners = [self.matrix.of(x, y) for x, y in ((0, 1), (1, 1), (0, 0))]
-            codes.append(DrawnCode(*picture, corners))
-        elif codes:
-            over = self.matrix.ink(*self.pdf.form(number))
-            self.found.inks += [code.ink for code in codes if over.meets(code.ink)]
+            found.codes.append(DrawnCode(*picture, around.corners, around.ink))
+        elif found.codes:
+            over = around.matrix.ink(*self.pdf.form(number))
+            found.inks += [code.ink for code in found.codes if over.meets(code.ink)]
 
-    def inks_of_path(self, path: bytes) -> Iterator[Ink]:
-        """Yields the rectangles in which the parts of a path are."""
-        points: list[tuple[float, float]] = []
-        for numbers, kind in PART.findall(path):
-            if kind in (b"m", b"re"):
-                yield from [ink_of(points)] if len(points) > 1 else []
-                points = []
-            values = [float(number) for number in numbers.split()]
-            if kind == b"re":
-                values[2] += values[0]
-                values[3] += values[1]
-            points += [self.matrix.of(*pair) for pair in zip(values[::2], values[1::2])]
-        yield from [ink_of(points)] if len(points) > 1 else []
+
+def is_beside(letters: Shown, spans: Iterable[tuple[float, float]]) -> bool:
+    """Returns whether letters may be as high on a page as one of the spans."""
+    matrix, font, _ = letters
+    if matrix.b or matrix.c:
+        return True
+    high = matrix.f + matrix.d * font.top
+    low = matrix.f + matrix.d * font.bottom
+    top, bottom = (high, low) if high < low else (low, high)
+    for first, last in spans:
+        if top < last and bottom > first:
+            return True
+    return False
+
+
+def inks_of_path(path: bytes, matrix: Matrix) -> Iterator[Ink]:
+    """Yields the rectangles in which the parts of a path are."""
+    points: list[tuple[float, float]] = []
+    for numbers, kind in PART.findall(path):
+        if kind in (b"m", b"re"):
+            yield from [ink_of(points)] if len(points) > 1 else []
+            points = []
+        values = [float(number) for number in numbers.split()]
+        if kind == b"re":
+            values[2] += values[0]
+            values[3] += values[1]
+        points += [matrix.of(*pair) for pair in zip(values[::2], values[1::2])]
+    yield from [ink_of(points)] if len(points) > 1 else []
 
 
 def pages_of_pdf(data: bytes, dpi: float, count: int) -> Iterator[DrawnPage]:

@@ -36,7 +36,8 @@ class DrawnSvg:
     @property
     def dots(self) -> Dots:
         """The dark rectangles as dots."""
-        return Dots(self.width, [row.to_bytes(self.stride, "big") for row in self.rows])
+        rows = [row.to_bytes(self.stride, "big") for row in self.rows]
+        return Dots(self.width, len(rows), b"".join(rows))
 
     def fill(self, ink: Ink) -> None:
         """Fills a rectangle; one that is not on whole dots, leaves the page or fills what is filled

@@ -14,7 +14,7 @@ from labeltools.letters import Fonts, Letters
 from labeltools.messages import ToolError
 from labeltools.own_design import BLACK, WHITE, Colour, OwnDesign, Place
 from labeltools.own_layout import OwnLayout, OwnText
-from labeltools.pen import Fitted, Medium, Page, Pen, Style, ink_of, padded, seen_in
+from labeltools.pen import Fitted, Medium, Page, Pen, Style, copied, ink_of, padded, seen_in
 from labeltools.pango import Pango
 from labeltools.text import Text
 
@@ -112,7 +112,7 @@ class OwnPen(Pen):
     def fitted_text(self, text: OwnText) -> Fitted:
         """Returns a text as it fits its box. One that comes again is kept as it is laid out."""
         key = id(text.place), text.text, text.size, text.lines
-        return self.keep(key, lambda: self.new_fitted(text))
+        return self.kept.get(key, lambda _: self.new_fitted(text), copied)
 
     def new_fitted(self, text: OwnText) -> Fitted:
         """Returns a text as it fits its box: smaller where its ink would leave it."""

@@ -6,7 +6,6 @@ from dataclasses import dataclass
 from functools import cache
 from typing import (
     Any,
-    Callable,
     Hashable,
     Iterable,
     Iterator,
@@ -19,8 +18,9 @@ from typing import (
 import cairo
 
 from labeltools.area import Dots
-from labeltools.engine import Modules
+from labeltools.engine import Modules, bytes_a_row
 from labeltools.frames import LINE, Box, Frame
+from labeltools.kept import Kept
 from labeltools.layout import LaidOut, Layout, PrintLabel
 from labeltools.letters import Fonts, Letters, pango_context, plain_options
 from labeltools.pango import Pango, PangoCairo
@@ -32,10 +32,7 @@ NOT_LATIN = re.compile("[^\0-\u024f]")  # letters that may leave their line
 ELLIPSIS = 1 << 1  # PANGO_ANALYSIS_FLAG_IS_ELLIPSIS of a run
 SIDE = 16  # lines have this part of the size of letters as room at their sides
 STEP = 20  # letters that do not fit lose this part of their size
-# texts that are kept as they are laid out, and those that are known to have come once: many
-# labels have the same price
-KEPT = 1536
-SEEN = 4096
+KEPT = 1536  # texts that are kept as they are laid out
 SHOWN = {code: 0x2400 + code for code in range(32)} | {127: 0x2421}  # control characters
 REVERSED = bytes(int(f"{byte:08b}"[::-1], 2) for byte in range(256))
 # modules: how much longer guards are, where digits begin below bars, their size
@@ -138,8 +135,7 @@ class Pen:
         self.digit_height = -extents.y_bearing / LARGE
         self.context = pango_context(self.options, medium.is_dots)
         self.blank = cache(self.new_blank)
-        self.kept: dict[Hashable, Fitted] = {}
-        self.seen: set[Hashable] = set()
+        self.kept: Kept[Hashable, Fitted] = Kept(KEPT)
         self.style = cache(self.new_style)
         self.digit_places = cache(self.new_digit_places)
 
@@ -260,19 +256,7 @@ class Pen:
     def found(self, text: str, style: Style, width: int, height: int) -> Fitted:
         """Returns what fitted() does. A text that comes again is kept as it is laid out."""
         key = text, style, width, height
-        return self.keep(key, lambda: self.fitted(text, style, width, height))
-
-    def keep(self, key: Hashable, make: Callable[[], Fitted]) -> Fitted:
-        """Returns what is kept for a key, or makes it, which is kept from the second time on."""
-        kept = self.kept.get(key)
-        if kept is not None:
-            return kept
-        fitted = make()
-        if key in self.seen and len(self.kept) < KEPT:
-            self.kept[key] = fitted._replace(layout=fitted.layout.copy())
-        elif len(self.seen) < SEEN:
-            self.seen.add(key)
-        return fitted
+        return self.kept.get(key, lambda _: self.fitted(text, style, width, height), copied)
 
     def draw_head(self, canvas: Any, label: PrintLabel, layout: Layout) -> None:
         """Draws a title, and the text below it where that has no place of its own."""
@@ -348,6 +332,10 @@ class Pen:
         """Draws the modules of a label, and the longer guards of bars."""
         box = layout.boxes["bars"]
         module = layout.module
+        has_rows = len(modules.packed) > modules.row_size  # bars have one, whatever their height
+        if self.medium.is_dots and has_rows and is_upright(canvas):
+            draw_dots(canvas, modules, box, module)
+            return
         if self.medium.is_smooth or self.medium.is_dots:  # in dots that is quicker, too
             draw_rectangles(canvas, modules, box, module, layout.symbology.guards)
             return
@@ -405,6 +393,11 @@ class Pen:
 
 
 show_layout = PangoCairo.show_layout
+
+
+def copied(text: Fitted) -> Fitted:
+    """Returns a text with a layout of its own, which no other text is laid out by."""
+    return text._replace(layout=text.layout.copy())
 
 
 def options_of(medium: Medium) -> cairo.FontOptions:
@@ -496,6 +489,34 @@ def bars_mask(modules: Modules, symbology: Symbology, high: int) -> Any:
     mask = cairo.SurfacePattern(picture)
     mask.set_filter(cairo.Filter.NEAREST)
     return mask
+
+
+def is_upright(canvas: Any) -> bool:
+    """Returns whether a canvas, whose unit is a dot, is neither turned nor scaled."""
+    return tuple(canvas.get_matrix())[:4] == (1, 0, 0, 1)
+
+
+def draw_dots(canvas: Any, modules: Modules, box: Box, module: int) -> None:
+    """Draws a code of many rows in dots, all of them at once, which takes a third of the time of
+    rectangles.
+    """
+    wide = modules.width * module
+    size = bytes_a_row(wide)
+    stride = size + -size % 4
+    blank = "0" * (8 * size - wide)
+    rows = []
+    for row in modules.rows():
+        digits = bits_of(row)[: modules.width].replace("1", "x").replace("0", "0" * module)
+        dots = int(digits.replace("x", "1" * module) + blank, 2).to_bytes(size, "big")
+        rows.append(padded(dots, stride) * module)
+    data = memoryview(bytearray().join(rows))
+    high = len(data) // stride
+    picture = cairo.ImageSurface.create_for_data(data, cairo.FORMAT_A1, wide, high, stride)
+    canvas.save()
+    canvas.set_operator(cairo.Operator.ADD)
+    canvas.set_source_surface(picture, box.left, box.top)
+    canvas.paint()
+    canvas.restore()
 
 
 def scaled(box: Box, width: int, height: int) -> cairo.Matrix:

@@ -12,7 +12,7 @@ from unittest import mock
 
 import support
 from labeltools import compare, decode, engine, own_layout, pen, press
-from labeltools.drawn_letters import Font, Reach
+from labeltools.drawn_letters import Extent, Font, Reach
 from labeltools.drawn_pdf import pages_of_pdf
 from labeltools.forms import dots, escpos, zpl
 from labeltools.forms.dots import Picture
@@ -37,6 +37,7 @@ OWN = """<svg xmlns="http://www.w3.org/2000/svg" width="100mm" height="60mm" vie
   <path d="M0 37 L70 37" stroke="black" stroke-width="0.3"/>
 </svg>
 """
+FIELD = b"^XA^PON^LH0,0^LS0^PW32^LL3\n^FO0,0^GFA,12,12,4,%b^FS\n^XZ\n"
 FORMS = ("pdf", "svg", "png", "pbm", "zpl", "escpos")
 DOTS = FORMS[2:]
 ROLLS = FORMS[4:]
@@ -208,7 +209,7 @@ def first_letters(whole: list[str]) -> int:
 def wrong_count(whole: list[str], size: int) -> None:
     """Makes a count of a row above all codes one more; the row keeps its length."""
     number = first_letters(whole)
-    row = decode.rows_of_field(whole[number], size // 2)[0].hex().upper()
+    row = decode.rows_of_field(whole[number].encode(), size // 2)[0].hex().upper()
     whole[number] = "0" + row[:-1]
 
 
@@ -408,20 +409,32 @@ class Read(unittest.TestCase):
     def test_dots_are_read_as_they_were(self) -> None:
         rows = tuple(bytes([row % 7 * 36, 255 * (row % 3 == 0), 0]) for row in range(40))
         picture = Picture(24, 80, rows + tuple(bytes(3) for _ in range(40)))
-        read = decode.dots_of("zpl", zpl.zpl(picture, 2))
+        read = decode.dots_of("zpl", zpl.zpl(picture, 2), 24)
         self.assertEqual((read.width, tuple(read.rows), read.copies), (24, picture.rows, 2))
-        read = decode.dots_of("escpos", escpos.escpos(picture, True, True))
-        self.assertEqual(tuple(row.ljust(3, b"\0") for row in read.rows), picture.rows)
+        read = decode.dots_of("escpos", escpos.escpos(picture, True, True), 24)
+        self.assertEqual((read.width, tuple(read.rows)), (24, picture.rows))
+        read = decode.dots_of("pbm", dots.pbm(picture), 24)
+        self.assertEqual((read.width, tuple(read.rows)), (24, picture.rows))
 
     def test_rows_by_the_manual(self) -> None:
         """The examples of the ZPL II manual for counts: M6 is seven of 6, hB forty of B."""
-        self.assertEqual(decode.expanded("M6hBgMF"), "6666666" + "B" * 40 + "F" * 27)
-        rows = decode.rows_of_field("F0!J5,:,12345678,M9!", 4)
+        self.assertEqual(decode.expanded(b"M6hBgMF"), "6666666" + "B" * 40 + "F" * 27)
+        rows = decode.rows_of_field(b"F0!J5,:,12345678,M9!", 4)
         wanted = ("F0FFFFFF", "55550000", "55550000", "00000000", "12345678", "00000000")
         self.assertEqual([row.hex().upper() for row in rows], [*wanted, "9999999F"])
-        for text in ("F0F", "12345678F", "GZ"):
-            with self.assertRaises(decode.NotDecoded):
-                decode.rows_of_field(text, 4)
+        for text in (
+            b"F0F",
+            b"12345678F",
+            b"GZ",
+            b":12345678",
+            b"12:",
+            b"H,",
+            b"M:",
+            b"G!",
+            b"12 3",
+        ):
+            with self.subTest(text=text), self.assertRaises(decode.NotDecoded):
+                decode.dots_of("zpl", FIELD % text, 32)
 
     def test_a_picture_that_is_another_one(self) -> None:
         found = found_of(options_of("pdf"), PAIR[:1])
@@ -434,7 +447,7 @@ class Read(unittest.TestCase):
             {"width": code.width - 1},
             {"height": code.height - 1},
             {"modules": code.modules[:-1]},
-            {"corners": [(x + 0.5, y) for x, y in code.corners]},
+            {"corners": tuple((x + 0.5, y) for x, y in code.corners)},
         )
         for change in changes:
             page.codes = [replace(code, **change)]
@@ -443,24 +456,38 @@ class Read(unittest.TestCase):
         page.codes = [code]
         compare.CodesOfPage(page, 0.125).check(wanted)
 
-    def test_more_rows_than_are_kept(self) -> None:
-        """Labels that have a blank row in common, and more different ones than are kept."""
-        for first in range(0, 3 * decode.MOST_KNOWN, 1000):
-            numbers = range(first, first + 1000)
-            rows = tuple(number.to_bytes(2, "big") + b"\0" for number in numbers)
-            picture = Picture(24, 1001, (bytes(3), *rows))
-            self.assertEqual(tuple(decode.dots_of("zpl", zpl.zpl(picture, 1)).rows), picture.rows)
+    def test_fields_over_one_another(self) -> None:
+        """Dark dots of both are dark, whichever is first and where rows end."""
+        fields = (b"^FO0,0^GFA,4,4,2,80010000^FS\n", b"^FO8,0^GFA,3,3,1,F0F00F^FS\n")
+        for first, last in (fields, fields[::-1]):
+            label = b"^XA^PON^LH0,0^LS0^PW16^LL3\n%b%b^XZ\n" % (first, last)
+            rows = decode.dots_of("zpl", label, 16).rows
+            self.assertEqual([row.hex() for row in rows], ["80f1", "00f0", "000f"])
 
     def test_where_letters_are(self) -> None:
         """A letter of an em, with its ink from 0.1 to 0.8; one apart from the others."""
         font = Font({65: Reach(1.0, 0.1, 0.2, 0.0, 0.7), 103: Reach(0.5, 0.0, 0.0, -0.2, 0.5)}, 1)
-        extents, advance = font.extents(b"[(A)20(g)-700(A)]TJ")
-        self.assertAlmostEqual(advance, 3.18)
-        self.assertEqual(len(extents), 2)
-        for found, wanted in zip(extents, [(0.1, -0.2, 1.48, 0.7), (2.28, 0.0, 2.98, 0.7)]):
-            for one, other in zip(found, wanted):
-                self.assertAlmostEqual(one, other)
+        shown = b"[(A)20(g)-700(A)]TJ"
+        self.assertAlmostEqual(font.advance(shown), 3.18)
+        self.assert_near(font.extents(shown), [(0.1, -0.2, 1.48, 0.7), (2.28, 0.0, 2.98, 0.7)])
         self.assertEqual(font.extents(b"(\\101\\\n)Tj"), font.extents(b"<41>Tj"))
+
+    def test_where_letters_that_go_alike_far_may_be(self) -> None:
+        """Rough ink has all of the exact one in it, whatever the letters are."""
+        font = Font({48: Reach(0.6, 0.1, 0.2, 0.0, 0.7), 49: Reach(0.6, 0.15, 0.05, -0.1, 0.6)}, 1)
+        for shown in (b"(01)Tj", b"(10)Tj"):
+            self.assert_near(font.rough(shown), [(0.05, -0.1, 1.15, 0.7)])
+        (ink,) = font.extents(b"(01)Tj")
+        self.assert_near([ink], [(0.1, -0.1, 1.15, 0.7)])
+        apart = font.rough(b"[(0)-600(11)]TJ")
+        self.assert_near(apart, [(0.05, -0.1, 0.55, 0.7), (1.25, -0.1, 2.35, 0.7)])
+
+    def assert_near(self, extents: Sequence[Extent], wanted: Sequence[Sequence[float]]) -> None:
+        """Extents are those that are wanted, but for their rounding."""
+        self.assertEqual(len(extents), len(wanted))
+        for found, sides in zip(extents, wanted):
+            for one, other in zip(found, sides):
+                self.assertAlmostEqual(one, other)
 
 
 if __name__ == "__main__":

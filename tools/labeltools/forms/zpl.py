@@ -1,24 +1,26 @@
 """ZPL II of label printers."""
 
 import re
-from functools import cache, lru_cache, reduce
+from functools import cache, reduce
 from itertools import chain
 from operator import or_
 from typing import Iterator, NamedTuple, Sequence
 
 from labeltools.forms.dots import Picture
+from labeltools.kept import Kept
 
 MOST_BYTES = 99_999  # of a graphic field
 # white that parts two fields: fewer rows or bytes of it take less than the head of a field
-WHITE_ROWS = 8
+INKED_ROWS = re.compile(rb"[^\0]+(?:\0{1,7}[^\0]+)*")
 INKED = re.compile(rb"[^\0]+(?:\0{1,2}[^\0]+)*")
 # run lengths: counts of one are a letter from G on, counts of twenty a letter from g on
 MOST_COUNT = 400
 TWENTY = 20
 BEFORE_ONE = ord("F")
 BEFORE_TWENTY = ord("f")
-OFTEN = re.compile("(000000*|FFFFFF*)")  # five or more: a count of fewer saves next to nothing
-KNOWN = 256  # blocks that are kept as they were written: what is alike on all labels
+# five or more: a count of fewer saves next to nothing; one pattern for both takes twice the time
+OFTEN = (re.compile("(000000*)"), re.compile("(FFFFFF*)"))
+BLOCKS: Kept[tuple[bytes, ...], bytes] = Kept(1024)
 RESTS = {"0": ",", "F": "!"}  # the rest of a row is light or dark
 
 
@@ -64,8 +66,8 @@ def graphic_fields(picture: Picture) -> list[bytes]:
 def blocks(whole: Block) -> Iterator[Block]:
     """Yields the blocks of a label from top to bottom, and from left to right."""
     for band in bands(whole):
-        mask = reduce(or_, (int.from_bytes(row, "big") for row in set(band.rows)))
-        inked = mask.to_bytes(len(band.rows[0]), "big")
+        dots = [int.from_bytes(row, "big") for row in set(band.rows)]
+        inked = reduce(or_, dots).to_bytes(len(band.rows[0]), "big")
         spans = [found.span() for found in INKED.finditer(inked)]
         for first, last in spans:
             rows = [row[first:last] for row in band.rows]
@@ -79,20 +81,11 @@ def blocks(whole: Block) -> Iterator[Block]:
 def bands(block: Block) -> Iterator[Block]:
     """Yields parts of a block with white rows between them, and none at their ends."""
     blank = bytes(len(block.rows[0])) if block.rows else b""
-    start = last = -1
-    for number, row in enumerate(block.rows):
-        if row == blank:
-            continue
-        if number - last > WHITE_ROWS and start >= 0:
-            yield Block(block.left, block.top + start, block.rows[start : last + 1])
-            start = -1
-        last = number
-        start = number if start < 0 else start
-    if start >= 0:
-        yield Block(block.left, block.top + start, block.rows[start : last + 1])
+    inked = bytes([row != blank for row in block.rows])
+    for first, last in map(re.Match.span, INKED_ROWS.finditer(inked)):
+        yield Block(block.left, block.top + first, block.rows[first:last])
 
 
-@lru_cache(KNOWN)
 def run_lengths(rows: tuple[bytes, ...]) -> bytes:
     """Returns rows in hexadecimal: a count before 0 and F that come often, `,` and `!` for a rest
     of them, `:` for the row above once more.
@@ -100,13 +93,21 @@ def run_lengths(rows: tuple[bytes, ...]) -> bytes:
     >>> run_lengths((bytes.fromhex("FF00AB"), bytes.fromhex("FF00AB"), bytes(3)))
     b'FF00AB:,'
     """
+    return BLOCKS.get(rows, new_run_lengths)
+
+
+def new_run_lengths(rows: tuple[bytes, ...]) -> bytes:
+    """Writes rows in run lengths."""
     texts = [
         ":" if row == above else without_rest(row.hex().upper())
         for above, row in zip(chain([b""], rows), rows)
     ]
-    pieces = OFTEN.split("".join(texts))  # no run goes on from a row to the next
-    pieces[1::2] = map(run_length_of, pieces[1::2])
-    return "".join(pieces).encode()
+    whole = "".join(texts)  # no run goes on from a row to the next
+    for often in OFTEN:
+        pieces = often.split(whole)
+        pieces[1::2] = map(run_length_of, pieces[1::2])
+        whole = "".join(pieces)
+    return whole.encode()
 
 
 def without_rest(row: str) -> str:

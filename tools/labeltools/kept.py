@@ -1,0 +1,38 @@
+"""Keeps what was made and is wanted again: many labels have the same price, and few the same title."""
+
+from typing import Callable, Generic, Hashable, TypeVar
+
+Key = TypeVar("Key", bound=Hashable)
+Made = TypeVar("Made")
+SEEN = 8192  # keys that are known to have come once
+
+
+class Kept(Generic[Key, Made]):
+    """What was made for keys, from the second time on that a key comes."""
+
+    def __init__(self, most: int) -> None:
+        self.most = most
+        self.made: dict[Key, Made] = {}
+        self.seen: set[int] = set()
+
+    def get(
+        self,
+        key: Key,
+        make: Callable[[Key], Made],
+        copy: Callable[[Made], Made] = lambda made: made,
+    ) -> Made:
+        """Returns what is kept for a key, or makes it; a copy of that is kept."""
+        found = self.made.get(key)
+        if found is not None:
+            return found
+        found = make(key)
+        mark = hash(key)
+        if mark not in self.seen:
+            if len(self.seen) >= SEEN:
+                self.seen.clear()
+            self.seen.add(mark)
+            return found
+        if len(self.made) >= self.most:
+            self.made.clear()
+        self.made[key] = copy(found)
+        return found
