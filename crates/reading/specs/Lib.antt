@@ -1,4 +1,3 @@
 pub mod Bars
 pub mod Squares
 pub mod Labels
-pub mod Private
