@@ -10,7 +10,7 @@ use qrdata::{Lengths, Level, Version, push_lengths};
 /// Reads the data that the codewords of a symbol hold, with no correction (ISO/IEC 18004, 12). They are in the order in
 /// which they are placed. `None`: they are not as many as the version has, a block is no multiple of its generator, or
 /// what the blocks hold are no segments in the numeric, the alphanumeric and the byte mode.
-pub fn read_data(version: Version, level: Level, codewords: &[u8]) -> Option<SymbolData>
+pub(crate) fn read_data(version: Version, level: Level, codewords: &[u8]) -> Option<SymbolData>
     ensures { option_map (λ bytes. bytes.items) result ≡ data_in version level codewords.now }
 {
     if codewords.len() != version.total_codewords() {

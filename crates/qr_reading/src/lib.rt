@@ -1,8 +1,8 @@
 //! QR Code symbols read back (ISO/IEC 18004, 12): from dark and light modules to codewords, and from codewords to data.
 //! There is no correction.
 //!
-//! [`read`] reads a square of modules, and [`read_data`] the codewords of a symbol. The README of this crate has an
-//! example. Nothing here takes memory from the heap.
+//! [`read`] reads a square of modules; the README of this crate has an example. Nothing here takes memory from the
+//! heap.
 //!
 //! Inside, `module_reading` compares a square with the patterns of the symbol that it names, and `walk` reads its bits.
 //! `data_reading` takes the blocks back out of the codewords and tests each (`block_reading`), and reads the segments
@@ -16,6 +16,5 @@ mod module_reading;
 mod segment_reading;
 mod walk;
 
-pub use data_reading::read_data;
-pub use module_reading::{ReadSymbol, read};
+pub use module_reading::read;
 pub use segment_reading::SymbolData;

@@ -1,5 +1,5 @@
 //! The reading of a symbol's modules, with no correction (ISO/IEC 18004, 12).
-ghost use Rattle.std.specs.Prelude.{◌≡◌, ℕ, ◌≤◌, ◌<◌, ◌==◌, ◌&&◌, length, slice_index};
+ghost use Rattle.std.specs.Prelude.{◌≡◌, ℕ, ◌≤◌, ◌<◌, ◌==◌, ◌&&◌, length, option_map, slice_index};
 ghost use Rattle.std.specs.Bool.{xor};
 ghost use Rattle.std.specs.List.{find, list_all, range_with_len};
 ghost use Rattle.qrdata.specs.Bits.{codewords_of};
@@ -7,12 +7,14 @@ ghost use Rattle.qrdata.specs.Versions.{side_of, total_codewords};
 ghost use Rattle.qrmatrix.specs.Bits.{bit};
 ghost use Rattle.qrmatrix.specs.Masks.{is_flipped};
 ghost use Rattle.qrmatrix.specs.Reading;
-ghost use Rattle.qrmatrix.specs.Reading.{read_bits, read_matrix};
+ghost use Rattle.qrmatrix.specs.Reading.{read_bits, read_matrix, read_square};
 ghost use Rattle.qrmatrix.specs.Square.{value_at};
 ghost use Rattle.qrmatrix.specs.Private.Drawing.{MarksFree};
 ghost use Rattle.qr_reading.specs.Private.Walking.{DrawsPatterns, format_named, shows_row};
 
 use crate::bits::codewords_of;
+use crate::data_reading::read_data;
+use crate::segment_reading::SymbolData;
 use crate::walk::read_strips;
 use qrdata::{Codewords, Level, Mask, Version};
 use qrmatrix::{SIDE, Square, draw_format, draw_functions};
@@ -20,7 +22,7 @@ use std::marker::Model;
 
 /// What the modules of a symbol are read as.
 #[derive(Drop)]
-pub struct ReadSymbol {
+struct ReadSymbol {
     version: Version,
     level: Level,
     codewords: Codewords,
@@ -30,29 +32,6 @@ impl Model for ReadSymbol {
     ghost Value = { Reading.Reading };
 
     ghost view = { λ s. record { version = s.version; level = s.level; codewords = s.codewords.items } };
-}
-
-impl ReadSymbol {
-    /// Returns the version.
-    pub fn version(&self) -> Version
-        ensures { result ≡ self.now.version }
-    {
-        self.version
-    }
-
-    /// Returns the level.
-    pub fn level(&self) -> Level
-        ensures { result ≡ self.now.level }
-    {
-        self.level
-    }
-
-    /// Returns the codewords, which have had no correction.
-    pub fn codewords(&self) -> &[u8]
-        ensures { result.now ≡ self.now.codewords }
-    {
-        &self.codewords
-    }
 }
 
 /// The modules of a symbol that the codewords do not choose.
@@ -150,10 +129,8 @@ fn read_codewords(rows: &[u64], version: Version, mask: Mask, free: &Square) -> 
     codewords_of(version.total_codewords(), &bits)
 }
 
-/// Reads a square of modules as a symbol, with no correction (ISO/IEC 18004, 12): both copies of the format and version
-/// information and every module of the other patterns have to be right. There are as many rows as modules on a side,
-/// and bit x of number y is the module at column x and row y, dark where set; the bits from the side on are not read.
-pub fn read(rows: &[u64]) -> Option<ReadSymbol>
+/// Reads a square of modules as a symbol.
+fn read_symbol(rows: &[u64]) -> Option<ReadSymbol>
     ensures { result ≡ read_matrix (length rows.now) (λ x y. bit (slice_index rows.now y) x) }
 {
     let version = version_of_side(rows.len())?;
@@ -167,4 +144,16 @@ pub fn read(rows: &[u64]) -> Option<ReadSymbol>
         level,
         codewords: read_codewords(rows, version, mask, &patterns.free),
     })
+}
+
+/// Reads a square of modules as a symbol, with no correction (ISO/IEC 18004, 12): the data of its codewords. Both copies
+/// of the format and version information and every module of the other patterns have to be right. There are as many
+/// rows as modules on a side, and bit x of number y is the module at column x and row y, dark where set; the bits from
+/// the side on are not read.
+pub fn read(rows: &[u64]) -> Option<SymbolData>
+    ensures { option_map (λ bytes. bytes.items) result
+        ≡ read_square (length rows.now) (λ x y. bit (slice_index rows.now y) x) }
+{
+    let symbol = read_symbol(rows)?;
+    read_data(symbol.version, symbol.level, &symbol.codewords)
 }

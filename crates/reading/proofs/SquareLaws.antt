@@ -24,8 +24,11 @@ use Rattle.picture.proofs.SampleLaws.{sample-raster, value_at-raster}
 use Rattle.labelcore.specs.declared.symbology.Symbology.TheVariants.{Qr}
 use Rattle.filter.specs.Reading.{read_modules}
 use Rattle.filter.specs.Symbol.{quiet_zone}
-use Rattle.reading.specs.Private.{symbol_in}
 use Rattle.reading.specs.Squares.{SymbolsAreRead}
+
+-- the data of what modules were read as
+abbrev pub symbol_data : Option Reading → Option (List ℕ)
+symbol_data symbol = option_and_then (λ symbol. data_in symbol.version symbol.level symbol.codewords) symbol
 
 module _ (p : Picture) where
   -- a pixel of a raster, which is light outside
@@ -62,40 +65,25 @@ module _ (p : Picture) where
   unfolding are_long
   other_rows n m ne = rw (length-map-range_with_len (λ x. p.dark x 0) 0 p.width, ne_eqb p.width n ne) refl
 
-  pub square_read : p.width ≡ p.height → symbol_in (raster p).rows ≡ read_matrix p.width (value_at (raster p).rows)
-  unfolding symbol_in are_long
+  pub square_read : p.width ≡ p.height → read_modules Qr (raster p).rows ≡ read_square p.width (value_at (raster p).rows)
+  unfolding are_long
   square_read e = rw (long, wide_rows p.height 0 p.height e, e) refl
 
-  pub not_square : p.width ≢ p.height → symbol_in (raster p).rows ≡ None
-  unfolding symbol_in are_long read_matrix
+  pub not_square : p.width ≢ p.height → read_modules Qr (raster p).rows ≡ None
+  unfolding are_long read_matrix
   not_square ne = at p.height refl
     where
-      at : (h : ℕ) → p.height ≡ h → symbol_in (raster p).rows ≡ None
+      at : (h : ℕ) → p.height ≡ h → read_modules Qr (raster p).rows ≡ None
       at zero e = rw (long, e) refl
       at (suc h) e =
           let other : p.width ≢ suc h = λ same. ne (same ∙ sym e) in
           rw (long, e, other_rows (suc h) h other) refl
 
-  pub wide_square : 57 < p.width → symbol_in (raster p).rows ≡ None
+  pub wide_square : 57 < p.width → read_modules Qr (raster p).rows ≡ None
   wide_square wide = elim (cases_eq p.width p.height) [
-    | inl e ↦ square_read e ∙ wide_side p.width (value_at (raster p).rows) wide
+    | inl e ↦ square_read e ∙ ap symbol_data (wide_side p.width (value_at (raster p).rows) wide)
     | inr ne ↦ not_square ne
   ]
-
--- ---- data
-
--- the data of what modules were read as
-abbrev pub symbol_data : Option Reading → Option (List ℕ)
-symbol_data symbol = option_and_then (λ symbol. data_in symbol.version symbol.level symbol.codewords) symbol
-
-pub data_of_symbol : (rows : List (List Bool)) → read_modules Qr rows ≡ symbol_data (symbol_in rows)
-unfolding symbol_in
-data_of_symbol rows = at (list_all (λ row. length row == length rows) rows)
-  where
-    at : (b : Bool) → option_and_then (λ n. read_square n (value_at rows)) (then_some b (length rows))
-        ≡ symbol_data (option_and_then (λ n. read_matrix n (value_at rows)) (then_some b (length rows)))
-    at true = refl
-    at false = refl
 
 -- ---- words
 
@@ -119,10 +107,10 @@ column_added line k x = elim (cases_eq x k) [
 -- words that have the rows of a square are read as the square
 pub square_of_words : (p : Picture) (rows : List ℕ) (n : ℕ) → p.width ≡ n → p.height ≡ n → n ≤ length rows
     → ((x y : ℕ) → y < n → bit (get_or rows y 0) x ≡ (nat_lt x p.width && p.dark x y))
-    → read_matrix (length (take n rows)) (λ x y. bit (slice_index (take n rows) y) x) ≡ symbol_in (raster p).rows
+    → read_square (length (take n rows)) (λ x y. bit (slice_index (take n rows) y) x) ≡ read_modules Qr (raster p).rows
 square_of_words p rows n wide high long is =
-    rw (length-take-le n rows long) (ap (read_matrix n) (fun_ext (λ x. fun_ext (λ y. same x y))))
-    ∙ ap (λ k. read_matrix k (value_at (raster p).rows)) (sym wide)
+    rw (length-take-le n rows long) (ap (read_square n) (fun_ext (λ x. fun_ext (λ y. same x y))))
+    ∙ ap (λ k. read_square k (value_at (raster p).rows)) (sym wide)
     ∙ sym (square_read p (wide ∙ sym high))
   where
     same : (x y : ℕ) → bit (slice_index (take n rows) y) x ≡ value_at (raster p).rows x y

@@ -1,9 +1,6 @@
 -- Definitions that only the contracts of private functions cite: nothing here has to be believed.
-use Rattle.std.specs.Prelude.{◌≡◌, ◌<◌, ℕ, ◌+◌, ◌-◌, ◌/◌, ◌%◌, ◌==◌, ◌&&◌, nat_le, Bool, List, Option, length}
-use Rattle.std.specs.Bool.{beq, then_some}
-use Rattle.std.specs.List.{list_all}
-use Rattle.qrdata.specs.Steps.{◌>>=◌}
-use Rattle.qrmatrix.specs.Reading.{Reading, read_matrix}
+use Rattle.std.specs.Prelude.{◌≡◌, ◌<◌, ℕ, ◌+◌, ◌-◌, ◌/◌, ◌%◌, ◌==◌, ◌&&◌, nat_le, Bool, List}
+use Rattle.std.specs.Bool.{beq}
 use Rattle.qrmatrix.specs.Square.{value_at}
 use Rattle.picture.specs.Picture.{Picture}
 use Rattle.picture.specs.Reading.{Raster, are_cells, cell, is_module}
@@ -41,8 +38,3 @@ pub record IsToldByFirst (width height : ℕ) (digits : List ℕ) (scale : ℕ) 
   pub some : 0 < height
   pub whole : height % scale ≡ 0
   pub same : AreEqualDots (rows_of width height digits) width height
-
--- the version, the level and the codewords of modules, row by row, which have to be a square
-unfoldable pub symbol_in : List (List Bool) → Option Reading
-symbol_in rows =
-    then_some (list_all (λ row. length row == length rows) rows) (length rows) >>= λ n. read_matrix n (value_at rows)

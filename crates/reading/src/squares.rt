@@ -6,12 +6,11 @@ ghost use Rattle.labelcore.specs.declared.symbology.Symbology.TheVariants.{Qr};
 ghost use Rattle.reading.specs.Dots.{raster_in};
 ghost use Rattle.picture.specs.Reading.{raster};
 ghost use Rattle.reading.specs.Squares.{SymbolsAreRead, read_qr};
-ghost use Rattle.reading.specs.Private.{symbol_in};
 
 use crate::dots::Dots;
 use crate::sampled::Sampled;
 use picture::{Grid, QuietZone};
-use qr_reading::{ReadSymbol, SymbolData, read, read_data};
+use qr_reading::{SymbolData, read};
 use qrmatrix::{QUIET_ZONE, SIDE};
 
 /// Returns the modules of a row as the bits of a number, column 0 the lowest.
@@ -30,9 +29,9 @@ fn row_word<G: Grid>(modules: &G, y: usize) -> u64
     row
 }
 
-/// Reads modules as a QR symbol, which is a square.
-fn read_square<G: Grid>(modules: &G) -> Option<ReadSymbol>
-    ensures { result ≡ symbol_in (raster (G.picture modules.now)).rows }
+/// Reads modules as a QR symbol, which is a square: its data.
+fn read_square<G: Grid>(modules: &G) -> Option<SymbolData>
+    ensures { option_map (λ bytes. bytes.items) result ≡ read_modules Qr (raster (G.picture modules.now)).rows }
 {
     let side = modules.width();
     if side != modules.height() || side > SIDE {
@@ -43,14 +42,6 @@ fn read_square<G: Grid>(modules: &G) -> Option<ReadSymbol>
         rows[y] = row_word(modules, y);
     }
     read(&rows[..side])
-}
-
-/// Reads modules as a QR symbol: its data.
-fn read_data_of<G: Grid>(modules: &G) -> Option<SymbolData>
-    ensures { option_map (λ bytes. bytes.items) result ≡ read_modules Qr (raster (G.picture modules.now)).rows }
-{
-    let symbol = read_square(modules)?;
-    read_data(symbol.version(), symbol.level(), symbol.codewords())
 }
 
 /// Reads dots as a QR symbol in its quiet zone, each module `scale` dots wide: its full data.
@@ -66,7 +57,7 @@ pub fn read_qr(dots: Dots, scale: usize) -> Option<SymbolData>
         bottom: QUIET_ZONE,
     };
     let modules = Sampled::new(dots, scale, zone)?;
-    read_data_of(&modules)
+    read_square(&modules)
 }
 
 /// What is drawn is read: a symbol in its quiet zone, at any scale, is read as the data of its codewords.
