@@ -158,6 +158,18 @@ class TakenAway(InCopy):
         status, said = self.gate("pages.py", "subjects.py")
         self.assertEqual((status, said.split("\n")[-2]), (0, "2 passed, 0 failed"), said)
 
+    def test_steps_in_forks(self) -> None:
+        """They pass and fail as programs do; where files cannot be read, no step runs in a fork."""
+        gate = module("gate")
+        with mock.patch.object(gate.sources, "TOP", self.folder):
+            self.assertEqual(gate.passed_and_failed("pages.py", True)[:2], (1, 0))
+            self.move("docs/PROOF.md", "away")
+            passed, failed, said = gate.passed_and_failed("pages.py", True)
+            self.assertEqual((passed, failed, "there is no docs/PROOF.md" in said), (0, 1, True), said)
+        self.assertLess({*gate.FORKED}, {*gate.QUICK})
+        with mock.patch.object(gate.forks, "read_files", side_effect=SystemExit("unreadable")):
+            self.assertEqual(gate.steps_to_fork(), ())
+
     def test_another_python(self) -> None:
         """The gate can be begun by a Python that lacks Debian's modules, which may be the first on the path."""
         self.assertEqual(run_command([PYTHON, "-S", self.path("scripts", "gate.py"), "--help"])[0], 0)

@@ -464,8 +464,9 @@ class Streams(Folder):
         printer = Printer(torn=2).start()
         long = b"#" + b'{"title":"%s"}' % (b"Wegeplan " * 60)
         lines = b"qr T1\n" + long + b"\nqr T2\nqr T3\n"
-        words = ("--paper", "100x150", "--dpi", "1200", "--print", printer.name)
-        found = self.answers(lines, *words, "--journal", self.path)
+        paper = ("--paper", "100x150", "--dpi", "1200", "--print", printer.name)
+        words = (*paper, "--journal", self.path)
+        found = self.answers(lines, *words)
         self.assertEqual([line.split()[0] for line in found], ["taken", "doubtful", "taken"])
         self.assertRegex(found[1], "^doubtful 3 tcp://.*: the printer broke off$")
         self.assertEqual(
