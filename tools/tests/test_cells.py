@@ -646,6 +646,21 @@ class Heads(CellTest):
         prices, said = self.ran(data, *free)
         self.assertEqual((prices, "names other columns" in said[0]), ([], True))
 
+    def test_prices_that_are_cut_in_each_row_are_said(self) -> None:
+        """What is behind them takes the place of another column, so no row is longer."""
+        said = 'the cells "2" and "99" may be one price, in each row: '
+        said += "a cell that contains the delimiter has to be in quotes"
+        for first, second, is_said in (
+            ("2,99", "3,50", True),
+            ("2,99", "3,5", False),
+            ("2,99", "3.50,12", False),
+        ):
+            data = f"EAN,Name,VK,Stock\n{PENCIL},Tea,{first}\n{SMALL},Tea,{second}\n".encode()
+            messages = self.ran(data, "--code", "EAN", "--price", "VK")[1]
+            self.assertEqual(messages.count(said), int(is_said), second)
+        data = f"EAN;Name;VK;Stock\n{PENCIL};Tea;2;99\n".encode()
+        self.assertEqual(self.ran(data, "--code", "EAN", "--price", "VK"), (["2"], []))
+
     def test_prices_of_many_are_said(self) -> None:
         said = "has prices of 100 or 1000 by its name, and is printed as it is: "
         said += "make a column of prices of one"
