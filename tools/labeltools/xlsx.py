@@ -370,7 +370,8 @@ def sheet_rows(archive: ZipFile, path: str, book: Book) -> Iterator[Row]:
 
 def is_unseen(row: Element) -> bool:
     """Returns whether a row is hidden, or has no height."""
-    return row.get("hidden") in TRUE or row.get("ht", "1").strip("0.") == ""
+    height = row.get("ht")
+    return row.get("hidden") in TRUE or height is not None and not height.strip("0.")
 
 
 def out_of_order(number: int) -> ToolError:
