@@ -552,7 +552,7 @@ def is_crossed(border: Element) -> bool:
     """Returns whether lines from corner to corner cross a cell out."""
     line = border.find("diagonal")
     is_drawn = line is not None and line.get("style", "none") != "none"
-    return is_drawn and "1" in (border.get("diagonalUp"), border.get("diagonalDown"))
+    return is_drawn and any(border.get(one) in TRUE for one in ("diagonalUp", "diagonalDown"))
 
 
 def ground_of(fill: Element) -> str:
