@@ -8,10 +8,10 @@ from typing import Iterator, NamedTuple, Sequence
 
 from labeltools.encoding import decoded
 from labeltools.text import Text
-from labeltools.messages import BAD_ARGUMENTS, RowError, Talk, ToolError, named
+from labeltools.messages import BAD_ARGUMENTS, RowError, Talk, ToolError, named, quoted
 from labeltools.names import name_of, row_of_names
 from labeltools.rows import Row
-from labeltools.shape import Shape, said_of_unnamed, shape_of
+from labeltools.shape import HINT, Shape, said_of_unnamed, shape_of
 from labeltools.table_options import TableOptions
 
 LARGEST_FILE = 40 << 20  # bytes
@@ -82,6 +82,10 @@ class CsvTable:
                 yield Row(*row)
             elif row.number > head.number:
                 yield self.checked(row, shape)
+        if shape.cut:
+            first, second = map(quoted, shape.cut)
+            text = Text("the cells {} and {} may be one price, in each row", first, second)
+            self.talk.say(text, HINT)
         self.say_unnamed()
 
     def shape(self, head: Record) -> Shape:

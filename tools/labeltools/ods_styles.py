@@ -20,6 +20,8 @@ COMMON = "/document-styles/styles/style"
 DEFAULT = "/document-styles/styles/default-style"
 RAISED = re.compile(r"super|[1-9][0-9]*(?:\.[0-9]+)?%")
 LETTERS = ("text-properties", "table-cell-properties")  # what a style says of letters
+LINES = ("text-line-through-style", "text-line-through-type")
+DIAGONALS = ("diagonal-bl-tr", "diagonal-tl-br")
 LENGTH = re.compile(r"([0-9]*\.?[0-9]+)(%|pt|in|cm|mm|pc|px)")
 POINTS = {"pt": 1, "in": 72, "cm": 72 / 2.54, "mm": 7.2 / 2.54, "pc": 12, "px": 0.75}
 USUAL_SIZE = 10.0  # points, where a file says none
@@ -39,6 +41,7 @@ class Form(NamedTuple):
     ground: str | None = None
     is_hidden: bool | None = None
     is_of_signs: bool | None = None
+    is_crossed: bool | None = None  # by lines from corner to corner of the cell
 
     def over(self, around: "Form") -> "Form":
         """Returns the form of letters of this style within others."""
@@ -57,7 +60,7 @@ class Form(NamedTuple):
     @property
     def wrong(self) -> Text:
         """Why letters of it are none, as in `cells.Run`."""
-        if self.is_struck:
+        if self.is_struck or self.is_crossed:
             return STRUCK
         if self.is_of_signs:
             return OF_SIGNS
@@ -146,13 +149,8 @@ def form_of(properties: Mapping[str, str]) -> Form:
     >>> form_of({"text-position": "super 58%"}).place, form_of({"font-size": "6pt"}).size
     ('superscript', 6.0)
     """
-    names = (
-        "text-line-through-style",
-        "text-line-through-type",
-        "diagonal-bl-tr",
-        "diagonal-tl-br",
-    )
-    lines = [properties[name] for name in names if name in properties]
+    lines = [properties[name] for name in LINES if name in properties]
+    diagonals = [properties[name] for name in DIAGONALS if name in properties]
     font = properties.get("font-name") or properties.get("font-family")
     size, share = size_of(properties.get("font-size", ""))
     place = None
@@ -172,6 +170,7 @@ def form_of(properties: Mapping[str, str]) -> Form:
         ground=ground_of(properties),
         is_hidden=None if display is None else display == "none",
         is_of_signs=None if font is None else FONT_OF_SIGNS.fullmatch(font.strip("'")) is not None,
+        is_crossed=any("none" not in line.split() for line in diagonals) if diagonals else None,
     )
 
 

@@ -20,7 +20,8 @@ class Shape:
 
     `row` is the row of names, `names` are its cells to the last name, `width` all its cells, and
     `rest` the empty cells that every row below has at its end beside them, 0 where rows differ.
-    `prices` are the places of prices.
+    `prices` are the places of prices; `cut` are a price and the cell behind it, of the first row,
+    where in each row both may be one price.
     """
 
     row: int
@@ -29,6 +30,7 @@ class Shape:
     rest: int = 0
     prices: tuple[int, ...] = ()
     delimiter: str = ";"
+    cut: tuple[str, str] | None = None
 
     def problem(self, cells: Sequence[str]) -> RowError | None:
         """Returns why cells of a row that is not blank may have moved.
@@ -95,22 +97,30 @@ def shape_of(
     1
     >>> shape_of(1, ["a", "b"], [["1", "2", ""], ["3", "4"]]).rest
     0
+    >>> shape_of(1, ["a", "b"], [["1", "20"], ["3", "40"]], (0,), ",").cut
+    ('1', '20')
     """
     named = max((place for place, name in enumerate(names, 1) if name.strip()), default=0)
     shape = Shape(row, named, len(names), 0, prices, delimiter)
     width = 0
     count = 0
+    cut = None
+    may_be_cut = delimiter == ","
     for cells in rows:
         if (
             len(cells) < named
         ):  # a group, a total, or a row that is cut off says nothing about the others
             continue
+        if may_be_cut:
+            both = cut_price(cells, prices)
+            may_be_cut = both is not None
+            cut = (cut or both) if may_be_cut else None
         count += 1
         width = width or len(cells)
         if len(cells) != width or is_moved(cells, shape):
             return shape
     rest = max(width - len(names), 0) if count > 1 else 0
-    return Shape(row, named, len(names), rest, prices, delimiter)
+    return Shape(row, named, len(names), rest, prices, delimiter, cut)
 
 
 def is_moved(cells: Sequence[str], shape: Shape) -> bool:

@@ -152,8 +152,8 @@ class Window(Gtk.ApplicationWindow):
             lambda _self, typed, row: self.sheets[row][1] in listed(typed)
         )
 
-    def start(self, work: Callable[[Talk], Any], then: Callable[[Any], object] = bool) -> None:
-        """Does work; nothing goes out until it is done."""
+    def start(self, work: Callable[[Talk], Any], then: Callable[[Any], object]) -> None:
+        """Does work, and then something with what came of it; nothing goes out until then."""
         self.on_stop()
         self.talk = Talk()
         self.info.hide()

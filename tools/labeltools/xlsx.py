@@ -370,7 +370,8 @@ def sheet_rows(archive: ZipFile, path: str, book: Book) -> Iterator[Row]:
 
 def is_unseen(row: Element) -> bool:
     """Returns whether a row is hidden, or has no height."""
-    return row.get("hidden") in TRUE or row.get("ht", "1").strip("0.") == ""
+    height = row.get("ht")
+    return row.get("hidden") in TRUE or height is not None and not height.strip("0.")
 
 
 def out_of_order(number: int) -> ToolError:
@@ -551,7 +552,7 @@ def is_crossed(border: Element) -> bool:
     """Returns whether lines from corner to corner cross a cell out."""
     line = border.find("diagonal")
     is_drawn = line is not None and line.get("style", "none") != "none"
-    return is_drawn and "1" in (border.get("diagonalUp"), border.get("diagonalDown"))
+    return is_drawn and any(border.get(one) in TRUE for one in ("diagonalUp", "diagonalDown"))
 
 
 def ground_of(fill: Element) -> str:

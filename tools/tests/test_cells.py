@@ -331,13 +331,25 @@ class Looks(CellTest):
 
     def test_a_cell_that_is_crossed_out_is_struck(self) -> None:
         line = '<border diagonalUp="1"><diagonal style="thin"/></border>'
-        for border, said in ((line, IS_STRUCK), (line.replace(' diagonalUp="1"', ""), "")):
+        for is_up, said in (("1", IS_STRUCK), ("true", IS_STRUCK), ("false", "")):
+            border = line.replace('"1"', f'"{is_up}"')
             styles = f'<borders><border/>{border}</borders><cellXfs><xf borderId="1"/></cellXfs>'
             data = xlsx(rows(HEAD, [PENCIL, "Tea", cell(12.49, style=1)]), styles=styles)
             self.check_price(data, None if said else "12.49", said)
-        style = '<style:style style:name="ce1" style:family="table-cell">'
-        style += '<style:table-cell-properties style:diagonal-bl-tr="0.06pt solid #000000"/>'
-        self.check_price(self.of_ods("12.49", own=f"{style}</style:style>"), None, IS_STRUCK)
+        for line, said in (
+            ('style:diagonal-bl-tr="0.06pt solid #000000"', IS_STRUCK),
+            ('style:diagonal-tl-br="0.000cm none #c7c7c7"', ""),  # as Gnumeric has it
+        ):
+            style = ods_style("ce1", "table-cell", "").replace(
+                "</style:style>", f"<style:table-cell-properties {line}/></style:style>"
+            )
+            data = self.of_ods("12.49", own=style)
+            self.check_price(data, None if said else "12.49", said)
+            style = ods_style("ce1", "table-cell", STRIKES_NOT).replace(
+                "<style:text", f"<style:table-cell-properties {line}/><style:text"
+            )
+            data = self.of_ods("12.49", own=style)
+            self.check_price(data, None if said else "12.49", said)
 
     def test_a_row_without_height_is_hidden(self) -> None:
         for height, prices in (("0", []), ("15", ["14.25"])):
@@ -645,6 +657,21 @@ class Heads(CellTest):
         free = ["--code", "Code", "--price", "VK", "--symbology", "code128"]
         prices, said = self.ran(data, *free)
         self.assertEqual((prices, "names other columns" in said[0]), ([], True))
+
+    def test_prices_that_are_cut_in_each_row_are_said(self) -> None:
+        """What is behind them takes the place of another column, so no row is longer."""
+        said = 'the cells "2" and "99" may be one price, in each row: '
+        said += "a cell that contains the delimiter has to be in quotes"
+        for first, second, is_said in (
+            ("2,99", "3,50", True),
+            ("2,99", "3,5", False),
+            ("2,99", "3.50,12", False),
+        ):
+            data = f"EAN,Name,VK,Stock\n{PENCIL},Tea,{first}\n{SMALL},Tea,{second}\n".encode()
+            messages = self.ran(data, "--code", "EAN", "--price", "VK")[1]
+            self.assertEqual(messages.count(said), int(is_said), second)
+        data = f"EAN;Name;VK;Stock\n{PENCIL};Tea;2;99\n".encode()
+        self.assertEqual(self.ran(data, "--code", "EAN", "--price", "VK"), (["2"], []))
 
     def test_prices_of_many_are_said(self) -> None:
         said = "has prices of 100 or 1000 by its name, and is printed as it is: "
