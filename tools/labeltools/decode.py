@@ -148,7 +148,14 @@ def dots_of_zpl(data: bytes, _: int) -> Dots:
         if len(field) != end - top:
             raise NotDecoded(Text("zpl with {} rows, which has {}", end - top, len(field)))
         start = stride * top + left // 8
-        used = add(page, start, apart(field, stride), used)
+        if start < used:
+            add(page, start, stride, field)
+        else:
+            rows = apart(field, stride)[
+                : len(page) - start
+            ]  # white behind the last row is left away
+            page[start : start + len(rows)] = rows
+        used = max(used, start + stride * len(field))
         at = found.end()
     end_of_label = ZPL_END.fullmatch(data, at)
     if not end_of_label:
@@ -162,17 +169,20 @@ def apart(rows: Sequence[bytes], stride: int) -> bytes:
     return white.join(rows) + white
 
 
-def add(page: bytearray, start: int, rows: bytes, used: int) -> int:
-    """Adds rows to a page from a byte on, of which only those below `used` may have dots; dark dots
-    of both are dark. Returns which bytes may have dots then.
-    """
-    rows = rows[: len(page) - start]  # what is left away there is the white behind the last row
-    end = start + len(rows)
-    if start < used:
-        both = int.from_bytes(page[start:end], "big") | int.from_bytes(rows, "big")
-        rows = both.to_bytes(len(rows), "big")
-    page[start:end] = rows
-    return max(used, end)
+def add(page: bytearray, start: int, stride: int, rows: Sequence[bytes]) -> None:
+    """Adds rows to a page from a byte on, beside what is there; dark dots of both are dark."""
+    packed = b"".join(rows)
+    size = len(rows[0]) if rows else 0
+    white = bytes(len(rows))
+    end = start + stride * len(rows)
+    for column in range(size):  # they are few, and rows many
+        place = slice(start + column, min(end + column, len(page)), stride)
+        dots = packed[column::size]
+        there = page[place]
+        if there != white:
+            both = int.from_bytes(there, "big") | int.from_bytes(dots, "big")
+            dots = both.to_bytes(len(dots), "big")
+        page[place] = dots
 
 
 def rows_of_field(text: bytes, size: int) -> Sequence[bytes]:
