@@ -22,6 +22,7 @@ WITHOUT_COUNTS = bytes.maketrans(COUNTS, b" " * len(COUNTS))
 COUNTS_ALONE = bytes.maketrans(OTHERS, b" " * len(OTHERS))
 # counts, signs, and digits of which counts are rare
 KINDS = bytes.maketrans(COUNTS + b":!123456789ABCDE", b"G" * len(COUNTS) + b",," + b"F" * 14)
+COLUMN = 500  # bytes of rows that are added in the time of a column of them
 FIELDS: Kept[tuple[bytes, int], Sequence[bytes]] = Kept(1024)
 RASTER = b"\x1dv0\0"
 LINES_AND_CUT = b"\x1bd\x03\x1dV\x42\x00"
@@ -170,19 +171,27 @@ def apart(rows: Sequence[bytes], stride: int) -> bytes:
 
 
 def add(page: bytearray, start: int, stride: int, rows: Sequence[bytes]) -> None:
-    """Adds rows to a page from a byte on, beside what is there; dark dots of both are dark."""
-    packed = b"".join(rows)
+    """Adds rows to a page from a byte on, beside what is there: all at once, or where they have few
+    columns of bytes one of these after another, which takes less time.
+    """
     size = len(rows[0]) if rows else 0
-    white = bytes(len(rows))
-    end = start + stride * len(rows)
-    for column in range(size):  # they are few, and rows many
-        place = slice(start + column, min(end + column, len(page)), stride)
-        dots = packed[column::size]
-        there = page[place]
-        if there != white:
-            both = int.from_bytes(there, "big") | int.from_bytes(dots, "big")
-            dots = both.to_bytes(len(dots), "big")
-        page[place] = dots
+    length = stride * len(rows)
+    if COLUMN * size > length:
+        place = slice(start, start + length)
+        page[place] = either(page[place], apart(rows, stride)[: len(page) - start])
+        return
+    packed = b"".join(rows)
+    for column in range(size):
+        place = slice(start + column, min(start + column + length, len(page)), stride)
+        page[place] = either(page[place], packed[column::size])
+
+
+def either(there: bytes, dots: bytes) -> bytes:
+    """Returns dots that are dark where one or the other is."""
+    if there == bytes(len(dots)):
+        return dots
+    both = int.from_bytes(there, "big") | int.from_bytes(dots, "big")
+    return both.to_bytes(len(dots), "big")
 
 
 def rows_of_field(text: bytes, size: int) -> Sequence[bytes]:
