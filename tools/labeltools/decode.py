@@ -22,6 +22,7 @@ WITHOUT_COUNTS = bytes.maketrans(COUNTS, b" " * len(COUNTS))
 COUNTS_ALONE = bytes.maketrans(OTHERS, b" " * len(OTHERS))
 # counts, signs, and digits of which counts are rare
 KINDS = bytes.maketrans(COUNTS + b":!123456789ABCDE", b"G" * len(COUNTS) + b",," + b"F" * 14)
+COLUMN = 500  # bytes of rows that are added in the time of a column of them
 FIELDS: Kept[tuple[bytes, int], Sequence[bytes]] = Kept(1024)
 RASTER = b"\x1dv0\0"
 LINES_AND_CUT = b"\x1bd\x03\x1dV\x42\x00"
@@ -148,7 +149,14 @@ def dots_of_zpl(data: bytes, _: int) -> Dots:
         if len(field) != end - top:
             raise NotDecoded(Text("zpl with {} rows, which has {}", end - top, len(field)))
         start = stride * top + left // 8
-        used = add(page, start, apart(field, stride), used)
+        if start < used:
+            add(page, start, stride, field)
+        else:
+            rows = apart(field, stride)[
+                : len(page) - start
+            ]  # white behind the last row is left away
+            page[start : start + len(rows)] = rows
+        used = max(used, start + stride * len(field))
         at = found.end()
     end_of_label = ZPL_END.fullmatch(data, at)
     if not end_of_label:
@@ -162,17 +170,28 @@ def apart(rows: Sequence[bytes], stride: int) -> bytes:
     return white.join(rows) + white
 
 
-def add(page: bytearray, start: int, rows: bytes, used: int) -> int:
-    """Adds rows to a page from a byte on, of which only those below `used` may have dots; dark dots
-    of both are dark. Returns which bytes may have dots then.
+def add(page: bytearray, start: int, stride: int, rows: Sequence[bytes]) -> None:
+    """Adds rows to a page from a byte on, beside what is there: all at once, or where they have few
+    columns of bytes one of these after another, which takes less time.
     """
-    rows = rows[: len(page) - start]  # what is left away there is the white behind the last row
-    end = start + len(rows)
-    if start < used:
-        both = int.from_bytes(page[start:end], "big") | int.from_bytes(rows, "big")
-        rows = both.to_bytes(len(rows), "big")
-    page[start:end] = rows
-    return max(used, end)
+    size = len(rows[0]) if rows else 0
+    length = stride * len(rows)
+    if COLUMN * size > length:
+        place = slice(start, start + length)
+        page[place] = either(page[place], apart(rows, stride)[: len(page) - start])
+        return
+    packed = b"".join(rows)
+    for column in range(size):
+        place = slice(start + column, min(start + column + length, len(page)), stride)
+        page[place] = either(page[place], packed[column::size])
+
+
+def either(there: bytes, dots: bytes) -> bytes:
+    """Returns dots that are dark where one or the other is."""
+    if there == bytes(len(dots)):
+        return dots
+    both = int.from_bytes(there, "big") | int.from_bytes(dots, "big")
+    return both.to_bytes(len(dots), "big")
 
 
 def rows_of_field(text: bytes, size: int) -> Sequence[bytes]:

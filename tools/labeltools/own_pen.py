@@ -26,6 +26,7 @@ DOTS_LIGHT = bytes(range(128, 256))  # what is white in dots
 MIXED = 0.4  # part of a place: more of it dark, and as much of it light, leave letters unread
 CONTRAST = 0.3  # between letters and what is behind them, of that between black and white
 DIGITS = bytes.maketrans(b"\0\1", b"01")
+UPRIGHT = cairo.Matrix()
 
 
 class OwnPen(Pen):
@@ -35,30 +36,67 @@ class OwnPen(Pen):
         super().__init__(medium, fonts, letters)
         self.design = design
         self.drawing = cache(self.new_drawing)
+        self.dark_rows = cache(self.new_dark_rows)
+        self.packed = cache(self.new_packed)
+
+    @property
+    def size(self) -> tuple[int, int]:
+        """The dots of a label."""
+        dot = MILLIMETRES / self.medium.dpi
+        wide, high = (max(1, int(side / dot)) for side in self.design.label)
+        return wide, high
 
     def new_drawing(self, absent: frozenset[str]) -> Optional[cairo.SurfacePattern]:
         """Returns what is drawn on labels without some parts; None where there is none."""
-        dot = MILLIMETRES / self.medium.dpi
         if not self.medium.is_dots:
-            return recorded(self.design, dot, absent)
-        wide, high = (max(1, int(side / dot)) for side in self.design.label)
-        return darkness(self.design, wide, high, absent)
+            return recorded(self.design, MILLIMETRES / self.medium.dpi, absent)
+        rows = self.dark_rows(absent)
+        return mask_of(rows, self.size[0]) if any(map(any, rows)) else None
+
+    def new_dark_rows(self, absent: frozenset[str]) -> list[bytes]:
+        """Returns the rows of the drawing without some parts in black dots: those that are darker
+        than half of black.
+        """
+        return [dark_row(row) for row in lightness(self.design, *self.size, absent)]
+
+    def new_packed(self, absent: frozenset[str], stride: int, height: int) -> bytes:
+        """Returns the drawing without some parts as the rows of a page of Cairo."""
+        rows = [padded(row, stride) for row in self.dark_rows(absent)[:height]]
+        return b"".join(rows).ljust(stride * height, b"\0")
 
     def draw(self, canvas: Any, page: Page, turn: int = 0) -> None:
         """Draws labels in the areas that begin at their places, as `Pen.draw` does."""
         whole = canvas.get_matrix()
+        is_begun = not turn and self.is_begun(canvas, page)
         for item, place in page:
             canvas.set_matrix(whole)
             canvas.translate(*place)
             if turn:
                 canvas.transform(cairo.Matrix(0, 1, -1, 0, turn, 0))
+            if not is_begun:
+                self.draw_drawing(canvas, item)
             self.draw_label(canvas, item)
         canvas.set_matrix(whole)
 
-    def draw_label(self, canvas: Any, item: LaidOut) -> None:
-        """Draws a label."""
-        layout = own_layout(item)
-        drawing = self.drawing(layout.absent)
+    def is_begun(self, canvas: Any, page: Page) -> bool:
+        """Copies the drawing where a page in dots is one label: Cairo would take as long for it as
+        for all else. Returns whether it did so.
+        """
+        is_alone = [place for _, place in page] == [(0, 0)] and canvas.get_matrix() == UPRIGHT
+        if not self.medium.is_dots or not is_alone:
+            return False
+        surface = canvas.get_target()
+        if self.size[0] > surface.get_width():
+            return False
+        rows = surface.get_stride(), surface.get_height()
+        surface.flush()
+        surface.get_data()[:] = self.packed(own_layout(page[0][0]).absent, *rows)
+        surface.mark_dirty()
+        return True
+
+    def draw_drawing(self, canvas: Any, item: LaidOut) -> None:
+        """Draws what is alike on labels."""
+        drawing = self.drawing(own_layout(item).absent)
         if drawing:
             canvas.save()
             if self.medium.is_dots:  # which takes a quarter of the time of a mask
@@ -66,6 +104,10 @@ class OwnPen(Pen):
             canvas.set_source(drawing)
             canvas.paint()
             canvas.restore()
+
+    def draw_label(self, canvas: Any, item: LaidOut) -> None:
+        """Draws the symbols and letters of a label."""
+        layout = own_layout(item)
         for symbol in layout.symbols:
             canvas.save()
             turned(canvas, symbol.box, symbol.place.quarters)
@@ -253,16 +295,6 @@ def lightness(
     light = bytes(surface.get_data())[0::4]
     stride = surface.get_stride() // 4
     return [light[start : start + wide] for start in range(0, stride * high, stride)]
-
-
-def darkness(
-    design: OwnDesign, wide: int, high: int, absent: frozenset[str]
-) -> Optional[cairo.SurfacePattern]:
-    """Returns a drawing in black dots: those that are darker than half of black; None where there
-    is none.
-    """
-    rows = [dark_row(row) for row in lightness(design, wide, high, absent)]
-    return mask_of(rows, wide) if any(map(any, rows)) else None
 
 
 def dark_row(row: bytes) -> bytes:

@@ -13,6 +13,8 @@ MOST_BYTES = 99_999  # of a graphic field
 # white that parts two fields: fewer rows or bytes of it take less than the head of a field
 INKED_ROWS = re.compile(rb"[^\0]+(?:\0{1,7}[^\0]+)*")
 INKED = re.compile(rb"[^\0]+(?:\0{1,2}[^\0]+)*")
+INKED_OF_HIGH = re.compile(rb"[^\0]+")
+HIGH = 20  # rows from which on a byte of white in each takes more than a head: large letters
 # run lengths: counts of one are a letter from G on, counts of twenty a letter from g on
 MOST_COUNT = 400
 TWENTY = 20
@@ -68,7 +70,8 @@ def blocks(whole: Block) -> Iterator[Block]:
     for band in bands(whole):
         dots = [int.from_bytes(row, "big") for row in set(band.rows)]
         inked = reduce(or_, dots).to_bytes(len(band.rows[0]), "big")
-        spans = [found.span() for found in INKED.finditer(inked)]
+        parted = INKED if len(band.rows) < HIGH else INKED_OF_HIGH
+        spans = [found.span() for found in parted.finditer(inked)]
         for first, last in spans:
             rows = [row[first:last] for row in band.rows]
             block = Block(band.left + first, band.top, rows)
