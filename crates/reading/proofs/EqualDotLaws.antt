@@ -12,18 +12,17 @@ use Rattle.picture.specs.declared.quiet_zone.QuietZone.{QuietZone}
 use Rattle.reading.specs.Dots.{raster_in, rows_of}
 use Rattle.reading.specs.Private.{AreEqualDots, is_of_cell, modules_in}
 use Rattle.picture.specs.Picture.{AreEqualRows}
-use Rattle.picture.specs.Reading.{are_cells}
+use Rattle.picture.specs.Reading.{are_cells, cell, is_module}
 use Rattle.picture.specs.Text.{below}
 use Rattle.reading.proofs.DotLaws.{dot_at}
 
--- a row with the digits of the first has its pixels
-pub same_dots : (width height : ℕ) (digits : List ℕ) (x y : ℕ) → x < width → y < height → 0 < height
-    → get_or digits (y * width + x) 0 ≡ get_or digits x 0
-    → value_at (rows_of width height digits) x y ≡ value_at (rows_of width height digits) x 0
-same_dots width height digits x y wide high some same =
-    let first : 0 * width + x ≡ x = omega arith in
-    sym (dot_at width height digits x y wide high) ∙ ap (λ b. eqb b 49) (same ∙ ap (λ n. get_or digits n 0) (sym first))
-    ∙ dot_at width height digits x 0 wide some
+-- a row with the digits of one before it has its pixels
+pub same_dots : (width height : ℕ) (digits : List ℕ) (x y before : ℕ) → x < width → y < height → before < height
+    → get_or digits (y * width + x) 0 ≡ get_or digits (before * width + x) 0
+    → value_at (rows_of width height digits) x y ≡ value_at (rows_of width height digits) x before
+same_dots width height digits x y before wide high low same =
+    sym (dot_at width height digits x y wide high) ∙ ap (λ b. eqb b 49) same
+    ∙ dot_at width height digits x before wide low
 
 all_alike : (f g : ℕ → Bool) (a n : ℕ) → ((k : ℕ) → a ≤ k → k < a + n → f k ≡ g k)
     → list_all f (range_with_len a n) ≡ list_all g (range_with_len a n)
@@ -77,11 +76,30 @@ module _ (width height : ℕ) (digits : List ℕ) (scale : ℕ) (zone : QuietZon
         all_below (suc n) h = all_one (list_all (λ x. test x 0) (below width)) 0 n
 
 -- rows of digits that are equal
-pub digit_again : (digits : List ℕ) (width place x : ℕ) → x < width
-    → take width (drop place digits) ≡ take width digits → get_or digits (place + x) 0 ≡ get_or digits x 0
-digit_again digits width place x wide same =
+pub digit_again : (digits : List ℕ) (width place other x : ℕ) → x < width
+    → take width (drop place digits) ≡ take width (drop other digits)
+    → get_or digits (place + x) 0 ≡ get_or digits (other + x) 0
+digit_again digits width place other x wide same =
     sym (get_or-take width (drop place digits) x 0 wide ∙ get_or-drop place digits x 0)
-    ∙ ap (λ (row : List ℕ). get_or row x 0) same ∙ get_or-take width digits x 0 wide
+    ∙ ap (λ (row : List ℕ). get_or row x 0) same
+    ∙ get_or-take width (drop other digits) x 0 wide ∙ get_or-drop other digits x 0
+
+-- a row with the pixels of another one of its cells has the colours of their cells where that one has
+pub cells_again : (width height : ℕ) (digits : List ℕ) (scale : ℕ) (zone : QuietZone) (y before : ℕ)
+    → y / scale ≡ before / scale → ((x : ℕ) → x < width
+    → value_at (rows_of width height digits) x y ≡ value_at (rows_of width height digits) x before)
+    → list_all (λ x. is_of_cell (raster_in width height digits) scale zone (width / scale) (height / scale) x y)
+    (below width)
+    ≡ list_all (λ x. is_of_cell (raster_in width height digits) scale zone (width / scale) (height / scale) x before)
+    (below width)
+cells_again width height digits scale zone y before cells same =
+    let r = raster_in width height digits in
+    all_alike (λ x. is_of_cell r scale zone (width / scale) (height / scale) x y)
+    (λ x. is_of_cell r scale zone (width / scale) (height / scale) x before) 0 width (λ x _ wide.
+    ap (λ b. beq b (is_module zone (width / scale) (height / scale) (x / scale) (y / scale)
+    && cell r scale (x / scale) (y / scale))) (same x (omega (arith, wide)))
+    ∙ ap (λ row. beq (value_at r.rows x before) (is_module zone (width / scale) (height / scale) (x / scale) row
+    && cell r scale (x / scale) row)) cells)
 
 -- a cell that is there begins inside
 pub begins : (length scale cell : ℕ) → 0 < scale → cell < length / scale → cell * scale < length

@@ -73,22 +73,24 @@ fn are_rows_equal(dots: &Dots) -> bool
         dots.now.width dots.now.height }
 {
     for y in 1..dots.height {
-        if !is_first_again(dots, y) {
+        if !is_row_again(dots, y, 0) {
             return false;
         }
     }
     true
 }
 
-/// Returns whether the row `y` of dots has the digits of the first.
-fn is_first_again(dots: &Dots, y: usize) -> bool
-    requires { y < dots.now.height }
+/// Returns whether the row `y` of dots has the digits of the row `before`.
+fn is_row_again(dots: &Dots, y: usize, before: usize) -> bool
+    requires high { y < dots.now.height }
+    requires earlier { before < y }
     ensures { result ≡ true → (x : ℕ) → x < dots.now.width
-        → slice_index dots.now.digits.now (y * dots.now.width + x) ≡ slice_index dots.now.digits.now x }
+        → slice_index dots.now.digits.now (y * dots.now.width + x)
+        ≡ slice_index dots.now.digits.now (before * dots.now.width + x) }
 {
     let width = dots.width;
     let row = &dots.digits[y * width..y * width + width];
-    row == &dots.digits[..width]
+    row == &dots.digits[before * width..before * width + width]
 }
 
 /// Returns whether the first row tells whether all dots have the colours of their cells.
@@ -114,11 +116,29 @@ fn are_cells(dots: &Dots, scale: usize, zone: &QuietZone, is_told: bool) -> bool
         return is_row_of_cells(dots, scale, zone, 0);
     }
     for y in 0..dots.height {
-        if !is_row_of_cells(dots, scale, zone, y) {
+        if !is_next_row_of_cells(dots, scale, zone, y) {
             return false;
         }
     }
     true
+}
+
+/// Returns whether each dot of the row `y` has the colour of its cell, as those of the rows before it have. With the
+/// digits of the first row of its cells it has.
+fn is_next_row_of_cells(dots: &Dots, scale: usize, zone: &QuietZone, y: usize) -> bool
+    requires some { 0 < scale }
+    requires high { y < dots.now.height }
+    requires before { (k : ℕ) → k < y
+        → list_all (λ x. is_of_cell (raster_in dots.now.width dots.now.height dots.now.digits.now) scale zone.now
+        (dots.now.width / scale) (dots.now.height / scale) x k) (below dots.now.width) ≡ true }
+    ensures { result ≡ list_all (λ x. is_of_cell (raster_in dots.now.width dots.now.height dots.now.digits.now) scale
+        zone.now (dots.now.width / scale) (dots.now.height / scale) x y) (below dots.now.width) }
+{
+    let first = y - y % scale;
+    if first < y && is_row_again(dots, y, first) {
+        return true;
+    }
+    is_row_of_cells(dots, scale, zone, y)
 }
 
 /// Returns the first dot of the cell that comes `place` cells after the first `before`.
