@@ -5,6 +5,7 @@ ghost use Rattle.std.specs.Bool.{then_some};
 ghost use Rattle.std.specs.Char.{IsAsciiDigit};
 ghost use Rattle.std.specs.Result.{result_ok};
 ghost use Rattle.std.specs.Str.{bytes_eq};
+ghost use Rattle.arrayvec.specs.ArrayVec.{array_vec_len};
 ghost use Rattle.linear.specs.Digits.{with_check_digit};
 ghost use Rattle.linear.specs.EanReading.{digit_in, digit_in_a_or_b, has_guards, read_halves};
 ghost use Rattle.linear.specs.EanReading.{with_first_digit, read_ean13, read_ean8, read_upca};
@@ -131,6 +132,19 @@ fn letters_of(left: &[(u8, u8)]) -> Half
     letters
 }
 
+/// Appends digits.
+fn push_digits(digits: &mut Digits, more: &[u8])
+    requires room { array_vec_len digits.old + length more.now ≤ 13 }
+    requires digits { All IsAsciiDigit digits.old.items }
+    requires more { All IsAsciiDigit more.now }
+    ensures items { digits.new.items ≡ digits.old.items ++ more.now }
+    ensures digits { All IsAsciiDigit digits.new.items }
+{
+    for digit in more {
+        digits.push(*digit);
+    }
+}
+
 /// Returns the digits of two halves after a first digit.
 fn all_digits(first: u8, left: &[(u8, u8)], right: &[u8]) -> Digits
     requires first { first < 10 }
@@ -145,8 +159,7 @@ fn all_digits(first: u8, left: &[(u8, u8)], right: &[u8]) -> Digits
     for found in left {
         digits.push(found.1);
     }
-    // There is space for them, so that it cannot fail.
-    let _ = digits.try_extend_from_slice(right);
+    push_digits(&mut digits, right);
     digits
 }
 
@@ -223,9 +236,8 @@ fn both_halves(left: &[u8], right: &[u8]) -> Digits
     ensures digits { AreDigits 8 result.items }
 {
     let mut digits = Digits::new();
-    // There is space for them, so that it cannot fail.
-    let _ = digits.try_extend_from_slice(left);
-    let _ = digits.try_extend_from_slice(right);
+    push_digits(&mut digits, left);
+    push_digits(&mut digits, right);
     digits
 }
 
