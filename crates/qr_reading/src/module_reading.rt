@@ -12,11 +12,10 @@ ghost use Rattle.qrmatrix.specs.Square.{value_at};
 ghost use Rattle.qrmatrix.specs.Private.Drawing.{MarksFree};
 ghost use Rattle.qr_reading.specs.Private.Walking.{DrawsPatterns, format_named, shows_row};
 
-use crate::bits::codewords_of;
 use crate::data_reading::read_data;
 use crate::segment_reading::SymbolData;
 use crate::walk::read_strips;
-use qrdata::{Codewords, Level, Mask, Version};
+use qrdata::{Codewords, Level, Mask, Version, are_bytes};
 use qrmatrix::{SIDE, Square, draw_format, draw_functions};
 use std::marker::Model;
 
@@ -126,7 +125,8 @@ fn read_codewords(rows: &[u64], version: Version, mask: Mask, free: &Square) -> 
 {
     version.prove_range();
     let bits = read_strips(version, free, rows, mask);
-    codewords_of(version.total_codewords(), &bits)
+    are_bytes(&bits.codewords);
+    bits.codewords
 }
 
 /// Reads a square of modules as a symbol.

@@ -1,24 +1,22 @@
 //! The bits of a symbol, read strip by strip (ISO/IEC 18004, 7.7.3 and 12).
-ghost use Rattle.arrayvec.specs.ArrayVec.{array_vec_len};
-ghost use Rattle.std.specs.Prelude.{◌≡◌, ◌≤◌, ◌<◌, ◌+◌, ◌*◌, ◌++◌, [], ◌∷◌, if◌then◌else◌, length};
+ghost use Rattle.std.specs.Prelude.{◌≡◌, ◌≤◌, ◌<◌, ◌+◌, ◌++◌, [], ◌∷◌, if◌then◌else◌, length};
+ghost use Rattle.qrdata.specs.Private.BitsInCodewords.{bits_in};
 ghost use Rattle.qrdata.specs.Versions.{side_of};
 ghost use Rattle.qrmatrix.specs.Square.{value_at};
 ghost use Rattle.qrmatrix.specs.Private.Placing.{right_column};
 ghost use Rattle.qr_reading.specs.Private.Walking.{strip_bits, unmasked, walk_bits};
 
-use crate::bits::{BitList, MAX_BITS};
-use qrdata::{Mask, Version};
+use qrdata::{Bits, MAX_BITS, Mask, Version};
 use qrmatrix::{SIDE, Square, Strip, mask_row_bits};
 
 /// Appends a module where it is free.
 #[inline(always)]
-fn push_free(is_free: bool, is_dark: bool, bits: &mut BitList)
-    requires { array_vec_len bits.old + 1 ≤ MAX_BITS }
-    ensures bits { bits.new.items ≡ bits.old.items ++ (if is_free then is_dark ∷ [] else []) }
-    ensures len { array_vec_len bits.new ≤ array_vec_len bits.old + 1 }
+fn push_free(is_free: bool, is_dark: bool, bits: &mut Bits)
+    requires { length (bits_in bits.old ++ (if is_free then is_dark ∷ [] else [])) ≤ MAX_BITS }
+    ensures { bits_in bits.new ≡ bits_in bits.old ++ (if is_free then is_dark ∷ [] else []) }
 {
     if is_free {
-        bits.push(is_dark);
+        bits.push_number(u32::from(is_dark), 1);
     }
 }
 
@@ -33,14 +31,14 @@ fn unmasked(rows: &[u64], mask: Mask, x: usize, y: usize) -> bool
 }
 
 /// Appends the free modules of a strip, row after row.
-fn read_strip(strip: Strip, free: &Square, rows: &[u64], mask: Mask, bits: &mut BitList)
+fn read_strip(strip: Strip, free: &Square, rows: &[u64], mask: Mask, bits: &mut Bits)
     requires side { (strip.side ≡ length rows.now) × (length rows.now ≤ SIDE) }
     requires column { strip.x + 1 < SIDE }
     requires strip { strip.x + 1 ≡ right_column strip.side strip.number }
-    requires room { array_vec_len bits.old + 2 * strip.side ≤ MAX_BITS }
-    ensures bits { bits.new.items ≡ bits.old.items
+    requires room { length (bits_in bits.old
+        ++ strip_bits strip.side (value_at free.now) (unmasked rows.now mask) strip.number) ≤ MAX_BITS }
+    ensures { bits_in bits.new ≡ bits_in bits.old
         ++ strip_bits strip.side (value_at free.now) (unmasked rows.now mask) strip.number }
-    ensures len { array_vec_len bits.new ≤ array_vec_len bits.old + 2 * strip.side }
 {
     for t in 0..strip.side {
         let y = strip.row(t);
@@ -51,12 +49,13 @@ fn read_strip(strip: Strip, free: &Square, rows: &[u64], mask: Mask, bits: &mut 
 }
 
 /// Returns the free modules of a symbol with a mask taken off, strip after strip.
-pub(crate) fn read_strips(version: Version, free: &Square, rows: &[u64], mask: Mask) -> BitList
-    requires { length rows.now ≡ side_of version }
-    ensures { result.items ≡ walk_bits (side_of version) (value_at free.now) (unmasked rows.now mask) }
+pub(crate) fn read_strips(version: Version, free: &Square, rows: &[u64], mask: Mask) -> Bits
+    requires side { length rows.now ≡ side_of version }
+    requires room { length (walk_bits (side_of version) (value_at free.now) (unmasked rows.now mask)) ≤ MAX_BITS }
+    ensures { bits_in result ≡ walk_bits (side_of version) (value_at free.now) (unmasked rows.now mask) }
 {
     let side = version.side();
-    let mut bits = BitList::new();
+    let mut bits = Bits::new();
     for number in 0..(side - 1) / 2 {
         read_strip(Strip::new(side, number), free, rows, mask, &mut bits);
     }
