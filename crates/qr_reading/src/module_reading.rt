@@ -1,11 +1,9 @@
 //! The reading of a symbol's modules, with no correction (ISO/IEC 18004, 12).
-ghost use Rattle.std.specs.Prelude.{◌≡◌, ℕ, ◌≤◌, ◌<◌, ◌==◌, ◌&&◌, length, option_map, slice_index};
-ghost use Rattle.std.specs.Bool.{xor};
+ghost use Rattle.std.specs.Prelude.{◌≡◌, ◌≤◌, ◌<◌, ◌==◌, length, option_map, slice_index};
 ghost use Rattle.std.specs.List.{find, list_all, range_with_len};
 ghost use Rattle.qrdata.specs.Bits.{codewords_of};
 ghost use Rattle.qrdata.specs.Versions.{side_of, total_codewords};
 ghost use Rattle.qrmatrix.specs.Bits.{bit};
-ghost use Rattle.qrmatrix.specs.Masks.{is_flipped};
 ghost use Rattle.qrmatrix.specs.Reading;
 ghost use Rattle.qrmatrix.specs.Reading.{read_bits, read_matrix, read_square};
 ghost use Rattle.qrmatrix.specs.Square.{value_at};

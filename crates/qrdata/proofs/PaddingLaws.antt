@@ -17,8 +17,7 @@ use Rattle.std.proofs.Math.Nat.{div-eq_of_lt, mod-eq_of_lt}
 use Rattle.std.proofs.lemmas.Nat.{pow_pos}
 use Rattle.qrdata.specs.declared.bits.Bits.{Bits}
 use Rattle.qrdata.specs.Private.BitsInCodewords.{bits_in}
-use Rattle.qrdata.proofs.BitStringLaws.{bits_of-nil, bits_of-number_of, drop_front, length-bits_of, number_of-bits_of}
-use Rattle.qrdata.proofs.BitStringLaws.{take_front}
+use Rattle.qrdata.proofs.BitStringLaws.{bits_of-number_of, drop_front, length-bits_of, number_of-bits_of, take_front}
 use Rattle.qrdata.proofs.PayloadLaws.{AreBytes}
 
 pub byte_bits-append : (xs ys : List ℕ) → byte_bits (xs ++ ys) ≡ byte_bits xs ++ byte_bits ys
