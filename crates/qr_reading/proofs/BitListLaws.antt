@@ -1,10 +1,10 @@
 -- Lists of bits, and the numbers that they represent.
 use Rattle.std.proofs.Common.{◌≡◌, ℕ, suc, ◌+◌, ◌-◌, ◌/◌, ◌%◌, ◌^◌, ◌<◌, ◌≤◌, List, [], ◌∷◌, ◌++◌, Bool, false}
-use Rattle.std.proofs.Common.{length, take, drop, refl, append_assoc, append-nil, arith, get_or}
+use Rattle.std.proofs.Common.{length, drop, refl, append_assoc, append-nil, arith, get_or}
 use Rattle.std.proofs.Math.Pow.{pow_mono}
 use Rattle.std.proofs.lemmas.List.{drop_all, drop_more, length-drop}
 use Rattle.std.specs.Prelude.{if◌then◌else◌, ◌==◌}
-use Rattle.qrdata.specs.Bits.{bits_of, codewords_of, number_of}
+use Rattle.qrdata.specs.Bits.{bits_of, number_of}
 use Rattle.qrdata.specs.Segments.{byte_bits}
 use Rattle.qrdata.proofs.BitStringLaws.{number_of-lt}
 
@@ -25,17 +25,6 @@ number_all bits i number none is = omega (arith, rw (drop_all i bits none) at is
 
 pub number-small : (bits : List Bool) → length bits ≤ 16 → number_of bits < 2 ^ 16
 number-small bits few = omega (arith, number_of-lt bits, pow_mono few)
-
--- a codeword more of bits
-pub codeword_next : (codewords : List ℕ) (n m : ℕ) (rest : List Bool) → n ≡ suc m
-    → (codewords ++ number_of (take 8 rest) ∷ []) ++ codewords_of m (drop 8 rest) ≡ codewords ++ codewords_of n rest
-unfolding codewords_of
-codeword_next codewords n m rest more = rw (more, append_assoc codewords) refl
-
-pub codewords_all : (codewords : List ℕ) (n : ℕ) (rest : List Bool) → n ≡ 0
-    → codewords ≡ codewords ++ codewords_of n rest
-unfolding codewords_of
-codewords_all codewords n rest none = rw (none, append-nil) refl
 
 -- a bit more of a codeword
 pub bit_next : (bits : List Bool) (n m codeword : ℕ) → n ≡ suc m

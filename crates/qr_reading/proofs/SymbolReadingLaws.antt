@@ -1,19 +1,24 @@
 -- What a symbol is read as, by its side, the first modules of row 8, its patterns and the walk.
 use Rattle.std.proofs.Common.{◌≡◌, ℕ, ◌-◌, ◌/◌, ◌<◌, ◌≤◌, refl, sym, ap, subst, ◌∙◌, arith, Bool, true, false}
 use Rattle.std.proofs.Common.{List, [], ◌∷◌, length, map, Option, Some, None, ◌&&◌, ◌==◌}
-use Rattle.std.specs.Prelude.{find, if◌then◌else◌, option_and_then, slice_index_or}
+use Rattle.std.specs.Prelude.{All, find, if◌then◌else◌, nat_le, nat_lt, option_and_then, slice_index_or}
 use mathlib.Core.Bool.{xor}
 use Rattle.std.specs.List.{filter, flat_map, range_with_len}
-use Rattle.std.proofs.lemmas.Bool.{eqb-true}
+use Rattle.std.proofs.lemmas.Bool.{and_parts, eqb-true, leb-true, ltb-true}
 use Rattle.std.proofs.lemmas.Bool.Decides.{nat_tests}
 use Rattle.std.proofs.lemmas.List.{length-map, map-append}
-use Rattle.std.proofs.lemmas.List.Elements.{filter-append}
+use Rattle.std.proofs.lemmas.List.Elements.{filter-append, recursion_from_All}
 use Rattle.qrdata.specs.declared.level.Level.{Level}
 use Rattle.gf256.specs.BinaryPolynomial.{binary_remainder}
-use Rattle.qrdata.specs.Versions.{side_of}
+use Rattle.qrdata.specs.declared.bits.Bits.{Bits}
+use Rattle.qrdata.specs.Bits.{codewords_of}
+use Rattle.qrdata.specs.Versions.{side_of, total_codewords}
+use Rattle.qrdata.specs.Private.BitsInCodewords.{bits_in}
+use Rattle.qrdata.proofs.PaddingLaws.{whole_codewords}
 use Rattle.qrmatrix.specs.Bits.{bit}
 use Rattle.qrmatrix.specs.Functions.{is_free}
 use Rattle.qrmatrix.specs.Masks.{is_flipped}
+use Rattle.qrmatrix.specs.Placement.{remainder_bits}
 use Rattle.qrmatrix.specs.Square.{value_at}
 use Rattle.qrmatrix.specs.Private.Drawing.{MarksFree}
 use Rattle.qrmatrix.specs.Reading.{read_bits, read_format, read_matrix, read_with, shows_functions, shows_version, walk}
@@ -89,9 +94,25 @@ module _ (v : ℕ) (least : 1 ≤ v) (most : v ≤ 10) where
       sym (walk_kept (value_at free) (λ x y. xor (is_flipped mask x y) (m x y)) v least most)
       ∙ ap (map (λ (p : ℕ × ℕ). xor (is_flipped mask p.0 p.1) (m p.0 p.1))) same
 
-  pub length-read_bits : (mask : ℕ) (m : ℕ → ℕ → Bool) → length (read_bits v mask m) ≡ room v
+  few_bits : (nat_le (room v) 2775 && nat_lt (remainder_bits v) 8) ≡ true
+  unfolding total_codewords remainder_bits
+  few_bits = by_version (λ v. nat_le (room v) 2775 && nat_lt (remainder_bits v) 8) (λ v. true) refl v least most
+
+  length-read_bits : (mask : ℕ) (m : ℕ → ℕ → Bool) → length (read_bits v mask m) ≡ room v
   unfolding read_bits
   length-read_bits mask m = length-map _ _ ∙ filtered v least most
+
+  pub bits_fit : (mask : ℕ) (m : ℕ → ℕ → Bool) → length (read_bits v mask m) ≤ 2775
+  bits_fit mask m = omega (arith, length-read_bits mask m, leb-true (room v) 2775 (and_parts _ _ few_bits).0)
+
+  -- the codewords of the bits that were read
+  pub codewords_read : (mask : ℕ) (m : ℕ → ℕ → Bool) (bits : Bits) → bits_in bits ≡ read_bits v mask m
+      → All (λ w. w < 256) bits.codewords.items
+      → bits.codewords.items ≡ codewords_of (total_codewords v) (read_bits v mask m)
+  codewords_read mask m bits is bytes =
+      whole_codewords bits (total_codewords v) (recursion_from_All (λ w. w < 256) bits.codewords.items bytes)
+      (omega (arith, ap length is ∙ length-read_bits mask m, ltb-true (remainder_bits v) 8 (and_parts _ _ few_bits).1))
+      ∙ ap (codewords_of (total_codewords v)) is
 
 -- ---- the format information
 

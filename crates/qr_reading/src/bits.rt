@@ -1,19 +1,18 @@
 //! Bits of a symbol, and the numbers that they represent, the high bit first (ISO/IEC 18004, 7.4 and 12).
 ghost use Rattle.arrayvec.specs.ArrayVec.{array_vec_len};
-ghost use Rattle.qrdata.specs.Bits.{bits_of, codewords_of, number_of};
+ghost use Rattle.qrdata.specs.Bits.{bits_of, number_of};
 ghost use Rattle.qrdata.specs.Reading.{is_end, number_at};
 ghost use Rattle.qrdata.specs.Segments.{byte_bits};
 ghost use Rattle.std.specs.Prelude.{◌≡◌, ◌+◌, ◌*◌, ◌^◌, ◌≤◌, ◌<◌, ◌++◌, IfSome, if◌then◌else◌, length, option_map};
 
 use arrayvec::ArrayVec;
-use qrdata::{Codewords, MAX_CODEWORDS, power_of_two};
-use qrmatrix::SIDE;
+use qrdata::power_of_two;
 
-/// The most bits that are read of a symbol, one of each module.
-pub(crate) const MAX_BITS: usize = SIDE * SIDE;
+/// The most data bits of a symbol, those of version 10 at level L.
+pub(crate) const MAX_DATA_BITS: usize = 2192;
 
 /// Bits in the order of reading.
-pub(crate) type BitList = ArrayVec<bool, MAX_BITS>;
+pub(crate) type BitList = ArrayVec<bool, MAX_DATA_BITS>;
 
 /// Returns what a bit is worth that has `place` others after it.
 #[inline(always)]
@@ -63,26 +62,10 @@ pub(crate) fn is_end(bits: &[bool]) -> bool
     bits.len() < 4 || number_of(&bits[..4]) == 0
 }
 
-/// Returns the first codewords of bits, eight bits each.
-pub(crate) fn codewords_of(count: usize, bits: &[bool]) -> Codewords
-    requires enough { 8 * count ≤ length bits.now }
-    requires few { count ≤ MAX_CODEWORDS }
-    ensures { result.items ≡ codewords_of count bits.now }
-{
-    let mut codewords = Codewords::new();
-    let mut rest = bits;
-    while codewords.len() < count {
-        let (front, after) = rest.split_at(8);
-        codewords.push(number_of(front) as u8);
-        rest = after;
-    }
-    codewords
-}
-
 /// Appends the bits of a codeword.
 #[inline(always)]
 fn push_codeword(codeword: u8, bits: &mut BitList)
-    requires { array_vec_len bits.old + 8 ≤ MAX_BITS }
+    requires { array_vec_len bits.old + 8 ≤ MAX_DATA_BITS }
     ensures { bits.new.items ≡ bits.old.items ++ bits_of 8 codeword }
 {
     for place in 0..8_u8 {
@@ -92,7 +75,7 @@ fn push_codeword(codeword: u8, bits: &mut BitList)
 
 /// Returns the bits of codewords.
 pub(crate) fn bits_of_codewords(codewords: &[u8]) -> BitList
-    requires { 8 * length codewords.now ≤ MAX_BITS }
+    requires { 8 * length codewords.now ≤ MAX_DATA_BITS }
     ensures { result.items ≡ byte_bits codewords.now }
 {
     let mut bits = BitList::new();

@@ -1,22 +1,19 @@
 //! The reading of a symbol's modules, with no correction (ISO/IEC 18004, 12).
-ghost use Rattle.std.specs.Prelude.{◌≡◌, ℕ, ◌≤◌, ◌<◌, ◌==◌, ◌&&◌, length, option_map, slice_index};
-ghost use Rattle.std.specs.Bool.{xor};
+ghost use Rattle.std.specs.Prelude.{◌≡◌, ◌≤◌, ◌<◌, ◌==◌, length, option_map, slice_index};
 ghost use Rattle.std.specs.List.{find, list_all, range_with_len};
 ghost use Rattle.qrdata.specs.Bits.{codewords_of};
 ghost use Rattle.qrdata.specs.Versions.{side_of, total_codewords};
 ghost use Rattle.qrmatrix.specs.Bits.{bit};
-ghost use Rattle.qrmatrix.specs.Masks.{is_flipped};
 ghost use Rattle.qrmatrix.specs.Reading;
 ghost use Rattle.qrmatrix.specs.Reading.{read_bits, read_matrix, read_square};
 ghost use Rattle.qrmatrix.specs.Square.{value_at};
 ghost use Rattle.qrmatrix.specs.Private.Drawing.{MarksFree};
 ghost use Rattle.qr_reading.specs.Private.Walking.{DrawsPatterns, format_named, shows_row};
 
-use crate::bits::codewords_of;
 use crate::data_reading::read_data;
 use crate::segment_reading::SymbolData;
 use crate::walk::read_strips;
-use qrdata::{Codewords, Level, Mask, Version};
+use qrdata::{Codewords, Level, Mask, Version, are_bytes};
 use qrmatrix::{SIDE, Square, draw_format, draw_functions};
 use std::marker::Model;
 
@@ -126,7 +123,8 @@ fn read_codewords(rows: &[u64], version: Version, mask: Mask, free: &Square) -> 
 {
     version.prove_range();
     let bits = read_strips(version, free, rows, mask);
-    codewords_of(version.total_codewords(), &bits)
+    are_bytes(&bits.codewords);
+    bits.codewords
 }
 
 /// Reads a square of modules as a symbol.

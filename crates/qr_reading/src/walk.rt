@@ -1,24 +1,25 @@
 //! The bits of a symbol, read strip by strip (ISO/IEC 18004, 7.7.3 and 12).
-ghost use Rattle.arrayvec.specs.ArrayVec.{array_vec_len};
-ghost use Rattle.std.specs.Prelude.{◌≡◌, ◌≤◌, ◌<◌, ◌+◌, ◌*◌, ◌++◌, [], ◌∷◌, if◌then◌else◌, length};
+ghost use Rattle.std.specs.Prelude.{◌≡◌, ◌≤◌, ◌<◌, ◌+◌, ◌++◌, length};
+ghost use Rattle.qrdata.specs.Private.BitsInCodewords.{bits_in};
 ghost use Rattle.qrdata.specs.Versions.{side_of};
 ghost use Rattle.qrmatrix.specs.Square.{value_at};
 ghost use Rattle.qrmatrix.specs.Private.Placing.{right_column};
-ghost use Rattle.qr_reading.specs.Private.Walking.{strip_bits, unmasked, walk_bits};
+ghost use Rattle.qr_reading.specs.Private.Walking.{pair_bits, strip_bits, unmasked, walk_bits};
 
-use crate::bits::{BitList, MAX_BITS};
-use qrdata::{Mask, Version};
+use qrdata::{Bits, MAX_BITS, Mask, Version};
 use qrmatrix::{SIDE, Square, Strip, mask_row_bits};
 
-/// Appends a module where it is free.
+/// Appends the free ones of two modules, the right one first.
 #[inline(always)]
-fn push_free(is_free: bool, is_dark: bool, bits: &mut BitList)
-    requires { array_vec_len bits.old + 1 ≤ MAX_BITS }
-    ensures bits { bits.new.items ≡ bits.old.items ++ (if is_free then is_dark ∷ [] else []) }
-    ensures len { array_vec_len bits.new ≤ array_vec_len bits.old + 1 }
+fn push_pair(right_free: bool, left_free: bool, right: bool, left: bool, bits: &mut Bits)
+    requires { length (bits_in bits.old) + length (pair_bits right_free left_free right left) ≤ MAX_BITS }
+    ensures { bits_in bits.new ≡ bits_in bits.old ++ pair_bits right_free left_free right left }
 {
-    if is_free {
-        bits.push(is_dark);
+    match (right_free, left_free) {
+        (true, true) => bits.push_number(2 * u32::from(right) + u32::from(left), 2),
+        (true, false) => bits.push_number(u32::from(right), 1),
+        (false, true) => bits.push_number(u32::from(left), 1),
+        (false, false) => {}
     }
 }
 
@@ -33,30 +34,35 @@ fn unmasked(rows: &[u64], mask: Mask, x: usize, y: usize) -> bool
 }
 
 /// Appends the free modules of a strip, row after row.
-fn read_strip(strip: Strip, free: &Square, rows: &[u64], mask: Mask, bits: &mut BitList)
+fn read_strip(strip: Strip, free: &Square, rows: &[u64], mask: Mask, bits: &mut Bits)
     requires side { (strip.side ≡ length rows.now) × (length rows.now ≤ SIDE) }
     requires column { strip.x + 1 < SIDE }
     requires strip { strip.x + 1 ≡ right_column strip.side strip.number }
-    requires room { array_vec_len bits.old + 2 * strip.side ≤ MAX_BITS }
-    ensures bits { bits.new.items ≡ bits.old.items
+    requires room { length (bits_in bits.old) + length
+        (strip_bits strip.side (value_at free.now) (unmasked rows.now mask) strip.number) ≤ MAX_BITS }
+    ensures { bits_in bits.new ≡ bits_in bits.old
         ++ strip_bits strip.side (value_at free.now) (unmasked rows.now mask) strip.number }
-    ensures len { array_vec_len bits.new ≤ array_vec_len bits.old + 2 * strip.side }
 {
     for t in 0..strip.side {
         let y = strip.row(t);
-        let right = strip.x + 1;
-        push_free(free.get(right, y), unmasked(rows, mask, right, y), bits);
-        push_free(free.get(strip.x, y), unmasked(rows, mask, strip.x, y), bits);
+        push_pair(
+            free.get(strip.x + 1, y),
+            free.get(strip.x, y),
+            unmasked(rows, mask, strip.x + 1, y),
+            unmasked(rows, mask, strip.x, y),
+            bits,
+        );
     }
 }
 
 /// Returns the free modules of a symbol with a mask taken off, strip after strip.
-pub(crate) fn read_strips(version: Version, free: &Square, rows: &[u64], mask: Mask) -> BitList
-    requires { length rows.now ≡ side_of version }
-    ensures { result.items ≡ walk_bits (side_of version) (value_at free.now) (unmasked rows.now mask) }
+pub(crate) fn read_strips(version: Version, free: &Square, rows: &[u64], mask: Mask) -> Bits
+    requires side { length rows.now ≡ side_of version }
+    requires room { length (walk_bits (side_of version) (value_at free.now) (unmasked rows.now mask)) ≤ MAX_BITS }
+    ensures { bits_in result ≡ walk_bits (side_of version) (value_at free.now) (unmasked rows.now mask) }
 {
     let side = version.side();
-    let mut bits = BitList::new();
+    let mut bits = Bits::new();
     for number in 0..(side - 1) / 2 {
         read_strip(Strip::new(side, number), free, rows, mask, &mut bits);
     }

@@ -17,8 +17,7 @@ use Rattle.std.proofs.Math.Nat.{div-eq_of_lt, mod-eq_of_lt}
 use Rattle.std.proofs.lemmas.Nat.{pow_pos}
 use Rattle.qrdata.specs.declared.bits.Bits.{Bits}
 use Rattle.qrdata.specs.Private.BitsInCodewords.{bits_in}
-use Rattle.qrdata.proofs.BitStringLaws.{bits_of-nil, bits_of-number_of, drop_front, length-bits_of, number_of-bits_of}
-use Rattle.qrdata.proofs.BitStringLaws.{take_front}
+use Rattle.qrdata.proofs.BitStringLaws.{bits_of-number_of, drop_front, length-bits_of, number_of-bits_of, take_front}
 use Rattle.qrdata.proofs.PayloadLaws.{AreBytes}
 
 pub byte_bits-append : (xs ys : List ℕ) → byte_bits (xs ++ ys) ≡ byte_bits xs ++ byte_bits ys
@@ -147,18 +146,20 @@ unfolding bits_of
 bits_of-zero zero = refl
 bits_of-zero (suc width) = rw (bit_zero width, bits_of-zero width) refl
 
--- the codewords of the bits of bytes are the bytes
-codewords_of-byte_bits : (codewords : List ℕ) → AreBytes codewords
-    → codewords_of (length codewords) (byte_bits codewords) ≡ codewords
+-- the codewords of the bits of bytes are the bytes, whatever bits come after them
+codewords_of-byte_bits : (codewords : List ℕ) (rest : List Bool) → AreBytes codewords
+    → codewords_of (length codewords) (byte_bits codewords ++ rest) ≡ codewords
 unfolding codewords_of byte_bits
-codewords_of-byte_bits [] w = refl
-codewords_of-byte_bits (codeword ∷ codewords) w =
-    let front : take 8 (bits_of 8 codeword ++ byte_bits codewords) ≡ bits_of 8 codeword =
-    take_front 8 (bits_of 8 codeword) (byte_bits codewords) (length-bits_of 8 codeword) in
-    let rest : drop 8 (bits_of 8 codeword ++ byte_bits codewords) ≡ byte_bits codewords =
-    drop_front 8 (bits_of 8 codeword) (byte_bits codewords) (length-bits_of 8 codeword) in
-    let value : number_of (bits_of 8 codeword) ≡ codeword = number_of-bits_of 8 codeword ∙ mod-eq_of_lt w.0 in
-    rw (front, rest, value, codewords_of-byte_bits codewords w.1) refl
+codewords_of-byte_bits [] rest w = refl
+codewords_of-byte_bits (codeword ∷ codewords) rest w =
+    rw (
+      append_assoc (bits_of 8 codeword) (byte_bits codewords) rest,
+      take_front 8 (bits_of 8 codeword) (byte_bits codewords ++ rest) (length-bits_of 8 codeword),
+      drop_front 8 (bits_of 8 codeword) (byte_bits codewords ++ rest) (length-bits_of 8 codeword),
+      number_of-bits_of 8 codeword,
+      mod-eq_of_lt w.0,
+      codewords_of-byte_bits codewords rest w.1,
+    ) refl
 
 pub length-bits_in : (bits : Bits) → length (bits_in bits) ≡ 8 * length bits.codewords.items + bits.rest.count
 length-bits_in bits =
@@ -169,11 +170,9 @@ length-bits_in bits =
       length-bits_of bits.rest.count bits.rest.number,
     )
 
--- bits that end with a codeword are those of their codewords
-pub whole_codewords : (bits : Bits) (n : ℕ) → AreBytes bits.codewords.items → length (bits_in bits) ≡ 8 * n
-    → bits.codewords.items ≡ codewords_of (length (bits_in bits) / 8) (bits_in bits)
+-- the codewords that are full are those of all the bits
+pub whole_codewords : (bits : Bits) (n : ℕ) → AreBytes bits.codewords.items → length (bits_in bits) / 8 ≡ n
+    → bits.codewords.items ≡ codewords_of n (bits_in bits)
 whole_codewords bits n w whole =
-    let long = length-bits_in bits in
-    let none : bits.rest.count ≡ 0 = omega (arith, bits.rest.few) in
-    let size : length (bits_in bits) / 8 ≡ length bits.codewords.items = omega arith in
-    rw (size, none, bits_of-nil, append-nil) (sym (codewords_of-byte_bits bits.codewords.items w))
+    let size : n ≡ length bits.codewords.items = omega (arith, whole, length-bits_in bits, bits.rest.few) in
+    rw size (sym (codewords_of-byte_bits bits.codewords.items (bits_of bits.rest.count bits.rest.number) w))

@@ -15,14 +15,14 @@ use crate::blocks::{Codewords, MAX_CODEWORDS};
 use crate::mode::{Mode, Segment, value_of};
 use crate::version::Version;
 
-/// The most data bits of a symbol, those of version 10 at level L.
-const MAX_BITS: usize = 2192;
+/// The most bits that the modules of a symbol hold: its codewords, and less than eight bits more.
+pub const MAX_BITS: usize = 8 * MAX_CODEWORDS + 7;
 
-/// The bits of a symbol's data: whole codewords, and the bits after them.
+/// Bits in their order: whole codewords, and the bits after them.
 #[derive(Drop)]
-pub(crate) struct Bits {
+pub struct Bits {
     /// The codewords, the first bits.
-    pub(crate) codewords: Codewords,
+    pub codewords: Codewords,
     rest: Rest,
 }
 
@@ -62,7 +62,7 @@ impl Bits {
 
     /// Makes an empty list of bits.
     #[tactic(auto, unfolding(crate::specs::Segments::byte_bits, crate::specs::Bits::bits_of))]
-    pub(crate) fn new() -> Bits
+    pub fn new() -> Bits
         ensures { bits_in result ≡ [] }
     {
         Bits {
@@ -76,7 +76,7 @@ impl Bits {
 
     /// Writes the lowest `width` bits of a number at the end, the high bit first.
     #[inline(always)]
-    fn push_number(&mut self, number: u32, width: usize)
+    pub fn push_number(&mut self, number: u32, width: usize)
         requires narrow { width ≤ 16 }
         requires room { length (bits_in self.old) + width ≤ MAX_BITS }
         ensures { bits_in self.new ≡ bits_in self.old ++ bits_of width number }

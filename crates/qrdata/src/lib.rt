@@ -16,7 +16,7 @@ mod plan;
 mod segmentation;
 mod version;
 
-pub use bits::{are_bytes, power_of_two};
+pub use bits::{Bits, MAX_BITS, are_bytes, power_of_two};
 pub use blocks::{Codewords, Lengths, MAX_CODEWORDS, push_codewords, push_lengths};
 pub use codeword_sequence::codewords;
 pub use level::Level;

@@ -82,16 +82,26 @@ returns-in_err-message c =
     (c.split_at.ensures.front ∙ ap (λ n. take n c.args.codewords.now) c.data_codewords.ensures)
     (c.split_at.ensures.back ∙ ap (λ n. drop n c.args.codewords.now) c.data_codewords.ensures))
 
+pub bits_of_codewords-requires : goal.bits_of_codewords-requires
+bits_of_codewords-requires c =
+    omega (
+      arith,
+      data_codewords-few c.args.version c.args.level c.data_codewords.ensures c.prove_range.ensures,
+      ap length c.as_slice-2.ensures.value,
+      c.in_ok-message.ensures.len,
+      c.split_at.ensures.front_len,
+    )
+
 pub read_segments-requires : goal.read_segments-requires
 read_segments-requires c =
     omega (
       arith,
       data_codewords-few c.args.version c.args.level c.data_codewords.ensures c.prove_range.ensures,
-      ap length (c.deref.ensures.0 ∙ c.bits_of_codewords.ensures),
-      length-byte_bits c.as_slice-2.result.now,
       ap length c.as_slice-2.ensures.value,
       c.in_ok-message.ensures.len,
       c.split_at.ensures.front_len,
+      ap length (c.deref.ensures.0 ∙ c.bits_of_codewords.ensures),
+      length-byte_bits c.as_slice-2.result.now,
     )
 
 pub returns : goal.returns

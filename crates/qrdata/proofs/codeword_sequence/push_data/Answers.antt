@@ -30,7 +30,10 @@ end-requires c = record {
     c.data_codewords-size.ensures,
     length-segments_bits c.args.version c.args.segments.now c.args.bytes.now c.requires.plan.cut,
   );
-  size = data_codewords-few c.args.version c.args.level c.data_codewords-size.ensures c.prove_range.ensures;
+  size = omega (
+    arith,
+    data_codewords-few c.args.version c.args.level c.data_codewords-size.ensures c.prove_range.ensures,
+  );
 }
 
 pub returns : goal.returns

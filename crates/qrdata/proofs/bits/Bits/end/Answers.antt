@@ -41,11 +41,9 @@ returns-clause-bits c =
 
 pub returns-clause-codewords : goal.returns-clause-codewords
 returns-clause-codewords c =
-    let ended = IsEnded-of c.args.size (bits_in c.args.self.now) c.requires.fits in
     let codewords = c.push_number-2.new.self.codewords.items in
-    whole_codewords c.push_number-2.new.self ended.codewords
-    (recursion_from_All (λ b. b < 256) codewords (rw c.as_slice.ensures.value at c.are_bytes.ensures))
-    (ap length (returns-clause-bits c) ∙ ended.whole)
+    whole_codewords c.push_number-2.new.self _
+    (recursion_from_All (λ b. b < 256) codewords (rw c.as_slice.ensures.value at c.are_bytes.ensures)) refl
 
 pub returns-clause-count : goal.returns-clause-count
 returns-clause-count c =

@@ -7,5 +7,5 @@ use Rattle.qrdata.proofs.bits.Bits.push_bytes.Given as goal
 abbrev pub invariant-loop-byte : goal.invariant-loop-byte
 invariant-loop-byte l = record {
   written : bits_in l.self ++ byte_bits (drop l.byte-index l.bytes) ≡ bits_in l.fn.self ++ byte_bits l.bytes;
-  room : length (bits_in l.self) + 8 * (length l.bytes - l.byte-index) ≤ 2192;
+  room : length (bits_in l.self) + 8 * (length l.bytes - l.byte-index) ≤ 2775;
 }

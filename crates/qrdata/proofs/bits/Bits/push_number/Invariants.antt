@@ -10,7 +10,7 @@ invariant-loop-count l = record {
   written : byte_bits l.self.codewords.items ++ bits_of l.count l.value ≡ bits_in l.fn.self ++ bits_of l.width l.number;
   small : l.value < 2 ^ l.count;
   few : l.count ≤ 23;
-  room : 8 * length l.self.codewords.items + l.count ≤ 2192;
+  room : 8 * length l.self.codewords.items + l.count ≤ 2775;
 }
 
 abbrev pub decreases-loop-count : goal.decreases-loop-count

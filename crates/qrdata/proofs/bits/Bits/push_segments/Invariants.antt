@@ -9,7 +9,7 @@ abbrev pub invariant-loop-segment : goal.invariant-loop-segment
 invariant-loop-segment l = record {
   written : bits_in l.self ++ segments_bits l.version (drop l.segment-index l.segments) (drop l.place l.bytes)
       ≡ bits_in l.fn.self ++ segments_bits l.version l.segments l.bytes;
-  room : length (bits_in l.self) + cost l.version (drop l.segment-index l.segments) ≤ 2192;
+  room : length (bits_in l.self) + cost l.version (drop l.segment-index l.segments) ≤ 2775;
   inside : l.place ≤ length l.bytes;
   cut : IsSegmentation l.version (drop l.segment-index l.segments) (drop l.place l.bytes);
 }
