@@ -6,7 +6,7 @@
 //!
 //! Inside, `module_reading` compares a square with the patterns of the symbol that it names, and `walk` reads its bits.
 //! `data_reading` takes the blocks back out of the codewords and tests each (`block_reading`), and reads the segments
-//! that they hold (`segment_reading`). Numbers and codewords are read from lists of `bits`.
+//! that they hold (`segment_reading`), whose numbers are read from a list of `bits`.
 #![tactic(auto)]
 
 mod bits;
