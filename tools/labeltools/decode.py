@@ -117,7 +117,7 @@ def dots_of_escpos(data: bytes, width: int) -> Dots:
             raise NotDecoded(Text("no escpos of label-print"))
         size, count = struct.unpack_from("<HH", data, at + 4)
         if not 0 < size <= stride:
-            raise NotDecoded(Text("an image of {} bytes for {}", size, stride))
+            raise NotDecoded(Text("no escpos of label-print"))
         at += 8
         image = whole(data[at : at + size * count], size * count)
         has_dots = image.strip(b"\0")
@@ -232,7 +232,7 @@ def expanded(text: bytes) -> str:
     """
     kinds = text.translate(KINDS)
     if text.translate(None, COUNTS + OTHERS) or b"G," in kinds:
-        raise NotDecoded(Text("zpl with signs that are no run lengths"))
+        raise NotDecoded(Text("no zpl of label-print"))
     pieces = (b"+" + text).translate(WITHOUT_COUNTS).decode("ascii").split()
     counts = text.translate(COUNTS_ALONE).decode("ascii").split()
     found = [""] * (len(pieces) + len(counts))

@@ -1,4 +1,4 @@
-"""Keeps what was made and is wanted again: many labels have the same price, and few the same title."""
+"""Keeps what was made and is wanted again: many labels have the same price, few the same title."""
 
 from typing import Callable, Generic, Hashable, TypeVar
 

@@ -16,6 +16,7 @@ from labeltools.drawn_letters import Extent, Font, Reach
 from labeltools.drawn_pdf import pages_of_pdf
 from labeltools.forms import dots, escpos, zpl
 from labeltools.forms.dots import Picture
+from labeltools.kept import Kept
 from labeltools.messages import Silence, ToolError
 from labeltools.print_job import Prepared, PrintOptions, labels_of, planned
 
@@ -403,6 +404,35 @@ class OwnDesigns(unittest.TestCase):
                     write(found)
 
 
+class Again(unittest.TestCase):
+    """What comes on many labels is made twice, and then kept."""
+
+    def test_what_comes_twice_is_kept(self) -> None:
+        made = []
+
+        def make(key: str) -> str:
+            made.append(key)
+            return key.upper()
+
+        kept: Kept[str, str] = Kept(2)
+        found = [kept.get(key, make, lambda text: text + "!") for key in "aaabbbccca"]
+        self.assertEqual(found, ["A", "A", "A!", "B", "B", "B!", "C", "C", "C!", "A"])
+        self.assertEqual("".join(made), "aabbcca")
+
+    def test_a_drawing_that_is_copied(self) -> None:
+        """Its dots are those that Cairo paints."""
+        with own_design() as design:
+            options = options_of("zpl", design=design, paper=(100.0, 60.0))
+            found = found_of(options, OwnDesigns.LABELS)
+        painted = mock.patch("labeltools.own_pen.OwnPen.draw_drawing", side_effect=AssertionError)
+        with painted:
+            copied = write(found)
+        with mock.patch("labeltools.own_pen.OwnPen.is_begun", return_value=False):
+            self.assertEqual(write(found), copied)
+            with painted, self.assertRaises(AssertionError):
+                write(found)
+
+
 class Read(unittest.TestCase):
     """What is read back is what was written."""
 
@@ -455,6 +485,14 @@ class Read(unittest.TestCase):
                 compare.CodesOfPage(page, 0.125).check(wanted)
         page.codes = [code]
         compare.CodesOfPage(page, 0.125).check(wanted)
+
+    def test_large_letters_are_fields_of_their_own(self) -> None:
+        """A byte of white parts them where it is in 20 rows; both widths are read back."""
+        for rows, fields in ((19, 1), (20, 2)):
+            picture = Picture(24, rows, tuple(bytes([255, 0, row]) for row in range(1, rows + 1)))
+            label = zpl.zpl(picture, 1)
+            self.assertEqual(label.count(b"^FO"), fields)
+            self.assertEqual(tuple(decode.dots_of("zpl", label, 24).rows), picture.rows)
 
     def test_fields_over_one_another(self) -> None:
         """Dark dots of both are dark, whichever is first and where rows end."""
