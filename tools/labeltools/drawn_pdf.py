@@ -182,6 +182,15 @@ class Pdf:
         return left, top, right, bottom
 
 
+def one_string(plain: Optional[bytes], coded: Optional[bytes]) -> Optional[bytes]:
+    """Returns a string that is shown, with its brackets; None where none is."""
+    if plain is not None:
+        return b"(%b)" % plain
+    if coded is not None:
+        return b"<%b>" % coded
+    return None
+
+
 class Reader:
     """Reads pages."""
 
@@ -212,11 +221,7 @@ class Reader:
             if number:
                 self.draw(int(number), around, found)
                 continue
-            letters = strings
-            if plain is not None:
-                letters = b"(%b)" % plain
-            elif coded is not None:
-                letters = b"<%b>" % coded
+            letters = strings or one_string(plain, coded)
             if letters is None:
                 continue
             if not is_new:

@@ -352,7 +352,8 @@ class Looks(CellTest):
             self.check_price(data, None if said else "12.49", said)
 
     def test_a_row_without_height_is_hidden(self) -> None:
-        for height, prices in (("0", []), ("15", ["14.25"])):
+        cases: List[Tuple[str, List[str]]] = [("0", []), ("15", ["14.25"])]
+        for height, prices in cases:
             lines = rows(HEAD, [PENCIL, "Tea", 14.25], [SMALL, "Tea", 14.25])
             lines = lines.replace('<row r="2">', f'<row r="2" ht="{height}" customHeight="1">')
             found, said = self.ran(xlsx(lines), *PRICED)
@@ -651,8 +652,8 @@ class Heads(CellTest):
         """Lists have them on each page; an article may be called as a column is."""
         words = ["--code", "EAN", "--title", "Name", "--price", "VK"]
         for head in ("EAN;Name;VK;Stock", "EAN;Name;VK;", ";Name;;"):
-            data = f"EAN;Name;VK;Stock\n{PENCIL};Tea;3,33;7\n{head}\n{SMALL};Tea;2,22;7\n"
-            self.assertEqual(self.ran(data.encode(), *words)[0], ["3,33", "2,22"], head)
+            data = f"EAN;Name;VK;Stock\n{PENCIL};Tea;3,33;7\n{head}\n{SMALL};Tea;2,22;7\n".encode()
+            self.assertEqual(self.ran(data, *words)[0], ["3,33", "2,22"], head)
         data = f"Code;Name;VK\nName;VK;3,33\n{SMALL};Tea;2,22\n".encode()
         free = ["--code", "Code", "--price", "VK", "--symbology", "code128"]
         prices, said = self.ran(data, *free)
