@@ -24,6 +24,7 @@ OWN_TABLE = Text("make a table of its own of it")
 ZERO_HINT = Text("it is a zero, which its number format shows so")
 # a text without one of these has nothing that is looked at
 LOOKED_AT = re.compile(f"{LEFT.pattern}|{MARK.pattern}")
+HALF = Decimal("0.5")
 SHOWN_DECIMALS = 6  # of the number of a cell, in a message
 PROGRAM_DECIMALS = 17  # of a number that a program has calculated
 
@@ -137,7 +138,8 @@ class Noticed:
 
     def shown(self, price: Price, row: int, number: Decimal) -> None:
         """Looks at a price that is the number of a cell; raises `RowError` where it is shown as
-        another one. Rounded to two decimals or more it is the same price.
+        another one. Rounded to two decimals or more it is the same price. What is no rounding, as
+        digits that its format adds, is another one.
         """
         money = price.money
         if money is None or money.currency == "cent":
@@ -146,7 +148,7 @@ class Noticed:
         if lost <= ARITHMETIC:  # most prices, at once
             return
         value = format(round(number, SHOWN_DECIMALS).normalize(), "f")
-        if lost > abs(number) * MOST_LOST:
+        if lost > min(abs(number) * MOST_LOST, HALF.scaleb(-money.decimals) + ARITHMETIC):
             what = Text("is shown as {}, and its value is {}", quoted(price.text), value)
             raise price.column.error(
                 RowError(what, Text("give it a number format of two decimals"))
