@@ -34,30 +34,36 @@ NAMES = {
 # parts of names, without accents, of prices that customers do not pay for one article: what a shop
 # pays, those without tax, older ones, and those of a unit or of many
 PAID = (
-    r"ek\b einkauf achat pa\b cost kost acquisto compra custo inkoop inkop zakup nakup nabav"
+    r"ek\b einkauf achat pa\b cost kost acquis compra custo inkoop inkop zakup nakup nabav"
     r" innpris innkjop osto alis\b beszerz закуп αγορ trade dealer handler wholesale grosshandel"
-    r" gros\b hurt pvd\b einstand landed tarif\spro\b cession purchas buy bought supplier vendor"
-    r" bewertungspreis lieferant fournisseur proveedor fornitore leverancier hek\b p\.?a\.?\sht"
+    r" gros\b hurt pvd\b einstand landed tarif\spro\b cession purchas anschaff beschaff"
+    r" buy(?:ing)?[\s-]?(?:price|in\b) bought supplier vendor bewertungspreis lieferant fournisseur"
+    r" proveedor fornitore leverancier hek\b ankauf p\.?a\.?\sht"
 )
 OTHER_PRICES = (
     r"ht\b net\b netto neto excl exkl ex\.?\s(?:vat|gst|tax)\b alt\b alte alter statt old compare"
     r" was\b ancien antiguo vecchio oude stara barre streich vorher bisher previous former"
-    r" precedent avant before initial original pseudo"
+    r" precedent avant\b before initial original pseudo"
 )
 NO_PRICE = re.compile(
     rf"\b(?:{'|'.join(f'{PAID} {OTHER_PRICES}'.split())})"
-    r"|liter|litre|kilo|/kg|/ ?1|grund|umsatz|summe|gesamt|total|wert\b|warenwert|revenue"
-    r"|(?:/|\b(?:je|pro|per|par|por|au|al|le)) ?(?:g|gr|l|lt|ltr|ml|cl|lbs?|oz|m|m2|m²|qm|lfm)\b"
-    r"|\bkg\b|turnover|value|\bab [0-9]|einheit|gruppe|group|kategorie|categor|staffel"
+    r"|/ ?1|grund|umsatz|summe|gesamt|total|wert\b|warenwert|revenue"
+    r"|turnover|value|\bab [0-9]|staffel"
+    r"|preis(?:einheit|gruppe|kategorie)|price ?(?:unit\b|group|categor)"
     r"|税抜|仕入|原価|进价|進價|매입"
 )
-# the price of a unit: in French, Italian and Spanish, or with its tax, it is that of one article
-UNIT = re.compile(r"unit(?!air|ari)")
+# the price of a unit or of a measure, which may be the one that is paid where there is no other. In
+# French, Italian and Spanish, or with its tax, that of a unit is that of one article.
+UNIT = re.compile(r"unit(?!air|ari)|einheit")
+MEASURE = re.compile(
+    r"liter|litre|kilo|(?<![0-9])(?<![0-9] )\bkg\b"
+    r"|(?:/|\b(?:je|pro|per|par|por|au|al|le)) ?(?:g|gr|l|lt|ltr|ml|cl|lbs?|oz|m|m2|m²|qm|lfm)\b"
+)
 TAXED = re.compile(r"\b(?:incl|inkl|inc\b|ttc|brutto|gross)")
 # names of numbers that are no amounts, and no titles: Tariff No., Zolltarifnummer, Code article
 NUMBERED = re.compile(
     r"\bno(?:\.|\s*\Z)|\b(?:num|numero|number|code|codigo|codice|kod|id|ref|reference)\b"
-    r"|nummer\b|nr\b|\bn ?[°º]|№|#"
+    r"|nummer\b|nr\b|\bn ?[°º]|№|#|zoll|customs|douan|tariff"
 )
 # parts of names of other numbers with decimals, where they have no part of the name of a price
 OTHER_NUMBERS = re.compile(
@@ -83,7 +89,8 @@ LISTED = re.compile(
 )
 # parts of names of prices for a while or for some: beside another price only the keeper knows
 FOR_SOME = re.compile(
-    r"\b(?:aktion|angebot|sonder|promo|offer|special|sale\b|sold|remis|oferta|offert|club|member)"
+    r"\b(?:aktion|angebot|sonder|promo|offer|special|sale\b|sold|remis|oferta|offert|club|member"
+    r"|rabatt|reduz|reduc|discount|ermass|scont|clearance)"
 )
 # parts of names of the codes of a case; and of codes that are surely EAN or UPC
 CASE = re.compile(r"\b(?:case|carton|outer|inner|box|pallet|colis|vpe)\b|karton|palette")
@@ -156,16 +163,19 @@ def guess(columns: Sequence[Sequence[str]], header: int) -> Guess:
     found: dict[str, int] = {}
     doubts: dict[str, Sequence[int]] = {}
     for kind in NAMES:
-        free = [place for place in range(len(columns)) if place not in found.values()]
-        scores = {place: score(kind, names[place], texts[place]) for place in free}
+        free = {
+            place: (names[place], texts[place])
+            for place in range(len(columns))
+            if place not in found.values()
+        }
+        scores = {place: score(kind, *column) for place, column in free.items()}
         best = max(free, key=scores.__getitem__, default=-1)
         if scores.get(best, 0) < LEAST:
-            if kind == "code":  # no name says it: what looks like one is shown
-                doubts[kind] = [place for place in free if is_number(names[place], texts[place])]
+            doubts[kind] = [place for place, column in free.items() if may_be(kind, *column)]
             continue
         found[kind] = best
-        others = rivals(kind, {place: (names[place], texts[place]) for place in free}, best)
-        sale = sale_of({place: (names[place], texts[place]) for place in (best, *others)})
+        others = rivals(kind, free, best)
+        sale = sale_of({place: free[place] for place in (best, *others)})
         if kind == "price" and sale is not None:
             found[kind] = sale
         elif others:
@@ -197,13 +207,24 @@ def rivals(kind: str, columns: Mapping[int, tuple[str, Sequence[str]]], best: in
     if kind != "price":
         return []
     others = []
+    is_for_some = FOR_SOME.search(plain(columns[best][0])) is not None
     for place, (name, other) in columns.items():
         is_like = is_amount if is_named_price(name) else is_price
-        if is_no_price(name) or other == texts:
+        is_other = is_for_some and is_unit_price(name)
+        if is_no_price(name) and not is_other or other == texts:
             continue
         if share(other, is_like) >= LEAST:
             others.append(place)
     return others
+
+
+def may_be(kind: str, name: str, texts: Sequence[str]) -> bool:
+    """Returns whether a column may be one of a kind where none is named so: a number of articles,
+    and the price of a unit.
+    """
+    if kind == "price":
+        return is_unit_price(name) and share(texts, is_price) >= LEAST
+    return kind == "code" and is_number(name, texts)
 
 
 def is_other_code(name: str, texts: Sequence[str], is_sure: bool) -> bool:
@@ -272,8 +293,23 @@ def is_no_price(name: str) -> bool:
     words = plain(name)
     if OTHER_NUMBERS.search(words) and not is_named_price(name):
         return True
-    if UNIT.search(words) and not TAXED.search(words):
-        return True
+    return is_of_unit(words) or is_of_others(words)
+
+
+def is_unit_price(name: str) -> bool:
+    """Returns whether a name is of prices of a unit or a measure, which a shop may ask for."""
+    words = plain(name)
+    return is_named_price(name) and is_of_unit(words) and not is_of_others(words)
+
+
+def is_of_unit(words: str) -> bool:
+    """Returns whether a plain name is of numbers of a unit or a measure."""
+    is_unit = UNIT.search(words) and not TAXED.search(words)
+    return bool(is_unit or MEASURE.search(words))
+
+
+def is_of_others(words: str) -> bool:
+    """Returns whether a plain name is of prices that are not those of sale, or of no amounts."""
     return any(pattern.search(words) for pattern in (NO_PRICE, NUMBERED, CASE))
 
 

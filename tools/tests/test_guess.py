@@ -255,6 +255,17 @@ PRICES = (
     ("Article;EAN;Hauteur;Prix", 4),
     ("Name;EAN;Marge €;VK €", 4),
     ("Name;EAN;Tariff No.;Price", 4),
+    ("Name;EAN;unit_price;promo_price", 0),
+    ("Stoff;EAN;VK/m;Rabattpreis", 0),
+    ("Käse;EAN;Ankauf;Preis/kg", 0),
+    ("Name;EAN;Unit cost;Unit price", 0),
+    ("Name;EAN;Zolltarif;VK-Preis", 4),
+    ("Billet;EAN;Frais;Prix", 0),
+    ("Café;EAN;Prix 250 g;Prix 1 kg", 0),
+    ("Spiel;EAN;Anschaffungspreis;Preis", 4),
+    ("Führung;EAN;Preis Gruppe;Preis Schüler", 0),
+    ("Platz;EAN;Preis Kategorie A;Preis ermäßigt", 0),
+    ("Item;EAN;Reserve price;Buy It Now price", 0),
 )
 CODES = ("4006381333931", "9780306406157", "5901234123457")
 LOW, HIGH = ("1,20", "8,40", "2,05"), ("1,99", "12,49", "3,10")
