@@ -25,6 +25,10 @@ ZERO_HINT = Text("it is a zero, which its number format shows so")
 # a text without one of these has nothing that is looked at
 LOOKED_AT = re.compile(f"{LEFT.pattern}|{MARK.pattern}")
 HALF = Decimal("0.5")
+KIND_OF_CODES = re.compile(
+    r"(?:EAN|GTIN|UPC|ISBN|JAN)(?:[- ]?(?:[0-9]{1,2}|code|A|E))?", re.IGNORECASE
+)
+HAS_DIGIT = re.compile("[0-9]")
 SHOWN_DECIMALS = 6  # of the number of a cell, in a message
 PROGRAM_DECIMALS = 17  # of a number that a program has calculated
 
@@ -229,9 +233,14 @@ class RowReader:
 
     def names_others(self, row: Row) -> bool:
         """Returns whether half of the cells of a row are names of columns, and one that is asked
-        for is in another place, or has another name in its place.
+        for is in another place, or has another name in its place. A row whose code is the name of
+        a kind of codes names others, too, where no other cell has digits.
         """
         texts = list(map(name_of, bare_texts(row)))
+        place = self.columns.code.place
+        code, *others = (*texts[place : place + 1], *texts[:place], *texts[place + 1 :])
+        if self.names and KIND_OF_CODES.fullmatch(code) and code != self.code_name:
+            return any(others) and not any(map(HAS_DIGIT.search, others))
         named = sum(text in self.names for text in texts if text)
         if not self.names or named < 2 or 2 * named < sum(map(bool, texts)):
             return False

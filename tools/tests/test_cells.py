@@ -591,6 +591,7 @@ class Texts(CellTest):
             ("Gr=C3=BCntee", 'an escape, for "Grüntee"'),
             ('["Tee"]', "quotes round it"),
             ("{{name}}", "the sign of a template"),
+            ('{"de": "Tee"}', "JSON"),
             ("[:de]Tee[:fr]Thé[:]", "the sign of a template"),
             ("Gr?ntee", "a question mark in a word, as for a lost letter"),
         ):
@@ -640,6 +641,7 @@ class Heads(CellTest):
             ("EAN;Name;EK;VK", f"{SMALL};Tea;1,11;2,22"),
             ("Name;EAN;Stock;VK", f"Tea;{SMALL};1;2,22"),
             ("EAN;Name;;EK;VK", f"{SMALL};Tea;;1,11;2,22"),
+            ("GTIN-13;Artikel;EK", f"{SMALL};Tea;1,11"),
         ):
             table = f"EAN;Name;VK;Stock;\n{PENCIL};Tea;3,33;7;\n"
             fill = ";" * (4 - head.count(";"))
