@@ -36,14 +36,15 @@ NAMES = {
 PAID = (
     r"ek\b einkauf achat pa\b cost kost acquis compra custo inkoop inkop zakup nakup nabav"
     r" innpris innkjop osto alis\b beszerz закуп αγορ trade dealer handler wholesale grosshandel"
-    r" gros\b hurt pvd\b einstand landed tarif\spro\b cession purchas anschaff beschaff"
+    r" gros\b hurt pvd\b einstand landed (?:tarif|prix)\spro\b cession purchas anschaff beschaff"
     r" buy(?:ing)?[\s-]?(?:price|in\b) bought supplier vendor bewertungspreis lieferant fournisseur"
-    r" proveedor fornitore leverancier hek\b ankauf p\.?a\.?\sht"
+    r" proveedor fornitore leverancier hek\b ankauf wiederverk reseller"
+    r" revendeur bestellpreis p\.?a\.?\sht"
 )
 OTHER_PRICES = (
     r"ht\b net\b netto neto excl exkl ex\.?\s(?:vat|gst|tax)\b alt\b alte alter statt old compare"
     r" was\b ancien antiguo vecchio oude stara barre streich vorher bisher previous former"
-    r" precedent avant\b before initial original pseudo"
+    r" precedent avant\b before initial origin pseudo"
 )
 NO_PRICE = re.compile(
     rf"\b(?:{'|'.join(f'{PAID} {OTHER_PRICES}'.split())})"
@@ -85,7 +86,7 @@ SALE = re.compile(
 )
 # parts of names of what a maker or a list recommends: a price of the shop goes before it
 LISTED = re.compile(
-    r"\b(?:uvp|rrp|srp|msrp|list|listen|rec\b)|empfohl|conseil|sugg?e|recom|consigliat|advies"
+    r"\b(?:uvp|rrp|srp|msrp|list|listen|rec\b)|empf\b|empfoh|conseil|sugg?e|recom|consigliat|advies"
 )
 # parts of names of prices for a while or for some: beside another price only the keeper knows
 FOR_SOME = re.compile(
@@ -248,7 +249,11 @@ def sale_of(prices: Mapping[int, tuple[str, Sequence[str]]]) -> int | None:
     """Returns the place of the one price that is named as that of sale; None where there is none,
     or where another column may be a price of the shop, too.
     """
-    sales = [place for place, (name, _) in prices.items() if is_sale(name)]
+    sales = [
+        place
+        for place, (name, _) in prices.items()
+        if is_sale(name) and not LISTED.search(plain(name))
+    ]
     others = (name for place, (name, _) in prices.items() if place not in sales)
     if len(sales) != 1 or any(map(is_other_price, others)):
         return None
