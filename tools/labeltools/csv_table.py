@@ -11,7 +11,7 @@ from labeltools.text import Text
 from labeltools.messages import BAD_ARGUMENTS, RowError, Talk, ToolError, named, quoted
 from labeltools.names import name_of, row_of_names
 from labeltools.rows import Row
-from labeltools.shape import HINT, Shape, said_of_unnamed, shape_of
+from labeltools.shape import HINT, Shape, cut_price, said_of_unnamed, shape_of
 from labeltools.table_options import TableOptions
 
 LARGEST_FILE = 40 << 20  # bytes
@@ -25,6 +25,7 @@ DELIMITERS = {"tab": "\t", "none": ONE_COLUMN}
 # row
 SEPARATOR_LINE = re.compile(r'"?sep=([^"\r\n])"?[;,\t]*(?:\r\n|\r|\n|\Z)', re.IGNORECASE)
 LINE = re.compile(r"[^\r\n]*(?:\r\n|\r|\n)|[^\r\n]+")
+FIGURES = re.compile(r"\s*[0-9][0-9 .,'’-]*")  # a code or a price
 UNCLOSED = Text("a quote is not closed")
 AFTER_QUOTE = Text("text after a closing quote")
 AFTER_QUOTE_HINT = Text('write a quote in a quoted cell twice ("")')
@@ -41,6 +42,14 @@ class Record(NamedTuple):
     def is_blank(self) -> bool:
         """Returns whether the row has nothing in it."""
         return not self.problem and not any(map(str.strip, self.cells))
+
+
+class Cut(NamedTuple):
+    """Two cells of a row that may be one price."""
+
+    row: int
+    first: str
+    second: str
 
 
 class Fitness(NamedTuple):
@@ -66,6 +75,8 @@ class CsvTable:
     talk: Talk
     unnamed: dict[int, list[int]] = field(default_factory=dict)
     first_cells: dict[int, str] = field(default_factory=dict)
+    cut: Cut | None = None
+    has_commas: bool = False  # in prices, between quotes
 
     def rows(self) -> Iterator[Row]:
         """Yields the rows from the row of names on; one whose cells may have moved has a
@@ -85,6 +96,10 @@ class CsvTable:
         if shape.cut:
             first, second = map(quoted, shape.cut)
             text = Text("the cells {} and {} may be one price, in each row", first, second)
+            self.talk.say(text, HINT)
+        elif self.cut and self.has_commas:
+            number, first, second = self.cut
+            text = Text("row {} has {} and then {}: may be one price", number, first, second)
             self.talk.say(text, HINT)
         self.say_unnamed()
 
@@ -111,12 +126,23 @@ class CsvTable:
         problem = shape.problem(cells)
         if problem:
             return Row(row.number, cells, problem)
+        if self.delimiter == "," and shape.prices:
+            self.look_at_prices(row, shape.prices)
         if len(cells) > shape.names and self.options.file.has_header is not False:
             asked = [int(one) - 1 for one in self.options.columns.asked if one.isdecimal()]
             for place in shape.unnamed(cells, asked):
                 self.unnamed.setdefault(place, []).append(row.number)
                 self.first_cells.setdefault(place, cells[place])
         return Row(row.number, cells)
+
+    def look_at_prices(self, row: Record, places: Sequence[int]) -> None:
+        """Keeps the first price that may be cut in two, and whether others have their comma."""
+        for place in places:
+            text = row.cells[place]
+            if "," in text:
+                self.has_commas = True
+            elif self.cut is None and text.isdecimal() and (both := cut_price(row.cells, [place])):
+                self.cut = Cut(row.number, quoted(both[0]), quoted(both[1]))
 
     def say_unnamed(self) -> None:
         """Says which columns without a name have values."""
@@ -248,7 +274,11 @@ def parsed(text: str, begin: int, delimiter: str) -> Iterator[Record]:
     for number in count(1):
         taken.clear()
         try:
-            yield Record(number, next(reader))
+            cells = next(reader)
+            if len(taken) > 1 and is_of_rows(cells, delimiter):
+                yield Record(number, [], RowError(UNCLOSED))
+            else:
+                yield Record(number, cells)
         except StopIteration:
             return
         except csv.Error as error:
@@ -256,6 +286,30 @@ def parsed(text: str, begin: int, delimiter: str) -> Iterator[Record]:
             yield row
             if is_last:
                 return
+
+
+def is_of_rows(cells: Sequence[str], delimiter: str) -> bool:
+    """Returns whether a cell of several lines is made of rows, whose quotes began and ended by
+    chance: each line has as many cells as the row, and numbers where the others have them.
+
+    >>> is_of_rows(["40063", "Tea;1,20\\n40064;Salt", "0,90"], ";")
+    True
+    >>> is_of_rows(["40063", "Tea; green\\nnew; 40 bags", "0,90"], ";")
+    False
+    """
+    for place, cell in enumerate(cells):
+        if delimiter not in cell:  # most cells, at once
+            continue
+        first, *more = re.split("\r\n|\r|\n", cell)
+        if not more:
+            continue
+        rows = [line.split(delimiter) for line in (first, *more)]
+        rows[0] = [*cells[:place], *rows[0]]
+        rows[-1] = [*rows[-1], *cells[place + 1 :]]
+        figures = {tuple(FIGURES.fullmatch(text) is not None for text in row) for row in rows}
+        if len(figures) == 1 and all(len(row) == len(cells) for row in rows):
+            return any(next(iter(figures)))
+    return False
 
 
 def faulty(number: int, lines: Sequence[str], delimiter: str, error: str) -> tuple[Record, bool]:

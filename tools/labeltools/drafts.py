@@ -24,6 +24,11 @@ OWN_TABLE = Text("make a table of its own of it")
 ZERO_HINT = Text("it is a zero, which its number format shows so")
 # a text without one of these has nothing that is looked at
 LOOKED_AT = re.compile(f"{LEFT.pattern}|{MARK.pattern}")
+HALF = Decimal("0.5")
+KIND_OF_CODES = re.compile(
+    r"(?:EAN|GTIN|UPC|ISBN|JAN)(?:[- ]?(?:[0-9]{1,2}|code|A|E))?", re.IGNORECASE
+)
+HAS_DIGIT = re.compile("[0-9]")
 SHOWN_DECIMALS = 6  # of the number of a cell, in a message
 PROGRAM_DECIMALS = 17  # of a number that a program has calculated
 
@@ -137,7 +142,8 @@ class Noticed:
 
     def shown(self, price: Price, row: int, number: Decimal) -> None:
         """Looks at a price that is the number of a cell; raises `RowError` where it is shown as
-        another one. Rounded to two decimals or more it is the same price.
+        another one. Rounded to two decimals or more it is the same price. What is no rounding, as
+        digits that its format adds, is another one.
         """
         money = price.money
         if money is None or money.currency == "cent":
@@ -146,7 +152,7 @@ class Noticed:
         if lost <= ARITHMETIC:  # most prices, at once
             return
         value = format(round(number, SHOWN_DECIMALS).normalize(), "f")
-        if lost > abs(number) * MOST_LOST:
+        if lost > min(abs(number) * MOST_LOST, HALF.scaleb(-money.decimals) + ARITHMETIC):
             what = Text("is shown as {}, and its value is {}", quoted(price.text), value)
             raise price.column.error(
                 RowError(what, Text("give it a number format of two decimals"))
@@ -227,9 +233,14 @@ class RowReader:
 
     def names_others(self, row: Row) -> bool:
         """Returns whether half of the cells of a row are names of columns, and one that is asked
-        for is in another place, or has another name in its place.
+        for is in another place, or has another name in its place. A row whose code is the name of
+        a kind of codes names others, too, where no other cell has digits.
         """
         texts = list(map(name_of, bare_texts(row)))
+        place = self.columns.code.place
+        code, *others = (*texts[place : place + 1], *texts[:place], *texts[place + 1 :])
+        if self.names and KIND_OF_CODES.fullmatch(code) and code != self.code_name:
+            return any(others) and not any(map(HAS_DIGIT.search, others))
         named = sum(text in self.names for text in texts if text)
         if not self.names or named < 2 or 2 * named < sum(map(bool, texts)):
             return False

@@ -17,6 +17,7 @@ ESCAPES = re.compile(
 SIMPLE = {"\\n": "\n", "\\r": "\r", "\\t": "\t", '\\"': '"', "\\'": "'"}
 QUOTED = re.compile(r"\s*\[?(?:\".*\"|'.*')\]?\s*", re.DOTALL)
 TEMPLATE = re.compile(r"\{\{.+\}\}|\$\{.+\}|\[:[a-z]{2}\]|<%|%\(\w+\)s")
+JSON = re.compile(r'\s*\{\s*"[^"]+"\s*:.*\}\s*', re.DOTALL)
 LOST = re.compile(r"[^\W\d_]\?[^\W\d_]")
 GUARDED = re.compile("'[-=+@]")
 # by what UTF-8 is read wrongly, and how many pairs of letters a text of it has: one may be a word
@@ -54,6 +55,8 @@ def left_in(text: str) -> Text | None:
         return Text("an apostrophe in front, a spreadsheet's sign of text")
     if QUOTED.fullmatch(text):
         return Text("quotes round it")
+    if JSON.fullmatch(text):
+        return Text("JSON")
     if TEMPLATE.search(text):
         return Text("the sign of a template")
     if LOST.search(text) and "://" not in text:

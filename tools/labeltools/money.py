@@ -15,7 +15,7 @@ from labeltools.messages import RowError
 
 MOST_LETTERS = 60
 NO_CURRENCY = "¤"  # ISO 8859-15 has its € where other encodings have this sign
-MOST_BARE_DIGITS = 8
+MOST_BARE_DIGITS = 8  # of a price; a price that has so many ends in a zero
 MOST_WHOLE_DIGITS = 12
 MOST_DECIMALS = 6  # of a price that is printed as it stands
 OTHER_WORDS = Text("has other words than a price tag has")
@@ -209,6 +209,7 @@ NUMBER = re.compile(
     """,
     re.VERBOSE,
 )
+YEAR = re.compile("(?:19|20)(?!00)[0-9]{2}")  # four decimals of which two are zeros are a program's
 FOOTNOTE = re.compile(r"(?<=[0-9€$£.,a-zA-Zł\-])(?: ?\*{1,3}| ?[¹²³⁴⁵]\)?)\Z")
 ACCOUNTANTS = re.compile(r"\A\((?=.*[0-9]\)\Z)(.*)\)\Z")  # (5.00)
 SIGN_AS_POINT = re.compile(r"\A([0-9]{1,4}) ?([€$£]) ?([0-9]{2})\Z")  # 3€50
@@ -611,11 +612,17 @@ def check_amount(amount: Amount, has_currency: bool, is_plain: bool, most_decima
         raise NotMoney(Text("may be a time"))
     if len(whole) > 1 and whole[0] == "0":
         raise NotMoney(Text("begins with zeros, as a code does"))
-    if is_plain and not has_currency and len(whole) > MOST_BARE_DIGITS:
+    is_round = len(whole) < MOST_BARE_DIGITS or len(whole) == MOST_BARE_DIGITS and whole[-1] == "0"
+    if is_plain and not has_currency and not is_round:
         raise NotMoney(
             Text("is {} digits without a separator or a currency", len(whole)),
             Text("is it a code?"),
         )
+    is_month = (
+        amount.point == "." and int(whole) in range(1, 13) and YEAR.fullmatch(amount.decimals)
+    )
+    if is_month and not has_currency and most_decimals == MOST_DECIMALS:
+        raise NotMoney(Text("may be a month and its year"))
     if len(amount.decimals) > most_decimals or len(whole) > MOST_WHOLE_DIGITS:
         raise NotMoney(Text("has too many digits"), Text("give --price-as"))
 

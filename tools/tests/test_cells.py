@@ -445,6 +445,8 @@ class Kinds(CellTest):
             ("0.00", 2.6775, "2.68", ""),
             ("0.000", 1.8594, "1.859", ""),
             ("0", 3, "3", ""),
+            ('0.00"9"', 12.4, None, f'is shown as "12.409", and its value is 12.4: {more}'),
+            ('0".99"', 120, None, f'is shown as "120.99", and its value is 120: {more}'),
         ):
             data = xlsx(rows(HEAD, [PENCIL, "Tea", cell(value, style=1)]), formats=[form])
             prices, messages = self.ran(data, *PRICED)
@@ -589,6 +591,7 @@ class Texts(CellTest):
             ("Gr=C3=BCntee", 'an escape, for "Grüntee"'),
             ('["Tee"]', "quotes round it"),
             ("{{name}}", "the sign of a template"),
+            ('{"de": "Tee"}', "JSON"),
             ("[:de]Tee[:fr]Thé[:]", "the sign of a template"),
             ("Gr?ntee", "a question mark in a word, as for a lost letter"),
         ):
@@ -638,6 +641,7 @@ class Heads(CellTest):
             ("EAN;Name;EK;VK", f"{SMALL};Tea;1,11;2,22"),
             ("Name;EAN;Stock;VK", f"Tea;{SMALL};1;2,22"),
             ("EAN;Name;;EK;VK", f"{SMALL};Tea;;1,11;2,22"),
+            ("GTIN-13;Artikel;EK", f"{SMALL};Tea;1,11"),
         ):
             table = f"EAN;Name;VK;Stock;\n{PENCIL};Tea;3,33;7;\n"
             fill = ";" * (4 - head.count(";"))
@@ -673,6 +677,14 @@ class Heads(CellTest):
             self.assertEqual(messages.count(said), int(is_said), second)
         data = f"EAN;Name;VK;Stock\n{PENCIL};Tea;2;99\n".encode()
         self.assertEqual(self.ran(data, "--code", "EAN", "--price", "VK"), (["2"], []))
+
+    def test_a_price_that_is_cut_is_said_where_others_are_in_quotes(self) -> None:
+        said = 'row 2 has "2" and then "99": may be one price; '
+        said += "a cell that contains the delimiter has to be in quotes"
+        for other, is_said in (('"3,50",7', True), ("3.50,7", False)):
+            data = f"EAN,Name,VK,Stock\n{PENCIL},Tea,2,99\n{SMALL},Tea,{other}\n".encode()
+            messages = self.ran(data, "--code", "EAN", "--price", "VK")[1]
+            self.assertEqual(messages.count(said), int(is_said), other)
 
     def test_prices_of_many_are_said(self) -> None:
         said = "has prices of 100 or 1000 by its name, and is printed as it is: "

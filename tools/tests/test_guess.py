@@ -1,11 +1,13 @@
 """What the columns of a table are guessed to be for, on tables of many shops, with decoys."""
 
+import doctest
 import tempfile
 import unittest
 from pathlib import Path
 from typing import Sequence
 
 import support
+from labeltools import guess as guesses
 from labeltools.guess import Guess, guess, guess_of
 from labeltools.messages import Silence
 from labeltools.table_options import FileOptions, TableOptions
@@ -71,6 +73,14 @@ TABLES = (
     ("Charge;Sorte;Datum", "L26-0011A;Apfelsaft;11.03.2026", "code title -"),
     ("Regal;Inhalt;Adresse", "R3;Schrauben M3;https://lager.example/r/3", "- title code"),
     ("Artikelbezeichnung;GTIN;CHF", "Rivella rot;4006381333931;2.50", "title code price"),
+    ("Käse;EAN;Fr. / 100 g;Fr. / Stück", "Tilsiter;4006381333931;1.95;4.85", "title code - price"),
+    ("Zolltarifnr.;EAN;Art.-Nr.", "731814;4006381333931;100-22 Schraube", "- code -"),
+    (
+        "Code article;Jeans;EAN;PU TTC",
+        "V12 Denim;Bleu nuit;4006381333931;39,90",
+        "- title code price",
+    ),
+    ("Bestellnummer;Artikelnummer;Ware", "4500012345;M-10023;Kugellager", "- code title"),
 )
 # tables in which two columns may be meant, and those that are
 DOUBTS: Sequence[tuple[str, str, dict[str, list[str]]]] = (
@@ -94,8 +104,25 @@ DOUBTS: Sequence[tuple[str, str, dict[str, list[str]]]] = (
         "4006381333931;4012345678901;Honig Linde;3,10;5,49",
         {},
     ),
+    (
+        "EAN;Seriennummer;Modell",
+        "4006381333931;SN-20144;Kamera Reflex",
+        {"code": ["EAN", "Seriennummer"]},
+    ),
+    (
+        "Artikelnummer;SKU;Ware",
+        "M-10023;SK-77120;Kugellager",
+        {"code": ["Artikelnummer", "SKU"]},
+    ),
+    ("N° billet;Place;Tarif", "FR26-0099123;B14;45,00", {"code": ["N° billet"]}),
+    ("Etikett;Eingang;Spender;Tel.", "C00812;03.11.2026;Anna;0151-2233445", {"code": ["Etikett"]}),
 )
-SYMBOLOGIES = {"Inventarnummer": "code128", "Charge": "code128", "Regal": "qr"}
+SYMBOLOGIES = {
+    "Inventarnummer": "code128",
+    "Charge": "code128",
+    "Regal": "qr",
+    "Bestellnummer": "code128",
+}
 
 
 def guessed(text: str, options: TableOptions = TableOptions()) -> Guess:
@@ -210,6 +237,40 @@ PRICES = (
     ("Käse;EAN;Preis/kg;Stückpreis", 4),
     ("Plante;Code-barres;Prix barré;Prix soldé", 4),
     ("Book;ISBN-13;Trade price;Cover price", 4),
+    ("Name;EAN;Verkaufspreis;Aktionspreis", 0),
+    ("Libellé;EAN13;PVC TTC;Prix remisé", 0),
+    ("Name;EAN;VK;Aktion", 0),
+    ("Name;EAN;Our price;Staff price", 0),
+    ("Name;EAN;Purchase price;Price", 4),
+    ("Name;EAN;purchaseprice;price", 4),
+    ("Name;EAN;Lieferantenpreis;VK", 4),
+    ("Name;EAN;price_net;price_gross", 4),
+    ("Name;EAN;EKBrutto;VKBrutto", 4),
+    ("Name;EAN;Unit price;Unit price incl. VAT", 4),
+    ("Désignation;EAN;PU HT;Prix unitaire TTC", 4),
+    ("Name;EAN;Preis je kg;Preis", 4),
+    ("Name;EAN;Bewertungspreis;Bruttopreis", 4),
+    ("Name;EAN;Preiseinheit;Bruttopreis", 4),
+    ("Name;EAN;Streichpreis;Preis", 4),
+    ("Article;EAN;Hauteur;Prix", 4),
+    ("Name;EAN;Marge €;VK €", 4),
+    ("Name;EAN;Tariff No.;Price", 4),
+    ("Name;EAN;unit_price;promo_price", 0),
+    ("Stoff;EAN;VK/m;Rabattpreis", 0),
+    ("Käse;EAN;Ankauf;Preis/kg", 0),
+    ("Name;EAN;Unit cost;Unit price", 0),
+    ("Name;EAN;Zolltarif;VK-Preis", 4),
+    ("Billet;EAN;Frais;Prix", 0),
+    ("Café;EAN;Prix 250 g;Prix 1 kg", 0),
+    ("Spiel;EAN;Anschaffungspreis;Preis", 4),
+    ("Kaffee;EAN;Empf. VK;Ihr VK", 4),
+    ("Brot;EAN;Ladenpreis;Wiederverkäuferpreis", 3),
+    ("Plante;EAN;Prix pro TTC;Prix particulier TTC", 4),
+    ("Sac;EAN;Prix d'origine;Prix soldé", 4),
+    ("Lunettes;EAN;Prix de vente conseillé;Prix magasin", 0),
+    ("Führung;EAN;Preis Gruppe;Preis Schüler", 0),
+    ("Platz;EAN;Preis Kategorie A;Preis ermäßigt", 0),
+    ("Item;EAN;Reserve price;Buy It Now price", 0),
 )
 CODES = ("4006381333931", "9780306406157", "5901234123457")
 LOW, HIGH = ("1,20", "8,40", "2,05"), ("1,99", "12,49", "3,10")
@@ -226,6 +287,20 @@ class Prices(unittest.TestCase):
             self.assertEqual(found.columns.get("price", -1) + 1, place, names)
             asked += place == 0
         self.assertLessEqual(3 * asked, len(PRICES))
+
+    def test_a_column_that_is_named_as_prices_has_prices(self) -> None:
+        for name in ("Tarif", "Preis", "Price"):
+            columns = [["EAN", *CODES], ["Name", "Tea", "Book", "Gum"], [name, "A", "B", "C"]]
+            self.assertNotIn("price", guess(columns, 1).columns, name)
+        prices = ["Preis", "1.299,00", "899,00", "12,50"]
+        self.assertEqual(guess([["EAN", *CODES], prices], 1).columns["price"], 1)
+
+
+def load_tests(
+    loader: unittest.TestLoader, tests: unittest.TestSuite, _: object
+) -> unittest.TestSuite:
+    tests.addTests(doctest.DocTestSuite(guesses))
+    return tests
 
 
 if __name__ == "__main__":

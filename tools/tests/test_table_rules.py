@@ -87,6 +87,13 @@ class Widths(RulesTest):
         problem = f"row 3: the row has 4 cells and row 1 has 3: {QUOTES}"
         self.check(text, self.ARGUMENTS, [f"ean8 {SMALL}"], [problem], 1)
 
+    def test_quotes_around_rows(self) -> None:
+        """A quote that begins in one row ends in another one, and the rows between are a title."""
+        text = f'EAN;Name;Price\n{SMALL};"Pen;1,99\n{PENCIL};Ink;2,99\n{SMALL};Cap";0,99\n'
+        self.check(text, self.ARGUMENTS, [], ["row 2: a quote is not closed"], 1)
+        text = f'EAN,Name,Price\n{SMALL},"Clock, 30\nround, 40",1.99\n'
+        self.check(text, self.ARGUMENTS, [f"ean8 {SMALL}"])
+
     def test_a_price_cut_in_two_where_row_1_ends_in_an_empty_name(self) -> None:
         text = f"EAN,Name,Price,\n{SMALL},Pen,1.99,\n{PENCIL},Pen,0,80\n"
         problem = f'row 3: the cells "0" and "80" may be one price: {QUOTES}'
