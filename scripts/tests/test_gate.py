@@ -373,7 +373,7 @@ class KeptLints(InFolder):
 # Stands in for a part of the gate. Of gate.py `quick` runs one step, `built` two.
 PART = """import sys
 steps = dict(quick=["one"], built={built!r}).get(sys.argv[-1], [])
-print(*(f"ok: {{step}}, 1.5 s" for step in steps), sep="\\n")
+print(*(f"ok: {{step}}, 1.5 s, 1.4 of processor" for step in steps), sep="\\n")
 print("{name}", *sys.argv[1:], "ran")
 print({more!r}, end="")
 print({last!r})
