@@ -1,8 +1,8 @@
 #!/usr/bin/python3
 """Checks the pages against the files that they speak of: *.md, docs/*.md and crates/*/README.md.
 
-- Each block of code is closed, and its language is one that a script reads: text, one of those below, and sh and sh
-  kit on the pages alone that run_recipes.py runs.
+- Each block of code is closed, and its language is one that a script reads: text, one of those below, and sh, sh kit
+  and console on the pages alone that run_recipes.py runs.
 - Code is quoted as it is: each block of a program's language in docs/LIBRARY.md and docs/PROOF.md, and each block of
   text that begins with a clause (`ensures`), is in a file crates/*.rt or lib/* that the page names before it, line by
   line, but for the spaces in front. A block below a line `Not checked:` is left out.
@@ -35,7 +35,10 @@ import sources
 README = "README.md"
 RUN = (README, "docs/INPUT.md", "docs/PRINTING.md", "docs/RECIPES.md")
 QUOTED = {"rust", "python"}
-LANGUAGES = {"sh", "sh kit", "text", *QUOTED}
+COMMANDS = {"sh", "sh kit", "console"}
+LANGUAGES = {"text", *COMMANDS, *QUOTED}
+# What a command of a session is behind.
+PROMPT = "$ "
 QUOTING = ("docs/LIBRARY.md", "docs/PROOF.md")
 # The pages that name the code, and the files that have its words.
 NAMING = tuple(f"docs/{name}.md" for name in ("ARCHITECTURE", "DEFINITIONS", "LIBRARY", "PROOF", "SPECIFICATION"))
@@ -105,8 +108,10 @@ def faults_of_blocks(page: str, blocks: Iterable[Block]) -> Iterator[tuple[int, 
             yield block.line, "this block is not closed"
         elif block.language not in LANGUAGES:
             yield block.line, f"no script reads blocks of {block.language or 'no language'}"
-        elif block.language.startswith("sh") and page not in RUN:
+        elif block.language in COMMANDS and page not in RUN:
             yield block.line, "nothing runs the commands of this page: write them as text"
+        elif block.language == "console" and not block.code.startswith(PROMPT):
+            yield block.line, "this session does not begin with a prompt"
         elif page in QUOTING and is_quoted and not block.above.rstrip().endswith(NOT_CHECKED):
             if not is_in_files(block.code, block.above):
                 yield block.line, "this code is in no file that the page names above it"
