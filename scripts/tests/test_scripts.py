@@ -517,10 +517,10 @@ class Judges(unittest.TestCase):
     def test_recipes(self) -> None:
         self.assertEqual([*run_recipes.unseen()], [])
         for where, name, bent, count in (
-            (run_recipes.Commands, "fault", lambda *given: "", 4),
+            (run_recipes.Commands, "fault", lambda *given: "", 6),
             (run_recipes, "fault_of_picture", lambda *given: "", 3),
-            (run_recipes, "judged", lambda *given: (1, 1), 7),
-            (run_recipes, "judged", lambda *given: (1, 0), 7),
+            (run_recipes, "judged", lambda *given: (1, 1), 9),
+            (run_recipes, "judged", lambda *given: (1, 0), 9),
         ):
             with mock.patch.object(where, name, bent):
                 self.assertEqual(len([*run_recipes.unseen()]), count)
