@@ -23,7 +23,7 @@ import os
 import re
 import sys
 from dataclasses import dataclass
-from typing import Iterable, Iterator, Mapping, Sequence
+from typing import Iterable, Iterator, Mapping
 
 from markdown_it import MarkdownIt
 from markdown_it.token import Token
@@ -42,7 +42,10 @@ PROMPT = "$ "
 QUOTING = ("docs/LIBRARY.md", "docs/PROOF.md")
 # The pages that name the code, and the files that have its words.
 NAMING = tuple(f"docs/{name}.md" for name in ("ARCHITECTURE", "DEFINITIONS", "LIBRARY", "PROOF", "SPECIFICATION"))
-CODE = ("crates/*/src/**/*.rt", "crates/*/specs/*.antt", "crates/*/proofs/**/*.antt", "lib/**/*.*", "lib/Makefile", "scripts/*.py")
+CODE = (
+    *("crates/*/src/**/*.rt", "crates/*/specs/*.antt", "crates/*/proofs/**/*.antt"),
+    *("lib/**/*.*", "lib/Makefile", "scripts/*.py"),
+)
 # The first two cells of the heads of tables that believed.py and instructions.py make or compare.
 MADE = (["What has to be read", "Definitions"], ["Name", "What it means"], *instructions.HEADS)
 MOST_BY_HAND = 1700
