@@ -13,8 +13,8 @@
 - README.md has at most MOST_OF_README lines, and it and docs/*.md have at most MOST_BY_HAND lines by hand. All lines
   count, blank ones too, but those of the tables of MADE, which scripts make or compare name by name.
 
-The last line is `N pages, B blocks, K names, H lines by hand, F faults`. The status is 1 where there is a fault, a line
-for each.
+The last line is `N pages, B blocks, K names, H lines by hand, F faults`. A fault is a line before it, and makes
+the status 1.
 """
 
 import functools
