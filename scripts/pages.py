@@ -11,7 +11,7 @@
 - Each crate has a page of at most 40 lines. Each line of a block of Rust in it, but for imports and comments, is a
   line of the function page_of_NAME in crates/tests/src/pages.rt, in the same order, white space apart.
 - README.md has at most MOST_OF_README lines, and it and docs/*.md have at most MOST_BY_HAND lines by hand. All lines
-  count, blank ones too, but those of the tables of MADE, which scripts make or compare name by name.
+  count, blank ones too, but what scripts make or compare name by name: tables of MADE, and what is between marks.
 
 The last line is `N pages, B blocks, K names, H lines by hand, F faults`. A fault is a line before it, and makes
 the status 1.
@@ -28,6 +28,7 @@ from typing import Iterable, Iterator, Mapping
 from markdown_it import MarkdownIt
 from markdown_it.token import Token
 
+import believed
 import instructions
 import sources
 
@@ -46,8 +47,9 @@ CODE = (
     *("crates/*/src/**/*.rt", "crates/*/specs/*.antt", "crates/*/proofs/**/*.antt"),
     *("lib/**/*.*", "lib/Makefile", "scripts/*.py"),
 )
-# The first two cells of the heads of tables that believed.py and instructions.py make or compare.
-MADE = (["What has to be read", "Definitions"], ["Name", "What it means"], *instructions.HEADS)
+# What believed.py writes, and the first two cells of the heads of tables that it and instructions.py make or compare.
+MARKED = re.compile(f"^{believed.BEGIN}$.*?^{believed.END}\n", re.MULTILINE | re.DOTALL)
+MADE = (["Name", "What it means"], *instructions.HEADS)
 MOST_BY_HAND = 1700
 MOST_OF_README = 110
 WITHOUT_EXAMPLE = {"labels", "labels_c", "examples", "tests"}
@@ -162,10 +164,11 @@ def cells_of(line: str) -> list[str]:
     return [cell.strip() for cell in re.split(r"(?<!\\)\|", line.strip())[1:-1]]
 
 
-def made_rows(page: str) -> int:
-    """How many lines the tables of MADE have in a page, with their heads."""
-    count, is_made, is_in_table = 0, False, False
-    for line in page.split("\n"):
+def made_lines(page: str) -> int:
+    """How many lines of a page scripts make: what is between believed.py's marks, and the tables of MADE."""
+    marked = [part[0] for part in MARKED.finditer(page)]
+    count, is_made, is_in_table = sum(part.count("\n") for part in marked), False, False
+    for line in MARKED.sub("", page).split("\n"):
         if line.startswith("|") and not is_in_table:
             is_made = cells_of(line)[:2] in MADE
         is_in_table = line.startswith("|")
@@ -176,7 +179,7 @@ def made_rows(page: str) -> int:
 def lines_by_hand(pages: Mapping[str, str]) -> int:
     """How many lines of README.md and docs/*.md no script makes."""
     counted = [text for path, text in pages.items() if path == README or path.startswith("docs/")]
-    return sum(text.count("\n") - made_rows(text) for text in counted)
+    return sum(text.count("\n") - made_lines(text) for text in counted)
 
 
 def faults_of_length(pages: Mapping[str, str]) -> Iterator[str]:
