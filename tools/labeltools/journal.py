@@ -8,8 +8,12 @@ A code that is there goes out no more. So several lanes print one file by one jo
 the next label that none has. One that was `sending` when its lane ended may be on paper or not.
 
 A lane locks a byte far behind the end of the file for as long as it runs, so that another one
-knows which of them have ended; and one more byte while it reads and writes. A line that was cut off
-was never followed by its label, and is taken out.
+knows which of them have ended; and one more byte while it reads and writes. A lane that gives a
+label up leaves its number with it, and no lane takes a number that a label waits with.
+
+A last line that was cut off was never followed by its label, and is taken out; where all of its
+fields are there, an editor may have left out its end alone, and its label is doubtful. Ends of
+lines may be those of Windows.
 """
 
 import fcntl
@@ -17,23 +21,34 @@ import os
 import re
 import stat
 import time
-from typing import NamedTuple, Optional
+from codecs import BOM_UTF8
+from contextlib import contextmanager, suppress
+from itertools import count
+from pathlib import Path
+from typing import Iterator, NamedTuple, Optional
 
 from labeltools.lines_file import LineRecord
 from labeltools.messages import ToolError
-from labeltools.text import Text
+from labeltools.text import NOTHING, Text
 
 HEAD = b"#labels journal 1\n"
 SENDING = "sending"
 TAKEN = "taken"
-EVENTS = (SENDING, TAKEN)
+EVENTS = (SENDING.encode(), TAKEN.encode())
 FIELDS = 6
 MOST_LANES = 64
+MOST_NAMED = 10  # lines that a message names
 FAR = 1 << 62  # of a file: bytes that are locked and never written
-LANE = re.compile(r"lane ([0-9]+)", re.ASCII)
+LANE = re.compile(rb"lane ([0-9]{1,9})")
 NO_JOURNAL = Text("give a file that label-print --journal has made, or a new name")
-STRANGE = re.compile(rb"[^ -\[\]-~]")
+CUT_OFF = Text("its last line was cut off, and was taken out: its label was not sent")
+NO_END = Text("its last line had no end, so its label may be on paper")
+NOT_WRITTEN = Text("see that it can be written, then give the same command again")
+NO_LOCKS = Text("put the journal on a disk that locks files")
+STRANGE = re.compile(rb"[^ -\[\]-~]| (?= *\Z)")  # what is written as escapes: blanks at the end too
 ESCAPES = {bytes([byte]): b"\\x%02X" % byte for byte in range(256)} | {b"\\": b"\\\\"}
+CODE = re.compile(rb"[!-~]+ (?:[ -\[\]-~]|\\\\|\\x[0-9A-F]{2})*")
+ENDS = b"\r "  # what an editor may put behind a line, and what no code ends in
 
 Code = tuple[str, bytes]
 
@@ -62,23 +77,21 @@ class Journal:
         self.entries: dict[Code, Entry] = {}
         self.end = 0
         self.lines = 0
-        self.is_mended = False
-        self.lane = self.free_lane()
-        self.lock()
-        try:
+        self.mended = NOTHING  # what was wrong with its last line
+        self.is_lost = False  # whether another program has taken its place
+        self.lane = 0
+        with self.locked():
             self.read()
-        finally:
-            self.unlock()
+            self.lane = self.free_lane()
         self.before = dict(self.entries)
 
     def claim(self, record: LineRecord, again: Optional[str] = None) -> bool:
         """Writes that the label of a line is sent, and returns whether it is for this lane: False
         where the journal has its code. A code that was last sent to the printer `again` before this
-        lane began is sent again.
+        lane began is sent again. Raises `ToolError` where it cannot be written.
         """
         code = code_of(record)
-        self.lock()
-        try:
+        with self.locked():
             self.read()
             found = self.entries.get(code)
             if found is not None:
@@ -86,19 +99,25 @@ class Journal:
                 if again is None or not is_old or found.printer != again or self.is_alive(found):
                     return False
             self.write(SENDING, record)
-        finally:
-            self.unlock()
-        os.fdatasync(self.file)
+        try:
+            os.fdatasync(self.file)
+        except OSError as error:
+            raise self.not_written(error) from error
         return True
 
     def take(self, record: LineRecord) -> None:
-        """Writes that a label was taken by the printer."""
-        self.lock()
-        try:
+        """Writes that a label was taken by the printer; raises `ToolError`."""
+        with self.locked():
             self.read()
             self.write(TAKEN, record)
-        finally:
-            self.unlock()
+
+    def give_up(self) -> None:
+        """Leaves the label that is sent in doubt, with the number of this lane, and takes another
+        number: other lanes see that nobody sends the label any more.
+        """
+        with self.locked():
+            fcntl.lockf(self.file, fcntl.LOCK_UN, 1, FAR + self.lane)
+            self.lane = self.free_lane()
 
     def entry(self, record: LineRecord) -> Optional[Entry]:
         """Returns the last that is known of the code of a line."""
@@ -119,50 +138,87 @@ class Journal:
         return False
 
     def free_lane(self) -> int:
-        """Takes the first number that no other lane has, and returns it."""
-        for number in range(1, MOST_LANES + 1):
-            if self.is_free(FAR + number):
+        """Takes the first number that no other lane has, and no label waits with; returns it."""
+        left = {entry.lane for entry in self.entries.values() if entry.event == SENDING}
+        lanes = 0
+        for number in count(1):
+            if number not in left and self.is_free(FAR + number):
                 return number
+            lanes += number not in left
+            if lanes == MOST_LANES:
+                break
         raise ToolError(Text("{}: {} lanes print by it already", self.path, MOST_LANES))
 
     def is_free(self, byte: int) -> bool:
         """Locks a byte, and returns whether it was free."""
         try:
             fcntl.lockf(self.file, fcntl.LOCK_EX | fcntl.LOCK_NB, 1, byte)
-        except OSError:
+        except (BlockingIOError, PermissionError):
             return False
         return True
 
-    def lock(self) -> None:
-        """Waits until no other lane reads or writes."""
-        fcntl.lockf(self.file, fcntl.LOCK_EX, 1, FAR)
+    @contextmanager
+    def locked(self) -> Iterator[None]:
+        """Waits until no other lane reads or writes, and keeps them from it; raises `ToolError` in
+        place of `OSError`.
+        """
+        try:
+            fcntl.lockf(self.file, fcntl.LOCK_EX, 1, FAR)
+        except OSError as error:
+            raise ToolError(Text("{}: {}", self.path, error.strerror), NO_LOCKS) from error
+        try:
+            yield
+        except OSError as error:
+            raise self.not_written(error) from error
+        finally:
+            fcntl.lockf(self.file, fcntl.LOCK_UN, 1, FAR)
 
-    def unlock(self) -> None:
-        """Lets other lanes read and write."""
-        fcntl.lockf(self.file, fcntl.LOCK_UN, 1, FAR)
+    def not_written(self, error: OSError) -> ToolError:
+        """Returns what is wrong where the system does not read or write it."""
+        return ToolError(Text("{}: {}", self.path, error.strerror), NOT_WRITTEN)
 
     def read(self) -> None:
-        """Reads what was written since the last time, and takes out a line that was cut off."""
+        """Reads what was written since the last time, and mends a last line that was cut off."""
         size = os.fstat(self.file).st_size
         if size < self.end or not self.is_in_place():
+            self.is_lost = True
             what = Text("{}: another program has changed it", self.path)
-            raise ToolError(what, Text("nothing more is printed: give the same command again"))
+            raise ToolError(what, self.advice())
         data = os.pread(self.file, size - self.end, self.end)
-        whole = data.rfind(b"\n") + 1
-        if not self.end and not data.startswith(HEAD):
+        if not self.end and not is_journal(data):
             if not HEAD.startswith(data):
                 raise ToolError(Text("{} is no journal", self.path), NO_JOURNAL)
             os.ftruncate(self.file, 0)
             self.append(HEAD)
             self.lines = 1
             return
-        if whole < len(data):
-            os.ftruncate(self.file, self.end + whole)
-            self.is_mended = True
-        for line in data[:whole].split(b"\n")[:-1]:
+        *whole, last = data.split(b"\n")
+        for line in whole:
             self.lines += 1
-            self.learn(line)
-        self.end += whole
+            self.learn(line.rstrip(ENDS))
+        self.end += len(data) - len(last)
+        if last:
+            self.mend(last.rstrip(ENDS))
+
+    def mend(self, line: bytes) -> None:
+        """Takes out a last line without its end; one that has all fields is written anew, and its
+        label is in doubt unless the line says that it was taken, and an earlier one that it was
+        sent.
+        """
+        os.ftruncate(self.file, self.end)
+        found = entry_in(line, self.lines + 1)
+        if found is None:
+            self.mended = CUT_OFF
+            return
+        code, entry = found
+        before = self.entries.get(code, entry)
+        is_mark = before._replace(event=TAKEN, number=entry.number) == entry != before
+        self.mended = NOTHING if is_mark else NO_END
+        fields = line.split(b"\t")
+        fields[1] = (TAKEN if is_mark else SENDING).encode()
+        self.append(b"\t".join(fields) + b"\n")
+        self.lines += 1
+        self.entries[code] = entry if is_mark else entry._replace(event=SENDING)
 
     def is_in_place(self) -> bool:
         """Returns whether the file has its name still: an editor may write a new one."""
@@ -171,22 +227,37 @@ class Journal:
         except FileNotFoundError:
             return False
 
+    def advice(self) -> Text:
+        """Returns what to do where another program has taken its place: what the new file has not
+        would be printed again.
+        """
+        found: set[Code] = set()
+        with suppress(FileNotFoundError):
+            lines = Path(self.path).read_bytes().split(b"\n")
+            found = {read[0] for line in lines if (read := entry_in(line.rstrip(ENDS), 0))}
+        lost = [entry.place for code, entry in self.entries.items() if code not in found]
+        if not lost:
+            return Text("nothing more is printed: give the same command again")
+        named = ", ".join(lost[:MOST_NAMED])
+        if len(lost) > MOST_NAMED:
+            named = Text("{} .. ({} in all)", named, len(lost))
+        return Text("it has not {}, which the same command would print once more", named)
+
     def printers(self) -> set[str]:
         """Returns the printers that it has labels of."""
         return {entry.printer for entry in self.entries.values()}
 
     def learn(self, line: bytes) -> None:
         """Takes a line."""
-        if line.startswith(b"#"):
+        if line.removeprefix(BOM_UTF8).startswith(b"#") or not line:
             return
-        fields = line.decode("utf-8", "replace").split("\t")
-        lane = LANE.fullmatch(fields[2]) if len(fields) == FIELDS else None
-        if lane is None or fields[1] not in EVENTS:
+        found = entry_in(line, self.lines)
+        if found is None:
             what = Text("{}: line {} is no line of a journal", self.path, self.lines)
-            hint = Text("nothing is printed: take it out, or take another journal")
+            hint = Text("put it right; take it out only where its label is not on paper")
             raise ToolError(what, hint)
-        code = code_in(line.split(b"\t")[-1])
-        self.entries[code] = Entry(self.lines, fields[1], int(lane[1]), fields[3], fields[4])
+        code, entry = found
+        self.entries[code] = entry
 
     def write(self, event: str, record: LineRecord) -> None:
         """Writes a line."""
@@ -201,14 +272,33 @@ class Journal:
 
     def append(self, line: bytes) -> None:
         """Writes a whole line at the end, or nothing: raises `OSError`."""
+        done = 0
         try:
-            done = os.pwrite(self.file, line, self.end)
-            if done < len(line):
+            while done < len(line):
                 done += os.pwrite(self.file, line[done:], self.end + done)
-        except OSError as error:
+        except OSError:
             os.ftruncate(self.file, self.end)
-            raise OSError(error.errno, error.strerror, self.path) from error
+            raise
         self.end += len(line)
+
+
+def is_journal(data: bytes) -> bool:
+    """Returns whether a file begins as a journal does; an editor may have changed its line ends."""
+    head = data[: len(BOM_UTF8 + HEAD) + len(ENDS)].partition(b"\n")[0]
+    return b"\n" in data and head.removeprefix(BOM_UTF8).rstrip(ENDS) == HEAD.rstrip()
+
+
+def entry_in(line: bytes, number: int) -> Optional[tuple[Code, Entry]]:
+    """Returns what a line of a journal says, which has this number; None where it is none."""
+    fields = line.split(b"\t")
+    if len(fields) != FIELDS:
+        return None
+    _, event, lane, printer, place, code = fields
+    named = LANE.fullmatch(lane)
+    if named is None or event not in EVENTS or not CODE.fullmatch(code):
+        return None
+    texts = [field.decode("utf-8", "replace") for field in (event, printer, place)]
+    return code_in(code), Entry(number, texts[0], int(named[1]), texts[1], texts[2])
 
 
 def code_of(record: LineRecord) -> Code:
