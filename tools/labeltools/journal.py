@@ -32,14 +32,11 @@ from labeltools.messages import ToolError
 from labeltools.text import NOTHING, Text
 
 HEAD = b"#labels journal 1\n"
-SENDING = "sending"
-TAKEN = "taken"
-EVENTS = (SENDING.encode(), TAKEN.encode())
-FIELDS = 6
+SENDING = b"sending"
+TAKEN = b"taken"
 MOST_LANES = 64
 MOST_NAMED = 10  # lines that a message names
 FAR = 1 << 62  # of a file: bytes that are locked and never written
-LANE = re.compile(rb"lane ([0-9]{1,9})")
 NO_JOURNAL = Text("give a file that label-print --journal has made, or a new name")
 CUT_OFF = Text("its last line was cut off, and was taken out: its label was not sent")
 NO_END = Text("its last line had no end, so its label may be on paper")
@@ -47,20 +44,21 @@ NOT_WRITTEN = Text("see that it can be written, then give the same command again
 NO_LOCKS = Text("put the journal on a disk that locks files")
 STRANGE = re.compile(rb"[^ -\[\]-~]| (?= *\Z)")  # what is written as escapes: blanks at the end too
 ESCAPES = {bytes([byte]): b"\\x%02X" % byte for byte in range(256)} | {b"\\": b"\\\\"}
-CODE = re.compile(rb"[!-~]+ (?:[ -\[\]-~]|\\\\|\\x[0-9A-F]{2})*")
+LINE = re.compile(
+    rb"[^\t]*\t(sending|taken)\tlane ([0-9]{1,9})\t([^\t]*)\t([^\t]*)\t"
+    rb"([!-~]+ (?:[ -\[\]-~]|\\\\|\\x[0-9A-F]{2})*)"
+)
 ENDS = b"\r "  # what an editor may put behind a line, and what no code ends in
-
-Code = tuple[str, bytes]
 
 
 class Entry(NamedTuple):
     """The last that is known of a code, and the number of its line."""
 
     number: int
-    event: str
+    event: bytes
     lane: int
-    printer: str
-    place: str
+    printer: bytes
+    place: bytes
 
 
 class Journal:
@@ -69,12 +67,12 @@ class Journal:
     def __init__(self, path: str, printer: str) -> None:
         """Opens a journal, or makes it; raises `ToolError` where it is none, and `OSError`."""
         self.path = path
-        self.printer = printer.replace("\t", " ")
+        self.printer = printer.replace("\t", " ").encode("utf-8", "replace")
         flags = os.O_RDWR | os.O_CREAT | os.O_CLOEXEC | os.O_NONBLOCK  # it waits for no FIFO
         self.file = os.open(path, flags, 0o644)
         if not stat.S_ISREG(os.fstat(self.file).st_mode):
             raise ToolError(Text("{} is no journal", path), NO_JOURNAL)
-        self.entries: dict[Code, Entry] = {}
+        self.entries: dict[bytes, Entry] = {}  # of codes as they stand in the file
         self.end = 0
         self.lines = 0
         self.mended = NOTHING  # what was wrong with its last line
@@ -96,7 +94,8 @@ class Journal:
             found = self.entries.get(code)
             if found is not None:
                 is_old = self.before.get(code) == found
-                if again is None or not is_old or found.printer != again or self.is_alive(found):
+                is_again = again is not None and found.printer == again.encode("utf-8", "replace")
+                if not is_again or not is_old or self.is_alive(found):
                     return False
             self.write(SENDING, record)
         try:
@@ -215,7 +214,7 @@ class Journal:
         is_mark = before._replace(event=TAKEN, number=entry.number) == entry != before
         self.mended = NOTHING if is_mark else NO_END
         fields = line.split(b"\t")
-        fields[1] = (TAKEN if is_mark else SENDING).encode()
+        fields[1] = TAKEN if is_mark else SENDING
         self.append(b"\t".join(fields) + b"\n")
         self.lines += 1
         self.entries[code] = entry if is_mark else entry._replace(event=SENDING)
@@ -231,11 +230,11 @@ class Journal:
         """Returns what to do where another program has taken its place: what the new file has not
         would be printed again.
         """
-        found: set[Code] = set()
+        found: set[bytes] = set()
         with suppress(FileNotFoundError):
             lines = Path(self.path).read_bytes().split(b"\n")
             found = {read[0] for line in lines if (read := entry_in(line.rstrip(ENDS), 0))}
-        lost = [entry.place for code, entry in self.entries.items() if code not in found]
+        lost = [entry.place.decode() for code, entry in self.entries.items() if code not in found]
         if not lost:
             return Text("nothing more is printed: give the same command again")
         named = ", ".join(lost[:MOST_NAMED])
@@ -245,7 +244,7 @@ class Journal:
 
     def printers(self) -> set[str]:
         """Returns the printers that it has labels of."""
-        return {entry.printer for entry in self.entries.values()}
+        return {entry.printer.decode("utf-8", "replace") for entry in self.entries.values()}
 
     def learn(self, line: bytes) -> None:
         """Takes a line."""
@@ -259,16 +258,15 @@ class Journal:
         code, entry = found
         self.entries[code] = entry
 
-    def write(self, event: str, record: LineRecord) -> None:
+    def write(self, event: bytes, record: LineRecord) -> None:
         """Writes a line."""
-        now = time.strftime("%Y-%m-%dT%H:%M:%SZ", time.gmtime())
-        head = "\t".join((now, event, f"lane {self.lane}", self.printer, str(record.place)))
-        symbology, data = code_of(record)
-        line = head.encode("utf-8", "replace") + b"\t" + symbology.encode() + b" " + escaped(data)
-        self.append(line + b"\n")
+        now = time.strftime("%Y-%m-%dT%H:%M:%SZ", time.gmtime()).encode()
+        lane = b"lane %d" % self.lane
+        place = str(record.place).encode()
+        code = code_of(record)
+        self.append(b"\t".join((now, event, lane, self.printer, place, code)) + b"\n")
         self.lines += 1
-        place = str(record.place)
-        self.entries[symbology, data] = Entry(self.lines, event, self.lane, self.printer, place)
+        self.entries[code] = Entry(self.lines, event, self.lane, self.printer, place)
 
     def append(self, line: bytes) -> None:
         """Writes a whole line at the end, or nothing: raises `OSError`."""
@@ -288,40 +286,27 @@ def is_journal(data: bytes) -> bool:
     return b"\n" in data and head.removeprefix(BOM_UTF8).rstrip(ENDS) == HEAD.rstrip()
 
 
-def entry_in(line: bytes, number: int) -> Optional[tuple[Code, Entry]]:
-    """Returns what a line of a journal says, which has this number; None where it is none."""
-    fields = line.split(b"\t")
-    if len(fields) != FIELDS:
+def entry_in(line: bytes, number: int) -> Optional[tuple[bytes, Entry]]:
+    """Returns the code of a line of a journal, which has this number, and what it says of it; None
+    where it is no such line.
+    """
+    found = LINE.fullmatch(line)
+    if found is None:
         return None
-    _, event, lane, printer, place, code = fields
-    named = LANE.fullmatch(lane)
-    if named is None or event not in EVENTS or not CODE.fullmatch(code):
-        return None
-    texts = [field.decode("utf-8", "replace") for field in (event, printer, place)]
-    return code_in(code), Entry(number, texts[0], int(named[1]), texts[1], texts[2])
+    event, lane, printer, place, code = found.groups()
+    return code, Entry(number, event, int(lane), printer, place)
 
 
-def code_of(record: LineRecord) -> Code:
-    """Returns the code of a line."""
-    return record.symbology, record.data
+def code_of(record: LineRecord) -> bytes:
+    """Returns the code of a line as it stands in a journal."""
+    return record.symbology.encode("utf-8", "replace") + b" " + escaped(record.data)
 
 
 def escaped(data: bytes) -> bytes:
-    """Returns data on one line: with the escapes of labels(1) for what is no letter of ASCII.
+    """Returns data on one line: with the escapes of labels(1) for what is no letter of ASCII, and
+    for a blank at its end.
 
-    >>> escaped(b"a\\\\b\\nc")
-    b'a\\\\\\\\b\\\\x0Ac'
+    >>> escaped(b"a\\\\b\\nc ")
+    b'a\\\\\\\\b\\\\x0Ac\\\\x20'
     """
     return STRANGE.sub(lambda byte: ESCAPES[byte[0]], data)
-
-
-def code_in(text: bytes) -> Code:
-    """Returns the code of a line of a journal."""
-    symbology, _, data = text.partition(b" ")
-    plain = re.sub(rb"\\(?:x([0-9A-F]{2})|\\)", unescaped, data)
-    return symbology.decode("ascii", "replace"), plain
-
-
-def unescaped(match: re.Match[bytes]) -> bytes:
-    """Returns the byte that an escape means."""
-    return bytes([int(match[1], 16)]) if match[1] else b"\\"

@@ -118,16 +118,23 @@ def rows(argument: str) -> str:
     return argument
 
 
+def filled(argument: str) -> str:
+    """Returns an argument that is not empty, as it is where a variable of a shell is not set."""
+    if not argument.strip("@ "):
+        raise wrong_argument(Text("it is empty"))
+    return argument
+
+
 def printer_of(argument: str) -> str:
     """Returns the name of a queue of CUPS, or of a printer in the network."""
-    scheme, colon, rest = argument.partition("://")
+    scheme, colon, rest = filled(argument).partition("://")
     name = f"{scheme.lower()}{colon}{rest}"
     if name.startswith(SCHEME):
         try:
             address_of(name)
         except ToolError as error:
             raise wrong_argument(error.what) from error
-    elif colon or not name.strip():
+    elif colon:
         raise wrong_argument(Text("{!r} is not as tcp://HOST, or a queue of CUPS", argument))
     return name
 
@@ -203,7 +210,15 @@ def add_choice_options(parser: argparse.ArgumentParser) -> None:
     only = "print these rows of the table alone, such as 2,7-9 or 7- for all from 7 on"
     add("--only", metavar="ROWS", type=rows, dest="rows_only", help=only)
     code = "print the label with this code alone, or those of @FILE, a code on each line"
-    add("--only-code", metavar="CODE", action="append", default=[], dest="codes", help=code)
+    add(
+        "--only-code",
+        metavar="CODE",
+        type=filled,
+        action="append",
+        default=[],
+        dest="codes",
+        help=code,
+    )
     unique = "leave out a line whose code was there before, as on tickets and serial numbers"
     add("--unique", action="store_true", dest="is_unique", help=unique)
     options = "options of labels, such as '--level H'"
@@ -226,9 +241,9 @@ def add_output_options(parser: argparse.ArgumentParser) -> None:
     journal = (
         "write each label into this file before it goes out; one that is there goes out no more"
     )
-    add("--journal", metavar="FILE", help=journal)
+    add("--journal", metavar="FILE", type=filled, help=journal)
     again = "with --only or --only-code: print what the journal has of this printer once more"
-    add("--again", metavar="PRINTER", help=again)
+    add("--again", metavar="PRINTER", type=filled, help=again)
     stream = "print each label as soon as its line has come in, and answer on standard error"
     add("--stream", action="store_true", dest="is_stream", help=stream)
     dots = "escpos: dots across the paper (576)"
@@ -271,8 +286,13 @@ def file_name(name: str, number: int, data: bytes) -> str:
     return NUMBERED.sub(part, name)
 
 
-def write(press: Press, prints: Prints) -> None:
-    """Writes labels to standard output. A signal waits for the end of a document."""
+def write(press: Press, prints: Prints, is_chosen: bool) -> None:
+    """Writes labels to standard output, which are some of a file where they are chosen. A signal
+    waits for the end of a document.
+    """
+    if press.job.form.is_roll:
+        Sender(StandardOutput(), is_chosen=is_chosen).send_all(press, prints)
+        return
     output = standard_output().fileno()
     for document in press.documents(prints):
         with document as file, hold_signals():
@@ -483,7 +503,7 @@ def give_out(
     elif arguments.queue is not None:
         write_message(TOOL, Text("{}", print_on(press, prints, arguments.queue)))
     else:
-        write(press, prints)
+        write(press, prints, options.only is not None)
         if arguments.summary or sys.stderr.isatty():
             write_message(TOOL, summary_of(job, prints, items if options.only else ()))
     return 1 if found.left_out else 0

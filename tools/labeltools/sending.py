@@ -178,7 +178,7 @@ class Sender:
         if self.journal is None or not self.journal.is_doubtful(record):
             return NOTHING
         entry = self.journal.entry(record)
-        printer = entry.printer if entry else ""
+        printer = entry.printer.decode("utf-8", "replace") if entry else ""
         reason = Text("may be on paper, from {}: look for it", printer)
         hint = Text("if it is not there, give --only-code CODE --again {}", printer)
         return sentence(reason, hint)
