@@ -110,6 +110,11 @@ class Journal:
             self.read()
             self.write(TAKEN, record)
 
+    def look(self) -> None:
+        """Reads what other lanes wrote; raises `ToolError`."""
+        with self.locked():
+            self.read()
+
     def give_up(self) -> None:
         """Leaves the label that is sent in doubt, with the number of this lane, and takes another
         number: other lanes see that nobody sends the label any more.

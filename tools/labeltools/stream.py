@@ -111,7 +111,7 @@ def jobs(source: BinaryIO) -> Iterator[Job]:
             fault = Text("cut off before its line end")
             if len(line) == LONGEST:
                 fault = Text("longer than {} bytes", LONGEST)
-                while (rest := source.readline(LONGEST)) and not rest.endswith(b"\n"):
+                while len(rest := source.readline(LONGEST)) == LONGEST and rest[-1:] != b"\n":
                     pass
         data = line.removesuffix(b"\n")
         if not fault and data.startswith(OBJECT):
@@ -181,9 +181,11 @@ class Stream:
         return size
 
     def raise_known(self, record: LineRecord) -> NoReturn:
-        """Raises `Known` for a line that the journal has, or `Broken` where its label is in
-        doubt.
+        """Raises `Known` for a line that the journal has, or `Broken` where its label is in doubt,
+        and nobody has printed it since.
         """
+        if self.sender.journal is not None:
+            self.sender.journal.look()
         if reason := self.sender.doubt(record):
             raise Broken(reason)
         raise Known

@@ -10,6 +10,7 @@ import os
 import random
 import resource
 import signal
+import socket
 import subprocess
 import threading
 import time
@@ -64,7 +65,7 @@ class Printers(Folder):
     def test_a_label_that_takes_longer_than_a_printer_may_rest(self) -> None:
         printer = Printer(slow=0.01).start()
         outlet = NetworkPrinter(printer.name, stuck=0.4)
-        outlet.open().setsockopt(6, 67, 4096)  # no more than so many bytes are on their way
+        outlet.open().setsockopt(socket.SOL_SOCKET, socket.SO_SNDBUF, 4096)  # on their way at most
         start = time.monotonic()
         outlet.send(b"\0" * 300_000)
         outlet.close()
@@ -86,7 +87,7 @@ class Printers(Folder):
         program.write_text("#!/bin/sh\nexit 7\n")
         program.chmod(0o755)
         path = f"{self.folder}{os.pathsep}{os.environ['PATH']}"
-        done = printed("--print", "till", PATH=path)
+        done = support.printed(*ROLL, "--print", "till", input=TICKETS, PATH=path)
         self.said(done, 1, "lp does not print on till: it ended with status 7")
 
 
@@ -207,7 +208,7 @@ class Editors(Folder):
         error = OSError(errno.ENOLCK, "No locks available")
         with mock.patch("fcntl.lockf", mock.Mock(side_effect=error)):
             done = printed("--journal", self.path)
-        self.said(done, 1, "No locks available: put the journal on a disk that locks files")
+        self.said(done, 1, "No locks available; put the journal on a disk that locks files")
 
     def test_standard_output(self) -> None:
         command = [str(support.TOOLS / "label-print"), *ROLL, "--journal", self.path]
