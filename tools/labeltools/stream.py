@@ -16,7 +16,6 @@ import os
 import select
 import stat
 import sys
-from contextlib import suppress
 from io import BufferedReader, RawIOBase
 from typing import Any, BinaryIO, Iterator, NamedTuple, NoReturn, Optional
 

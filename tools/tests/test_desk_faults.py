@@ -210,16 +210,20 @@ class Editors(Folder):
             done = printed("--journal", self.path)
         self.said(done, 1, "No locks available; put the journal on a disk that locks files")
 
-    def test_standard_output(self) -> None:
+    def written_to(self, path: str) -> "support.Finished[bytes]":
+        """Runs label-print with a new file as standard output."""
         command = [str(support.TOOLS / "label-print"), *ROLL, "--journal", self.path]
-        run = functools.partial(subprocess.run, command, input=TICKETS, stderr=subprocess.PIPE)
-        with open(self.path, "wb") as output:
-            done = run(stdout=output, env=support.environment())
+        pipe = subprocess.PIPE
+        env = support.environment()
+        with open(path, "wb") as output:
+            return subprocess.run(command, input=TICKETS, stdout=output, stderr=pipe, env=env)
+
+    def test_standard_output(self) -> None:
+        done = self.written_to(self.path)
         self.said(done, 1, "journal is the journal and standard output: name another file")
         os.unlink(self.path)
         for pattern in ("^$", "journal has labels of an earlier file: with > that file has lost"):
-            with open(f"{self.folder}/labels", "wb") as output:
-                self.said(run(stdout=output, env=support.environment()), 0, pattern)
+            self.said(self.written_to(f"{self.folder}/labels"), 0, pattern)
 
 
 class Lanes(Folder):
@@ -248,25 +252,30 @@ class Lanes(Folder):
         done = printed("--journal", self.path, "--only", "1")
         self.assertEqual(done.returncode, 0)
         size = Path(self.path).stat().st_size
-        words = [str(support.TOOLS / "label-print"), *ROLL, "--journal", self.path]
-        limit = functools.partial(resource.setrlimit, resource.RLIMIT_FSIZE, (size, size))
-        run = functools.partial(subprocess.run, capture_output=True, env=support.environment())
-        done = run(words, input=TICKETS, preexec_fn=limit)
+        done = self.limited(size, TICKETS)
         self.said(done, 1, "File too large: line 2 and what follows it were not sent; see that it")
-        done = run([*words, "--stream"], input=TICKETS[:20], preexec_fn=limit)
+        done = self.limited(size, TICKETS[:20], "--stream")
         self.said(done, 1, "^known 1 qr T00001\nunsent 2 .*File too large; see that it can be")
         self.assertEqual(labels_in(done), [])
+
+    def limited(self, size: int, lines: bytes, *words: str) -> "support.Finished[bytes]":
+        """Runs label-print whose files have so many bytes at most."""
+        command = [str(support.TOOLS / "label-print"), *ROLL, "--journal", self.path, *words]
+        limit = functools.partial(resource.setrlimit, resource.RLIMIT_FSIZE, (size, size))
+        env = support.environment()
+        return subprocess.run(command, input=lines, capture_output=True, env=env, preexec_fn=limit)
 
 
 class Streams(Folder):
     """Streams that are ended, that nobody reads, and whose journal goes."""
 
-    def start(self, *words: str, **streams: int) -> "subprocess.Popen[bytes]":
-        """Starts a stream."""
+    def start(self, *words: str) -> "subprocess.Popen[bytes]":
+        """Starts a stream to a printer."""
         pipe = subprocess.PIPE
         command = [str(support.TOOLS / "label-print"), *ROLL, "--stream", *words]
-        given = {"stdin": pipe, "stdout": subprocess.DEVNULL, "stderr": pipe, **streams}
-        stream = subprocess.Popen(command, env=support.environment(), **given)
+        env = support.environment()
+        null = subprocess.DEVNULL
+        stream = subprocess.Popen(command, stdin=pipe, stdout=null, stderr=pipe, env=env)
         self.addCleanup(ended, stream)
         return stream
 
@@ -314,7 +323,7 @@ class Streams(Folder):
         """It is not one line with that of the next writer."""
         fifo = f"{self.folder}/till"
         os.mkfifo(fifo)
-        stream = self.start(fifo, stdin=subprocess.DEVNULL)
+        stream = self.start(fifo)
         assert stream.stderr
         for line, pattern in (
             (b"qr A\n", b"taken 1 "),
@@ -327,35 +336,32 @@ class Streams(Folder):
             self.assertRegex(stream.stderr.readline(), b"^" + pattern)
         stream.terminate()
 
-    def test_streams_that_do_not_wait(self) -> None:
-        """Each label and each answer comes through, however late it is read."""
-        source, target = os.pipe()
-        os.set_blocking(target, False)
-        fcntl.fcntl(target, fcntl.F_SETPIPE_SZ, 4096)
-        for words, name in (((), "stdout"), (("--stream",), "stderr")):
-            with self.subTest(name=name):
-                streams = {"stdout": subprocess.DEVNULL, "stderr": subprocess.PIPE, name: target}
-                command = [str(support.TOOLS / "label-print"), *ROLL, *words]
-                run = subprocess.Popen(
-                    command, stdin=subprocess.PIPE, env=support.environment(), **streams
-                )
-                self.addCleanup(ended, run)
-                os.close(target)
-                assert run.stdin
-                lines = b"".join(b"qr W%05d\n" % number for number in range(400))
-                threading.Thread(target=self.write, args=(run, lines), daemon=True).start()
-                time.sleep(1)
-                found = b""
-                while data := os.read(source, 65_536):
-                    found += data
-                count = len(LABEL.findall(found)) if name == "stdout" else found.count(b"taken ")
-                self.assertEqual((run.wait(support.SECONDS), count), (0, 400))
-                os.close(source)
-                source, target = os.pipe()
-                os.set_blocking(target, False)
-                fcntl.fcntl(target, fcntl.F_SETPIPE_SZ, 4096)
-        os.close(source)
+    def test_labels_and_answers_that_are_read_late(self) -> None:
+        """By streams that do not wait."""
+        command = [str(support.TOOLS / "label-print"), *ROLL]
+        pipe = subprocess.PIPE
+        env = support.environment()
+        source, target = pipe_that_does_not_wait()
+        run = subprocess.Popen(command, stdin=pipe, stdout=target, stderr=pipe, env=env)
+        self.assertEqual(len(LABEL.findall(self.late(run, source, target))), 400)
+        source, target = pipe_that_does_not_wait()
+        null = subprocess.DEVNULL
+        run = subprocess.Popen(
+            [*command, "--stream"], stdin=pipe, stdout=null, stderr=target, env=env
+        )
+        self.assertEqual(self.late(run, source, target).count(b"taken "), 400)
+
+    def late(self, run: "subprocess.Popen[bytes]", source: int, target: int) -> bytes:
+        """What a program writes that has many lines to print, and is read late."""
+        self.addCleanup(ended, run)
         os.close(target)
+        lines = b"".join(b"qr W%05d\n" % number for number in range(400))
+        threading.Thread(target=self.write, args=(run, lines), daemon=True).start()
+        time.sleep(1)
+        with open(source, "rb") as file:
+            found = file.read()
+        self.assertEqual(run.wait(support.SECONDS), 0)
+        return found
 
     def write(self, run: "subprocess.Popen[bytes]", lines: bytes) -> None:
         """Writes lines to a program, and ends them."""
@@ -411,6 +417,14 @@ class Streams(Folder):
         Path(self.path).write_bytes(Path(self.path).read_bytes()[:-20])
         done = printed("--stream", "--journal", self.path, input=TICKETS[:10])
         self.said(done, 0, r"\Ataken 1 .*\n\Z")
+
+
+def pipe_that_does_not_wait() -> tuple[int, int]:
+    """A small pipe whose writer gets an error where it is full."""
+    source, target = os.pipe()
+    os.set_blocking(target, False)
+    fcntl.fcntl(target, fcntl.F_SETPIPE_SZ, 4096)
+    return source, target
 
 
 def load_tests(

@@ -193,9 +193,7 @@ class Running(unittest.TestCase):
 
     def test_a_full_disk(self) -> None:
         for form in ("pdf", "svg", "png", "pbm", "zpl", "escpos"):
-            status, out, said = self.ended(
-                '"$@" > /dev/full', *ROLL, form, data=b"ean8 7351353\n"
-            )
+            status, out, said = self.ended('"$@" > /dev/full', *ROLL, form, data=b"ean8 7351353\n")
             self.assertEqual((status, out), (1, b""), form)
             self.assertRegex(said, "^label-print: standard output: No space left on device[\n:]")
 
