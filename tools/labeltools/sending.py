@@ -155,8 +155,15 @@ class Sender:
         if error.hint:
             return Text("{} may be on paper; {}", place.text, error.hint)
         if self.journal is not None and self.again is None:
-            return Text(
+            text = Text(
                 "{} may be on paper: look there, then give the same command again", place.text
+            )
+            if not self.sent:
+                return text
+            last = self.sent[-1].label.record.place.text
+            words = f"--only --again {self.outlet.name}"
+            return Text(
+                "look that {} is on paper, or print what is missing by {}; {}", last, words, text
             )
         places = [one.label.record.place for one in prints.items]
         start = next(number for number, one in enumerate(prints.items) if one is item)

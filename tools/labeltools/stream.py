@@ -99,18 +99,28 @@ def source_of(path: Optional[str]) -> BinaryIO:
     return open(path, "rb")
 
 
+def next_line(source: BinaryIO) -> bytes:
+    """Returns a line, or as much of it as a line may have; nothing at the end. Raises `ToolError`
+    where it cannot be read.
+    """
+    try:
+        return source.readline(LONGEST)
+    except OSError as error:
+        raise ToolError(Text("the lines cannot be read: {}", error.strerror)) from error
+
+
 def jobs(source: BinaryIO) -> Iterator[Job]:
     """Yields each line with data as soon as it is there."""
     remark = b""
     number = 0
-    while line := source.readline(LONGEST):
+    while line := next_line(source):
         number += 1
         fault = NOTHING
         if not line.endswith(b"\n"):
             fault = Text("cut off before its line end")
             if len(line) == LONGEST:
                 fault = Text("longer than {} bytes", LONGEST)
-                while len(rest := source.readline(LONGEST)) == LONGEST and rest[-1:] != b"\n":
+                while len(rest := next_line(source)) == LONGEST and rest[-1:] != b"\n":
                     pass
         data = line.removesuffix(b"\n")
         if not fault and data.startswith(OBJECT):

@@ -199,7 +199,9 @@ class Journals(Folder):
         """The printer breaks off; the same command prints what is missing, and one is named."""
         printer = Printer(cut=12).start()
         words = ("--journal", self.path, "--print", printer.name)
-        self.said(printed(*words), 1, "line [0-9]+ may be on paper: look there, then give the same")
+        done = printed(*words)
+        self.said(done, 1, "line [0-9]+ may be on paper: look there, then give the same")
+        self.said(done, 1, "look that line [0-9]+ is on paper, or print what is missing by --only")
         doubtful = self.events().count("sending") - self.events().count("taken")
         self.assertEqual(doubtful, 1)
         done = printed(*words)

@@ -25,7 +25,7 @@ from labeltools import report, selection
 from labeltools.journal import Journal
 from labeltools.messages import ToolError
 from labeltools.network import NetworkPrinter
-from printers import LABEL, Printer
+from printers import BROKEN, LABEL, Printer
 from test_desk import ROLL, TICKETS, Folder, ended, labels_in, printed
 
 SEED = 20
@@ -383,6 +383,26 @@ class Streams(Folder):
             os.close(target)
             output, _ = run.communicate(timeout=support.SECONDS)
         self.assertEqual((run.returncode, len(LABEL.findall(output))), (0, 30))
+
+    def test_a_client_that_breaks_off(self) -> None:
+        """Its line is printed and answered, and what cannot be read is not standard output."""
+        with socket.create_server(("127.0.0.1", 0)) as server:
+            client = socket.create_connection(server.getsockname())
+            line, _ = server.accept()
+        command = [str(support.TOOLS / "label-print"), *ROLL, "--stream"]
+        pipe = subprocess.PIPE
+        env = support.environment()
+        with line, subprocess.Popen(
+            command, stdin=line.fileno(), stdout=pipe, stderr=pipe, env=env
+        ) as run:
+            assert run.stderr
+            client.sendall(b"qr A\n")
+            self.assertRegex(run.stderr.readline(), b"^taken 1 ")
+            client.setsockopt(socket.SOL_SOCKET, socket.SO_LINGER, BROKEN)
+            client.close()
+            said = run.stderr.read()
+        self.assertEqual(run.returncode, 1)
+        self.assertRegex(said, b"^label-print: the lines cannot be read: Connection reset by peer")
 
     def test_another_journal_ends_it_with_an_answer(self) -> None:
         stream = self.start("--journal", self.path)
