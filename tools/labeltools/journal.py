@@ -36,6 +36,9 @@ SENDING = b"sending"
 TAKEN = b"taken"
 MOST_LANES = 64
 MOST_NAMED = 10  # lines that a message names
+STUCK = 60.0  # seconds that a lane may wait for another one
+SHORT = 0.0005  # seconds between two looks, at first
+LONG = 0.02  # and later
 FAR = 1 << 62  # of a file: bytes that are locked and never written
 NO_JOURNAL = Text("give a file that label-print --journal has made, or a new name")
 CUT_OFF = Text("its last line was cut off, and was taken out: its label was not sent")
@@ -166,16 +169,29 @@ class Journal:
         """Waits until no other lane reads or writes, and keeps them from it; raises `ToolError` in
         place of `OSError`.
         """
-        try:
-            fcntl.lockf(self.file, fcntl.LOCK_EX, 1, FAR)
-        except OSError as error:
-            raise ToolError(Text("{}: {}", self.path, error.strerror), NO_LOCKS) from error
+        self.wait()
         try:
             yield
         except OSError as error:
             raise self.not_written(error) from error
         finally:
             fcntl.lockf(self.file, fcntl.LOCK_UN, 1, FAR)
+
+    def wait(self) -> None:
+        """Waits until no other lane reads or writes; raises `ToolError` where one does not end, or
+        the file cannot be locked.
+        """
+        end = time.monotonic() + STUCK
+        pause = SHORT
+        try:
+            while not self.is_free(FAR):
+                if time.monotonic() > end:
+                    what = Text("{}: another lane keeps it for {:.0f} seconds", self.path, STUCK)
+                    raise ToolError(what, Text("is it stopped? let it go on, or end it"))
+                time.sleep(pause)
+                pause = min(2 * pause, LONG)
+        except OSError as error:
+            raise ToolError(Text("{}: {}", self.path, error.strerror), NO_LOCKS) from error
 
     def not_written(self, error: OSError) -> ToolError:
         """Returns what is wrong where the system does not read or write it."""

@@ -3,6 +3,7 @@ in millimetres.
 """
 
 import argparse
+import fcntl
 import os
 import re
 import stat
@@ -421,7 +422,8 @@ def check_journal(arguments: argparse.Namespace, journal: Journal) -> None:
         if os.path.samestat(state, os.fstat(journal.file)):
             what = Text("{} is the journal and standard output", arguments.journal)
             raise ToolError(what, Text("name another file for one of them"))
-        is_new = stat.S_ISREG(state.st_mode) and not state.st_size
+        is_added = fcntl.fcntl(output, fcntl.F_GETFL) & os.O_APPEND
+        is_new = stat.S_ISREG(state.st_mode) and not state.st_size and not is_added
         if is_new and OUTPUT in journal.printers() and not arguments.is_stream:
             what = Text("{} has labels of an earlier file", arguments.journal)
             hint = Text("with > that file has lost them, with >> it keeps them")

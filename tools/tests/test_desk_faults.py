@@ -210,12 +210,12 @@ class Editors(Folder):
             done = printed("--journal", self.path)
         self.said(done, 1, "No locks available; put the journal on a disk that locks files")
 
-    def written_to(self, path: str) -> "support.Finished[bytes]":
-        """Runs label-print with a new file as standard output."""
+    def written_to(self, path: str, mode: str = "wb") -> "support.Finished[bytes]":
+        """Runs label-print with a file as standard output."""
         command = [str(support.TOOLS / "label-print"), *ROLL, "--journal", self.path]
         pipe = subprocess.PIPE
         env = support.environment()
-        with open(path, "wb") as output:
+        with open(path, mode) as output:
             return subprocess.run(command, input=TICKETS, stdout=output, stderr=pipe, env=env)
 
     def test_standard_output(self) -> None:
@@ -224,6 +224,8 @@ class Editors(Folder):
         os.unlink(self.path)
         for pattern in ("^$", "journal has labels of an earlier file: with > that file has lost"):
             self.said(self.written_to(f"{self.folder}/labels"), 0, pattern)
+        os.unlink(f"{self.folder}/labels")
+        self.said(self.written_to(f"{self.folder}/labels", "ab"), 0, "^label-print: 0 labels; ")
 
 
 class Lanes(Folder):
@@ -243,8 +245,30 @@ class Lanes(Folder):
         self.said(done, 1, "line 2: may be on paper, from tcp://b")
         self.assertEqual(len(labels_in(done)), 28)
 
+    def test_a_lane_that_is_stopped(self) -> None:
+        """It may keep the journal: the other one says so, and goes on when it is free."""
+        Journal(self.path, "tcp://a")
+        script = (
+            "import sys\n"
+            "from labeltools.journal import Journal\n"
+            "with Journal(sys.argv[1], 'tcp://b').locked():\n"
+            "    print('locked', flush=True); sys.stdin.read()\n"
+        )
+        words = ["/usr/bin/python3", "-c", script, self.path]
+        pipe = subprocess.PIPE
+        with subprocess.Popen(words, stdin=pipe, stdout=pipe, cwd=support.TOOLS) as other:
+            assert other.stdin and other.stdout
+            other.stdout.readline()
+            with mock.patch("labeltools.journal.STUCK", 0.2):
+                done = printed("--journal", self.path)
+            self.said(done, 1, "another lane keeps it for 0 seconds; is it stopped[?] let it go on")
+            self.assertEqual(labels_in(done), [])
+            other.stdin.close()
+            self.assertEqual(len(labels_in(printed("--journal", self.path))), 30)
+
     def test_too_many_lanes(self) -> None:
-        busy = mock.patch.object(Journal, "is_free", lambda *_: False)
+        free = journals.FAR  # the byte that is locked to read and write
+        busy = mock.patch.object(Journal, "is_free", lambda _, byte: byte == free)
         with busy, self.assertRaisesRegex(ToolError, "64 lanes print by it already"):
             Journal(self.path, "tcp://a")
 
