@@ -61,30 +61,32 @@ class Job(NamedTuple):
 
 
 class Fifo(RawIOBase):
-    """A FIFO by its name, which is kept open when its last writer has gone. Where that left half a
-    line, the line ends there, so that it is not one with what the next writer writes.
+    """A FIFO by its name, which ends where its last writer has gone, and then waits for the next
+    one: half a line, or an object without its line, is not that writer's.
     """
 
     def __init__(self, path: str) -> None:
         """Opens it; raises `OSError`."""
         self.path = path
         self.source = os.open(path, os.O_RDONLY | os.O_NONBLOCK)
-        self.writer = os.open(path, os.O_WRONLY)  # of our own: it has one always
-        self.is_whole = True  # no half a line was read
+        self.is_idle = True
 
     def readable(self) -> bool:
         """Returns that it can be read."""
         return True
 
     def readinto(self, buffer: Any) -> int:
-        """Waits for bytes, and reads them; returns 0 where half a line has no writer any more."""
-        if not self.is_whole:
-            os.close(self.writer)
-        select.select([self.source], [], [])
+        """Waits for bytes, and reads them; returns 0 once where the last writer has gone."""
+        if self.is_idle:
+            writer = os.open(self.path, os.O_WRONLY)  # of our own: until another one writes
+            try:
+                select.select([self.source], [], [])
+            finally:
+                os.close(writer)
+        else:
+            select.select([self.source], [], [])
         size = os.readv(self.source, [buffer])
-        if not self.is_whole:
-            self.writer = os.open(self.path, os.O_WRONLY)
-        self.is_whole = size == 0 or bytes(buffer[size - 1 : size]) == b"\n"
+        self.is_idle = size == 0
         return size
 
 
@@ -110,10 +112,14 @@ def next_line(source: BinaryIO) -> bytes:
 
 
 def jobs(source: BinaryIO) -> Iterator[Job]:
-    """Yields each line with data as soon as it is there."""
+    """Yields each line with data as soon as it is there; of a FIFO, for ever."""
     remark = b""
     number = 0
-    while line := next_line(source):
+    is_fifo = isinstance(getattr(source, "raw", None), Fifo)
+    while (line := next_line(source)) or is_fifo:
+        if not line:
+            remark = b""
+            continue
         number += 1
         fault = NOTHING
         if not line.endswith(b"\n"):

@@ -358,6 +358,11 @@ class Streams(Folder):
         ):
             Path(fifo).write_bytes(line)
             self.assertRegex(stream.stderr.readline(), b"^" + pattern)
+        size = stream_size(stream, fifo, b"qr E\n")
+        Path(fifo).write_bytes(b'#{"title":"of another"}\n')
+        time.sleep(0.3)  # the next writer comes when that one has gone
+        self.assertEqual(stream_size(stream, fifo, b"qr E\n"), size)
+        self.assertGreater(stream_size(stream, fifo, b'#{"title":"Stuhl"}\nqr E\n'), size)
         stream.terminate()
 
     def test_labels_and_answers_that_are_read_late(self) -> None:
@@ -461,6 +466,13 @@ class Streams(Folder):
         Path(self.path).write_bytes(Path(self.path).read_bytes()[:-20])
         done = printed("--stream", "--journal", self.path, input=TICKETS[:10])
         self.said(done, 0, r"\Ataken 1 .*\n\Z")
+
+
+def stream_size(stream: "subprocess.Popen[bytes]", fifo: str, lines: bytes) -> int:
+    """The bytes of the label that a stream prints for what a writer writes into its FIFO."""
+    Path(fifo).write_bytes(lines)
+    assert stream.stderr
+    return int(stream.stderr.readline().split()[2])
 
 
 def pipe_that_does_not_wait() -> tuple[int, int]:
