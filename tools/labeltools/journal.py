@@ -48,7 +48,7 @@ NO_LOCKS = Text("put the journal on a disk that locks files")
 STRANGE = re.compile(rb"[^ -\[\]-~]| (?= *\Z)")  # what is written as escapes: blanks at the end too
 ESCAPES = {bytes([byte]): b"\\x%02X" % byte for byte in range(256)} | {b"\\": b"\\\\"}
 LINE = re.compile(
-    rb"[^\t]*\t(sending|taken)\tlane ([0-9]{1,9})\t([^\t]*)\t([^\t]*)\t"
+    rb"[^\t]*\t(sending|taken)\tlane ([1-9][0-9]{0,8})\t([^\t]*)\t([^\t]*)\t"
     rb"([!-~]+ (?:[ -\[\]-~]|\\\\|\\x[0-9A-F]{2})*)"
 )
 ENDS = b"\r "  # what an editor may put behind a line, and what no code ends in
@@ -79,7 +79,7 @@ class Journal:
         self.end = 0
         self.lines = 0
         self.mended = NOTHING  # what was wrong with its last line
-        self.is_lost = False  # whether another program has taken its place
+        self.is_lost = False  # whether another program has written it
         self.lane = 0
         with self.locked():
             self.read()
@@ -225,10 +225,10 @@ class Journal:
         label is in doubt unless the line says that it was taken, and an earlier one that it was
         sent.
         """
-        os.ftruncate(self.file, self.end)
         found = entry_in(line, self.lines + 1)
         if found is None:
             self.mended = CUT_OFF
+            os.ftruncate(self.file, self.end)
             return
         code, entry = found
         before = self.entries.get(code, entry)
@@ -237,6 +237,7 @@ class Journal:
         fields = line.split(b"\t")
         fields[1] = TAKEN if is_mark else SENDING
         self.append(b"\t".join(fields) + b"\n")
+        os.ftruncate(self.file, self.end)  # it was longer where it had blanks at its end
         self.lines += 1
         self.entries[code] = entry if is_mark else entry._replace(event=SENDING)
 
@@ -273,6 +274,7 @@ class Journal:
             return
         found = entry_in(line, self.lines)
         if found is None:
+            self.is_lost = True
             what = Text("{}: line {} is no line of a journal", self.path, self.lines)
             hint = Text("put it right; take it out only where its label is not on paper")
             raise ToolError(what, hint)

@@ -178,8 +178,9 @@ class Editors(Folder):
         self.said(self.done_again(), 0, "30 labels in .* already")
         self.assertEqual(journal.read_bytes(), whole)
         lines = whole.splitlines()[:-1]
-        for word in (b"taken", b"sending"):
-            journal.write_bytes(b"\n".join([*lines[:-1], lines[-1].replace(b"sending", word)]))
+        for word, end in ((b"taken", b""), (b"sending", b"    ")):
+            last = lines[-1].replace(b"sending", word) + end
+            journal.write_bytes(b"\n".join([*lines[:-1], last]))
             done = self.done_again()
             self.said(done, 1, "its last line had no end, so its label may be on paper")
             self.said(done, 1, "line 30: may be on paper, from standard output")
@@ -438,6 +439,14 @@ class Streams(Folder):
         self.assertRegex(self.answer(stream, b"qr A\n"), "^taken 1 ")
         os.unlink(self.path)
         self.assertRegex(self.answer(stream, b"qr B\n"), "^unsent 2 .*another program has changed")
+        self.assertEqual(stream.wait(support.SECONDS), 1)
+
+    def test_a_line_of_another_program_ends_it_with_an_answer(self) -> None:
+        stream = self.start("--journal", self.path)
+        self.assertRegex(self.answer(stream, b"qr A\n"), "^taken 1 ")
+        with open(self.path, "ab") as file:
+            file.write(b"printed by hand: B\n")
+        self.assertRegex(self.answer(stream, b"qr B\n"), "^unsent 2 .*line 4 is no line of a")
         self.assertEqual(stream.wait(support.SECONDS), 1)
 
     def test_a_mark_that_the_journal_does_not_take(self) -> None:
