@@ -15,6 +15,7 @@ from labeltools.text import NOTHING, Text, translated
 from labeltools.messages import BadArguments, Place, ToolError, of_system, sentence, write_message
 
 ENDING = (signal.SIGHUP, signal.SIGINT, signal.SIGTERM)
+HELD: list[list[int]] = []  # the signals that came while they are held back, where they are
 
 
 # what argparse says of bad arguments; it looks for them where words.py has the translations
@@ -181,9 +182,13 @@ def on_signals(action: Any = signal.SIG_DFL) -> None:
 @contextmanager
 def hold_signals() -> Iterator[None]:
     """Holds a signal back while something goes out that has to be whole; a second one ends the tool
-    at once.
+    at once. Within another such time it does nothing.
     """
+    if HELD:
+        yield
+        return
     taken: list[int] = []
+    HELD.append(taken)
 
     def take(number: int, _: object) -> None:
         taken.append(number)
@@ -193,6 +198,7 @@ def hold_signals() -> Iterator[None]:
     try:
         yield
     finally:
+        HELD.clear()
         on_signals()
         for number in taken:
             os.kill(os.getpid(), number)

@@ -8,8 +8,12 @@ A code that is there goes out no more. So several lanes print one file by one jo
 the next label that none has. One that was `sending` when its lane ended may be on paper or not.
 
 A lane locks a byte far behind the end of the file for as long as it runs, so that another one
-knows which of them have ended; and one more byte while it reads and writes. A line that was cut off
-was never followed by its label, and is taken out.
+knows which of them have ended; and one more byte while it reads and writes. A lane that gives a
+label up leaves its number with it, and no lane takes a number that a label waits with.
+
+A last line that was cut off was never followed by its label, and is taken out; where all of its
+fields are there, an editor may have left out its end alone, and its label is doubtful. Ends of
+lines may be those of Windows.
 """
 
 import fcntl
@@ -17,35 +21,47 @@ import os
 import re
 import stat
 import time
-from typing import NamedTuple, Optional
+from codecs import BOM_UTF8
+from contextlib import contextmanager, suppress
+from itertools import count
+from pathlib import Path
+from typing import Iterator, NamedTuple, Optional
 
 from labeltools.lines_file import LineRecord
 from labeltools.messages import ToolError
-from labeltools.text import Text
+from labeltools.text import NOTHING, Text
 
 HEAD = b"#labels journal 1\n"
-SENDING = "sending"
-TAKEN = "taken"
-EVENTS = (SENDING, TAKEN)
-FIELDS = 6
+SENDING = b"sending"
+TAKEN = b"taken"
 MOST_LANES = 64
+MOST_NAMED = 10  # lines that a message names
+STUCK = 60.0  # seconds that a lane may wait for another one
+SHORT = 0.0005  # seconds between two looks, at first
+LONG = 0.02  # and later
 FAR = 1 << 62  # of a file: bytes that are locked and never written
-LANE = re.compile(r"lane ([0-9]+)", re.ASCII)
 NO_JOURNAL = Text("give a file that label-print --journal has made, or a new name")
-STRANGE = re.compile(rb"[^ -\[\]-~]")
+CUT_OFF = Text("its last line was cut off, and was taken out: its label was not sent")
+NO_END = Text("its last line had no end, so its label may be on paper")
+NOT_WRITTEN = Text("see that it can be written, then give the same command again")
+NO_LOCKS = Text("put the journal on a disk that locks files")
+STRANGE = re.compile(rb"[^ -\[\]-~]| (?= *\Z)")  # what is written as escapes: blanks at the end too
 ESCAPES = {bytes([byte]): b"\\x%02X" % byte for byte in range(256)} | {b"\\": b"\\\\"}
-
-Code = tuple[str, bytes]
+LINE = re.compile(
+    rb"[^\t]*\t(sending|taken)\tlane ([1-9][0-9]{0,8})\t([^\t]*)\t([^\t]*)\t"
+    rb"([!-~]+ (?:[ -\[\]-~]|\\\\|\\x[0-9A-F]{2})*)"
+)
+ENDS = b"\r "  # what an editor may put behind a line, and what no code ends in
 
 
 class Entry(NamedTuple):
     """The last that is known of a code, and the number of its line."""
 
     number: int
-    event: str
+    event: bytes
     lane: int
-    printer: str
-    place: str
+    printer: bytes
+    place: bytes
 
 
 class Journal:
@@ -54,51 +70,61 @@ class Journal:
     def __init__(self, path: str, printer: str) -> None:
         """Opens a journal, or makes it; raises `ToolError` where it is none, and `OSError`."""
         self.path = path
-        self.printer = printer.replace("\t", " ")
+        self.printer = printer.replace("\t", " ").encode("utf-8", "replace")
         flags = os.O_RDWR | os.O_CREAT | os.O_CLOEXEC | os.O_NONBLOCK  # it waits for no FIFO
         self.file = os.open(path, flags, 0o644)
         if not stat.S_ISREG(os.fstat(self.file).st_mode):
             raise ToolError(Text("{} is no journal", path), NO_JOURNAL)
-        self.entries: dict[Code, Entry] = {}
+        self.entries: dict[bytes, Entry] = {}  # of codes as they stand in the file
         self.end = 0
         self.lines = 0
-        self.is_mended = False
-        self.lane = self.free_lane()
-        self.lock()
-        try:
+        self.mended = NOTHING  # what was wrong with its last line
+        self.is_lost = False  # whether another program has written it
+        self.lane = 0
+        with self.locked():
             self.read()
-        finally:
-            self.unlock()
+            self.lane = self.free_lane()
         self.before = dict(self.entries)
 
     def claim(self, record: LineRecord, again: Optional[str] = None) -> bool:
         """Writes that the label of a line is sent, and returns whether it is for this lane: False
         where the journal has its code. A code that was last sent to the printer `again` before this
-        lane began is sent again.
+        lane began is sent again. Raises `ToolError` where it cannot be written.
         """
         code = code_of(record)
-        self.lock()
-        try:
+        with self.locked():
             self.read()
             found = self.entries.get(code)
             if found is not None:
                 is_old = self.before.get(code) == found
-                if again is None or not is_old or found.printer != again or self.is_alive(found):
+                is_again = again is not None and found.printer == again.encode("utf-8", "replace")
+                if not is_again or not is_old or self.is_alive(found):
                     return False
             self.write(SENDING, record)
-        finally:
-            self.unlock()
-        os.fdatasync(self.file)
+        try:
+            os.fdatasync(self.file)
+        except OSError as error:
+            raise self.not_written(error) from error
         return True
 
     def take(self, record: LineRecord) -> None:
-        """Writes that a label was taken by the printer."""
-        self.lock()
-        try:
+        """Writes that a label was taken by the printer; raises `ToolError`."""
+        with self.locked():
             self.read()
             self.write(TAKEN, record)
-        finally:
-            self.unlock()
+
+    def look(self) -> None:
+        """Reads what other lanes wrote; raises `ToolError`."""
+        with self.locked():
+            self.read()
+
+    def give_up(self) -> None:
+        """Leaves the label that is sent in doubt, with the number of this lane, and takes another
+        number: other lanes see that nobody sends the label any more.
+        """
+        with self.locked():
+            fcntl.lockf(self.file, fcntl.LOCK_UN, 1, FAR + self.lane)
+            self.lane = self.free_lane()
 
     def entry(self, record: LineRecord) -> Optional[Entry]:
         """Returns the last that is known of the code of a line."""
@@ -119,50 +145,101 @@ class Journal:
         return False
 
     def free_lane(self) -> int:
-        """Takes the first number that no other lane has, and returns it."""
-        for number in range(1, MOST_LANES + 1):
-            if self.is_free(FAR + number):
+        """Takes the first number that no other lane has, and no label waits with; returns it."""
+        left = {entry.lane for entry in self.entries.values() if entry.event == SENDING}
+        lanes = 0
+        for number in count(1):
+            if number not in left and self.is_free(FAR + number):
                 return number
+            lanes += number not in left
+            if lanes == MOST_LANES:
+                break
         raise ToolError(Text("{}: {} lanes print by it already", self.path, MOST_LANES))
 
     def is_free(self, byte: int) -> bool:
         """Locks a byte, and returns whether it was free."""
         try:
             fcntl.lockf(self.file, fcntl.LOCK_EX | fcntl.LOCK_NB, 1, byte)
-        except OSError:
+        except (BlockingIOError, PermissionError):
             return False
         return True
 
-    def lock(self) -> None:
-        """Waits until no other lane reads or writes."""
-        fcntl.lockf(self.file, fcntl.LOCK_EX, 1, FAR)
+    @contextmanager
+    def locked(self) -> Iterator[None]:
+        """Waits until no other lane reads or writes, and keeps them from it; raises `ToolError` in
+        place of `OSError`.
+        """
+        self.wait()
+        try:
+            yield
+        except OSError as error:
+            raise self.not_written(error) from error
+        finally:
+            fcntl.lockf(self.file, fcntl.LOCK_UN, 1, FAR)
 
-    def unlock(self) -> None:
-        """Lets other lanes read and write."""
-        fcntl.lockf(self.file, fcntl.LOCK_UN, 1, FAR)
+    def wait(self) -> None:
+        """Waits until no other lane reads or writes; raises `ToolError` where one does not end, or
+        the file cannot be locked.
+        """
+        end = time.monotonic() + STUCK
+        pause = SHORT
+        try:
+            while not self.is_free(FAR):
+                if time.monotonic() > end:
+                    what = Text("{}: another lane keeps it for {:.0f} seconds", self.path, STUCK)
+                    raise ToolError(what, Text("is it stopped? let it go on, or end it"))
+                time.sleep(pause)
+                pause = min(2 * pause, LONG)
+        except OSError as error:
+            raise ToolError(Text("{}: {}", self.path, error.strerror), NO_LOCKS) from error
+
+    def not_written(self, error: OSError) -> ToolError:
+        """Returns what is wrong where the system does not read or write it."""
+        return ToolError(Text("{}: {}", self.path, error.strerror), NOT_WRITTEN)
 
     def read(self) -> None:
-        """Reads what was written since the last time, and takes out a line that was cut off."""
+        """Reads what was written since the last time, and mends a last line that was cut off."""
         size = os.fstat(self.file).st_size
         if size < self.end or not self.is_in_place():
+            self.is_lost = True
             what = Text("{}: another program has changed it", self.path)
-            raise ToolError(what, Text("nothing more is printed: give the same command again"))
+            raise ToolError(what, self.advice())
         data = os.pread(self.file, size - self.end, self.end)
-        whole = data.rfind(b"\n") + 1
-        if not self.end and not data.startswith(HEAD):
+        if not self.end and not is_journal(data):
             if not HEAD.startswith(data):
                 raise ToolError(Text("{} is no journal", self.path), NO_JOURNAL)
             os.ftruncate(self.file, 0)
             self.append(HEAD)
             self.lines = 1
             return
-        if whole < len(data):
-            os.ftruncate(self.file, self.end + whole)
-            self.is_mended = True
-        for line in data[:whole].split(b"\n")[:-1]:
+        *whole, last = data.split(b"\n")
+        for line in whole:
             self.lines += 1
-            self.learn(line)
-        self.end += whole
+            self.learn(line.rstrip(ENDS))
+        self.end += len(data) - len(last)
+        if last:
+            self.mend(last.rstrip(ENDS))
+
+    def mend(self, line: bytes) -> None:
+        """Takes out a last line without its end; one that has all fields is written anew, and its
+        label is in doubt unless the line says that it was taken, and an earlier one that it was
+        sent.
+        """
+        found = entry_in(line, self.lines + 1)
+        if found is None:
+            self.mended = CUT_OFF
+            os.ftruncate(self.file, self.end)
+            return
+        code, entry = found
+        before = self.entries.get(code, entry)
+        is_mark = before._replace(event=TAKEN, number=entry.number) == entry != before
+        self.mended = NOTHING if is_mark else NO_END
+        fields = line.split(b"\t")
+        fields[1] = TAKEN if is_mark else SENDING
+        self.append(b"\t".join(fields) + b"\n")
+        os.ftruncate(self.file, self.end)  # it was longer where it had blanks at its end
+        self.lines += 1
+        self.entries[code] = entry if is_mark else entry._replace(event=SENDING)
 
     def is_in_place(self) -> bool:
         """Returns whether the file has its name still: an editor may write a new one."""
@@ -171,67 +248,88 @@ class Journal:
         except FileNotFoundError:
             return False
 
+    def advice(self) -> Text:
+        """Returns what to do where another program has taken its place: what the new file has not
+        would be printed again.
+        """
+        found: set[bytes] = set()
+        with suppress(FileNotFoundError):
+            lines = Path(self.path).read_bytes().split(b"\n")
+            found = {read[0] for line in lines if (read := entry_in(line.rstrip(ENDS), 0))}
+        lost = [entry.place.decode() for code, entry in self.entries.items() if code not in found]
+        if not lost:
+            return Text("nothing more is printed: give the same command again")
+        named = ", ".join(lost[:MOST_NAMED])
+        if len(lost) > MOST_NAMED:
+            named = Text("{} .. ({} in all)", named, len(lost))
+        return Text("it has not {}, which the same command would print once more", named)
+
     def printers(self) -> set[str]:
         """Returns the printers that it has labels of."""
-        return {entry.printer for entry in self.entries.values()}
+        return {entry.printer.decode("utf-8", "replace") for entry in self.entries.values()}
 
     def learn(self, line: bytes) -> None:
         """Takes a line."""
-        if line.startswith(b"#"):
+        if line.removeprefix(BOM_UTF8).startswith(b"#") or not line:
             return
-        fields = line.decode("utf-8", "replace").split("\t")
-        lane = LANE.fullmatch(fields[2]) if len(fields) == FIELDS else None
-        if lane is None or fields[1] not in EVENTS:
+        found = entry_in(line, self.lines)
+        if found is None:
+            self.is_lost = True
             what = Text("{}: line {} is no line of a journal", self.path, self.lines)
-            hint = Text("nothing is printed: take it out, or take another journal")
+            hint = Text("put it right; take it out only where its label is not on paper")
             raise ToolError(what, hint)
-        code = code_in(line.split(b"\t")[-1])
-        self.entries[code] = Entry(self.lines, fields[1], int(lane[1]), fields[3], fields[4])
+        code, entry = found
+        self.entries[code] = entry
 
-    def write(self, event: str, record: LineRecord) -> None:
+    def write(self, event: bytes, record: LineRecord) -> None:
         """Writes a line."""
-        now = time.strftime("%Y-%m-%dT%H:%M:%SZ", time.gmtime())
-        head = "\t".join((now, event, f"lane {self.lane}", self.printer, str(record.place)))
-        symbology, data = code_of(record)
-        line = head.encode("utf-8", "replace") + b"\t" + symbology.encode() + b" " + escaped(data)
-        self.append(line + b"\n")
+        now = time.strftime("%Y-%m-%dT%H:%M:%SZ", time.gmtime()).encode()
+        lane = b"lane %d" % self.lane
+        place = str(record.place).encode()
+        code = code_of(record)
+        self.append(b"\t".join((now, event, lane, self.printer, place, code)) + b"\n")
         self.lines += 1
-        place = str(record.place)
-        self.entries[symbology, data] = Entry(self.lines, event, self.lane, self.printer, place)
+        self.entries[code] = Entry(self.lines, event, self.lane, self.printer, place)
 
     def append(self, line: bytes) -> None:
         """Writes a whole line at the end, or nothing: raises `OSError`."""
+        done = 0
         try:
-            done = os.pwrite(self.file, line, self.end)
-            if done < len(line):
+            while done < len(line):
                 done += os.pwrite(self.file, line[done:], self.end + done)
-        except OSError as error:
+        except OSError:
             os.ftruncate(self.file, self.end)
-            raise OSError(error.errno, error.strerror, self.path) from error
+            raise
         self.end += len(line)
 
 
-def code_of(record: LineRecord) -> Code:
-    """Returns the code of a line."""
-    return record.symbology, record.data
+def is_journal(data: bytes) -> bool:
+    """Returns whether a file begins as a journal does; an editor may have changed its line ends."""
+    head = data[: len(BOM_UTF8 + HEAD) + len(ENDS)].partition(b"\n")[0]
+    return b"\n" in data and head.removeprefix(BOM_UTF8).rstrip(ENDS) == HEAD.rstrip()
+
+
+def entry_in(line: bytes, number: int) -> Optional[tuple[bytes, Entry]]:
+    """Returns the code of a line of a journal, which has this number, and what it says of it; None
+    where it is no such line.
+    """
+    found = LINE.fullmatch(line)
+    if found is None:
+        return None
+    event, lane, printer, place, code = found.groups()
+    return code, Entry(number, event, int(lane), printer, place)
+
+
+def code_of(record: LineRecord) -> bytes:
+    """Returns the code of a line as it stands in a journal."""
+    return record.symbology.encode("utf-8", "replace") + b" " + escaped(record.data)
 
 
 def escaped(data: bytes) -> bytes:
-    """Returns data on one line: with the escapes of labels(1) for what is no letter of ASCII.
+    """Returns data on one line: with the escapes of labels(1) for what is no letter of ASCII, and
+    for a blank at its end.
 
-    >>> escaped(b"a\\\\b\\nc")
-    b'a\\\\\\\\b\\\\x0Ac'
+    >>> escaped(b"a\\\\b\\nc ")
+    b'a\\\\\\\\b\\\\x0Ac\\\\x20'
     """
     return STRANGE.sub(lambda byte: ESCAPES[byte[0]], data)
-
-
-def code_in(text: bytes) -> Code:
-    """Returns the code of a line of a journal."""
-    symbology, _, data = text.partition(b" ")
-    plain = re.sub(rb"\\(?:x([0-9A-F]{2})|\\)", unescaped, data)
-    return symbology.decode("ascii", "replace"), plain
-
-
-def unescaped(match: re.Match[bytes]) -> bytes:
-    """Returns the byte that an escape means."""
-    return bytes([int(match[1], 16)]) if match[1] else b"\\"

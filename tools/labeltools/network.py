@@ -1,15 +1,18 @@
 """Prints on a printer in the network that takes bytes on a port, mostly 9100.
 
 A label counts as taken once the printer's system has acknowledged its last byte. Whether it came
-out on paper the port does not say.
+out on paper the port does not say. A connection that is broken off at its end, in place of being
+closed, says that bytes were thrown away which the system had acknowledged.
 """
 
 import fcntl
 import re
+import select
 import socket
 import struct
 import termios
 import time
+from contextlib import suppress
 
 from labeltools.messages import BAD_ARGUMENTS, ToolError
 from labeltools.text import Text
@@ -17,11 +20,13 @@ from labeltools.text import Text
 SCHEME = "tcp://"
 NAME = re.compile(r"tcp://(\[[0-9A-Fa-f:.%]+\]|[^\s/:\[\]]+)(?::([0-9]{1,5}))?/?", re.ASCII)
 PORT = 9100
+PORTS = range(1, 65536)
 CONNECT = 10.0  # seconds
 STUCK = 60.0  # seconds in which a printer takes nothing
 FAREWELL = 2.0  # seconds that a printer may take to end the connection after the last label
 SHORT = 0.0005  # seconds between two looks, at first
 LONG = 0.02  # and later
+HEARD = 65_536  # bytes that are read at a time of what a printer says
 
 
 class Unreachable(ToolError):
@@ -32,16 +37,27 @@ class Broken(ToolError):
     """A printer that took a part of a label, or all of it without saying so."""
 
 
+def address_of(name: str) -> tuple[str, int]:
+    """Returns the host and the port of a printer named as tcp://HOST[:PORT]; raises `ToolError`
+    where the name is none.
+    """
+    found = NAME.fullmatch(name)
+    port = int(found[2] or PORT) if found else 0
+    host = found[1].strip("[]") if found else ""
+    with suppress(UnicodeError):
+        host.encode("idna")  # as the system asks for it
+        if port in PORTS:
+            return host, port
+    what = Text("{} is not as tcp://HOST or tcp://HOST:9100", name)
+    raise ToolError(what, status=BAD_ARGUMENTS)
+
+
 class NetworkPrinter:
     """A printer named as tcp://HOST[:PORT]; `stuck` are seconds in which it may take nothing."""
 
     def __init__(self, name: str, stuck: float = STUCK) -> None:
-        found = NAME.fullmatch(name)
-        if not found or int(found[2] or PORT) > 65535:
-            what = Text("{} is not as tcp://HOST or tcp://HOST:9100", name)
-            raise ToolError(what, status=BAD_ARGUMENTS)
+        self.address = address_of(name)
         self.name = name
-        self.address = found[1].strip("[]"), int(found[2] or PORT)
         self.stuck = stuck
         self.line: socket.socket | None = None
 
@@ -54,7 +70,7 @@ class NetworkPrinter:
                 reason = error.strerror or str(error)
                 hint = Text("is it on, and in the network?")
                 raise Unreachable(Text("{}: {}", self.name, reason), hint) from error
-            self.line.settimeout(self.stuck)
+            self.line.setblocking(False)
         return self.line
 
     def send(self, data: bytes) -> None:
@@ -63,8 +79,7 @@ class NetworkPrinter:
         """
         line = self.open()
         try:
-            line.sendall(data)
-            self.wait(line)
+            self.push(line, data)
         except OSError as error:
             self.drop()
             what = Text("{}: the printer broke off", self.name)
@@ -73,26 +88,35 @@ class NetworkPrinter:
                 what = Text("{}: the printer takes nothing for {} seconds", self.name, seconds)
             raise Broken(what) from error
 
-    def wait(self, line: socket.socket) -> None:
-        """Waits until all is acknowledged; raises `OSError`."""
-        left = waiting(line)
-        end = time.monotonic() + self.stuck
+    def push(self, line: socket.socket, data: bytes) -> None:
+        """Sends bytes until all are acknowledged, however slowly they are taken. What the printer
+        says meanwhile is read: one that nobody hears may stop taking. Raises `OSError`.
+        """
+        rest = memoryview(data)
+        before = len(rest) + 1
         pause = SHORT
-        while left:
+        end = 0.0
+        while True:
+            hear(line)
             require_whole(line)
-            time.sleep(pause)
-            pause = min(2 * pause, LONG)
-            now = waiting(line)
-            if now < left:
+            with suppress(BlockingIOError):
+                rest = rest[line.send(rest) :] if rest else rest
+            left = len(rest) + waiting(line)
+            if not left:
+                break
+            if left < before:
                 end = time.monotonic() + self.stuck
             elif time.monotonic() > end:
                 raise TimeoutError
-            left = now
+            before = left
+            select.select([], [line] if rest else [], [], pause)
+            pause = min(2 * pause, LONG)
         require_whole(line)
 
     def close(self) -> None:
-        """Ends the connection after what was sent. What the printer says is read until it ends:
-        with something unread the system would break off, and the printer might forget labels.
+        """Ends the connection after what was sent; raises `Broken` where the printer breaks it off.
+        What the printer says is read until it ends: with something unread the system would break
+        off, and the printer might forget labels.
         """
         if self.line is None:
             return
@@ -101,17 +125,26 @@ class NetworkPrinter:
             self.line.shutdown(socket.SHUT_WR)
             while (left := end - time.monotonic()) > 0:
                 self.line.settimeout(left)
-                if not self.line.recv(4096):
+                if not self.line.recv(HEARD):
                     break
-        except OSError:
+        except TimeoutError:
             pass  # all labels are acknowledged
-        self.drop()
+        except OSError as error:
+            raise Broken(Text("{}: the printer broke off at the end", self.name)) from error
+        finally:
+            self.drop()
 
     def drop(self) -> None:
         """Ends the connection at once."""
         if self.line is not None:
             self.line.close()
             self.line = None
+
+
+def hear(line: socket.socket) -> None:
+    """Reads what a printer says, and forgets it; raises `OSError` where it has broken off."""
+    with suppress(BlockingIOError):
+        line.recv(HEARD)
 
 
 def require_whole(line: socket.socket) -> None:

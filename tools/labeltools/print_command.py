@@ -3,9 +3,13 @@ in millimetres.
 """
 
 import argparse
+import fcntl
+import os
 import re
+import stat
 import sys
 import time
+from contextlib import suppress
 from io import BytesIO
 from pathlib import Path
 from typing import Any, Callable, Iterable, Optional, Sequence
@@ -25,8 +29,8 @@ from labeltools.files import save, send
 from labeltools.forms import DESIGN, FORMS
 from labeltools.journal import Journal
 from labeltools.layout import LaidOut
-from labeltools.messages import BAD_ARGUMENTS, ToolError, write_message
-from labeltools.network import SCHEME, NetworkPrinter
+from labeltools.messages import BAD_ARGUMENTS, ToolError, sentence, write_message
+from labeltools.network import SCHEME, NetworkPrinter, address_of
 from labeltools.own_design import is_file
 from labeltools.own_frame import svg_of
 from labeltools.press import PrintJob, Press, Prints, once
@@ -109,9 +113,31 @@ def design_of(argument: str) -> str:
 
 def rows(argument: str) -> str:
     """Returns rows such as 2,7-9 or 7-."""
-    if not ROWS.fullmatch(argument):
+    ranges = re.findall(r"(\d+)-(\d+)", argument)
+    if not ROWS.fullmatch(argument) or any(int(first) > int(last) for first, last in ranges):
         raise wrong_argument(Text("{!r} is not as 2,7-9 or 7-", argument))
     return argument
+
+
+def filled(argument: str) -> str:
+    """Returns an argument that is not empty, as it is where a variable of a shell is not set."""
+    if not argument.strip("@ "):
+        raise wrong_argument(Text("it is empty"))
+    return argument
+
+
+def printer_of(argument: str) -> str:
+    """Returns the name of a queue of CUPS, or of a printer in the network."""
+    scheme, colon, rest = filled(argument).partition("://")
+    name = f"{scheme.lower()}{colon}{rest}"
+    if name.startswith(SCHEME):
+        try:
+            address_of(name)
+        except ToolError as error:
+            raise wrong_argument(error.what) from error
+    elif colon:
+        raise wrong_argument(Text("{!r} is not as tcp://HOST, or a queue of CUPS", argument))
+    return name
 
 
 def command_line() -> Parser:
@@ -185,7 +211,15 @@ def add_choice_options(parser: argparse.ArgumentParser) -> None:
     only = "print these rows of the table alone, such as 2,7-9 or 7- for all from 7 on"
     add("--only", metavar="ROWS", type=rows, dest="rows_only", help=only)
     code = "print the label with this code alone, or those of @FILE, a code on each line"
-    add("--only-code", metavar="CODE", action="append", default=[], dest="codes", help=code)
+    add(
+        "--only-code",
+        metavar="CODE",
+        type=filled,
+        action="append",
+        default=[],
+        dest="codes",
+        help=code,
+    )
     unique = "leave out a line whose code was there before, as on tickets and serial numbers"
     add("--unique", action="store_true", dest="is_unique", help=unique)
     options = "options of labels, such as '--level H'"
@@ -204,13 +238,13 @@ def add_output_options(parser: argparse.ArgumentParser) -> None:
     out = parser.add_mutually_exclusive_group().add_argument
     out("--each", metavar="NAME", help="a file for each label: %%d is its number, %%s its data")
     queue = "print on this queue of CUPS, or on tcp://HOST, in place of standard output"
-    out("--print", metavar="QUEUE", dest="queue", help=queue)
+    out("--print", metavar="QUEUE", type=printer_of, dest="queue", help=queue)
     journal = (
         "write each label into this file before it goes out; one that is there goes out no more"
     )
-    add("--journal", metavar="FILE", help=journal)
+    add("--journal", metavar="FILE", type=filled, help=journal)
     again = "with --only or --only-code: print what the journal has of this printer once more"
-    add("--again", metavar="PRINTER", help=again)
+    add("--again", metavar="PRINTER", type=filled, help=again)
     stream = "print each label as soon as its line has come in, and answer on standard error"
     add("--stream", action="store_true", dest="is_stream", help=stream)
     dots = "escpos: dots across the paper (576)"
@@ -253,8 +287,13 @@ def file_name(name: str, number: int, data: bytes) -> str:
     return NUMBERED.sub(part, name)
 
 
-def write(press: Press, prints: Prints) -> None:
-    """Writes labels to standard output. A signal waits for the end of a document."""
+def write(press: Press, prints: Prints, is_chosen: bool) -> None:
+    """Writes labels to standard output, which are some of a file where they are chosen. A signal
+    waits for the end of a document.
+    """
+    if press.job.form.is_roll:
+        Sender(StandardOutput(), is_chosen=is_chosen).send_all(press, prints)
+        return
     output = standard_output().fileno()
     for document in press.documents(prints):
         with document as file, hold_signals():
@@ -361,14 +400,34 @@ def sender_of(arguments: argparse.Namespace) -> Sender:
     if queue:
         outlet = NetworkPrinter(queue)
     journal = Journal(arguments.journal, outlet.name) if arguments.journal else None
-    if journal is not None and journal.is_mended:
-        what = Text("{}: its last line was cut off, and was taken out", arguments.journal)
-        write_message(TOOL, Text("{}: its label was not sent", what))
-    if journal is not None and arguments.again and arguments.again not in journal.printers():
+    is_chosen = bool(arguments.rows_only or arguments.codes)
+    if journal is not None:
+        check_journal(arguments, journal)
+    return Sender(outlet, journal, arguments.again, is_chosen)
+
+
+def check_journal(arguments: argparse.Namespace, journal: Journal) -> None:
+    """Says what was wrong with a journal, and that a file has lost what it had before; raises
+    `ToolError` where labels cannot be printed by it.
+    """
+    if journal.mended and not arguments.is_stream:  # each line of which is an answer
+        write_message(TOOL, Text("{}: {}", arguments.journal, journal.mended))
+    if arguments.again and arguments.again not in journal.printers():
         names = ", ".join(sorted(journal.printers())) or Text("nothing")
         what = Text("{} has no label of {}", arguments.journal, arguments.again)
         raise ToolError(what, Text("--again names a printer of it: {}", names))
-    return Sender(outlet, journal, arguments.again)
+    if not arguments.queue:
+        output = standard_output().fileno()
+        state = os.fstat(output)
+        if os.path.samestat(state, os.fstat(journal.file)):
+            what = Text("{} is the journal and standard output", arguments.journal)
+            raise ToolError(what, Text("name another file for one of them"))
+        is_added = fcntl.fcntl(output, fcntl.F_GETFL) & os.O_APPEND
+        is_new = stat.S_ISREG(state.st_mode) and not state.st_size and not is_added
+        if is_new and OUTPUT in journal.printers() and not arguments.is_stream:
+            what = Text("{} has labels of an earlier file", arguments.journal)
+            hint = Text("with > that file has lost them, with >> it keeps them")
+            write_message(TOOL, sentence(what, hint))
 
 
 def listed(wanted: str) -> int:
@@ -386,6 +445,7 @@ def listed(wanted: str) -> int:
 def run() -> int:
     """Returns 0 where each label is printed, 1 where one is left out."""
     arguments = command_line().parse_args()
+    make_streams_wait()
     options = options_of(arguments)
     if arguments.list_stock is not None:
         return listed(arguments.list_stock)
@@ -404,6 +464,15 @@ def run() -> int:
         write_design(found)
         return 1 if found.left_out else 0
     return give_out(arguments, options, found, talk)
+
+
+def make_streams_wait() -> None:
+    """Makes standard input, output and error streams that wait: who gave them may have made them
+    such as do not.
+    """
+    for stream in (sys.stdin, sys.stdout, sys.stderr):
+        with suppress(AttributeError, OSError):  # it is closed, or it is no file
+            os.set_blocking(stream.fileno(), True)
 
 
 def is_single(arguments: argparse.Namespace) -> bool:
@@ -436,7 +505,7 @@ def give_out(
     elif arguments.queue is not None:
         write_message(TOOL, Text("{}", print_on(press, prints, arguments.queue)))
     else:
-        write(press, prints)
+        write(press, prints, options.only is not None)
         if arguments.summary or sys.stderr.isatty():
             write_message(TOOL, summary_of(job, prints, items if options.only else ()))
     return 1 if found.left_out else 0

@@ -92,7 +92,8 @@ def print_by(job: PrintJob, queue: str, file: IO[bytes]) -> str:
     """
     done = called(lp_words(job, queue) or [], file)
     if done.returncode:
-        said = done.stderr.decode("utf-8", "replace").strip()
+        lines = done.stderr.decode("utf-8", "replace").split("\n")
+        said = lines[0].strip() or Text("it ended with status {}", done.returncode)
         names = ", ".join(queues())
         hint = Text("the queues are {}", names) if names else Text("there is no queue")
         raise ToolError(Text("lp does not print on {}: {}", queue, said), hint)

@@ -4,11 +4,11 @@ import re
 from codecs import BOM_UTF8
 from dataclasses import dataclass
 from pathlib import Path
-from typing import Iterable, Iterator, Optional
+from typing import Iterable, Iterator, Optional, Sequence
 
 from labeltools.lines_file import LineRecord
 from labeltools.messages import Place, ToolError
-from labeltools.report import LeftOut
+from labeltools.report import MOST_RANGES, LeftOut, range_text, ranges_of
 from labeltools.text import Text
 
 MOST_ROWS = 1_048_576
@@ -42,10 +42,12 @@ class Selection:
             rows.add(record.place.number)
             if self.codes:
                 codes.update(names_of(record))
-        for row in sorted(self.rows - rows):
-            yield LeftOut(Place("", "row", row), "", Text("of --only, but not in the input"))
+        lacking = sorted(self.rows - rows)
         if self.start is not None and all(row < self.start for row in rows):
-            yield LeftOut(Place("", "row", self.start), "", Text("of --only, but not in the input"))
+            lacking.append(self.start)
+        reason = Text("of --only, but not in the input")
+        for row in lacking:
+            yield LeftOut(Place("", "row", row), "", reason)
         for code in sorted(self.codes - codes):
             text = code.decode("utf-8", "backslashreplace")
             yield LeftOut(None, text, Text("{}: of --only-code, but not in the input", text))
@@ -76,8 +78,29 @@ def selection_of(rows: Optional[str], codes: Iterable[str]) -> Optional[Selectio
         if dash and not last:
             start = int(first)
         elif part:
+            found.add(int(first))
             found.update(range(int(first), min(int(last or first), MOST_ROWS) + 1))
     return Selection(frozenset(found), start, frozenset(wanted))
+
+
+def words_of_rest(places: Sequence[Place], start: int, is_chosen: bool) -> str:
+    """Returns the words that choose the labels of some places from the one of a number on, and none
+    before it; `is_chosen` is whether the places are some of a file.
+
+    >>> rows = [Place("", "row", number) for number in (2, 3, 5, 6)]
+    >>> words_of_rest(rows, 1, False), words_of_rest(rows, 1, True)
+    ('--only 3-', '--only 3,5-6')
+    >>> words_of_rest([*rows, *rows], 6, False)
+    '--only-code @FILE'
+    """
+    done = {place.number for place in places[:start]}
+    rest = sorted({place.number for place in places[start:]})
+    if not is_chosen and max(done, default=0) < rest[0]:
+        return f"--only {rest[0]}-"
+    ranges = ranges_of(rest)
+    if len(ranges) > MOST_RANGES or not done.isdisjoint(rest):
+        return f"--only-code {FILE}FILE"
+    return f"--only {','.join(range_text(first, last) for first, last in ranges)}"
 
 
 def codes_of(argument: str) -> set[bytes]:

@@ -2,19 +2,22 @@
 without one.
 """
 
+from contextlib import suppress
 from io import BytesIO
-from typing import Iterator, Optional, Protocol
+from typing import Iterable, Iterator, Optional, Protocol
 
 from labeltools.command_line import hold_signals, standard_output
 from labeltools.files import send
 from labeltools.forms import ZPL
 from labeltools.journal import Journal
 from labeltools.layout import LaidOut
+from labeltools.lines_file import LineRecord
 from labeltools.messages import ToolError, sentence
 from labeltools.network import Broken
 from labeltools.press import Press, Prints
 from labeltools.report import LeftOut
-from labeltools.text import Text, counted
+from labeltools.selection import words_of_rest
+from labeltools.text import NOTHING, Text, counted
 
 OUTPUT = "standard output"
 
@@ -31,7 +34,7 @@ class Outlet(Protocol):
         """Sends a whole label; raises `Broken` where a part of it may have gone out."""
 
     def close(self) -> None:
-        """Ends the way out after what was sent."""
+        """Ends the way out after what was sent; raises `Broken` where it broke off before."""
 
 
 class StandardOutput:
@@ -60,11 +63,17 @@ class Sender:
     """
 
     def __init__(
-        self, outlet: Outlet, journal: Optional[Journal] = None, again: Optional[str] = None
+        self,
+        outlet: Outlet,
+        journal: Optional[Journal] = None,
+        again: Optional[str] = None,
+        is_chosen: bool = False,
     ) -> None:
+        """Takes what labels go out by; `is_chosen` is whether they are some of a file."""
         self.outlet = outlet
         self.journal = journal
         self.again = again
+        self.is_chosen = is_chosen
         self.sent: list[LaidOut] = []
         self.taken = 0
         self.known = 0
@@ -79,17 +88,25 @@ class Sender:
                 self.send(press, item, copies, not self.sent)
             except Broken as error:
                 what = Text("{}: {}", error.what, self.so_far())
-                raise ToolError(what, self.advice(item)) from error
+                raise ToolError(what, self.advice(error, item, prints)) from error
             except ToolError as error:
                 place = item.label.record.place.text
                 what = Text("{}: {} and what follows it were not sent", error.what, place)
                 raise ToolError(what, error.hint, error.status) from error
             done += copies
             press.talk.go_on(done, len(prints))
-        self.outlet.close()
+        try:
+            self.outlet.close()
+        except Broken as error:
+            what = Text("{}: {}", error.what, self.so_far())
+            raise ToolError(what, self.advice_at_end()) from error
 
-    def send(self, press: Press, item: LaidOut, copies: int, is_first: bool) -> int:
-        """Sends a label, and returns how many bytes it has; 0 where the journal has it."""
+    def send(
+        self, press: Press, item: LaidOut, copies: int, is_first: bool, is_last: bool = False
+    ) -> int:
+        """Sends a label, and returns how many bytes it has; 0 where the journal has it. The way out
+        ends after the last label, which is taken where that ends well.
+        """
         record = item.label.record
         if self.journal is not None and self.is_known(item):
             self.known += 1
@@ -100,13 +117,28 @@ class Sender:
             self.known += 1
             return 0
         with hold_signals():
-            for document in documents:
-                self.outlet.send(document)
-            if self.journal is not None:
-                self.journal.take(record)
+            self.give(record, documents, is_last)
         self.taken += copies
         self.sent.append(item)
         return sum(map(len, documents))
+
+    def give(self, record: LineRecord, documents: Iterable[bytes], is_last: bool) -> None:
+        """Gives a label to the printer, and writes that it was taken; raises `Broken`."""
+        try:
+            for document in documents:
+                self.outlet.send(document)
+            if is_last:
+                self.outlet.close()
+        except Broken:
+            if self.journal is not None:
+                with suppress(ToolError):  # what is wrong with the printer is said
+                    self.journal.give_up()
+            raise
+        if self.journal is not None:
+            try:
+                self.journal.take(record)
+            except ToolError as error:
+                raise Broken(error.what, error.hint) from error
 
     def is_known(self, item: LaidOut) -> bool:
         """Returns whether the journal is known to have a label, without looking into it again."""
@@ -117,34 +149,54 @@ class Sender:
         """Returns how many labels went out whole."""
         return counted("it took {} label whole", "it took {} labels whole", self.taken)
 
-    def advice(self, item: LaidOut) -> Text:
+    def advice(self, error: Broken, item: LaidOut, prints: Prints) -> Text:
         """Returns what to do where a label went out in part."""
         place = item.label.record.place
-        if self.journal is not None:
-            return Text(
+        if error.hint:
+            return Text("{} may be on paper; {}", place.text, error.hint)
+        if self.journal is not None and self.again is None:
+            text = Text(
                 "{} may be on paper: look there, then give the same command again", place.text
             )
+            if not self.sent:
+                return text
+            last = self.sent[-1].label.record.place.text
+            words = f"--only --again {self.outlet.name}"
+            return Text(
+                "look that {} is on paper, or print what is missing by {}; {}", last, words, text
+            )
+        places = [one.label.record.place for one in prints.items]
+        start = next(number for number, one in enumerate(prints.items) if one is item)
+        words = words_of_rest(places, start, self.is_chosen)
+        again = f" --again {self.again}" if self.again else ""
         return Text(
-            "look at the last one on paper, then print from {} on by --only {}-",
-            place.text,
-            place.number,
+            "look at the last one on paper, then print from {} on by {}", place.text, words + again
         )
 
-    def doubtful(self, prints: Prints) -> Iterator[LeftOut]:
-        """Yields labels of which it is not known whether they are on paper: their lane has
-        ended.
+    def advice_at_end(self) -> Text:
+        """Returns what to do where the printer broke off after the last label."""
+        words = f"--only --again {self.outlet.name}" if self.journal is not None else "--only"
+        return Text("look at the last one on paper, and print what is missing by {}", words)
+
+    def doubt(self, record: LineRecord) -> Text:
+        """Returns what to do about a label of which it is not known whether it is on paper, as its
+        lane has ended; nothing where that is known.
         """
-        if self.journal is None:
-            return
+        if self.journal is None or not self.journal.is_doubtful(record):
+            return NOTHING
+        entry = self.journal.entry(record)
+        printer = entry.printer.decode("utf-8", "replace") if entry else ""
+        reason = Text("may be on paper, from {}: look for it", printer)
+        hint = Text("if it is not there, give --only-code CODE --again {}", printer)
+        return sentence(reason, hint)
+
+    def doubtful(self, prints: Prints) -> Iterator[LeftOut]:
+        """Yields labels of which it is not known whether they are on paper."""
         for item in prints.items:
             record = item.label.record
-            if self.journal.is_doubtful(record):
-                entry = self.journal.entry(record)
-                printer = entry.printer if entry else ""
-                reason = Text("may be on paper, from {}: look for it", printer)
-                hint = Text("if it is not there, give --only-code CODE --again {}", printer)
+            if reason := self.doubt(record):
                 data = record.data.decode("utf-8", "backslashreplace")
-                yield LeftOut(record.place, data, sentence(reason, hint))
+                yield LeftOut(record.place, data, reason)
 
 
 def written(press: Press, item: LaidOut, copies: int, is_first: bool) -> Iterator[bytes]:

@@ -13,16 +13,18 @@ it, as in the file of label-table; its first and last remarks are skipped.
 """
 
 import os
+import select
 import stat
 import sys
-from contextlib import suppress
-from typing import BinaryIO, Iterator, NamedTuple, Optional
+from io import BufferedReader, RawIOBase
+from typing import Any, BinaryIO, Iterator, NamedTuple, NoReturn, Optional
 
-from labeltools.engine import LABELS_FAILED, run_labels
+from labeltools.command_line import hold_signals
+from labeltools.engine import LABELS_FAILED, Engine, run_labels
 from labeltools.letters import Letters
 from labeltools.lines_file import OBJECT, LineRecord, read_lines
 from labeltools.messages import Silence, ToolError, sentence, visible
-from labeltools.network import Broken, Unreachable
+from labeltools.network import Broken
 from labeltools.press import Press, PrintJob
 from labeltools.print_job import DrawnLines, Prepared, PrintOptions, prepared
 from labeltools.sending import OUTPUT, Sender
@@ -58,30 +60,73 @@ class Job(NamedTuple):
     fault: Text = NOTHING
 
 
+class Fifo(RawIOBase):
+    """A FIFO by its name, which ends where its last writer has gone, and then waits for the next
+    one: half a line, or an object without its line, is not that writer's.
+    """
+
+    def __init__(self, path: str) -> None:
+        """Opens it; raises `OSError`."""
+        self.path = path
+        self.source = os.open(path, os.O_RDONLY | os.O_NONBLOCK)
+        self.is_idle = True
+
+    def readable(self) -> bool:
+        """Returns that it can be read."""
+        return True
+
+    def readinto(self, buffer: Any) -> int:
+        """Waits for bytes, and reads them; returns 0 once where the last writer has gone."""
+        if self.is_idle:
+            writer = os.open(self.path, os.O_WRONLY)  # of our own: until another one writes
+            try:
+                select.select([self.source], [], [])
+            finally:
+                os.close(writer)
+        else:
+            select.select([self.source], [], [])
+        size = os.readv(self.source, [buffer])
+        self.is_idle = size == 0
+        return size
+
+
 def source_of(path: Optional[str]) -> BinaryIO:
-    """Returns what lines come from. A FIFO is kept open when its last writer has gone."""
+    """Returns what lines come from; raises `ToolError` and `OSError`."""
     if path is None or path == "-":
         if sys.stdin is None:
             raise ToolError(Text("standard input is closed"))
-        with suppress(OSError):  # who gave it may have made it one that does not wait
-            os.set_blocking(sys.stdin.fileno(), True)
         return sys.stdin.buffer
-    is_fifo = stat.S_ISFIFO(os.stat(path).st_mode)
-    return os.fdopen(os.open(path, os.O_RDWR if is_fifo else os.O_RDONLY), "rb")
+    if stat.S_ISFIFO(os.stat(path).st_mode):
+        return BufferedReader(Fifo(path))
+    return open(path, "rb")
+
+
+def next_line(source: BinaryIO) -> bytes:
+    """Returns a line, or as much of it as a line may have; nothing at the end. Raises `ToolError`
+    where it cannot be read.
+    """
+    try:
+        return source.readline(LONGEST)
+    except OSError as error:
+        raise ToolError(Text("the lines cannot be read: {}", error.strerror)) from error
 
 
 def jobs(source: BinaryIO) -> Iterator[Job]:
-    """Yields each line with data as soon as it is there."""
+    """Yields each line with data as soon as it is there; of a FIFO, for ever."""
     remark = b""
     number = 0
-    while line := source.readline(LONGEST):
+    is_fifo = isinstance(getattr(source, "raw", None), Fifo)
+    while (line := next_line(source)) or is_fifo:
+        if not line:
+            remark = b""
+            continue
         number += 1
         fault = NOTHING
         if not line.endswith(b"\n"):
             fault = Text("cut off before its line end")
             if len(line) == LONGEST:
                 fault = Text("longer than {} bytes", LONGEST)
-                while (rest := source.readline(LONGEST)) and not rest.endswith(b"\n"):
+                while len(rest := next_line(source)) == LONGEST and rest[-1:] != b"\n":
                     pass
         data = line.removesuffix(b"\n")
         if not fault and data.startswith(OBJECT):
@@ -95,12 +140,15 @@ class Stream:
     """Prints lines one by one."""
 
     def __init__(self, options: PrintOptions, job: PrintJob, sender: Sender) -> None:
+        """Takes how lines are printed; raises `ToolError` where none can be."""
+        Engine(options.words)
         self.options = options
         self.job = job
         self.sender = sender
         self.letters = Letters(job.fonts)
         self.presses: dict[bool, Press] = {}
         self.seen: set[tuple[str, bytes]] = set()
+        self.status = 0
 
     def answer(self, job: Job) -> tuple[str, Text]:
         """Prints a line, and returns the word and the text of its answer."""
@@ -111,10 +159,20 @@ class Stream:
             return KNOWN, Text("{}", text)
         except Refused as refused:
             return REFUSED, refused.reason
-        except Unreachable as error:
-            return UNSENT, sentence(error.what, error.hint)
         except Broken as error:
             return DOUBTFUL, sentence(error.what, error.hint)
+        except ToolError as error:
+            if error.status == LABELS_FAILED:
+                self.status = error.status
+            return UNSENT, sentence(error.what, error.hint)
+
+    @property
+    def is_at_end(self) -> bool:
+        """Whether no label goes out any more: a label was drawn wrongly, or another program has
+        taken the place of the journal.
+        """
+        journal = self.sender.journal
+        return bool(self.status) or (journal is not None and journal.is_lost)
 
     def print(self, job: Job) -> int:
         """Prints a label and returns how many bytes it has; raises `Refused`, `Known`,
@@ -129,14 +187,23 @@ class Stream:
         size = 0
         for item in found.labels:
             copies = item.label.record.label.copies
-            size = self.sender.send(self.press(found), item, copies, True)
+            size = self.sender.send(self.press(found), item, copies, True, True)
             self.sender.sent.clear()
             if not size:
-                raise Known
-        self.sender.outlet.close()
+                self.raise_known(record)
         if self.options.is_unique and self.sender.journal is None:
             self.seen.add(code)
         return size
+
+    def raise_known(self, record: LineRecord) -> NoReturn:
+        """Raises `Known` for a line that the journal has, or `Broken` where its label is in doubt,
+        and nobody has printed it since.
+        """
+        if self.sender.journal is not None:
+            self.sender.journal.look()
+        if reason := self.sender.doubt(record):
+            raise Broken(reason)
+        raise Known
 
     def laid_out(self, job: Job) -> tuple[LineRecord, Prepared]:
         """Returns a line with its label; raises `Refused`."""
@@ -167,17 +234,18 @@ class Stream:
 def run(options: PrintOptions, job: PrintJob, path: Optional[str], sender: Sender) -> int:
     """Prints the lines of a source and answers each; returns 1 where one is not printed. It ends
     where nobody takes its labels, or reads its answers, any more: a line without an answer would be
-    sent again, and its label be there twice.
+    sent again, and its label be there twice. So a signal, too, waits for the answer.
     """
     status = 0
     stream = Stream(options, job, sender)
     for one in jobs(source_of(path)):
-        word, text = stream.answer(one)
-        status = status if word == TAKEN else 1
-        try:
-            print(word, one.number, visible(translated(text)), file=sys.stderr, flush=True)
-        except OSError:
-            return 1
-        if word == DOUBTFUL and sender.outlet.name == OUTPUT:
-            return 1  # it takes nothing any more
+        with hold_signals():
+            word, text = stream.answer(one)
+            status = status if word == TAKEN else 1
+            try:
+                print(word, one.number, visible(translated(text)), file=sys.stderr, flush=True)
+            except OSError:
+                return 1
+        if stream.is_at_end or (word == DOUBTFUL and sender.outlet.name == OUTPUT):
+            return stream.status or 1
     return status

@@ -22,7 +22,8 @@ BROKEN = struct.pack("ii", 1, 0)  # a connection that is closed so is reset
 class Printer:
     """A printer in the network. After `cut` labels it breaks off once; the connection of the
     number `torn` it breaks off within the first label; after `stuck` labels it reads no more;
-    `slow` are the seconds that it takes for each piece; `says` is what it sends.
+    `slow` are the seconds that it takes for each piece; `says` is what it sends. `rude` breaks each
+    connection off at its end, and `hangs_up` before it reads anything.
     """
 
     def __init__(
@@ -33,6 +34,8 @@ class Printer:
         slow: float = 0.0,
         says: bytes = b"",
         port: int = 0,
+        rude: bool = False,
+        hangs_up: bool = False,
     ) -> None:
         self.server = socket.create_server(("127.0.0.1", port))
         # of each connection from its beginning, so that the system takes little by itself
@@ -44,6 +47,8 @@ class Printer:
         self.stuck = stuck
         self.slow = slow
         self.says = says
+        self.rude = rude
+        self.hangs_up = hangs_up
         self.labels: List[bytes] = []
         self.file = ""
 
@@ -66,6 +71,9 @@ class Printer:
         buffer = b""
         with line:
             self.torn -= 1
+            if self.hangs_up:
+                line.recv(1, socket.MSG_PEEK)  # it is there, and unread
+                return
             if self.torn == 0:
                 line.recv(100)
                 line.setsockopt(socket.SOL_SOCKET, socket.SO_LINGER, BROKEN)
@@ -81,6 +89,8 @@ class Printer:
                     self.cut = 0
                     line.setsockopt(socket.SOL_SOCKET, socket.SO_LINGER, BROKEN)
                     return
+            if self.rude:
+                line.setsockopt(socket.SOL_SOCKET, socket.SO_LINGER, BROKEN)
 
     def keep(self, labels: List[bytes]) -> None:
         """Keeps labels, in a file where one is named."""

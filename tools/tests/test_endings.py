@@ -193,10 +193,9 @@ class Running(unittest.TestCase):
 
     def test_a_full_disk(self) -> None:
         for form in ("pdf", "svg", "png", "pbm", "zpl", "escpos"):
-            ended = self.ended('"$@" > /dev/full', *ROLL, form, data=b"ean8 7351353\n")
-            self.assertEqual(
-                ended, (1, b"", "label-print: standard output: No space left on device\n"), form
-            )
+            status, out, said = self.ended('"$@" > /dev/full', *ROLL, form, data=b"ean8 7351353\n")
+            self.assertEqual((status, out), (1, b""), form)
+            self.assertRegex(said, "^label-print: standard output: No space left on device[\n:]")
 
     def test_a_pdf_that_does_not_fit_leaves_nothing(self) -> None:
         with tempfile.TemporaryDirectory() as folder:
@@ -213,9 +212,8 @@ class Running(unittest.TestCase):
             status, out, said = self.ended(
                 '"$@" | true; exit "${PIPESTATUS[0]}"', *ROLL, form, data=data
             )
-            self.assertEqual(
-                (status, out, said), (1, b"", "label-print: standard output: Broken pipe\n"), form
-            )
+            self.assertEqual((status, out), (1, b""), form)
+            self.assertRegex(said, "^label-print: standard output: Broken pipe[\n:]", form)
         self.assertEqual(self.ended('"$@" >&-', *ROLL, "zpl", data=data)[0], 1)
         self.assertEqual(self.ended('"$@" <&-', *ROLL, "zpl", data=data)[:2], (1, b""))
         for shell in ('"$@" 2>&-', '"$@" 2> /dev/full'):

@@ -1,0 +1,505 @@
+"""What goes wrong at a desk, and what is known then: printers that hang up or talk, journals that
+an editor has changed, lanes that end, streams that are ended or that nobody reads.
+"""
+
+import doctest
+import errno
+import fcntl
+import functools
+import os
+import random
+import resource
+import signal
+import socket
+import subprocess
+import threading
+import time
+import unittest
+from pathlib import Path
+from types import ModuleType
+from unittest import mock
+
+import support
+from labeltools import journal as journals
+from labeltools import report, selection
+from labeltools.journal import Journal
+from labeltools.messages import ToolError
+from labeltools.network import NetworkPrinter
+from printers import BROKEN, LABEL, Printer
+from test_desk import ROLL, TICKETS, Folder, ended, labels_in, printed
+
+SEED = 20
+ENDINGS = (signal.SIGTERM, signal.SIGINT, signal.SIGHUP)
+
+
+def setUpModule() -> None:
+    support.labels_program()
+
+
+class Printers(Folder):
+    """Printers that hang up, that talk, and those that have no name."""
+
+    def test_what_is_broken_off_at_the_end(self) -> None:
+        """A connection that is reset says that bytes were thrown away."""
+        printer = Printer(rude=True).start()
+        done = printed("--print", printer.name)
+        self.said(done, 1, "the printer broke off at the end: it took 30 labels whole; look at")
+        self.said(done, 1, "print what is missing by --only\n")
+        done = printed("--print", printer.name, "--journal", self.path)
+        self.said(done, 1, f"what is missing by --only --again {printer.name}\n")
+
+    def test_a_stream_to_one_that_hangs_up(self) -> None:
+        """Its system takes each label, and it reads none."""
+        printer = Printer(hangs_up=True).start()
+        done = printed("--stream", "--print", printer.name, "--journal", self.path)
+        words = [line.split()[0] for line in done.stderr.decode().splitlines()]
+        self.assertEqual(words, ["doubtful"] * 30)
+        self.assertEqual(self.events(), ["sending"] * 30)
+        self.assertEqual(printer.labels, [])
+
+    def test_one_that_waits_until_it_is_heard(self) -> None:
+        printer = Printer(says=b"\x02030,0,0\x03\r\n" * 40_000).start()
+        self.said(printed("--print", printer.name), 0, "30 labels taken")
+        self.assertEqual(len(set(printer.labels)), 30)
+
+    def test_a_label_that_takes_longer_than_a_printer_may_rest(self) -> None:
+        printer = Printer(slow=0.01).start()
+        outlet = NetworkPrinter(printer.name, stuck=0.4)
+        outlet.open().setsockopt(socket.SOL_SOCKET, socket.SO_SNDBUF, 4096)  # on their way at most
+        start = time.monotonic()
+        outlet.send(b"\0" * 300_000)
+        outlet.close()
+        self.assertGreater(time.monotonic() - start, 0.4)
+
+    def test_names(self) -> None:
+        long = "x" * 64
+        names = ("tcp://a:0", "tcp://a..b", f"tcp://{long}", "tcp://\u00fc..b", "tcp://[::1", "")
+        for name in (*names, " ", "socket://till-3", "ipp://till-3/ipp"):
+            self.said(printed("--print", name), 2, "argument --print: ")
+        self.said(printed("--print", "TCP://no.invalid"), 1, "line 1 and what follows it were not")
+
+    def test_what_a_variable_without_a_value_leaves_empty(self) -> None:
+        for word in ("--journal", "--again", "--only-code"):
+            self.said(printed(word, ""), 2, f"argument {word}: it is empty")
+
+    def test_a_queue_that_says_nothing(self) -> None:
+        program = Path(self.folder, "lp")
+        program.write_text("#!/bin/sh\nexit 7\n")
+        program.chmod(0o755)
+        path = f"{self.folder}{os.pathsep}{os.environ['PATH']}"
+        done = support.printed(*ROLL, "--print", "till", input=TICKETS, PATH=path)
+        self.said(done, 1, "lp does not print on till: it ended with status 7")
+
+
+class Rows(Folder):
+    """The rows that a message says to go on from, and rows that no table has."""
+
+    def broken_off(self, lines: bytes, *words: str) -> str:
+        """What is said where a printer breaks off in its third label."""
+        printer = Printer(cut=3).start()
+        done = printed("--print", printer.name, *words, input=lines)
+        self.said(done, 1, "the printer broke off")
+        return done.stderr.decode()
+
+    def test_those_that_were_chosen(self) -> None:
+        said = self.broken_off(TICKETS, "--only", "2-9,20")
+        first = int(said.partition("then print from line ")[2].split()[0])
+        self.assertTrue(said.endswith(f"by --only {first}-9,20\n"), said)
+
+    def test_rows_in_any_order(self) -> None:
+        lines = b"".join(b'#{"row":%d}\nqr R%d\n' % (row, row) for row in (9, 3, 8, 2, 7))
+        said = self.broken_off(lines)
+        self.assertRegex(said, "from row (8 on by --only 2,7-8|2 on by --only 2,7)\n")
+
+    def test_rows_of_several_tables(self) -> None:
+        rows = [(f"qr {table}{row}", {"row": row}) for table in "AB" for row in (2, 3, 4, 5)]
+        lines = support.file_of(rows[:4]) + support.file_of(rows[4:])
+        self.assertRegex(self.broken_off(lines), "from row [45] on by --only-code @FILE\n")
+
+    def test_again_breaks_off(self) -> None:
+        """The same command would print the first of them twice."""
+        printer = Printer().start()
+        words = ("--journal", self.path, "--print", printer.name)
+        self.assertEqual(printed(*words).returncode, 0)
+        printer.cut = len(printer.labels) + 3
+        again = ("--only", "20-", "--again", printer.name)
+        done = printed(*words, *again)
+        pattern = f"then print from line (2[123]) on by --only \\1-30 --again {printer.name}\n"
+        self.said(done, 1, pattern)
+
+    def test_labels_of_a_roll_on_a_full_disk(self) -> None:
+        words = " ".join([str(support.TOOLS / "label-print"), *ROLL])
+        done = support.run("/bin/sh", "-c", f"{words} > /dev/full", input=TICKETS)
+        self.said(done, 1, "No space left on device: it took 0 labels whole; .* by --only 1-\n")
+
+    def test_rows_that_no_table_has(self) -> None:
+        self.said(printed("--only", "9-7"), 2, "'9-7' is not as 2,7-9 or 7-")
+        done = printed("--only", "2,2000000")
+        self.said(done, 1, "row 2000000: of --only, but not in the input")
+        self.assertEqual(len(labels_in(done)), 1)
+
+
+class Editors(Folder):
+    """Journals that another program has written."""
+
+    def done_again(self) -> "support.Finished[bytes]":
+        """Runs the same command once more: no label may go out."""
+        done = printed("--journal", self.path)
+        self.assertEqual(labels_in(done), [], done.stderr)
+        return done
+
+    def test_line_ends_of_windows_blanks_and_empty_lines(self) -> None:
+        printed("--journal", self.path)
+        journal = Path(self.path)
+        lines = journal.read_bytes().splitlines()
+        one = [lines[0], lines[1] + b"\r", *lines[2:]]
+        for changed in (
+            b"\r\n".join([*lines, b""]),
+            b"\n".join([*one, b""]),
+            b" \n".join([*lines, b""]),
+            b"\n".join([*lines, b"", b""]),
+            b"\xef\xbb\xbf" + b"\r\n".join([*lines, b""]),
+        ):
+            journal.write_bytes(changed)
+            self.said(self.done_again(), 0, "30 labels in .* already")
+            self.assertEqual(journal.read_bytes(), changed)
+
+    def test_blanks_at_the_end_of_a_code_are_its_own(self) -> None:
+        lines = b"qr A\nqr A \nqr A  \n"
+        for count in (3, 0):
+            done = printed("--journal", self.path, input=lines)
+            self.assertEqual((done.returncode, len(labels_in(done))), (0, count), done.stderr)
+
+    def test_an_editor_that_leaves_out_the_last_line_end(self) -> None:
+        printed("--journal", self.path)
+        journal = Path(self.path)
+        whole = journal.read_bytes()
+        journal.write_bytes(whole[:-1])
+        self.said(self.done_again(), 0, "30 labels in .* already")
+        self.assertEqual(journal.read_bytes(), whole)
+        lines = whole.splitlines()[:-1]
+        for word, end in ((b"taken", b""), (b"sending", b"    ")):
+            last = lines[-1].replace(b"sending", word) + end
+            journal.write_bytes(b"\n".join([*lines[:-1], last]))
+            done = self.done_again()
+            self.said(done, 1, "its last line had no end, so its label may be on paper")
+            self.said(done, 1, "line 30: may be on paper, from standard output")
+            self.said(self.done_again(), 1, "line 30: may be on paper")
+
+    def test_an_editor_that_had_read_it_before(self) -> None:
+        """What was printed since then is not in the new file."""
+        journal = Journal(self.path, "tcp://a")
+        old = Path(self.path).read_bytes()
+        for record in self.records[:2]:
+            journal.claim(record)
+            journal.take(record)
+        Path(self.folder, "new").write_bytes(old)
+        os.rename(f"{self.folder}/new", self.path)
+        with self.assertRaisesRegex(ToolError, "it has not line 1, line 2, which the same command"):
+            journal.claim(self.records[2])
+
+    def test_a_journal_that_goes_while_a_label_goes_out(self) -> None:
+        """The label was sent: nothing else may be said."""
+        with mock.patch("labeltools.sending.send", lambda file, output: os.unlink(self.path)):
+            done = printed("--journal", self.path)
+        self.said(done, 1, "it took 0 labels whole; line 1 may be on paper; it has not line 1")
+        self.assertNotIn(b"not sent", done.stderr)
+
+    def test_a_disk_without_locks(self) -> None:
+        error = OSError(errno.ENOLCK, "No locks available")
+        with mock.patch("fcntl.lockf", mock.Mock(side_effect=error)):
+            done = printed("--journal", self.path)
+        self.said(done, 1, "No locks available; put the journal on a disk that locks files")
+
+    def written_to(self, path: str, mode: str = "wb") -> "support.Finished[bytes]":
+        """Runs label-print with a file as standard output."""
+        command = [str(support.TOOLS / "label-print"), *ROLL, "--journal", self.path]
+        pipe = subprocess.PIPE
+        env = support.environment()
+        with open(path, mode) as output:
+            return subprocess.run(command, input=TICKETS, stdout=output, stderr=pipe, env=env)
+
+    def test_standard_output(self) -> None:
+        done = self.written_to(self.path)
+        self.said(done, 1, "journal is the journal and standard output: name another file")
+        os.unlink(self.path)
+        for pattern in ("^$", "journal has labels of an earlier file: with > that file has lost"):
+            self.said(self.written_to(f"{self.folder}/labels"), 0, pattern)
+        os.unlink(f"{self.folder}/labels")
+        self.said(self.written_to(f"{self.folder}/labels", "ab"), 0, "^label-print: 0 labels; ")
+
+
+class Lanes(Folder):
+    """Lanes that end, and others that go on."""
+
+    def test_a_number_that_a_label_waits_with(self) -> None:
+        """A lane that takes it would make others believe that the label is being sent."""
+        line = "2026-11-27T09:30:00Z\tsending\tlane 1\ttcp://a\tline 1\tqr T00001\n"
+        Path(self.path).write_text(f"#labels journal 1\n{line}")
+        journal = Journal(self.path, "tcp://b")
+        self.assertEqual(journal.lane, 2)
+        self.assertTrue(journal.claim(self.records[1]))
+        journal.give_up()
+        self.assertEqual(journal.lane, 3)
+        done = support.run("label-print", *ROLL, "--journal", self.path, input=TICKETS)
+        self.said(done, 1, "line 1: may be on paper, from tcp://a")
+        self.said(done, 1, "line 2: may be on paper, from tcp://b")
+        self.assertEqual(len(labels_in(done)), 28)
+
+    def test_a_lane_that_is_stopped(self) -> None:
+        """It may keep the journal: the other one says so, and goes on when it is free."""
+        Journal(self.path, "tcp://a")
+        script = (
+            "import sys\n"
+            "from labeltools.journal import Journal\n"
+            "with Journal(sys.argv[1], 'tcp://b').locked():\n"
+            "    print('locked', flush=True); sys.stdin.read()\n"
+        )
+        words = ["/usr/bin/python3", "-c", script, self.path]
+        pipe = subprocess.PIPE
+        with subprocess.Popen(words, stdin=pipe, stdout=pipe, cwd=support.TOOLS) as other:
+            assert other.stdin and other.stdout
+            other.stdout.readline()
+            with mock.patch("labeltools.journal.STUCK", 0.2):
+                done = printed("--journal", self.path)
+            self.said(done, 1, "another lane keeps it for 0 seconds; is it stopped[?] let it go on")
+            self.assertEqual(labels_in(done), [])
+            other.stdin.close()
+            self.assertEqual(len(labels_in(printed("--journal", self.path))), 30)
+
+    def test_too_many_lanes(self) -> None:
+        free = journals.FAR  # the byte that is locked to read and write
+        busy = mock.patch.object(Journal, "is_free", lambda _, byte: byte == free)
+        with busy, self.assertRaisesRegex(ToolError, "64 lanes print by it already"):
+            Journal(self.path, "tcp://a")
+
+    def test_a_disk_that_is_full_names_the_row(self) -> None:
+        done = printed("--journal", self.path, "--only", "1")
+        self.assertEqual(done.returncode, 0)
+        size = Path(self.path).stat().st_size
+        done = self.limited(size, TICKETS)
+        self.said(done, 1, "File too large: line 2 and what follows it were not sent; see that it")
+        done = self.limited(size, TICKETS[:20], "--stream")
+        self.said(done, 1, "^known 1 qr T00001\nunsent 2 .*File too large; see that it can be")
+        self.assertEqual(labels_in(done), [])
+
+    def limited(self, size: int, lines: bytes, *words: str) -> "support.Finished[bytes]":
+        """Runs label-print whose files have so many bytes at most."""
+        command = [str(support.TOOLS / "label-print"), *ROLL, "--journal", self.path, *words]
+        limit = functools.partial(resource.setrlimit, resource.RLIMIT_FSIZE, (size, size))
+        env = support.environment()
+        return subprocess.run(command, input=lines, capture_output=True, env=env, preexec_fn=limit)
+
+
+class Streams(Folder):
+    """Streams that are ended, that nobody reads, and whose journal goes."""
+
+    def start(self, *words: str) -> "subprocess.Popen[bytes]":
+        """Starts a stream to a printer."""
+        pipe = subprocess.PIPE
+        command = [str(support.TOOLS / "label-print"), *ROLL, "--stream", *words]
+        env = support.environment()
+        null = subprocess.DEVNULL
+        stream = subprocess.Popen(command, stdin=pipe, stdout=null, stderr=pipe, env=env)
+        self.addCleanup(ended, stream)
+        return stream
+
+    def answer(self, stream: "subprocess.Popen[bytes]", line: bytes) -> str:
+        """The answer to a line."""
+        assert stream.stdin and stream.stderr
+        stream.stdin.write(line)
+        stream.stdin.flush()
+        return stream.stderr.readline().decode()
+
+    def test_a_label_in_doubt_stays_so(self) -> None:
+        """Until it is printed by another command, while the stream goes on."""
+        printer = Printer(hangs_up=True).start()
+        words = ("--journal", self.path, "--print", printer.name)
+        stream = self.start(*words)
+        self.assertRegex(self.answer(stream, b"qr T00001\n"), "^doubtful 1 .* broke off")
+        printer.hangs_up = False
+        self.assertRegex(self.answer(stream, b"qr T00001\n"), "^doubtful 2 may be on paper, from")
+        again = ("--only-code", "T00001", "--again", printer.name)
+        done = support.run("label-print", *ROLL, *words, *again, input=TICKETS)
+        self.said(done, 0, "1 label taken by .*: line 1, T00001\n")
+        self.assertEqual(self.answer(stream, b"qr T00001\n"), "known 3 qr T00001\n")
+        self.assertRegex(self.answer(stream, b"qr T00002\n"), "^taken 4 ")
+        self.assertEqual(len(printer.labels), 2)
+
+    @support.slow
+    def test_a_signal_waits_for_the_answer(self) -> None:
+        """The moments are those of the machine, the seed is fixed."""
+        moments = random.Random(SEED)
+        for _ in range(12):
+            printer = Printer().start()
+            stream = self.start("--print", printer.name)
+            assert stream.stdin and stream.stderr
+            stream.stdin.write(TICKETS)
+            stream.stdin.flush()
+            printer.wait(1)
+            time.sleep(moments.uniform(0.0, 0.1))
+            stream.send_signal(moments.choice(ENDINGS))
+            answers = stream.stderr.read().splitlines()
+            self.assertLess(stream.wait(support.SECONDS), 0)
+            self.assertEqual({line.split()[0] for line in answers}, {b"taken"})
+            self.assertEqual(len(printer.labels), len(answers))
+
+    def test_half_a_line_of_a_writer_that_has_gone(self) -> None:
+        """It is not one line with that of the next writer."""
+        fifo = f"{self.folder}/till"
+        os.mkfifo(fifo)
+        stream = self.start(fifo)
+        assert stream.stderr
+        for line, pattern in (
+            (b"qr A\n", b"taken 1 "),
+            (b"qr T000", b"refused 2 cut off before its line end"),
+            (b"qr B\n", b"taken 3 "),
+            (b"qr " + b"C" * 70_000, b"refused 4 longer than"),
+            (b"qr D\n", b"taken 5 "),
+        ):
+            Path(fifo).write_bytes(line)
+            self.assertRegex(stream.stderr.readline(), b"^" + pattern)
+        size = stream_size(stream, fifo, b"qr E\n")
+        Path(fifo).write_bytes(b'#{"title":"of another"}\n')
+        time.sleep(0.3)  # the next writer comes when that one has gone
+        self.assertEqual(stream_size(stream, fifo, b"qr E\n"), size)
+        self.assertGreater(stream_size(stream, fifo, b'#{"title":"Stuhl"}\nqr E\n'), size)
+        stream.terminate()
+
+    def test_labels_and_answers_that_are_read_late(self) -> None:
+        """By streams that do not wait."""
+        command = [str(support.TOOLS / "label-print"), *ROLL]
+        pipe = subprocess.PIPE
+        env = support.environment()
+        source, target = pipe_that_does_not_wait()
+        run = subprocess.Popen(command, stdin=pipe, stdout=target, stderr=pipe, env=env)
+        self.assertEqual(len(LABEL.findall(self.late(run, source, target))), 400)
+        source, target = pipe_that_does_not_wait()
+        null = subprocess.DEVNULL
+        run = subprocess.Popen(
+            [*command, "--stream"], stdin=pipe, stdout=null, stderr=target, env=env
+        )
+        self.assertEqual(self.late(run, source, target).count(b"taken "), 400)
+
+    def late(self, run: "subprocess.Popen[bytes]", source: int, target: int) -> bytes:
+        """What a program writes that has many lines to print, and is read late."""
+        self.addCleanup(ended, run)
+        os.close(target)
+        lines = b"".join(b"qr W%05d\n" % number for number in range(400))
+        threading.Thread(target=self.write, args=(run, lines), daemon=True).start()
+        time.sleep(1)
+        with open(source, "rb") as file:
+            found = file.read()
+        self.assertEqual(run.wait(support.SECONDS), 0)
+        return found
+
+    def write(self, run: "subprocess.Popen[bytes]", lines: bytes) -> None:
+        """Writes lines to a program, and ends them."""
+        assert run.stdin
+        run.stdin.write(lines)
+        run.stdin.close()
+
+    def test_lines_that_come_slowly_by_an_input_that_does_not_wait(self) -> None:
+        source, target = os.pipe()
+        os.set_blocking(source, False)
+        command = [str(support.TOOLS / "label-print"), *ROLL]
+        pipe = subprocess.PIPE
+        env = support.environment()
+        with subprocess.Popen(command, stdin=source, stdout=pipe, stderr=pipe, env=env) as run:
+            os.close(source)
+            for start in range(0, 30, 10):
+                time.sleep(0.4)
+                os.write(target, TICKETS[start * 10 : (start + 10) * 10])
+            os.close(target)
+            output, _ = run.communicate(timeout=support.SECONDS)
+        self.assertEqual((run.returncode, len(LABEL.findall(output))), (0, 30))
+
+    def test_a_client_that_breaks_off(self) -> None:
+        """Its line is printed and answered, and what cannot be read is not standard output."""
+        with socket.create_server(("127.0.0.1", 0)) as server:
+            client = socket.create_connection(server.getsockname())
+            line, _ = server.accept()
+        command = [str(support.TOOLS / "label-print"), *ROLL, "--stream"]
+        pipe = subprocess.PIPE
+        env = support.environment()
+        with line, subprocess.Popen(
+            command, stdin=line.fileno(), stdout=pipe, stderr=pipe, env=env
+        ) as run:
+            assert run.stderr
+            client.sendall(b"qr A\n")
+            self.assertRegex(run.stderr.readline(), b"^taken 1 ")
+            client.setsockopt(socket.SOL_SOCKET, socket.SO_LINGER, BROKEN)
+            client.close()
+            said = run.stderr.read()
+        self.assertEqual(run.returncode, 1)
+        self.assertRegex(said, b"^label-print: the lines cannot be read: Connection reset by peer")
+
+    def test_another_journal_ends_it_with_an_answer(self) -> None:
+        stream = self.start("--journal", self.path)
+        self.assertRegex(self.answer(stream, b"qr A\n"), "^taken 1 ")
+        os.unlink(self.path)
+        self.assertRegex(self.answer(stream, b"qr B\n"), "^unsent 2 .*another program has changed")
+        self.assertEqual(stream.wait(support.SECONDS), 1)
+
+    def test_a_line_of_another_program_ends_it_with_an_answer(self) -> None:
+        stream = self.start("--journal", self.path)
+        self.assertRegex(self.answer(stream, b"qr A\n"), "^taken 1 ")
+        with open(self.path, "ab") as file:
+            file.write(b"printed by hand: B\n")
+        self.assertRegex(self.answer(stream, b"qr B\n"), "^unsent 2 .*line 4 is no line of a")
+        self.assertEqual(stream.wait(support.SECONDS), 1)
+
+    def test_a_mark_that_the_journal_does_not_take(self) -> None:
+        with mock.patch("labeltools.sending.send", lambda file, output: os.unlink(self.path)):
+            done = printed("--stream", "--journal", self.path)
+        self.said(done, 1, r"\Adoubtful 1 .*another program has changed it.*\n\Z")
+
+    def test_a_label_that_is_drawn_wrongly(self) -> None:
+        """The stream ends with an answer, and status 3."""
+        with mock.patch("labeltools.press.zpl", lambda picture, copies: b"^XA^XZ\n"):
+            done = printed("--stream", input=TICKETS)
+        self.said(done, 3, r"\Aunsent 1 .*\n\Z")
+        self.assertEqual(done.stdout, b"")
+
+    def test_what_no_line_can_be_printed_without(self) -> None:
+        self.said(printed("--stream", "--labels", "--level X"), 2, "bad words")
+        words = ("label-print", *ROLL, "--stream")
+        done = support.run(*words, input=TICKETS, LABELS_LIBRARY="/no/such.so")
+        self.said(done, 1, r"\Alabel-print: the library liblabels is not there: .*\n\Z")
+
+    def test_a_line_that_was_cut_off_is_no_answer(self) -> None:
+        """What is said of a journal would be taken for the answer to the first line."""
+        journal = Journal(self.path, "tcp://a")
+        journal.claim(self.records[0])
+        os.close(journal.file)
+        Path(self.path).write_bytes(Path(self.path).read_bytes()[:-20])
+        done = printed("--stream", "--journal", self.path, input=TICKETS[:10])
+        self.said(done, 0, r"\Ataken 1 .*\n\Z")
+
+
+def stream_size(stream: "subprocess.Popen[bytes]", fifo: str, lines: bytes) -> int:
+    """The bytes of the label that a stream prints for what a writer writes into its FIFO."""
+    Path(fifo).write_bytes(lines)
+    assert stream.stderr
+    return int(stream.stderr.readline().split()[2])
+
+
+def pipe_that_does_not_wait() -> tuple[int, int]:
+    """A small pipe whose writer gets an error where it is full."""
+    source, target = os.pipe()
+    os.set_blocking(target, False)
+    fcntl.fcntl(target, fcntl.F_SETPIPE_SZ, 4096)
+    return source, target
+
+
+def load_tests(
+    loader: unittest.TestLoader, tests: unittest.TestSuite, _: object
+) -> unittest.TestSuite:
+    modules: list[ModuleType] = [journals, report, selection]
+    for module in modules:
+        tests.addTests(doctest.DocTestSuite(module))
+    return tests
+
+
+if __name__ == "__main__":
+    unittest.main()
