@@ -479,6 +479,8 @@ class OwnLayouts:
             why = Text("an edge of the page takes no ink there (--edge)")
             named = ", ".join(self.design.smaller)
             yield first, Text("{}: smaller than drawn: {}: {}", file, named, why)
+        for text in self.design.remarks:
+            yield first, text
         for family in self.design.fonts:
             there = font_for(family)
             if there.lower() != family.lower():

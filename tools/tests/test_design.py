@@ -16,6 +16,8 @@ import designs
 import support
 from designs import CODE, Label, dots_of, reasons_of, said_of, texts_of
 from labeltools.messages import Silence, ToolError
+from labeltools.own_design import colour_of
+from labeltools.own_drawing import rectangle
 from labeltools.own_layout import OwnLayout
 from labeltools.print_job import Prepared, PrintOptions, planned
 
@@ -94,6 +96,14 @@ REFUSED = (
     (f"<style>text{{fill:url('other.svg')}}</style>{CODE}", f"style {NOT_EMBEDDED}"),
     (f"<flowRoot/>{CODE}", FLOWS),
     (f"<foreignObject/>{CODE}", FLOWS),
+    (f"<flowRoot><flowPara>Door 2</flowPara></flowRoot>{CODE}", FLOWS),
+    (
+        f'<text><textPath href="#a">Door 2</textPath></text>{CODE}',
+        "textPath is not drawn; make it a",
+    ),
+    (f"<filter><feDropShadow/></filter>{CODE}", "feDropShadow is not drawn; make it a picture, in"),
+    (TITLE.format(WIDE) + '<use href="#title" y="9"/>', "a clone shows the place title; unlink it"),
+    (f'<g id="a">{TITLE.format(WIDE)}</g><use href="#a"/>', "a clone shows the place title; unli"),
     (
         f'<defs><g id="g0"><path d="M0 0h1"/></g>{BOMB}</defs><use href="#g8"/>{CODE}',
         "cannot be drawn",
@@ -103,6 +113,7 @@ REFUSED = (
     (f"<!--{'x' * 8_000_000}-->{CODE}", "has more than 8 MB; make its pictures smaller"),
     (PICTURE.format("png", png_of(30_000, 30_000)), NOT_PICTURE),
     (PICTURE.format("png", "aGVsbG8="), NOT_PICTURE),
+    (PICTURE.format("png", png_of(8, 8)[:64]), "a picture is not whole; embed it anew"),
     (PICTURE.format("svg+xml", svg_in_base64()), NOT_PICTURE),
     (f'<image href="data:image/png,hello"/>{CODE}', NOT_PICTURE),
     ('<rect data-place="code, blod"/>', '"code, blod": "blod" is not understood; behind the name'),
@@ -120,6 +131,11 @@ PAGES: tuple[tuple[str, dict[str, Any], str], ...] = (
         'has no size; give it width, height and viewBox, as width="60mm" height="40mm" viewBox',
     ),
     ('width="0mm" height="40mm"', {}, "has no size; give it width, height and viewBox"),
+    (
+        'width="60mm" height="40mm" viewBox="0 0 0 40"',
+        {},
+        "has no size; give it width, height and viewBox",
+    ),
     (
         designs.PAGE,
         {"paper": (50.0, 30.0)},
@@ -252,6 +268,57 @@ class Names(OwnPages):
             for end, wanted in zip(self.ink(found), (2, 11, 2, 11)):
                 self.assertAlmostEqual(end, wanted, delta=0.13)
 
+    def test_names_as_programs_write_them(self) -> None:
+        affinity = 'xmlns:serif="http://www.serif.com/" id="seat-no" serif:id="Seat no, bold"'
+        for name in (
+            affinity,
+            'id="Seat_no_bold" data-name="Seat no, bold"',
+            'id="Seat_no_x002C__x0020_bold"',
+            'id="Seat_no_x2C__bold"',
+            'id="Seat-no,-bold"',
+            'id="SEAT NO,BOLD"',
+        ):
+            place = f"<rect {name} {WIDE}/>{CODE}"
+            found = self.found(place, [("code128 A", {"text": {"Seat no": "12"}})])
+            (text,) = texts_of(found)
+            self.assertEqual((text.text, text.place.is_bold), ("12", True), name)
+            self.assertEqual(self.said(found), [])
+
+    def test_what_is_drawn_and_no_place(self) -> None:
+        """A picture of Figma, a text that it has named by its words, what Illustrator clips by, the
+        page of Affinity: each is drawn as it is.
+        """
+        box = 'x="2" y="2" width="9" height="9"'
+        pattern = '<pattern id="p" width="1" height="1"><path d="M0 0H9V9H0Z"/></pattern>'
+        clip = f'<defs><rect id="SVGID_1_" {box}/></defs><clipPath id="c"><use href="#SVGID_1_"/>'
+        for body, said in (
+            (f'{pattern}<rect id="logo 1" {box} fill="url(#p)"/>', 0),
+            (f'{clip}</clipPath><path d="M0 0H60V19H0Z" clip-path="url(#c)"/>', 0),
+            (f'<rect id="Artboard1" {box}/>', 0),
+            (f'<rect id="Rectangle-Copy 2" {box}/>', 0),
+            ('<path id="p" d="M2 2H11V11H2Z" style="fill:url(&quot;#q&quot;) black"/>', 0),
+        ):
+            found = self.found(body + CODE, [("code128 A", {})])
+            self.assertEqual(len(self.said(found)), said, body)
+            for end, wanted in zip(self.ink(found), (2, 11, 2, 11)):
+                self.assertAlmostEqual(end, wanted, delta=0.13)
+        word = '<text id="Price" x="2" y="9" font-size="4">Price</text>'
+        self.assertTrue(dots_of(self.found(word + CODE))[:150].any())
+
+    def test_style_sheets_find_places_by_their_ids(self) -> None:
+        for rule in ("fill:red", "fill:red;x:2px;y:2px;width:56px;height:10px"):
+            size = "" if "width" in rule else WIDE
+            body = f"<style>#title{{{rule}}}</style>" + TITLE.format(size)
+            (text,) = texts_of(self.found(body))
+            self.assertEqual(text.place.colour, (1, 0, 0))
+        with self.assertRaisesRegex(ToolError, "the place title is hidden"):
+            self.found("<style>#title{display:none}</style>" + TITLE.format(WIDE))
+
+    def test_a_switch_of_illustrator(self) -> None:
+        ai = '<foreignObject requiredExtensions="ai"/>'
+        (text,) = texts_of(self.found(f"<switch>{ai}<g>{TITLE.format(WIDE)}</g></switch>"))
+        self.assertEqual(text.text, "Title")
+
     def test_case_and_underscores_do_not_count(self) -> None:
         for name, column in (("Seat_No", "seat no"), ("ОПИСАНИЕ", "Описание"), ("Größe", "größe")):
             place = f'<rect id="{name}" {WIDE}/>{CODE}'
@@ -342,6 +409,15 @@ class Texts(OwnPages):
             left, right, top, bottom = self.ink(found)
             edges = (top - 4, 36 - right, 16 - bottom, left - 24)
             self.assertAlmostEqual(edges[quarters], 0, delta=0.3)
+
+    def test_mirrored_places_are_upright(self) -> None:
+        """Drawings of programs whose axis points upwards are mirrored."""
+        for scale in ("-1 1", "1 -1"):
+            box = (
+                f'width="12" height="12" x="-6" y="-6" transform="translate(30 10) scale({scale})"'
+            )
+            (text,) = texts_of(self.found(f'<rect id="title" {box}/>{CODE}'))
+            self.assertEqual(text.place.quarters, 0)
 
     def test_a_long_text_wraps_then_shrinks_then_is_cut(self) -> None:
         place = '<rect data-place="title{}" x="2" y="2" width="20" height="9"/>' + CODE
@@ -435,6 +511,64 @@ class Drawings(OwnPages):
         for family in ("DejaVu Sans", "sans-serif"):
             word = f'<text x="2" y="9" font-size="4" font-family="{family}">a</text>{CODE}'
             self.assertEqual(len(self.said(self.found(word))), 1)
+
+    def test_fonts_of_the_short_property_are_said(self) -> None:
+        for style in (
+            "<style>.a{font:bold 3px/1.2 'Nothing',serif}</style><text class='a'",
+            "<text style='font: italic 3px Nothing'",
+        ):
+            (said, _) = self.said(self.found(f'{style} x="2" y="9">a</text>{CODE}'))
+            self.assertRegex(said, "^: there is no font Nothing: its words are in .+")
+
+    def test_what_other_programs_draw_otherwise_is_said(self) -> None:
+        for what, name in (
+            ('<text rotate="9" x="2" y="9" font-size="4">a</text>', "rotate"),
+            ('<text textLength="9" x="2" y="9" font-size="4">a</text>', "textLength"),
+            ('<path style="vector-effect:non-scaling-stroke" d="M2 2H9"/>', "vector-effect"),
+            ("<style>path{dominant-baseline: middle}</style>", "dominant-baseline"),
+            (
+                '<path transform="rotate(90)" transform-origin="30 9" d="M2 2H9"/>',
+                "transform-origin",
+            ),
+        ):
+            (said,) = self.said(self.found(what + CODE, [("code128 A", {})]))
+            self.assertRegex(said, f"^: {name} is not drawn as in other programs: make it a path")
+        for what in (
+            '<text rotate="0 0" style="word-spacing:0px" x="2" y="9" font-size="4">a</text>',
+            '<path transform-origin="30 9" d="M2 2H9"/>',
+            '<g style="background: rgb(255, 255, 255)"/>',
+        ):
+            self.assertEqual(self.said(self.found(what + CODE, [("code128 A", {})])), [])
+
+    def test_words_that_are_cut_are_said(self) -> None:
+        word = '<text x="{}" y="9" font-size="5" font-family="DejaVu Sans">Door 2</text>'
+        for left, said in ((2, 0), (50, 1), (-4, 1), (99, 0)):
+            found = self.found(word.format(left) + CODE, [("code128 A", {})])
+            self.assertEqual(len(self.said(found)), said, left)
+        (said_of_edge,) = self.said(
+            self.found(word.format(2) + CODE, [("code128 A", {})], edge=(3.0, 0.0, 0.0, 0.0))
+        )[:1]
+        self.assertRegex(
+            said_of_edge, '^: smaller than drawn|^: "Door 2" is cut at the edge by 0.6'
+        )
+
+    def test_a_link_is_drawn_in_a_pdf(self) -> None:
+        link = '<a href="https://example.org"><path d="M2 2H9V9Z"/></a>'
+        found = self.found(link + CODE, to="pdf")
+        (document,) = found.press(Silence()).documents(found.prints)
+        self.assertTrue(document.read().startswith(b"%PDF"))
+        document.close()
+
+    def test_a_place_in_a_filter_is_looked_at_in_few_dots(self) -> None:
+        """A filter that is drawn in dots of a hundredth of a millimetre takes seconds."""
+        scales = []
+
+        class Handle:
+            def render_layer(self, canvas: Any, name: str, area: Any) -> None:
+                scales.append(canvas.get_matrix().xx)
+
+        colour_of(Handle(), "#place-0", None, rectangle(2.0, 2.0, 80.0, 10.0, 1.0))
+        self.assertEqual(scales, [0.2])
 
     def test_a_picture_is_drawn(self) -> None:
         found = self.found(PICTURE.format("png", png_of(8, 8)).replace("<image", "<path/><image"))
