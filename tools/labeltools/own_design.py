@@ -135,7 +135,7 @@ class OwnDesign:
     turned to the right, its places, what is drawn, which begins at `corner` and has a size, the
     parts of labels whose groups are drawn only with them, the places that are smaller than they are
     drawn, since an edge of the paper takes no ink, the fonts of its words, what other shapes with a
-    name are, by its key, and what is said of the drawing.
+    name are, by its key, its words, and what is said of it.
     """
 
     file: str
@@ -149,6 +149,7 @@ class OwnDesign:
     smaller: tuple[str, ...]
     fonts: tuple[str, ...]
     shapes: Mapping[str, str]
+    words: tuple[str, ...]
     remarks: tuple[Text, ...]
 
     def draw(self, canvas: Any, scale: float, absent: frozenset[str] = frozenset()) -> None:
@@ -221,7 +222,7 @@ def read_design(name: str, cell: Size, white: Edges, turn: Optional[bool]) -> Ow
     groups = frozenset(key for _, _, key in groups_of(root) if key in keys)
     how = (root, corner, size, groups, tuple(smaller), fonts_of(root), keys_of(shapes_in(root)))
     remarks = (*remarks_on(name, root), *cut_words(name, handle, words, area, ends))
-    return OwnDesign(name, label, is_turned, cut, *how, remarks)
+    return OwnDesign(name, label, is_turned, cut, *how, words, remarks)
 
 
 def remarks_on(name: str, root: Element) -> Iterator[Text]:
@@ -293,8 +294,7 @@ def page_of(name: str, root: Element) -> Page:
         raise ToolError(Text("{} has no size", name), hint)
     if not found.out_has_viewbox:
         root.set("viewBox", f"0 0 {width:.6f} {height:.6f}")
-    for key in ("width", "height"):
-        root.attrib.pop(key, None)
+    root.set("style", f"{root.get('style', '')};width:auto;height:auto")  # of its style sheets too
     scale = PX if is_real else 1.0
     return Page((round(width * scale, 3), round(height * scale, 3)), is_real)
 
@@ -410,7 +410,7 @@ def place_of(name: str, written: str) -> Place:
     title, *words = (" ".join(word.split()).strip(BLANKS) for word in written.split(","))
     place = Place(title, title)
     for word in filter(None, words):
-        key, _, value = word.partition("=")
+        key, value = (side.strip() for side in (*word.split("=", 1), "")[:2])
         key = key.casefold()
         flag = word.casefold()
         if flag in ACROSS:
@@ -426,7 +426,7 @@ def place_of(name: str, written: str) -> Place:
         elif key == "font" and value:
             place = replace(place, font=value.replace("_", " "))
         elif place.symbology and key in SYMBOLOGIES[place.symbology].settings:
-            place = replace(place, settings=(*place.settings, f"{key}={value}"))
+            place = replace(place, settings=(*place.settings, f"{key}={value.upper()}"))
         else:
             known = [*ACROSS, *DOWN, "bold", "font=NAME", *SYMBOLOGIES]
             known += [f"{one}=N" for one in NUMBERS]
@@ -469,12 +469,12 @@ def located(name: str, handle: Any, places: Iterable[Place], area: Any) -> tuple
     return tuple(found)
 
 
-def mark_words(root: Element) -> list[str]:
+def mark_words(root: Element) -> tuple[str, ...]:
     """Marks the texts of a drawing, and returns their words."""
     texts = [(parent, one) for parent, one, _ in walked(root) if tag_of(one) == "text"]
     for number, (parent, element) in enumerate(texts):
         mark(parent, element, f"words-{number}")
-    return [words_of(element) for _, element in texts]
+    return tuple(words_of(element) for _, element in texts)
 
 
 def cut_words(

@@ -4,10 +4,11 @@ What it would leave out is refused, and what it draws otherwise than other progr
 """
 
 import re
-from base64 import b64decode
+from base64 import b64decode, b64encode
 from contextlib import suppress
 from pathlib import Path
 from typing import Any, Iterator
+from urllib.parse import unquote
 from xml.etree import ElementTree
 from xml.etree.ElementTree import Element
 
@@ -140,7 +141,7 @@ def fonts_of(root: Element) -> tuple[str, ...]:
     """Returns the fonts that words are to have first, but for general ones such as sans-serif."""
     fonts: dict[str, None] = {}
     has_words = False
-    for _, element, _ in walked(root):
+    for element in root.iter():
         has_words = has_words or tag_of(element) == "text"
         wanted = properties_of(element) if tag_of(element) in WITH_FONTS else []
         for key, value in wanted:
@@ -155,7 +156,7 @@ def fonts_of(root: Element) -> tuple[str, ...]:
 def without_effect(root: Element) -> list[str]:
     """Returns the names of what would change a drawing in other programs, but does not here."""
     found: dict[str, None] = {}
-    for _, element, _ in walked(root):
+    for element in root.iter():
         properties = properties_of(element)
         is_moved = any(key == "transform" for key, _ in properties)
         for key, value in properties:
@@ -169,7 +170,7 @@ def check_elements(name: str, root: Element) -> None:
     """Raises `ToolError` for what would not be drawn: another file, text that flows, but for empty
     paragraphs, which Inkscape leaves behind.
     """
-    for _, element, _ in walked(root):
+    for element in root.iter():
         tag = tag_of(element)
         if tag in FLOWS and (tag != "flowRoot" or words_of(element) or not len(element)):
             raise ToolError(Text("{}: text that flows ({}) is not drawn", name, tag), FLOWS_HINT)
@@ -181,12 +182,16 @@ def check_elements(name: str, root: Element) -> None:
 
 def check_links(name: str, element: Element) -> None:
     """Raises `ToolError` for an element that is of another file, or a picture that would not be
-    drawn.
+    drawn. The link of another one says what it is: librsvg takes no image/jpg.
     """
     links = [element.get(key, "") for key in LINKS]
     is_outside = any(link and not link.startswith(("#", "data:")) for link in links)
-    for link in links:
-        check_picture(name, link)
+    for key, link in zip(LINKS, links):
+        before, _, data = link.partition(";base64,")
+        if before.startswith("data:"):
+            picture = decoded(data)
+            kind = kind_of(name, picture)
+            element.set(key, f"data:image/{kind};base64,{b64encode(picture).decode()}")
     values = [value for _, value in properties_of(element)]
     sheet = element.text or "" if tag_of(element) == "style" else ""
     if is_outside or any(map(OUTSIDE.search, (*values, sheet))):
@@ -195,14 +200,10 @@ def check_links(name: str, element: Element) -> None:
         raise ToolError(what, hint)
 
 
-def check_picture(name: str, link: str) -> None:
-    """Raises `ToolError` for a picture that would not be drawn, or would take too much memory: a
-    small file may have very many pixels. Its head says how many.
+def kind_of(name: str, picture: bytes) -> str:
+    """Returns whether a picture is png or jpeg; raises `ToolError` for one that would not be drawn,
+    or would take too much memory: a small file may have very many pixels. Its head says how many.
     """
-    before, _, data = link.partition(";base64,")
-    if not before.startswith("data:"):
-        return
-    picture = decoded(data)
     pixels = 0
 
     def take(loader: Any, width: int, height: int) -> None:
@@ -213,7 +214,7 @@ def check_picture(name: str, link: str) -> None:
     loader = library("GdkPixbuf", "2.0").PixbufLoader()
     loader.connect("size-prepared", take)
     is_loaded(loader, picture)
-    kind = loader.get_format() and loader.get_format().get_name()
+    kind = str(loader.get_format() and loader.get_format().get_name())
     if kind not in PICTURES or not 0 < pixels <= MOST_PIXELS:
         what = Text(
             "{}: a picture is not PNG or JPEG, or has more than {:,} pixels", name, MOST_PIXELS
@@ -222,12 +223,13 @@ def check_picture(name: str, link: str) -> None:
     is_ended = PICTURES[kind] in picture[len(picture) // 2 :]
     if not is_ended or not is_loaded(library("GdkPixbuf", "2.0").PixbufLoader(), picture):
         raise ToolError(Text("{}: a picture is not whole", name), Text("embed it anew"))
+    return kind
 
 
 def decoded(letters: str) -> bytes:
     """Returns what letters in base 64 are; nothing where they are none."""
     with suppress(ValueError):
-        return b64decode("".join(letters.split()))
+        return b64decode("".join(unquote(letters).split()))
     return b""
 
 

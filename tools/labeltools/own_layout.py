@@ -13,7 +13,7 @@ from labeltools.area import LARGEST_MODULE, TINY, Area
 from labeltools.engine import Modules, run_labels
 from labeltools.frames import DIGITS_ROOM, HINTING, LEAST_TEXT, LINE, LOWEST, Box, Frame, share
 from labeltools.layout import ASKED, LaidOut, LaidOutFile, Layout, PrintLabel, short
-from labeltools.letters import BLANK, Fonts, Letters, Sign, font_for
+from labeltools.letters import BLANK, Fonts, Letters, Sign, font_for, reasons_of
 from labeltools.lines_file import symbology_and_data
 from labeltools.messages import Place as LinePlace
 from labeltools.messages import Talk, quoted
@@ -479,7 +479,9 @@ class OwnLayouts:
             why = Text("an edge of the page takes no ink there (--edge)")
             named = ", ".join(self.design.smaller)
             yield first, Text("{}: smaller than drawn: {}: {}", file, named, why)
-        for text in self.design.remarks:
+        absent = filter(self.letters.is_missing, sorted(set().union(*self.design.words)))
+        without_font = dict.fromkeys(reasons_of(absent).values())
+        for text in (*self.design.remarks, *(Text("{}: {}", file, why) for why in without_font)):
             yield first, text
         for family in self.design.fonts:
             there = font_for(family)

@@ -38,9 +38,9 @@ def setUpModule() -> None:
     os.environ["LABELS"] = str(support.labels_program())
 
 
-def png_of(width: int, height: int) -> str:
-    """A white PNG in base 64; of a large one no more than 100 rows are there."""
-    rows = (b"\0" + b"\xff" * ((width + 7) // 8)) * min(height, 100)
+def png_of(width: int, height: int, dots: bytes = b"\xff") -> str:
+    """A PNG in base 64, white or of other dots; of a large one no more than 100 rows are there."""
+    rows = (b"\0" + dots * ((width + 7) // 8)) * min(height, 100)
     head = struct.pack(">IIBBBBB", width, height, 1, 0, 0, 0, 0)
     parts = ((b"IHDR", head), (b"IDAT", zlib.compress(rows, 9)), (b"IEND", b""))
     data = b"\x89PNG\r\n\x1a\n"
@@ -48,6 +48,9 @@ def png_of(width: int, height: int) -> str:
         check = struct.pack(">I", zlib.crc32(kind + part))
         data += struct.pack(">I", len(part)) + kind + part + check
     return base64.b64encode(data).decode()
+
+
+BLACK = png_of(8, 8, b"\0")
 
 
 def svg_in_base64() -> str:
@@ -520,6 +523,11 @@ class Drawings(OwnPages):
             (said, _) = self.said(self.found(f'{style} x="2" y="9">a</text>{CODE}'))
             self.assertRegex(said, "^: there is no font Nothing: its words are in .+")
 
+    def test_letters_of_words_that_no_font_has_are_said(self) -> None:
+        word = f'<text x="2" y="9" font-size="4" font-family="DejaVu Sans">Bio \ue123</text>{CODE}'
+        (said, _) = self.said(self.found(word))
+        self.assertRegex(said, "^: no font has \ue123 .Signs.: apt-get install")
+
     def test_what_other_programs_draw_otherwise_is_said(self) -> None:
         for what, name in (
             ('<text rotate="9" x="2" y="9" font-size="4">a</text>', "rotate"),
@@ -573,6 +581,19 @@ class Drawings(OwnPages):
     def test_a_picture_is_drawn(self) -> None:
         found = self.found(PICTURE.format("png", png_of(8, 8)).replace("<image", "<path/><image"))
         self.assertEqual(len(found.labels), 1)
+
+    def test_pictures_are_drawn_as_what_they_are(self) -> None:
+        """The kind in the link is wrong, or its letters are escaped."""
+        dark = BLACK.replace("=", "%3D").replace("+", "%2B")
+        for kind, data in (("png", BLACK), ("jpg", BLACK), ("png", dark)):
+            found = self.found(PICTURE.format(kind, data))
+            for end, wanted in zip(self.ink(found), (2, 7, 2, 7)):
+                self.assertAlmostEqual(end, wanted, delta=0.13)
+
+    def test_a_page_whose_sides_are_in_its_style(self) -> None:
+        page = 'style="width:60mm;height:40mm" viewBox="0 0 60 40"'
+        usual = self.ink(self.found(TITLE.format(WIDE)))
+        self.assertEqual(self.ink(self.found(TITLE.format(WIDE), page=page, paper=None)), usual)
 
     def test_edges_that_take_no_ink(self) -> None:
         found = self.found(TITLE.format(WIDE), edge=(5.0, 2.0, 2.0, 2.0))
