@@ -45,7 +45,9 @@ from labeltools.stock import Size, size_text
 from labeltools.symbologies import SYMBOLOGIES
 from labeltools.text import Text
 
-SUFFIX = ".svg"
+SUFFIXES = (".svg", ".svgz")
+VERSION = "{http://www.inkscape.org/namespaces/inkscape}version"
+OF_90_DPI = re.compile(r"0\.(?:4|91)")  # versions of Inkscape, in pages without a viewBox
 # where programs write the name that was typed; ids have no spaces and commas in many of them
 NAMES = (
     "data-place",
@@ -65,7 +67,8 @@ THIN = 1e-4  # the height of what shows the upper edge of a place
 TINY = 0.01  # millimetres
 # names that programs give by themselves
 UNNAMED = re.compile(
-    r"(?:artboard|(?:rounded[\s_-]*)?rect(?:angle)?|rechteck|shape|id|svg)?"
+    r"(?:artboard|background_?rect|canvas_background|(?:rounded[\s_-]*)?rect(?:angle)?|rechteck"
+    r"|shape|id|svg)?"
     r"(?:[\s_-]*(?:copy|kopie))?[\s_\d.-]*",
     re.IGNORECASE,
 )
@@ -170,7 +173,7 @@ class Page(NamedTuple):
 
 def is_file(design: str) -> bool:
     """Returns whether a design is a file."""
-    return design.lower().endswith(SUFFIX)
+    return design.lower().endswith(SUFFIXES)
 
 
 @lru_cache(maxsize=MOST_KNOWN)
@@ -293,7 +296,8 @@ def page_of(name: str, root: Element) -> Page:
         hint = Text("give it width, height and viewBox, as {}", example)
         raise ToolError(Text("{} has no size", name), hint)
     if not found.out_has_viewbox:
-        root.set("viewBox", f"0 0 {width:.6f} {height:.6f}")
+        dots = 90 / DPI if is_real and OF_90_DPI.match(root.get(VERSION, "")) else 1.0
+        root.set("viewBox", f"0 0 {width * dots:.6f} {height * dots:.6f}")
     root.set("style", f"{root.get('style', '')};width:auto;height:auto")  # of its style sheets too
     scale = PX if is_real else 1.0
     return Page((round(width * scale, 3), round(height * scale, 3)), is_real)

@@ -299,6 +299,7 @@ class Names(OwnPages):
             (f'{clip}</clipPath><path d="M0 0H60V19H0Z" clip-path="url(#c)"/>', 0),
             (f'<rect id="Artboard1" {box}/>', 0),
             (f'<rect id="Rectangle-Copy 2" {box}/>', 0),
+            (f'<rect id="canvas_background" {box}/>', 0),
             ('<path id="p" d="M2 2H11V11H2Z" style="fill:url(&quot;#q&quot;) black"/>', 0),
         ):
             found = self.found(body + CODE, [("code128 A", {})])
@@ -589,6 +590,13 @@ class Drawings(OwnPages):
             found = self.found(PICTURE.format(kind, data))
             for end, wanted in zip(self.ink(found), (2, 7, 2, 7)):
                 self.assertAlmostEqual(end, wanted, delta=0.13)
+
+    def test_a_page_of_an_old_inkscape(self) -> None:
+        """Its lengths without a unit are of 90 dpi."""
+        scaled = f'<g transform="scale({90 / 25.4})">{TITLE.format(WIDE)}</g>'
+        page = 'width="60mm" height="40mm" inkscape:version="0.48.5 r10040"'
+        usual = self.ink(self.found(TITLE.format(WIDE)))
+        self.assertEqual(self.ink(self.found(scaled, page=page)), usual)
 
     def test_a_page_whose_sides_are_in_its_style(self) -> None:
         page = 'style="width:60mm;height:40mm" viewBox="0 0 60 40"'
