@@ -291,7 +291,8 @@ def page_of(name: str, root: Element) -> Page:
     else:
         width, height = found.out_viewbox.width, found.out_viewbox.height
     box = found.out_viewbox if found.out_has_viewbox else rectangle(0, 0, width, height, 1.0)
-    if min(width, height, box.width, box.height) <= 0:
+    is_wrong = not found.out_has_viewbox and any(key.lower() == "viewbox" for key in root.attrib)
+    if is_wrong or min(width, height, box.width, box.height) <= 0:
         example = 'width="60mm" height="40mm" viewBox="0 0 60 40"'
         hint = Text("give it width, height and viewBox, as {}", example)
         raise ToolError(Text("{} has no size", name), hint)
@@ -366,7 +367,7 @@ def shapes_in(root: Element) -> dict[Element, str]:
             continue
         if tag in SHAPES:
             shapes[element] = tag
-        elif paint and paint[1] in patterns:
+        elif paint and paint[1] in patterns and part_of(title_of(element)) not in PARTS:
             shapes[element] = "pattern"
     for tag in HOLDERS:
         for holder in root.iter(f"{SPACE}{tag}"):

@@ -157,6 +157,8 @@ def without_effect(root: Element) -> list[str]:
     """Returns the names of what would change a drawing in other programs, but does not here."""
     found: dict[str, None] = {}
     for element in root.iter():
+        if tag_of(element) == "style" and "@media" in (element.text or ""):
+            found["@media"] = None
         properties = properties_of(element)
         is_moved = any(key == "transform" for key, _ in properties)
         for key, value in properties:

@@ -134,10 +134,9 @@ PAGES: tuple[tuple[str, dict[str, Any], str], ...] = (
         'has no size; give it width, height and viewBox, as width="60mm" height="40mm" viewBox',
     ),
     ('width="0mm" height="40mm"', {}, "has no size; give it width, height and viewBox"),
-    (
-        'width="60mm" height="40mm" viewBox="0 0 0 40"',
-        {},
-        "has no size; give it width, height and viewBox",
+    *(
+        (f'width="60mm" height="40mm" {box}', {}, "has no size; give it width, height and viewBox")
+        for box in ('viewBox="0 0 0 40"', 'viewBox="0 0 60mm 40mm"', 'viewbox="0 0 60 40"')
     ),
     (
         designs.PAGE,
@@ -535,6 +534,7 @@ class Drawings(OwnPages):
             ('<text textLength="9" x="2" y="9" font-size="4">a</text>', "textLength"),
             ('<path style="vector-effect:non-scaling-stroke" d="M2 2H9"/>', "vector-effect"),
             ("<style>path{dominant-baseline: middle}</style>", "dominant-baseline"),
+            ("<style>@media print {path {fill: red}}</style>", "@media"),
             (
                 '<path transform="rotate(90)" transform-origin="30 9" d="M2 2H9"/>',
                 "transform-origin",
