@@ -12,6 +12,7 @@ from labeltools.frames import Box
 from labeltools.layout import LaidOut
 from labeltools.letters import Fonts, Letters
 from labeltools.messages import ToolError
+from labeltools.own_drawing import with_thin_lines
 from labeltools.own_design import BLACK, WHITE, Colour, OwnDesign, Place
 from labeltools.own_layout import OwnLayout, OwnText
 from labeltools.pen import Fitted, Medium, Page, Pen, Style, copied, ink_of, padded, seen_in
@@ -20,6 +21,8 @@ from labeltools.text import Text
 
 STEP = 40  # letters that do not fit lose this part of their size
 DARK = bytes(128) + b"\1" * 128  # the darkness of a dot from which on it is black
+FAINT = 191  # the lightness up to which a line thinner than a dot is black,
+FAINTEST = 229  # and where places are looked at: it may be at two dots there, and at one on paper
 CHECKED = 8.0  # dots a millimetre, in which a drawing is looked at
 LIGHT = bytes(range(160, 256))  # what symbols take behind them
 DOTS_LIGHT = bytes(range(128, 256))  # what is white in dots
@@ -57,7 +60,7 @@ class OwnPen(Pen):
         """Returns the rows of the drawing without some parts in black dots: those that are darker
         than half of black.
         """
-        return [dark_row(row) for row in lightness(self.design, *self.size, absent)]
+        return [dark_row(row) for row in lightness(self.design, *self.size, absent=absent)]
 
     def new_packed(self, absent: frozenset[str], stride: int, height: int) -> bytes:
         """Returns the drawing without some parts as the rows of a page of Cairo."""
@@ -235,7 +238,7 @@ def with_colours(design: OwnDesign) -> OwnDesign:
     `ToolError` where a symbol or letters cannot be.
     """
     wide, high = (max(1, round(side * CHECKED)) for side in design.label)
-    rows = lightness(design, wide, high)
+    rows = lightness(design, wide, high, FAINTEST)
     places = []
     for place in design.places:
         first = round(place.left * CHECKED)
@@ -280,9 +283,15 @@ def is_light(colour: Colour) -> bool:
 
 
 def lightness(
-    design: OwnDesign, wide: int, high: int, absent: frozenset[str] = frozenset()
+    design: OwnDesign,
+    wide: int,
+    high: int,
+    faint: int = FAINT,
+    absent: frozenset[str] = frozenset(),
 ) -> list[bytes]:
-    """Returns the rows of a drawing, a byte from 0 for black to 255 for white for each dot."""
+    """Returns the rows of a drawing, a byte from 0 for black to 255 for white for each dot. Lines
+    thinner than a dot are there, where they are not lighter than `faint`.
+    """
     surface = cairo.ImageSurface(cairo.FORMAT_RGB24, wide, high)
     canvas = cairo.Context(surface)
     canvas.set_source_rgb(1, 1, 1)
@@ -294,7 +303,8 @@ def lightness(
     surface.flush()
     light = bytes(surface.get_data())[0::4]
     stride = surface.get_stride() // 4
-    return [light[start : start + wide] for start in range(0, stride * high, stride)]
+    rows = [light[start : start + wide] for start in range(0, stride * high, stride)]
+    return with_thin_lines(rows, faint)
 
 
 def dark_row(row: bytes) -> bytes:

@@ -506,6 +506,20 @@ class Drawings(OwnPages):
             found = self.found(word.replace('<g id="Best before">', group) + place + CODE, labels)
             self.assertTrue(dots_of(found, 1)[:150].any())
 
+    def test_lines_thinner_than_a_dot_are_drawn(self) -> None:
+        """At 203 dpi a line of 0.08 mm between two rows of dots is nowhere darker than half."""
+        frame = '<path d="M{0} {0}H{1}V{1}H{0}Z" fill="none" stroke="black" stroke-width="0.08"/>'
+        for start in (2.0, 2.02, 2.0625, 2.1):
+            found = self.found(frame.format(start, start + 9) + CODE, [("code128 A", {})])
+            dots = dots_of(found)[:150]
+            for end, wanted in zip(self.ink(found), (start, start + 9) * 2):
+                self.assertAlmostEqual(end, wanted, delta=0.13)
+            middle = int((start + 4) / found.laid_out.area.dot)
+            self.assertEqual([dots[middle].sum(), dots[:, middle].sum()], [2, 2])
+        across = '<path d="M0 30.0625H60" stroke="black" stroke-width="0.05"/>'
+        with self.assertRaisesRegex(ToolError, "is dark in the place code"):
+            self.found(across + CODE)
+
     def test_a_font_that_is_not_there_is_said(self) -> None:
         for style in ('font-family="Nothing, serif"', "style=\"font-family:'Nothing'\""):
             word = f'<text x="2" y="9" font-size="4" {style}>a</text>{CODE}'
