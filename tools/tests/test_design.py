@@ -134,9 +134,12 @@ PAGES: tuple[tuple[str, dict[str, Any], str], ...] = (
         'has no size; give it width, height and viewBox, as width="60mm" height="40mm" viewBox',
     ),
     ('width="0mm" height="40mm"', {}, "has no size; give it width, height and viewBox"),
-    *(
-        (f'width="60mm" height="40mm" {box}', {}, "has no size; give it width, height and viewBox")
-        for box in ('viewBox="0 0 0 40"', 'viewBox="0 0 60mm 40mm"', 'viewbox="0 0 60 40"')
+    ('width="60mm" height="40mm" viewBox="0 0 0 40"', {}, "has no size; give it width, height and"),
+    ('width="60mm" height="40mm" viewBox="0 0 6mm 4mm"', {}, "has no size; give it width, height"),
+    (
+        'width="60mm" height="40mm" viewbox="0 0 60 40"',
+        {},
+        "has no size; give it width, height and",
     ),
     (
         designs.PAGE,
