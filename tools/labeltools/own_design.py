@@ -504,7 +504,7 @@ def located_place(name: str, place: Place, whole: Any, upper: Any, left: Any) ->
     left edge; raises `ToolError`.
     """
     if min(whole.width, whole.height) < TINY:
-        hint = Text("give it a width and a height, and show its layer")
+        hint = Text("give it a width and a height, and show its layer, or take its name away")
         what = Text("{}: the place {} is hidden, or has no size", name, place.title)
         raise ToolError(what, hint)
     is_slanted = max(upper.width, upper.height) < side_of(whole, upper) - TINY

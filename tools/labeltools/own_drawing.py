@@ -140,7 +140,9 @@ def properties_of(element: Element) -> list[tuple[str, str]]:
 
 
 def fonts_of(root: Element) -> tuple[str, ...]:
-    """Returns the fonts that words are to have first, but for general ones such as sans-serif."""
+    """Returns the fonts of words, each with those that are taken in its place behind commas, but
+    for those that begin with a general one such as sans-serif.
+    """
     fonts: dict[str, None] = {}
     has_words = False
     for element in root.iter():
@@ -149,9 +151,9 @@ def fonts_of(root: Element) -> tuple[str, ...]:
         for key, value in wanted:
             shorthand = SHORTHAND.search(value) if key == "font" else None
             families = value if key == "font-family" else shorthand[1] if shorthand else ""
-            family = families.split(",")[0].strip().strip("\"'")
-            if family and family.lower() not in GENERAL:
-                fonts[family] = None
+            names = [name.strip().strip("\"'") for name in families.split(",")]
+            if names[0] and names[0].lower() not in GENERAL:
+                fonts[",".join(names)] = None
     return tuple(fonts) if has_words else ()
 
 

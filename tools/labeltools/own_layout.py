@@ -507,8 +507,9 @@ class OwnLayouts:
         absent = filter(self.letters.is_missing, sorted(set().union(*self.design.words)))
         for why in dict.fromkeys(reasons_of(absent).values()):
             yield Text("{}: {}", file, why)
-        for family in self.design.fonts:
-            there = font_for(family)
+        for families in self.design.fonts:
+            family = families.split(",")[0]
+            there = font_for(families)
             if there.lower() != family.lower():
                 yield Text("{}: there is no font {}: its words are in {}", file, family, there)
 

@@ -528,6 +528,10 @@ class Drawings(OwnPages):
             word = f'<text x="2" y="9" font-size="4" {style}>a</text>{CODE}'
             (said, _) = self.said(self.found(word))
             self.assertRegex(said, "^: there is no font Nothing: its words are in .+")
+        word = f'<text x="2" y="9" font-size="4" font-family="Nothing,DejaVu Serif">a</text>{CODE}'
+        self.assertIn(
+            "no font Nothing: its words are in DejaVu Serif", self.said(self.found(word))[0]
+        )
         for family in ("DejaVu Sans", "sans-serif"):
             word = f'<text x="2" y="9" font-size="4" font-family="{family}">a</text>{CODE}'
             self.assertEqual(len(self.said(self.found(word))), 1)
