@@ -67,12 +67,12 @@ THIN = 1e-4  # the height of what shows the upper edge of a place
 TINY = 0.01  # millimetres
 # names that programs give by themselves
 UNNAMED = re.compile(
-    r"(?:artboard|background_?rect|canvas_background|(?:rounded[\s_-]*)?rect(?:angle)?|rechteck"
-    r"|shape|id|svg)?"
-    r"(?:[\s_-]*(?:copy|kopie))?[\s_\d.-]*",
+    r"(?:(?:artboard|background_?rect|canvas_background|(?:rounded[\s_-]*)?rect(?:angle)?|rechteck)"
+    r"(?:[\s_-]*(?:copy|kopie))?|(?:shape|id|svg)(?=[\s_.-]*\d))?[\s_\d.-]*",
     re.IGNORECASE,
 )
 AGAIN = re.compile(r"(.+?) \d+")
+AFTER_HYPHEN = re.compile(r"-\d+\s*$")
 # what holds shapes that are drawn elsewhere, if at all
 HOLDERS = ("clipPath", "defs", "marker", "mask", "pattern", "symbol")
 PAINT = re.compile(r"url\(\s*[\"']?#([^\"')]+)")
@@ -187,14 +187,16 @@ def key_of(name: str) -> str:
 
 
 def part_of(name: str) -> str:
-    """Returns a name as it is compared, without a number behind it.
+    """Returns a name as it is compared, without a number behind it. Behind a column that has to be
+    after a hyphen: Line and Line 2 may be two columns.
 
-    >>> part_of("Title-2"), part_of("title_1_")
-    ('title', 'title')
+    >>> part_of("Title-2"), part_of("title_1_"), part_of("Seat-2"), part_of("Line 2")
+    ('title', 'title', 'seat', 'line 2')
     """
     known = key_of(name)
     match = AGAIN.fullmatch(known)
-    return match[1] if match else known
+    is_again = match and (match[1] in PARTS or AFTER_HYPHEN.search(name))
+    return match[1] if match and is_again else known
 
 
 def read_design(name: str, cell: Size, white: Edges, turn: Optional[bool]) -> OwnDesign:

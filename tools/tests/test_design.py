@@ -343,6 +343,20 @@ class Names(OwnPages):
         listed = self.found("".join(rects) + CODE, [("code128 A", {"text": ["3", "12"]})])
         self.assertEqual([text.text for text in texts_of(listed)], ["3\n12"])
 
+    def test_columns_with_numbers_are_no_second_places(self) -> None:
+        """The second line of an address is empty on a label: the first one is not there twice."""
+        rects = [
+            f'<rect id="{name}" x="2" y="{2 + 6 * number}" width="56" height="5"/>'
+            for number, name in enumerate(("Line", "Line_2", "ID"))
+        ]
+        labels = [
+            ("code128 A", {"text": {"Line": "Am Hang 1", "Line 2": "Hinterhaus", "ID": "7"}}),
+            ("code128 B", {"text": {"Line": "Am Hang 2", "ID": "8"}}),
+        ]
+        found = self.found("".join(rects) + CODE, labels)
+        texts = ["Am Hang 1", "Hinterhaus", "7", "Am Hang 2", "8"]
+        self.assertEqual([text.text for text in texts_of(found)], texts)
+
     def test_a_column_is_never_taken_for_a_part(self) -> None:
         place = f'<rect id="price" {WIDE}/>{CODE}'
         found = self.found(place, [("code128 A", {"text": {"Price": "cheap"}})])
