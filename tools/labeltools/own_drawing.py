@@ -40,7 +40,9 @@ DRAWN = frozenset(
     " missing-glyph mpath script set title view vkern".split()
 )
 FLOWS = ("flowRoot", "foreignObject")
-FLOWS_HINT = Text("make it plain text, in Inkscape by Text, Convert to Text")
+FLOWS_HINT = Text(
+    "make it plain text, in Inkscape by Text, Convert to Text, in draw.io without Formatted Text"
+)
 LETTERS = ("altGlyph", "textPath", "tref")
 PICTURE_HINT = Text("make it a picture, in Inkscape by Edit, Make a Bitmap Copy")
 PATH_HINT = Text("make it a path, in Inkscape by Path, Object to Path or Stroke to Path")
@@ -105,7 +107,8 @@ def check_bytes(name: str, data: bytes) -> None:
         raise ToolError(Text("{} has more than {} MB", name, MOST_BYTES // 1_000_000), hint)
     if b"\0" in data or b"<!ENTITY" in data:
         what = Text("{} has entities, or is not in UTF-8", name)
-        raise ToolError(what, Text("save it as plain SVG"))
+        hint = Text("save it as plain SVG, in Illustrator without its editing capabilities")
+        raise ToolError(what, hint)
     if b"<?xml-stylesheet" in data:
         what = Text("{}: its style sheet is another file, which is not read", name)
         raise ToolError(what, Text("save it as plain SVG"))
