@@ -49,7 +49,7 @@ SUFFIXES = (".svg", ".svgz")
 VERSION = "{http://www.inkscape.org/namespaces/inkscape}version"
 OF_90_DPI = re.compile(r"0\.(?:4|91)")  # versions of Inkscape, in pages without a viewBox
 # where programs write the name that was typed; ids have no spaces and commas in many of them
-NAMES = (
+WRITTEN = (
     "data-place",
     "{http://www.inkscape.org/namespaces/inkscape}label",
     "{http://www.serif.com/}id",
@@ -260,7 +260,7 @@ def written_name(element: Element) -> str:
     >>> written_name(Element("rect", {"id": "title_x2C__bold"}))
     'title,_bold'
     """
-    typed = next(filter(None, map(element.get, NAMES)), "")
+    typed = next(filter(None, map(element.get, WRITTEN)), "")
     return typed or ESCAPED.sub(lambda found: chr(int(found[1], 16)), element.get("id", ""))
 
 
