@@ -7,7 +7,7 @@ import re
 from base64 import b64decode, b64encode
 from contextlib import suppress
 from pathlib import Path
-from typing import Any, Iterator
+from typing import Any, Iterator, Sequence
 from urllib.parse import unquote
 from xml.etree import ElementTree
 from xml.etree.ElementTree import Element
@@ -47,7 +47,10 @@ LETTERS = ("altGlyph", "textPath", "tref")
 PICTURE_HINT = Text("make it a picture, in Inkscape by Edit, Make a Bitmap Copy")
 PATH_HINT = Text("make it a path, in Inkscape by Path, Object to Path or Stroke to Path")
 DARKEST = 128  # the lightness from which on a dot is white
-DARK = bytes(range(DARKEST))
+FAINT = 191  # the lightness up to which a dot may be of a line that is thinner
+CLEAR = bytes((*range(DARKEST), *range(FAINT + 1, 256)))
+THIN = re.compile(b"(?<=[\xc0-\xff])[\x80-\xbf]{1,2}(?=[\xc0-\xff])")  # between light dots
+Area = tuple[float, ...]  # its left, upper, right and lower end
 WITH_FONTS = ("svg", "g", "text", "tspan", "a", "style")
 GENERAL = ("serif", "sans-serif", "sans", "monospace", "cursive", "fantasy", "system-ui", "inherit")
 DECLARED = re.compile(r"(?<![\w-])([\w-]+)\s*:\s*([^;{}]+)")
@@ -297,34 +300,31 @@ def draw(name: str, handle: Any, canvas: Any, area: Any) -> None:
         raise ToolError(Text("{} cannot be drawn: {}", name, error.message)) from error
 
 
-def with_thin_lines(rows: list[bytes], faint: int) -> list[bytes]:
+def with_thin_lines(rows: list[bytes], spared: Sequence[Area]) -> list[bytes]:
     """Returns the rows of a drawing, a byte from 0 for black to 255 for white for each dot, with
     black dots where a line is thinner than a dot: it may be darker than half of black nowhere.
-    `faint` is the lightest dot of such a line.
+    Areas that are spared are left as they are.
     """
     found = [bytearray(row) for row in rows]
-    for row, place in thin_dots(rows, faint):
-        found[row][place] = 0
     whole = b"".join(rows)
     columns = [whole[start :: len(rows[0])] for start in range(len(rows[0]))]
-    for column, place in thin_dots(columns, faint):
-        found[place][column] = 0
+    across = ((down, right) for right, down in thin_dots(columns))
+    for down, right in (*thin_dots(rows), *across):
+        if not any(one[0] <= right < one[2] and one[1] <= down < one[3] for one in spared):
+            found[down][right] = 0
     return [bytes(row) for row in found]
 
 
-def thin_dots(rows: list[bytes], faint: int) -> Iterator[tuple[int, int]]:
+def thin_dots(rows: list[bytes]) -> Iterator[tuple[int, int]]:
     """Yields the row and the place of each dot of a line down that is thinner than a dot: one or
     two of a row are faint, and a faint one and none that is dark is above or below.
     """
-    light = b"[%c-\xff]" % (faint + 1)
-    line = re.compile(b"(?<=%b)[\x80-%c]{1,2}(?=%b)" % (light, faint, light))
-    others = DARK + bytes(range(faint + 1, 256))
     faded = [
-        number for number, row in enumerate(rows[:-1]) if number and row.translate(None, others)
+        number for number, row in enumerate(rows[:-1]) if number and row.translate(None, CLEAR)
     ]
     for number in faded:
-        for run in line.finditer(rows[number]):
+        for run in THIN.finditer(rows[number]):
             place = run.start() + run[0].index(min(run[0]))
             near = slice(place - 1, place + 2)
-            if DARKEST <= min(*rows[number - 1][near], *rows[number + 1][near]) <= faint:
+            if DARKEST <= min(*rows[number - 1][near], *rows[number + 1][near]) <= FAINT:
                 yield number, place

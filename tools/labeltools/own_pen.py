@@ -2,7 +2,7 @@
 
 from dataclasses import replace
 from functools import cache
-from typing import Any, Optional
+from typing import Any, Iterable, Optional
 
 import cairo
 
@@ -21,8 +21,6 @@ from labeltools.text import Text
 
 STEP = 40  # letters that do not fit lose this part of their size
 DARK = bytes(128) + b"\1" * 128  # the darkness of a dot from which on it is black
-FAINT = 191  # the lightness up to which a line thinner than a dot is black,
-FAINTEST = 229  # and where places are looked at: it may be at two dots there, and at one on paper
 CHECKED = 8.0  # dots a millimetre, in which a drawing is looked at
 LIGHT = bytes(range(160, 256))  # what symbols take behind them
 DOTS_LIGHT = bytes(range(128, 256))  # what is white in dots
@@ -60,7 +58,8 @@ class OwnPen(Pen):
         """Returns the rows of the drawing without some parts in black dots: those that are darker
         than half of black.
         """
-        return [dark_row(row) for row in lightness(self.design, *self.size, absent=absent)]
+        symbols = [place for place in self.design.places if place.is_symbol]
+        return [dark_row(row) for row in lightness(self.design, *self.size, absent, symbols)]
 
     def new_packed(self, absent: frozenset[str], stride: int, height: int) -> bytes:
         """Returns the drawing without some parts as the rows of a page of Cairo."""
@@ -238,7 +237,7 @@ def with_colours(design: OwnDesign) -> OwnDesign:
     `ToolError` where a symbol or letters cannot be.
     """
     wide, high = (max(1, round(side * CHECKED)) for side in design.label)
-    rows = lightness(design, wide, high, FAINTEST)
+    rows = lightness(design, wide, high)
     places = []
     for place in design.places:
         first = round(place.left * CHECKED)
@@ -286,11 +285,11 @@ def lightness(
     design: OwnDesign,
     wide: int,
     high: int,
-    faint: int = FAINT,
     absent: frozenset[str] = frozenset(),
+    spared: Iterable[Place] = (),
 ) -> list[bytes]:
     """Returns the rows of a drawing, a byte from 0 for black to 255 for white for each dot. Lines
-    thinner than a dot are there, where they are not lighter than `faint`.
+    thinner than a dot are black, but in places that are spared.
     """
     surface = cairo.ImageSurface(cairo.FORMAT_RGB24, wide, high)
     canvas = cairo.Context(surface)
@@ -304,7 +303,10 @@ def lightness(
     light = bytes(surface.get_data())[0::4]
     stride = surface.get_stride() // 4
     rows = [light[start : start + wide] for start in range(0, stride * high, stride)]
-    return with_thin_lines(rows, faint)
+    scale = wide / design.label[0]
+    corners = ((one.left, one.top, one.left + one.width, one.top + one.height) for one in spared)
+    areas = [tuple(side * scale for side in one) for one in corners]
+    return with_thin_lines(rows, areas)
 
 
 def dark_row(row: bytes) -> bytes:

@@ -533,9 +533,10 @@ class Drawings(OwnPages):
                 self.assertAlmostEqual(end, wanted, delta=0.13)
             middle = int((start + 4) / found.laid_out.area.dot)
             self.assertEqual([dots[middle].sum(), dots[:, middle].sum()], [2, 2])
-        across = '<path d="M0 30.0625H60" stroke="black" stroke-width="0.05"/>'
+        across = '<path d="M0 30.0625H60" stroke="{}" stroke-width="0.08"/>' + CODE
         with self.assertRaisesRegex(ToolError, "is dark in the place code"):
-            self.found(across + CODE)
+            self.found(across.format("black"))
+        self.assertEqual(len(self.found(across.format("#ccc")).labels), 1)
 
     def test_a_font_that_is_not_there_is_said(self) -> None:
         for style in ('font-family="Nothing, serif"', "style=\"font-family:'Nothing'\""):
