@@ -8,19 +8,15 @@ that part. The name is that of the part, then how it is drawn:
     <rect data-place="code" x="2" y="25" width="72" height="23"/>
     <rect data-place="code-2, qr, level=Q" x="76" y="25" width="22" height="22"/>
 
-It is the value of `data-place`, or else Inkscape's label, or else the id. Lengths are in
-millimetres from the left upper corner of the label as it is read.
+It is the value of `data-place`, or else the name that Inkscape, Affinity or Illustrator writes, or
+else the id. Lengths are in millimetres from the left upper corner of the label as it is read.
 """
 
 import re
-from base64 import b64decode
-from contextlib import suppress
 from copy import deepcopy
 from dataclasses import dataclass, replace
 from functools import lru_cache
-from pathlib import Path
 from typing import Any, Iterable, Iterator, Mapping, NamedTuple, Optional
-from xml.etree import ElementTree
 from xml.etree.ElementTree import Element
 
 import cairo
@@ -28,40 +24,60 @@ import cairo
 from labeltools.area import Edges
 from labeltools.messages import BAD_ARGUMENTS, ToolError, quoted
 from labeltools.names import name_of
-from labeltools.pango import library
+from labeltools.own_drawing import (
+    DPI,
+    LINKS,
+    PATH_HINT,
+    SPACE,
+    check_elements,
+    draw,
+    fonts_of,
+    handle_of,
+    properties_of,
+    rectangle,
+    root_of,
+    tag_of,
+    walked,
+    without_effect,
+    words_of,
+)
 from labeltools.stock import Size, size_text
 from labeltools.symbologies import SYMBOLOGIES
 from labeltools.text import Text
 
-SUFFIX = ".svg"
-SPACE = "{http://www.w3.org/2000/svg}"
-BEGIN = '<svg xmlns="http://www.w3.org/2000/svg"'
-LABEL = "{http://www.inkscape.org/namespaces/inkscape}label"
+SUFFIXES = (".svg", ".svgz")
+VERSION = "{http://www.inkscape.org/namespaces/inkscape}version"
+OF_90_DPI = re.compile(r"0\.(?:4|91)")  # versions of Inkscape, in pages without a viewBox
+# where programs write the name that was typed; ids have no spaces and commas in many of them
+WRITTEN = (
+    "data-place",
+    "{http://www.inkscape.org/namespaces/inkscape}label",
+    "{http://www.serif.com/}id",
+    "data-name",
+)
+ESCAPED = re.compile("_x(?!D[89A-F])([0-9A-F]{2,4})_", re.IGNORECASE)  # in ids: _x2C_ is a comma
 MODE = "{http://www.inkscape.org/namespaces/inkscape}groupmode"
-LINK = "{http://www.w3.org/1999/xlink}href"
 PARTS = ("code", "title", "text", "price", "unit", "was", "note")
-DPI = 96.0  # of CSS, in which lengths without a unit are; librsvg takes 90 where nothing is said
 PX = 25.4 / DPI  # millimetres
 UNITS = {"px": 1.0, "mm": 1 / PX, "cm": 10 / PX, "in": DPI, "pt": DPI / 72, "pc": DPI / 6}
-MOST_BYTES = 8_000_000
-MOST_DEPTH = 200  # of elements in one another
-PICTURES = ("png", "jpeg")
-MOST_PIXELS = 50_000_000  # of a picture
-PICTURE_HEAD = 65_536  # letters of base 64 in which its size is
 NEAR = 1.0  # millimetres by which a page may differ from a label
 ALIKE = 0.015  # by which the proportions of a page without millimetres may
 MOST_KNOWN = 1024  # names whose keys are kept
 THIN = 1e-4  # the height of what shows the upper edge of a place
 TINY = 0.01  # millimetres
 # names that programs give by themselves
-UNNAMED = re.compile(r"(?:rect(?:angle)?|shape|id|svg)?[\s_\d.-]*", re.IGNORECASE)
-AGAIN = re.compile(r"(.+?)[-_ ]\d+")
-OUTSIDE = re.compile(r"url\(\s*[\"']?(?!#|data:)|@import", re.IGNORECASE)
+UNNAMED = re.compile(
+    r"(?:(?:artboard|background_?rect|canvas_background|(?:rounded[\s_-]*)?rect(?:angle)?|rechteck)"
+    r"(?:[\s_-]*(?:copy|kopie))?|(?:shape|id|svg)(?=[\s_.-]*\d))?[\s_\d.-]*",
+    re.IGNORECASE,
+)
+AGAIN = re.compile(r"(.+?) \d+")
+AFTER_HYPHEN = re.compile(r"-\d+\s*$")
+# what holds shapes that are drawn elsewhere, if at all
+HOLDERS = ("clipPath", "defs", "marker", "mask", "pattern", "symbol")
+PAINT = re.compile(r"url\(\s*[\"']?#([^\"')]+)")
 SHAPES = ("path", "circle", "ellipse", "polygon", "polyline", "line", "image", "use", "text")
-NOT_DRAWN = ("flowRoot", "foreignObject")
-WITH_FONTS = ("svg", "g", "text", "tspan", "textPath", "a")
-FAMILY = re.compile(r"(?<![\w-])font-family\s*:\s*([^;}]+)")
-GENERAL = ("serif", "sans-serif", "sans", "monospace", "cursive", "fantasy", "system-ui", "inherit")
+BLANKS = " _-"
 ACROSS = {"left": -1, "middle": 0, "right": 1}
 DOWN = {"top": 0.0, "centre": 0.5, "bottom": 1.0}
 LENGTH = re.compile(r"\d{1,3}(?:\.\d{1,3})?", re.ASCII)
@@ -107,9 +123,7 @@ class Place:
     @property
     def part(self) -> str:
         """The part or column that it is for, as names are compared, without a number behind it."""
-        known = key_of(self.name)
-        match = AGAIN.fullmatch(known)
-        return match[1] if match else known
+        return part_of(self.name)
 
     def meets(self, other: "Place") -> bool:
         """Returns whether it has room in common with another one."""
@@ -123,8 +137,8 @@ class OwnDesign:
     """A design that suits a label: its file, the sides of a label as it is read, whether labels are
     turned to the right, its places, what is drawn, which begins at `corner` and has a size, the
     parts of labels whose groups are drawn only with them, the places that are smaller than they are
-    drawn, since an edge of the paper takes no ink, the fonts of its words, and what other shapes
-    with a name are, by its key.
+    drawn, since an edge of the paper takes no ink, the fonts of its words, what other shapes with a
+    name are, by its key, its words, and what is said of it.
     """
 
     file: str
@@ -138,6 +152,8 @@ class OwnDesign:
     smaller: tuple[str, ...]
     fonts: tuple[str, ...]
     shapes: Mapping[str, str]
+    words: tuple[str, ...]
+    remarks: tuple[Text, ...]
 
     def draw(self, canvas: Any, scale: float, absent: frozenset[str] = frozenset()) -> None:
         """Draws what is alike on all labels without some parts, in so many units a millimetre;
@@ -157,17 +173,30 @@ class Page(NamedTuple):
 
 def is_file(design: str) -> bool:
     """Returns whether a design is a file."""
-    return design.lower().endswith(SUFFIX)
+    return design.lower().endswith(SUFFIXES)
 
 
 @lru_cache(maxsize=MOST_KNOWN)
 def key_of(name: str) -> str:
     """Returns a name as it is compared.
 
-    >>> key_of("Seat_No") == key_of("seat  no")
+    >>> key_of("Seat_No") == key_of("seat  no") == key_of("Seat-no")
     True
     """
-    return name_of(name.replace("_", " ")).casefold()
+    return name_of(name.replace("_", " ").replace("-", " ")).casefold()
+
+
+def part_of(name: str) -> str:
+    """Returns a name as it is compared, without a number behind it. Behind a column that has to be
+    after a hyphen: Line and Line 2 may be two columns.
+
+    >>> part_of("Title-2"), part_of("title_1_"), part_of("Seat-2"), part_of("Line 2")
+    ('title', 'title', 'seat', 'line 2')
+    """
+    known = key_of(name)
+    match = AGAIN.fullmatch(known)
+    is_again = match and (match[1] in PARTS or AFTER_HYPHEN.search(name))
+    return match[1] if match and is_again else known
 
 
 def read_design(name: str, cell: Size, white: Edges, turn: Optional[bool]) -> OwnDesign:
@@ -181,19 +210,32 @@ def read_design(name: str, cell: Size, white: Edges, turn: Optional[bool]) -> Ow
     label = cell[::-1] if is_turned else cell
     size = page.size if page.is_real else label
     corner = (label[0] - size[0]) / 2, (label[1] - size[1]) / 2
-    places = taken_places(name, root)
     area = rectangle(*corner, *size, 1.0)
-    placed = located(name, root, places, area)
+    marked = deepcopy(root)
+    taken = taken_places(name, marked)
+    words = mark_words(marked)
+    handle = mark_places(name, marked, taken)
+    placed = located(name, handle, [place for _, _, place in taken], area)
     check_places(name, placed, label)
     edges = (white[1], white[2], white[3], white[0]) if is_turned else white
     cut = tuple(inside(name, place, label, edges) for place in placed)
     smaller = [one.title for one, whole in zip(cut, placed) if is_smaller(one, whole)]
-    for parent, rect, _ in places:
+    for parent, rect, _ in taken_places(name, root):
         parent.remove(rect)
+    ends = (edges[0], edges[1], label[0] - edges[2], label[1] - edges[3])
     keys = frozenset(key for place in placed for key in (key_of(place.name), place.part))
     groups = frozenset(key for _, _, key in groups_of(root) if key in keys)
-    how = (root, corner, size, groups, tuple(smaller), fonts_of(root), shapes_of(root))
-    return OwnDesign(name, label, is_turned, cut, *how)
+    how = (root, corner, size, groups, tuple(smaller), fonts_of(root), keys_of(shapes_in(root)))
+    remarks = (*remarks_on(name, root), *cut_words(name, handle, words, area, ends))
+    return OwnDesign(name, label, is_turned, cut, *how, words, remarks)
+
+
+def remarks_on(name: str, root: Element) -> Iterator[Text]:
+    """Yields what is said of a drawing that other programs draw otherwise."""
+    lost = ", ".join(without_effect(root))
+    if lost:
+        what = Text("{}: {} is not drawn as in other programs", name, lost)
+        yield Text("{}: {}", what, PATH_HINT)
 
 
 def size_of_page(name: str) -> Size:
@@ -207,51 +249,26 @@ def size_of_page(name: str) -> Size:
     return page.size
 
 
-def root_of(name: str) -> Element:
-    """Returns the root of a file; raises `ToolError` where it is no plain SVG."""
-    try:
-        with Path(name).open("rb") as file:
-            data = file.read(MOST_BYTES + 1)
-    except OSError as error:
-        raise ToolError(Text("--design {}: {}", name, error.strerror)) from error
-    if len(data) > MOST_BYTES:
-        hint = Text("make its pictures smaller")
-        raise ToolError(Text("{} has more than {} MB", name, MOST_BYTES // 1_000_000), hint)
-    if b"\0" in data or b"<!ENTITY" in data:
-        what = Text("{} has entities, or is not in UTF-8", name)
-        raise ToolError(what, Text("save it as plain SVG"))
-    if b"<?xml-stylesheet" in data:
-        what = Text("{}: its style sheet is another file, which is not read", name)
-        raise ToolError(what, Text("save it as plain SVG"))
-    try:
-        root = ElementTree.fromstring(data)
-    except (ElementTree.ParseError, LookupError, ValueError) as error:
-        raise ToolError(Text("{} is no SVG: {}", name, error)) from error
-    if root.tag != f"{SPACE}svg":
-        hint = Text("it begins with {}", BEGIN)
-        raise ToolError(Text("{} is no SVG", name), hint)
-    return root
-
-
-def walked(root: Element) -> Iterator[tuple[Element, Element, int]]:
-    """Yields each element below a root in its order, with its parent and how deep it is."""
-    waiting = [(root, child, 1) for child in reversed(root)]
-    while waiting:
-        parent, element, depth = waiting.pop()
-        yield parent, element, depth
-        waiting += [(element, child, depth + 1) for child in reversed(element)]
+def title_of(element: Element) -> str:
+    """Returns the name of an element."""
+    return written_name(element).split(",")[0].strip(BLANKS)
 
 
 def written_name(element: Element) -> str:
-    """Returns the name of an element with what is behind it."""
-    return element.get("data-place") or element.get(LABEL) or element.get("id") or ""
+    """Returns the name of an element with what is behind it.
+
+    >>> written_name(Element("rect", {"id": "title_x2C__bold"}))
+    'title,_bold'
+    """
+    typed = next(filter(None, map(element.get, WRITTEN)), "")
+    return typed or ESCAPED.sub(lambda found: chr(int(found[1], 16)), element.get("id", ""))
 
 
 def groups_of(root: Element) -> Iterator[tuple[Element, Element, str]]:
     """Yields the groups with a name, but for layers of Inkscape: each with its parent and key."""
     for parent, element, _ in walked(root):
-        name = written_name(element).split(",")[0].strip()
-        if element.tag == f"{SPACE}g" and name and element.get(MODE) != "layer":
+        name = title_of(element)
+        if tag_of(element) == "g" and name and element.get(MODE) != "layer":
             yield parent, element, key_of(name)
 
 
@@ -262,72 +279,6 @@ def without_groups(root: Element, absent: frozenset[str]) -> Element:
         if key in absent:
             parent.remove(group)
     return found
-
-
-def fonts_of(root: Element) -> tuple[str, ...]:
-    """Returns the fonts that words are to have first, but for general ones such as sans-serif."""
-    fonts: dict[str, None] = {}
-    has_words = False
-    for _, element, _ in walked(root):
-        tag = str(element.tag).removeprefix(SPACE)
-        has_words = has_words or tag == "text"
-        sheet = element.text or "" if tag == "style" else ""
-        wanted = [element.get("font-family", "")] if tag in WITH_FONTS else []
-        written = element.get("style", "") if tag in WITH_FONTS else ""
-        wanted += FAMILY.findall(f"{written};{sheet}")
-        for families in wanted:
-            family = families.split(",")[0].strip().strip("\"'")
-            if family and family.lower() not in GENERAL:
-                fonts[family] = None
-    return tuple(fonts) if has_words else ()
-
-
-def check_elements(name: str, root: Element) -> None:
-    """Raises `ToolError` for what would not be drawn: another file, text that flows."""
-    for _, element, depth in walked(root):
-        tag = str(element.tag).removeprefix(SPACE)
-        if depth > MOST_DEPTH:
-            what = Text("{}: elements are more than {} deep in one another", name, MOST_DEPTH)
-            raise ToolError(what)
-        if tag in NOT_DRAWN:
-            hint = Text("make it plain text, in Inkscape by Text, Convert to Text")
-            raise ToolError(Text("{}: text that flows ({}) is not drawn", name, tag), hint)
-        links = [element.get(key, "") for key in ("href", LINK)]
-        is_outside = any(link and not link.startswith(("#", "data:")) for link in links)
-        for link in links:
-            check_picture(name, link)
-        texts = (*element.attrib.values(), element.text or "" if tag == "style" else "")
-        if tag != "a" and is_outside or any(map(OUTSIDE.search, texts)):
-            hint = Text("embed it, in Inkscape by Extensions, Images, Embed Images")
-            raise ToolError(Text("{}: {} is of another file, which is not read", name, tag), hint)
-
-
-def check_picture(name: str, link: str) -> None:
-    """Raises `ToolError` for a picture that would not be drawn, or would take too much memory: a
-    small file may have very many pixels. Its head says how many.
-    """
-    before, _, data = link.partition(";base64,")
-    if not before.startswith("data:"):
-        return
-    pixels = 0
-
-    def take(loader: Any, width: int, height: int) -> None:
-        nonlocal pixels
-        pixels = width * height
-        loader.set_size(0, 0)  # none of it is drawn
-
-    loader = library("GdkPixbuf", "2.0").PixbufLoader()
-    loader.connect("size-prepared", take)
-    with suppress(ValueError, library("GLib", "2.0").Error):
-        loader.write(b64decode("".join(data.split())[:PICTURE_HEAD]))
-    with suppress(library("GLib", "2.0").Error):
-        loader.close()  # what is not whole
-    kind = loader.get_format()
-    if not kind or kind.get_name() not in PICTURES or not 0 < pixels <= MOST_PIXELS:
-        what = Text(
-            "{}: a picture is not PNG or JPEG, or has more than {:,} pixels", name, MOST_PIXELS
-        )
-        raise ToolError(what, Text("embed a smaller one"))
 
 
 def page_of(name: str, root: Element) -> Page:
@@ -341,14 +292,16 @@ def page_of(name: str, root: Element) -> Page:
         width, height = (side.length * UNITS[unit] for side, unit in zip(sides, units))
     else:
         width, height = found.out_viewbox.width, found.out_viewbox.height
-    if min(width, height) <= 0:
+    box = found.out_viewbox if found.out_has_viewbox else rectangle(0, 0, width, height, 1.0)
+    is_wrong = not found.out_has_viewbox and any(key.lower() == "viewbox" for key in root.attrib)
+    if is_wrong or min(width, height, box.width, box.height) <= 0:
         example = 'width="60mm" height="40mm" viewBox="0 0 60 40"'
         hint = Text("give it width, height and viewBox, as {}", example)
         raise ToolError(Text("{} has no size", name), hint)
     if not found.out_has_viewbox:
-        root.set("viewBox", f"0 0 {width:.6f} {height:.6f}")
-    for key in ("width", "height"):
-        root.attrib.pop(key, None)
+        dots = 90 / DPI if is_real and OF_90_DPI.match(root.get(VERSION, "")) else 1.0
+        root.set("viewBox", f"0 0 {width * dots:.6f} {height * dots:.6f}")
+    root.set("style", f"{root.get('style', '')};width:auto;height:auto")  # of its style sheets too
     scale = PX if is_real else 1.0
     return Page((round(width * scale, 3), round(height * scale, 3)), is_real)
 
@@ -387,27 +340,64 @@ Taken = tuple[Element, Element, Place]  # the parent of a rectangle, itself, its
 def taken_places(name: str, root: Element) -> list[Taken]:
     """Returns the rectangles that are places; raises `ToolError` for a wrong name."""
     found: list[Taken] = []
+    shapes = shapes_in(root)
+    check_shapes(name, keys_of(shapes), PARTS)
     for parent, element, _ in walked(root):
-        written = written_name(element)
-        title = written.split(",")[0].strip()
-        if element.tag == f"{SPACE}rect" and not UNNAMED.fullmatch(title):
-            found.append((parent, element, place_of(name, written)))
-    check_shapes(name, shapes_of(root), PARTS)
+        is_free = element not in shapes and not UNNAMED.fullmatch(title_of(element))
+        if tag_of(element) == "rect" and is_free:
+            found.append((parent, element, place_of(name, written_name(element))))
     if not any(place.part == "code" for _, _, place in found):
         hint = Text("draw a rectangle with the id code")
         raise ToolError(Text("{} has no place for the code", name), hint)
+    check_clones(name, root, found)
     return found
 
 
-def shapes_of(root: Element) -> dict[str, str]:
-    """Returns what shapes that have a name and are no rectangle are, by the keys of their names."""
-    shapes: dict[str, str] = {}
+def shapes_in(root: Element) -> dict[Element, str]:
+    """Returns the elements that are drawn and are no places, with what they are: shapes, pictures
+    that fill a rectangle, and what is drawn elsewhere, such as clipping paths. A text that a
+    program has named by its words is none.
+    """
+    shapes = {}
+    patterns = {one.get("id") for one in root.iter(f"{SPACE}pattern")}
     for _, element, _ in walked(root):
-        title = written_name(element).split(",")[0].strip()
-        tag = str(element.tag).removeprefix(SPACE)
-        if tag in SHAPES and title:
-            shapes[key_of(title)] = tag
+        tag = tag_of(element)
+        paint = (
+            PAINT.search(dict(properties_of(element)).get("fill", "")) if tag == "rect" else None
+        )
+        if tag == "text" and key_of(title_of(element)) == key_of(words_of(element)):
+            continue
+        if tag in SHAPES:
+            shapes[element] = tag
+        elif paint and paint[1] in patterns and part_of(title_of(element)) not in PARTS:
+            shapes[element] = "pattern"
+    for tag in HOLDERS:
+        for holder in root.iter(f"{SPACE}{tag}"):
+            rects = holder.iter(f"{SPACE}rect")
+            shapes.update((one, tag) for one in rects if part_of(title_of(one)) not in PARTS)
     return shapes
+
+
+def keys_of(shapes: Mapping[Element, str]) -> dict[str, str]:
+    """Returns what shapes with a name are, by the keys of their names."""
+    named = ((title_of(one), tag) for one, tag in shapes.items())
+    return {key_of(title): tag for title, tag in named if title}
+
+
+def check_clones(name: str, root: Element, taken: Iterable[Taken]) -> None:
+    """Raises `ToolError` where a clone shows a place: it would be drawn without it."""
+    parents = {element: parent for parent, element, _ in walked(root)}
+    titles: dict[str, str] = {}
+    for parent, rect, place in taken:
+        titles.setdefault(rect.get("id", ""), place.title)
+        while parent in parents:
+            titles.setdefault(parent.get("id", ""), place.title)
+            parent = parents[parent]
+    for use in root.iter(f"{SPACE}use"):
+        for link in filter(None, map(use.get, LINKS)):
+            if title := titles.get(link.removeprefix("#")):
+                hint = Text("unlink it, in Inkscape by Edit, Clone, Unlink Clone")
+                raise ToolError(Text("{}: a clone shows the place {}", name, title), hint)
 
 
 def check_shapes(name: str, shapes: Mapping[str, str], keys: Iterable[str]) -> None:
@@ -421,25 +411,29 @@ def check_shapes(name: str, shapes: Mapping[str, str], keys: Iterable[str]) -> N
 
 
 def place_of(name: str, written: str) -> Place:
-    """Returns the place of a name, without its sides; raises `ToolError`."""
-    title, *words = (" ".join(word.split()) for word in written.split(","))
+    """Returns the place of a name, without its sides; raises `ToolError`. Some programs write a
+    blank in an id as _ or -.
+    """
+    title, *words = (" ".join(word.split()).strip(BLANKS) for word in written.split(","))
     place = Place(title, title)
     for word in filter(None, words):
-        key, _, value = word.partition("=")
-        if word in ACROSS:
-            place = replace(place, across=ACROSS[word])
-        elif word in DOWN:
-            place = replace(place, down=DOWN[word])
-        elif word == "bold":
+        key, value = (side.strip() for side in (*word.split("=", 1), "")[:2])
+        key = key.casefold()
+        flag = word.casefold()
+        if flag in ACROSS:
+            place = replace(place, across=ACROSS[flag])
+        elif flag in DOWN:
+            place = replace(place, down=DOWN[flag])
+        elif flag == "bold":
             place = replace(place, is_bold=True)
-        elif word in SYMBOLOGIES:
-            place = replace(place, symbology=word)
+        elif flag in SYMBOLOGIES:
+            place = replace(place, symbology=flag)
         elif key in NUMBERS and NUMBERS[key].fullmatch(value) and float(value) > 0:
             place = replace(place, **{key: float(value)})
         elif key == "font" and value:
-            place = replace(place, font=value)
+            place = replace(place, font=value.replace("_", " "))
         elif place.symbology and key in SYMBOLOGIES[place.symbology].settings:
-            place = replace(place, settings=(*place.settings, word))
+            place = replace(place, settings=(*place.settings, f"{key}={value.upper()}"))
         else:
             known = [*ACROSS, *DOWN, "bold", "font=NAME", *SYMBOLOGIES]
             known += [f"{one}=N" for one in NUMBERS]
@@ -448,34 +442,71 @@ def place_of(name: str, written: str) -> Place:
     return place
 
 
-def located(name: str, root: Element, taken: list[Taken], area: Any) -> tuple[Place, ...]:
-    """Returns places with their sides; raises `ToolError` for one that has none, or is askew."""
-    edges = []
+def mark(parent: Element, element: Element, name: str) -> None:
+    """Puts an element into a group with an id: style sheets find it as before."""
+    group = Element(f"{SPACE}g", {"id": name})
+    group.append(element)
+    parent[list(parent).index(element)] = group
+
+
+def mark_places(name: str, root: Element, taken: list[Taken]) -> Any:
+    """Marks the rectangles that are places, beside a copy of the upper and the left edge of each,
+    and returns what draws them; raises `ToolError`.
+    """
     for number, (parent, rect, _) in enumerate(taken):
-        edge = deepcopy(rect)
-        edge.set("height", f"{THIN}")
-        edge.set("id", f"edge-{number}")
-        rect.set("id", f"place-{number}")
-        parent.insert(list(parent).index(rect), edge)
-        edges.append((parent, edge))
-    handle = handle_of(name, root)
-    places = []
-    for number, (_, _, place) in enumerate(taken):
-        whole = sides_of(handle, f"#place-{number}", area)
-        upper = sides_of(handle, f"#edge-{number}", area)
-        found = located_place(name, place, whole, upper)
-        places.append(replace(found, colour=colour_of(handle, f"#place-{number}", area, whole)))
-    for parent, edge in edges:
-        parent.remove(edge)
-    return tuple(places)
+        for part, side in (("upper", "height"), ("left", "width")):
+            edge = deepcopy(rect)
+            edge.set(side, f"{THIN}")
+            edge.set("style", f"{rect.get('style', '')};{side}:{THIN}px")
+            parent.insert(list(parent).index(rect), edge)
+            mark(parent, edge, f"{part}-{number}")
+        mark(parent, rect, f"place-{number}")
+    return handle_of(name, root)
 
 
-def located_place(name: str, place: Place, whole: Any, upper: Any) -> Place:
-    """Returns a place with its sides and its turn, by the rectangles of it and of its upper edge;
-    raises `ToolError`.
+def located(name: str, handle: Any, places: Iterable[Place], area: Any) -> tuple[Place, ...]:
+    """Returns places with their sides; raises `ToolError` for one that has none, or is askew."""
+    found = []
+    for number, place in enumerate(places):
+        whole, upper, left = (
+            sides_of(handle, f"#{part}-{number}", area) for part in ("place", "upper", "left")
+        )
+        one = located_place(name, place, whole, upper, left)
+        found.append(replace(one, colour=colour_of(handle, f"#place-{number}", area, whole)))
+    return tuple(found)
+
+
+def mark_words(root: Element) -> tuple[str, ...]:
+    """Marks the texts of a drawing, and returns their words."""
+    texts = [(parent, one) for parent, one, _ in walked(root) if tag_of(one) == "text"]
+    for number, (parent, element) in enumerate(texts):
+        mark(parent, element, f"words-{number}")
+    return tuple(words_of(element) for _, element in texts)
+
+
+def cut_words(
+    name: str, handle: Any, words: Iterable[str], area: Any, ends: Edges
+) -> Iterator[Text]:
+    """Yields what is said of words of a drawing that end beyond an edge, as those of a font that is
+    not there may; the left, upper, right and lower end of what takes ink are given.
+    """
+    for number, text in enumerate(words):
+        ink = handle.get_geometry_for_layer(f"#words-{number}", area).out_ink_rect
+        right, bottom = ink.x + ink.width, ink.y + ink.height
+        cut = max(ends[0] - ink.x, ends[1] - ink.y, right - ends[2], bottom - ends[3])
+        is_seen = ink.x < ends[2] and right > ends[0] and ink.y < ends[3] and bottom > ends[1]
+        if is_seen and cut > NEAR / 2 and text:
+            hint = Text("move it, or make its letters smaller")
+            what = Text("{}: {} is cut at the edge by {:.1f} mm", name, quoted(text), cut)
+            yield Text("{}: {}", what, hint)
+
+
+def located_place(name: str, place: Place, whole: Any, upper: Any, left: Any) -> Place:
+    """Returns a place with its sides and its turn, by the rectangles of it and of its upper and
+    left edge; raises `ToolError`.
     """
     if min(whole.width, whole.height) < TINY:
-        hint = Text("give it a width and a height, and show its layer")
+        hint = Text("give it a width and a height, and show its layer, or take its name away")
         what = Text("{}: the place {} is hidden, or has no size", name, place.title)
         raise ToolError(what, hint)
     is_slanted = max(upper.width, upper.height) < side_of(whole, upper) - TINY
@@ -488,7 +519,7 @@ def located_place(name: str, place: Place, whole: Any, upper: Any) -> Place:
         top=whole.y,
         width=whole.width,
         height=whole.height,
-        quarters=quarters_of(whole, upper),
+        quarters=quarters_of(whole, upper, left),
     )
 
 
@@ -498,11 +529,14 @@ def side_of(whole: Any, upper: Any) -> float:
     return length
 
 
-def quarters_of(whole: Any, upper: Any) -> int:
-    """Returns by how many quarters a place is turned to the right, by where its upper edge is."""
+def quarters_of(whole: Any, upper: Any, left: Any) -> int:
+    """Returns by how many quarters a place is turned to the right, by where its upper and its left
+    edge are. One that is mirrored is upright.
+    """
+    across = whole.x + whole.width / 2
     if upper.height < upper.width:
-        return 0 if upper.y < whole.y + whole.height / 2 else 2
-    return 3 if upper.x < whole.x + whole.width / 2 else 1
+        return 2 if upper.y > whole.y + whole.height / 2 and left.x > across else 0
+    return 3 if upper.x < across else 1
 
 
 def sides_of(handle: Any, name: str, area: Any) -> Any:
@@ -516,8 +550,9 @@ def colour_of(handle: Any, name: str, area: Any, whole: Any) -> Optional[Colour]
     """
     surface = cairo.ImageSurface(cairo.FORMAT_ARGB32, 1, 1)
     canvas = cairo.Context(surface)
-    canvas.scale(1 / TINY, 1 / TINY)  # a dot is a hundredth of a millimetre
-    canvas.translate(-whole.x - whole.width / 2, -whole.y - whole.height / 2)
+    dot = min(whole.width, whole.height) / 2  # so large that what has a filter takes little time
+    canvas.scale(1 / dot, 1 / dot)
+    canvas.translate(-whole.x - (whole.width - dot) / 2, -whole.y - (whole.height - dot) / 2)
     handle.render_layer(canvas, name, area)
     surface.flush()
     blue, green, red, alpha = bytes(surface.get_data())[:4]
@@ -540,7 +575,8 @@ def check_places(name: str, places: tuple[Place, ...], label: Size) -> None:
             if (one.is_symbol or other.is_symbol) and one.meets(other):
                 titles = one.title, other.title
                 what = Text("{}: the places {} and {} have room in common", name, *titles)
-                raise ToolError(what, Text("move them apart"))
+                hint = Text("move them apart, or take the name of what is to be drawn away")
+                raise ToolError(what, hint)
 
 
 def inside(name: str, place: Place, label: Size, edges: Edges) -> Place:
@@ -560,45 +596,3 @@ def inside(name: str, place: Place, label: Size, edges: Edges) -> Place:
 def is_smaller(one: Place, other: Place) -> bool:
     """Returns whether a place is so much smaller than another one that it is said."""
     return max(other.width - one.width, other.height - one.height) > NEAR / 2 + TINY
-
-
-def rectangle(left: float, top: float, width: float, height: float, scale: float) -> Any:
-    """Returns a rectangle of librsvg."""
-    area = rsvg().Rectangle()
-    area.x = left * scale
-    area.y = top * scale
-    area.width = width * scale
-    area.height = height * scale
-    return area
-
-
-def rsvg() -> Any:
-    """Returns librsvg; raises `ToolError` where it is not there."""
-    try:
-        return library("Rsvg", "2.0")
-    except (ImportError, ValueError) as error:
-        hint = Text("apt-get install gir1.2-rsvg-2.0")
-        raise ToolError(Text("{}: a design of SVG needs it", error), hint) from error
-
-
-def handle_of(name: str, root: Element) -> Any:
-    """Returns what draws a tree; without the name of a file it reads no other one. Raises
-    `ToolError`.
-    """
-    gio = library("Gio", "2.0")
-    stream = gio.MemoryInputStream.new_from_data(ElementTree.tostring(root))
-    flags = rsvg().HandleFlags.FLAGS_NONE
-    try:
-        handle = rsvg().Handle.new_from_stream_sync(stream, None, flags, None)
-    except library("GLib", "2.0").Error as error:
-        raise ToolError(Text("{} is no SVG: {}", name, error.message)) from error
-    handle.set_dpi(DPI)
-    return handle
-
-
-def draw(name: str, handle: Any, canvas: Any, area: Any) -> None:
-    """Draws all of a tree; raises `ToolError`."""
-    try:
-        handle.render_document(canvas, area)
-    except library("GLib", "2.0").Error as error:
-        raise ToolError(Text("{} cannot be drawn: {}", name, error.message)) from error

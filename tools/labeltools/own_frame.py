@@ -9,7 +9,7 @@ from typing import Iterator, NamedTuple, Sequence
 from labeltools.area import Area, Plan
 from labeltools.frames import LINE, Box, Frame
 from labeltools.layout import LaidOut, LaidOutFile
-from labeltools.own_design import BEGIN
+from labeltools.own_drawing import BEGIN
 from labeltools.stock import Size
 
 CODE = ("bars", "digits")  # boxes of a layout

@@ -13,7 +13,7 @@ from labeltools.area import LARGEST_MODULE, TINY, Area
 from labeltools.engine import Modules, run_labels
 from labeltools.frames import DIGITS_ROOM, HINTING, LEAST_TEXT, LINE, LOWEST, Box, Frame, share
 from labeltools.layout import ASKED, LaidOut, LaidOutFile, Layout, PrintLabel, short
-from labeltools.letters import BLANK, Fonts, Letters, Sign, font_for
+from labeltools.letters import BLANK, Fonts, Letters, Sign, font_for, reasons_of
 from labeltools.lines_file import symbology_and_data
 from labeltools.messages import Place as LinePlace
 from labeltools.messages import Talk, quoted
@@ -467,24 +467,15 @@ class OwnLayouts:
     def said(
         self, labels: Sequence[PrintLabel], values: Sequence[Values]
     ) -> Iterator[tuple[LinePlace, Text]]:
-        """Yields what is said of places that are smaller than drawn, of parts without a place, and
-        of places for which no label has anything. Raises `ToolError` where a shape that is no
-        rectangle has the name of a column.
+        """Yields what is said of the design, of parts without a place, and of places for which no
+        label has anything. Raises `ToolError` where a shape that is no rectangle has the name of a
+        column.
         """
         if not labels:
             return
         first = labels[0].record.place
         file = self.design.file
-        if self.design.smaller:
-            why = Text("an edge of the page takes no ink there (--edge)")
-            named = ", ".join(self.design.smaller)
-            yield first, Text("{}: smaller than drawn: {}: {}", file, named, why)
-        for family in self.design.fonts:
-            there = font_for(family)
-            if there.lower() != family.lower():
-                yield first, Text(
-                    "{}: there is no font {}: its words are in {}", file, family, there
-                )
+        yield from ((first, text) for text in self.said_of_design())
         names: dict[str, str] = {}
         for value in values:
             for key in value.texts:
@@ -504,6 +495,23 @@ class OwnLayouts:
                 quoted(empty[0].title),
             )
             yield first, Text("{}: no label has anything for {}: {}", file, named, hint)
+
+    def said_of_design(self) -> Iterator[Text]:
+        """Yields what is said of the design alone: of its places, its drawing and its fonts."""
+        file = self.design.file
+        if self.design.smaller:
+            why = Text("an edge of the page takes no ink there (--edge)")
+            named = ", ".join(self.design.smaller)
+            yield Text("{}: smaller than drawn: {}: {}", file, named, why)
+        yield from self.design.remarks
+        absent = filter(self.letters.is_missing, sorted(set().union(*self.design.words)))
+        for why in dict.fromkeys(reasons_of(absent).values()):
+            yield Text("{}: {}", file, why)
+        for families in self.design.fonts:
+            family = families.split(",")[0]
+            there = font_for(families)
+            if there.lower() != family.lower():
+                yield Text("{}: there is no font {}: its words are in {}", file, family, there)
 
 
 def line_of(place: Place, text: str) -> bytes:

@@ -2,7 +2,7 @@
 
 from dataclasses import replace
 from functools import cache
-from typing import Any, Optional
+from typing import Any, Iterable, Optional
 
 import cairo
 
@@ -12,6 +12,7 @@ from labeltools.frames import Box
 from labeltools.layout import LaidOut
 from labeltools.letters import Fonts, Letters
 from labeltools.messages import ToolError
+from labeltools.own_drawing import with_thin_lines
 from labeltools.own_design import BLACK, WHITE, Colour, OwnDesign, Place
 from labeltools.own_layout import OwnLayout, OwnText
 from labeltools.pen import Fitted, Medium, Page, Pen, Style, copied, ink_of, padded, seen_in
@@ -57,7 +58,8 @@ class OwnPen(Pen):
         """Returns the rows of the drawing without some parts in black dots: those that are darker
         than half of black.
         """
-        return [dark_row(row) for row in lightness(self.design, *self.size, absent)]
+        symbols = [place for place in self.design.places if place.is_symbol]
+        return [dark_row(row) for row in lightness(self.design, *self.size, absent, symbols)]
 
     def new_packed(self, absent: frozenset[str], stride: int, height: int) -> bytes:
         """Returns the drawing without some parts as the rows of a page of Cairo."""
@@ -280,9 +282,15 @@ def is_light(colour: Colour) -> bool:
 
 
 def lightness(
-    design: OwnDesign, wide: int, high: int, absent: frozenset[str] = frozenset()
+    design: OwnDesign,
+    wide: int,
+    high: int,
+    absent: frozenset[str] = frozenset(),
+    spared: Iterable[Place] = (),
 ) -> list[bytes]:
-    """Returns the rows of a drawing, a byte from 0 for black to 255 for white for each dot."""
+    """Returns the rows of a drawing, a byte from 0 for black to 255 for white for each dot. Lines
+    thinner than a dot are black, but in places that are spared.
+    """
     surface = cairo.ImageSurface(cairo.FORMAT_RGB24, wide, high)
     canvas = cairo.Context(surface)
     canvas.set_source_rgb(1, 1, 1)
@@ -294,7 +302,11 @@ def lightness(
     surface.flush()
     light = bytes(surface.get_data())[0::4]
     stride = surface.get_stride() // 4
-    return [light[start : start + wide] for start in range(0, stride * high, stride)]
+    rows = [light[start : start + wide] for start in range(0, stride * high, stride)]
+    scale = wide / design.label[0]
+    corners = ((one.left, one.top, one.left + one.width, one.top + one.height) for one in spared)
+    areas = [tuple(side * scale for side in one) for one in corners]
+    return with_thin_lines(rows, areas)
 
 
 def dark_row(row: bytes) -> bytes:

@@ -16,6 +16,8 @@ import designs
 import support
 from designs import CODE, Label, dots_of, reasons_of, said_of, texts_of
 from labeltools.messages import Silence, ToolError
+from labeltools.own_design import colour_of
+from labeltools.own_drawing import rectangle
 from labeltools.own_layout import OwnLayout
 from labeltools.print_job import Prepared, PrintOptions, planned
 
@@ -36,9 +38,9 @@ def setUpModule() -> None:
     os.environ["LABELS"] = str(support.labels_program())
 
 
-def png_of(width: int, height: int) -> str:
-    """A white PNG in base 64; of a large one no more than 100 rows are there."""
-    rows = (b"\0" + b"\xff" * ((width + 7) // 8)) * min(height, 100)
+def png_of(width: int, height: int, dots: bytes = b"\xff") -> str:
+    """A PNG in base 64, white or of other dots; of a large one no more than 100 rows are there."""
+    rows = (b"\0" + dots * ((width + 7) // 8)) * min(height, 100)
     head = struct.pack(">IIBBBBB", width, height, 1, 0, 0, 0, 0)
     parts = ((b"IHDR", head), (b"IDAT", zlib.compress(rows, 9)), (b"IEND", b""))
     data = b"\x89PNG\r\n\x1a\n"
@@ -46,6 +48,9 @@ def png_of(width: int, height: int) -> str:
         check = struct.pack(">I", zlib.crc32(kind + part))
         data += struct.pack(">I", len(part)) + kind + part + check
     return base64.b64encode(data).decode()
+
+
+BLACK = png_of(8, 8, b"\0")
 
 
 def svg_in_base64() -> str:
@@ -94,6 +99,14 @@ REFUSED = (
     (f"<style>text{{fill:url('other.svg')}}</style>{CODE}", f"style {NOT_EMBEDDED}"),
     (f"<flowRoot/>{CODE}", FLOWS),
     (f"<foreignObject/>{CODE}", FLOWS),
+    (f"<flowRoot><flowPara>Door 2</flowPara></flowRoot>{CODE}", FLOWS),
+    (
+        f'<text><textPath href="#a">Door 2</textPath></text>{CODE}',
+        "textPath is not drawn; make it a",
+    ),
+    (f"<filter><feDropShadow/></filter>{CODE}", "feDropShadow is not drawn; make it a picture, in"),
+    (TITLE.format(WIDE) + '<use href="#title" y="9"/>', "a clone shows the place title; unlink it"),
+    (f'<g id="a">{TITLE.format(WIDE)}</g><use href="#a"/>', "a clone shows the place title; unli"),
     (
         f'<defs><g id="g0"><path d="M0 0h1"/></g>{BOMB}</defs><use href="#g8"/>{CODE}',
         "cannot be drawn",
@@ -103,6 +116,7 @@ REFUSED = (
     (f"<!--{'x' * 8_000_000}-->{CODE}", "has more than 8 MB; make its pictures smaller"),
     (PICTURE.format("png", png_of(30_000, 30_000)), NOT_PICTURE),
     (PICTURE.format("png", "aGVsbG8="), NOT_PICTURE),
+    (PICTURE.format("png", png_of(8, 8)[:64]), "a picture is not whole; embed it anew"),
     (PICTURE.format("svg+xml", svg_in_base64()), NOT_PICTURE),
     (f'<image href="data:image/png,hello"/>{CODE}', NOT_PICTURE),
     ('<rect data-place="code, blod"/>', '"code, blod": "blod" is not understood; behind the name'),
@@ -120,6 +134,13 @@ PAGES: tuple[tuple[str, dict[str, Any], str], ...] = (
         'has no size; give it width, height and viewBox, as width="60mm" height="40mm" viewBox',
     ),
     ('width="0mm" height="40mm"', {}, "has no size; give it width, height and viewBox"),
+    ('width="60mm" height="40mm" viewBox="0 0 0 40"', {}, "has no size; give it width, height and"),
+    ('width="60mm" height="40mm" viewBox="0 0 6mm 4mm"', {}, "has no size; give it width, height"),
+    (
+        'width="60mm" height="40mm" viewbox="0 0 60 40"',
+        {},
+        "has no size; give it width, height and",
+    ),
     (
         designs.PAGE,
         {"paper": (50.0, 30.0)},
@@ -252,6 +273,58 @@ class Names(OwnPages):
             for end, wanted in zip(self.ink(found), (2, 11, 2, 11)):
                 self.assertAlmostEqual(end, wanted, delta=0.13)
 
+    def test_names_as_programs_write_them(self) -> None:
+        affinity = 'xmlns:serif="http://www.serif.com/" id="seat-no" serif:id="Seat no, bold"'
+        for name in (
+            affinity,
+            'id="Seat_no_bold" data-name="Seat no, bold"',
+            'id="Seat_no_x002C__x0020_bold"',
+            'id="Seat_no_x2C__bold"',
+            'id="Seat-no,-bold"',
+            'id="SEAT NO,BOLD"',
+        ):
+            place = f"<rect {name} {WIDE}/>{CODE}"
+            found = self.found(place, [("code128 A", {"text": {"Seat no": "12"}})])
+            (text,) = texts_of(found)
+            self.assertEqual((text.text, text.place.is_bold), ("12", True), name)
+            self.assertEqual(self.said(found), [])
+
+    def test_what_is_drawn_and_no_place(self) -> None:
+        """A picture of Figma, a text that it has named by its words, what Illustrator clips by, the
+        page of Affinity: each is drawn as it is.
+        """
+        box = 'x="2" y="2" width="9" height="9"'
+        pattern = '<pattern id="p" width="1" height="1"><path d="M0 0H9V9H0Z"/></pattern>'
+        clip = f'<defs><rect id="SVGID_1_" {box}/></defs><clipPath id="c"><use href="#SVGID_1_"/>'
+        for body, said in (
+            (f'{pattern}<rect id="logo 1" {box} fill="url(#p)"/>', 0),
+            (f'{clip}</clipPath><path d="M0 0H60V19H0Z" clip-path="url(#c)"/>', 0),
+            (f'<rect id="Artboard1" {box}/>', 0),
+            (f'<rect id="Rectangle-Copy 2" {box}/>', 0),
+            (f'<rect id="canvas_background" {box}/>', 0),
+            ('<path id="p" d="M2 2H11V11H2Z" style="fill:url(&quot;#q&quot;) black"/>', 0),
+        ):
+            found = self.found(body + CODE, [("code128 A", {})])
+            self.assertEqual(len(self.said(found)), said, body)
+            for end, wanted in zip(self.ink(found), (2, 11, 2, 11)):
+                self.assertAlmostEqual(end, wanted, delta=0.13)
+        word = '<text id="Price" x="2" y="9" font-size="4">Price</text>'
+        self.assertTrue(dots_of(self.found(word + CODE))[:150].any())
+
+    def test_style_sheets_find_places_by_their_ids(self) -> None:
+        for rule in ("fill:red", "fill:red;x:2px;y:2px;width:56px;height:10px"):
+            size = "" if "width" in rule else WIDE
+            body = f"<style>#title{{{rule}}}</style>" + TITLE.format(size)
+            (text,) = texts_of(self.found(body))
+            self.assertEqual(text.place.colour, (1, 0, 0))
+        with self.assertRaisesRegex(ToolError, "the place title is hidden"):
+            self.found("<style>#title{display:none}</style>" + TITLE.format(WIDE))
+
+    def test_a_switch_of_illustrator(self) -> None:
+        ai = '<foreignObject requiredExtensions="ai"/>'
+        (text,) = texts_of(self.found(f"<switch>{ai}<g>{TITLE.format(WIDE)}</g></switch>"))
+        self.assertEqual(text.text, "Title")
+
     def test_case_and_underscores_do_not_count(self) -> None:
         for name, column in (("Seat_No", "seat no"), ("ОПИСАНИЕ", "Описание"), ("Größe", "größe")):
             place = f'<rect id="{name}" {WIDE}/>{CODE}'
@@ -269,6 +342,20 @@ class Names(OwnPages):
         self.assertEqual([text.text for text in texts_of(found)], ["12", "12", "3\nA\nDoor 2"])
         listed = self.found("".join(rects) + CODE, [("code128 A", {"text": ["3", "12"]})])
         self.assertEqual([text.text for text in texts_of(listed)], ["3\n12"])
+
+    def test_columns_with_numbers_are_no_second_places(self) -> None:
+        """The second line of an address is empty on a label: the first one is not there twice."""
+        rects = [
+            f'<rect id="{name}" x="2" y="{2 + 6 * number}" width="56" height="5"/>'
+            for number, name in enumerate(("Line", "Line_2", "ID"))
+        ]
+        labels = [
+            ("code128 A", {"text": {"Line": "Am Hang 1", "Line 2": "Hinterhaus", "ID": "7"}}),
+            ("code128 B", {"text": {"Line": "Am Hang 2", "ID": "8"}}),
+        ]
+        found = self.found("".join(rects) + CODE, labels)
+        texts = ["Am Hang 1", "Hinterhaus", "7", "Am Hang 2", "8"]
+        self.assertEqual([text.text for text in texts_of(found)], texts)
 
     def test_a_column_is_never_taken_for_a_part(self) -> None:
         place = f'<rect id="price" {WIDE}/>{CODE}'
@@ -342,6 +429,15 @@ class Texts(OwnPages):
             left, right, top, bottom = self.ink(found)
             edges = (top - 4, 36 - right, 16 - bottom, left - 24)
             self.assertAlmostEqual(edges[quarters], 0, delta=0.3)
+
+    def test_mirrored_places_are_upright(self) -> None:
+        """Drawings of programs whose axis points upwards are mirrored."""
+        for scale in ("-1 1", "1 -1"):
+            box = (
+                f'width="12" height="12" x="-6" y="-6" transform="translate(30 10) scale({scale})"'
+            )
+            (text,) = texts_of(self.found(f'<rect id="title" {box}/>{CODE}'))
+            self.assertEqual(text.place.quarters, 0)
 
     def test_a_long_text_wraps_then_shrinks_then_is_cut(self) -> None:
         place = '<rect data-place="title{}" x="2" y="2" width="20" height="9"/>' + CODE
@@ -427,18 +523,121 @@ class Drawings(OwnPages):
             found = self.found(word.replace('<g id="Best before">', group) + place + CODE, labels)
             self.assertTrue(dots_of(found, 1)[:150].any())
 
+    def test_lines_thinner_than_a_dot_are_drawn(self) -> None:
+        """At 203 dpi a line of 0.08 mm between two rows of dots is nowhere darker than half."""
+        frame = '<path d="M{0} {0}H{1}V{1}H{0}Z" fill="none" stroke="black" stroke-width="0.08"/>'
+        for start in (2.0, 2.02, 2.0625, 2.1):
+            found = self.found(frame.format(start, start + 9) + CODE, [("code128 A", {})])
+            dots = dots_of(found)[:150]
+            for end, wanted in zip(self.ink(found), (start, start + 9) * 2):
+                self.assertAlmostEqual(end, wanted, delta=0.13)
+            middle = int((start + 4) / found.laid_out.area.dot)
+            self.assertEqual([dots[middle].sum(), dots[:, middle].sum()], [2, 2])
+        across = '<path d="M0 30.0625H60" stroke="{}" stroke-width="0.08"/>' + CODE
+        with self.assertRaisesRegex(ToolError, "is dark in the place code"):
+            self.found(across.format("black"))
+        self.assertEqual(len(self.found(across.format("#ccc")).labels), 1)
+
     def test_a_font_that_is_not_there_is_said(self) -> None:
         for style in ('font-family="Nothing, serif"', "style=\"font-family:'Nothing'\""):
             word = f'<text x="2" y="9" font-size="4" {style}>a</text>{CODE}'
             (said, _) = self.said(self.found(word))
             self.assertRegex(said, "^: there is no font Nothing: its words are in .+")
+        word = f'<text x="2" y="9" font-size="4" font-family="Nothing,DejaVu Serif">a</text>{CODE}'
+        self.assertIn(
+            "no font Nothing: its words are in DejaVu Serif", self.said(self.found(word))[0]
+        )
         for family in ("DejaVu Sans", "sans-serif"):
             word = f'<text x="2" y="9" font-size="4" font-family="{family}">a</text>{CODE}'
             self.assertEqual(len(self.said(self.found(word))), 1)
 
+    def test_fonts_of_the_short_property_are_said(self) -> None:
+        for style in (
+            "<style>.a{font:bold 3px/1.2 'Nothing',serif}</style><text class='a'",
+            "<text style='font: italic 3px Nothing'",
+        ):
+            (said, _) = self.said(self.found(f'{style} x="2" y="9">a</text>{CODE}'))
+            self.assertRegex(said, "^: there is no font Nothing: its words are in .+")
+
+    def test_letters_of_words_that_no_font_has_are_said(self) -> None:
+        word = f'<text x="2" y="9" font-size="4" font-family="DejaVu Sans">Bio \ue123</text>{CODE}'
+        (said, _) = self.said(self.found(word))
+        self.assertRegex(said, "^: no font has \ue123 .Signs.: apt-get install")
+
+    def test_what_other_programs_draw_otherwise_is_said(self) -> None:
+        for what, name in (
+            ('<text rotate="9" x="2" y="9" font-size="4">a</text>', "rotate"),
+            ('<text textLength="9" x="2" y="9" font-size="4">a</text>', "textLength"),
+            ('<path style="vector-effect:non-scaling-stroke" d="M2 2H9"/>', "vector-effect"),
+            ("<style>path{dominant-baseline: middle}</style>", "dominant-baseline"),
+            ("<style>@media print {path {fill: red}}</style>", "@media"),
+            (
+                '<path transform="rotate(90)" transform-origin="30 9" d="M2 2H9"/>',
+                "transform-origin",
+            ),
+        ):
+            (said,) = self.said(self.found(what + CODE, [("code128 A", {})]))
+            self.assertRegex(said, f"^: {name} is not drawn as in other programs: make it a path")
+        for what in (
+            '<text rotate="0 0" style="word-spacing:0px" x="2" y="9" font-size="4">a</text>',
+            '<path transform-origin="30 9" d="M2 2H9"/>',
+            '<g style="background: rgb(255, 255, 255)"/>',
+        ):
+            self.assertEqual(self.said(self.found(what + CODE, [("code128 A", {})])), [])
+
+    def test_words_that_are_cut_are_said(self) -> None:
+        word = '<text x="{}" y="9" font-size="5" font-family="DejaVu Sans">Door 2</text>'
+        for left, said in ((2, 0), (50, 1), (-4, 1), (99, 0)):
+            found = self.found(word.format(left) + CODE, [("code128 A", {})])
+            self.assertEqual(len(self.said(found)), said, left)
+        (said_of_edge,) = self.said(
+            self.found(word.format(2) + CODE, [("code128 A", {})], edge=(3.0, 0.0, 0.0, 0.0))
+        )[:1]
+        self.assertRegex(
+            said_of_edge, '^: smaller than drawn|^: "Door 2" is cut at the edge by 0.6'
+        )
+
+    def test_a_link_is_drawn_in_a_pdf(self) -> None:
+        link = '<a href="https://example.org"><path d="M2 2H9V9Z"/></a>'
+        found = self.found(link + CODE, to="pdf")
+        (document,) = found.press(Silence()).documents(found.prints)
+        self.assertTrue(document.read().startswith(b"%PDF"))
+        document.close()
+
+    def test_a_place_in_a_filter_is_looked_at_in_few_dots(self) -> None:
+        """A filter that is drawn in dots of a hundredth of a millimetre takes seconds."""
+        scales = []
+
+        class Handle:
+            def render_layer(self, canvas: Any, name: str, area: Any) -> None:
+                scales.append(canvas.get_matrix().xx)
+
+        colour_of(Handle(), "#place-0", None, rectangle(2.0, 2.0, 80.0, 10.0, 1.0))
+        self.assertEqual(scales, [0.2])
+
     def test_a_picture_is_drawn(self) -> None:
         found = self.found(PICTURE.format("png", png_of(8, 8)).replace("<image", "<path/><image"))
         self.assertEqual(len(found.labels), 1)
+
+    def test_pictures_are_drawn_as_what_they_are(self) -> None:
+        """The kind in the link is wrong, or its letters are escaped."""
+        dark = BLACK.replace("=", "%3D").replace("+", "%2B")
+        for kind, data in (("png", BLACK), ("jpg", BLACK), ("png", dark)):
+            found = self.found(PICTURE.format(kind, data))
+            for end, wanted in zip(self.ink(found), (2, 7, 2, 7)):
+                self.assertAlmostEqual(end, wanted, delta=0.13)
+
+    def test_a_page_of_an_old_inkscape(self) -> None:
+        """Its lengths without a unit are of 90 dpi."""
+        scaled = f'<g transform="scale({90 / 25.4})">{TITLE.format(WIDE)}</g>'
+        page = 'width="60mm" height="40mm" inkscape:version="0.48.5 r10040"'
+        usual = self.ink(self.found(TITLE.format(WIDE)))
+        self.assertEqual(self.ink(self.found(scaled, page=page)), usual)
+
+    def test_a_page_whose_sides_are_in_its_style(self) -> None:
+        page = 'style="width:60mm;height:40mm" viewBox="0 0 60 40"'
+        usual = self.ink(self.found(TITLE.format(WIDE)))
+        self.assertEqual(self.ink(self.found(TITLE.format(WIDE), page=page, paper=None)), usual)
 
     def test_edges_that_take_no_ink(self) -> None:
         found = self.found(TITLE.format(WIDE), edge=(5.0, 2.0, 2.0, 2.0))
