@@ -6,29 +6,29 @@ itself, and each module of it, its quiet zones included, has to be in its place,
 turned as it is asked for. Nothing else may be drawn there. This holds for each symbol of a label:
 a design of the user's own may have several.
 
-Where the library reads symbols, what it reads of these dots is to be the data of the line too; it
-belongs into `Comparison.code`, beside what the library says that it drew.
+Where a symbol differs, what the library reads in its place is said, if it is a symbol at all.
 """
 
 from bisect import bisect_left
 from dataclasses import dataclass, field
 from functools import cache, lru_cache
-from itertools import islice
-from operator import mul
+from itertools import groupby, islice
+from operator import itemgetter, mul
 from typing import Any, Iterable, Iterator, NamedTuple, Optional, Sequence
 
 from labeltools.area import Plan
-from labeltools.decode import Dots, NotDecoded, dots_of
+from labeltools.decode import Dots, NotDecoded, dots_of, rows_in, rows_reader
 from labeltools.drawn_codes import DrawnCode, DrawnPage, Ink, is_at
 from labeltools.drawn_pdf import pages_of_pdf
 from labeltools.drawn_svg import page_of_svg
-from labeltools.engine import LABELS_FAILED, Engine, Refused, bytes_a_row
+from labeltools.engine import LABELS_FAILED, Engine, Refused, bytes_a_row, library
 from labeltools.frames import Box
 from labeltools.layout import LaidOut, short
 from labeltools.lines_file import LineRecord
-from labeltools.messages import ToolError
+from labeltools.messages import ToolError, quoted
 from labeltools.own_design import PARTS, Place, key_of
 from labeltools.own_layout import OwnLayout, OwnSymbol
+from labeltools.pen import bits_of
 from labeltools.text import Text
 
 Labels = Sequence[tuple[LaidOut, tuple[int, int]]]
@@ -102,6 +102,11 @@ class Geometry:
     high: int
     bands: tuple[int, ...]
     clear: set[Ink] = field(default_factory=set)
+
+    @property
+    def is_linear(self) -> bool:
+        """Whether its rows are bars and, below them, longer guards."""
+        return len(self.bands) == 2
 
     def is_met_by(self, ink: Ink) -> bool:
         """Returns whether ink meets it."""
@@ -335,21 +340,31 @@ class DotsOfPage:
         is_across = 0 <= box.left and box.right <= self.dots.width
         if not is_across or not 0 <= box.top <= box.bottom <= self.dots.height:
             raise Different(Text("its code leaves the page"))
-        first = box.left // 8
-        size = (box.right + 7) // 8 - first
-        stride = self.dots.stride
-        packed = self.dots.packed
-        start = box.top * stride + first
-        for (dots, high), mask in zip(dots_of_symbol(wanted), mask_of(wanted.place)):
-            end = start + high * stride
-            rows = [packed[at : at + size] for at in range(start, end, stride)]
-            for row in dict.fromkeys(rows):
-                other = (number_of(row) ^ dots) & mask
-                if other:
-                    column = 8 * (first + size) - other.bit_length()
-                    down = start // stride + rows.index(row)
-                    raise Different(said(column * self.dot, down * self.dot))
-            start = end
+        rows = iter(rows_of_symbol(wanted))
+        for band in bands_of(wanted.place):
+            dots = b"".join([row * high for row, high in islice(rows, band.rows)])
+            found = self.part(band)
+            if found == dots:
+                continue
+            other = (number_of(found) ^ number_of(dots)) & band.mask
+            if other:
+                down, bit = divmod(8 * len(dots) - other.bit_length(), 8 * band.size)
+                across, down = 8 * band.first + bit, band.top + down
+                raise Different(self.said(wanted, across * self.dot, down * self.dot))
+
+    def part(self, band: "Band") -> bytes:
+        """Returns the dots of a page where a band is."""
+        behind = self.dots.stride - band.first - band.size
+        read = rows_reader(band.first, band.size, behind, band.high)
+        return b"".join(read(self.dots.packed, band.top * self.dots.stride))
+
+    def said(self, wanted: Wanted, across: float, down: float) -> Text:
+        """Returns where a symbol is wrong, and what is read in its place."""
+        left, top, width, high = wanted.place.bars
+        rows = [bits_of(row)[left : left + width] for row in self.dots.rows[top : top + high]]
+        for _ in range(wanted.place.quarters):
+            rows = ["".join(column) for column in zip(*rows)][::-1]  # back to the left
+        return said(across, down, rows, wanted.place.scale)
 
     def check_rest(self, symbols: Regions) -> None:
         """Raises `Different` where something is drawn over a symbol."""
@@ -365,13 +380,15 @@ class CodesOfPage:
 
     def check(self, wanted: Wanted) -> None:
         """Takes the picture of a symbol; raises `Different` where none is its own."""
-        box = wanted.place.picture
-        code = self.taken(box, wanted.place.quarters)
+        place = wanted.place
+        code = self.taken(place.picture, place.quarters)
         modules = modules_of(wanted)
-        wide = wanted.place.wide
-        size = (wide, len(modules) // bytes_a_row(wide))
+        size = (place.wide, len(modules) // bytes_a_row(place.wide))
         if code is None or code.modules != modules or (code.width, code.height) != size:
-            raise Different(said(box.left * self.dot, box.top * self.dot))
+            rows = rows_in(code.modules, bytes_a_row(code.width)) if code else ()
+            bars = [bits_of(row)[: place.wide] for row in rows[: place.high // place.scale]]
+            across, down = place.picture.left * self.dot, place.picture.top * self.dot
+            raise Different(said(across, down, bars, 1))
 
     def taken(self, box: Box, quarters: int) -> Optional[DrawnCode]:
         """Returns the picture that fills a box, and takes it away."""
@@ -457,16 +474,68 @@ def turned(box: Box, size: tuple[int, int], quarters: int) -> Box:
     return box
 
 
-def said(across: float, down: float) -> Text:
-    """Returns where a code is wrong, in millimetres of its page."""
-    return Text(
+def said(across: float, down: float, rows: Sequence[str] = (), scale: int = 1) -> Text:
+    """Returns where a code is wrong, in millimetres of its page, and what is read there of rows of
+    dots, of which a module has so many, if they are a symbol.
+    """
+    where = Text(
         "its code is wrong as it goes out, {:.1f} mm from the left, {:.1f} mm down", across, down
     )
+    data = data_in(rows, scale)
+    if data is None:
+        return where
+    return Text("{}: there it reads {}", where, quoted(data.decode("utf-8", "replace")))
 
 
-def dots_of_symbol(wanted: Wanted) -> list[tuple[int, int]]:
-    """Returns the dots of a symbol as it is on a page: those of each of its rows in the bytes that
-    its picture touches, as a number, with how many rows of dots are so.
+def data_in(rows: Sequence[str], scale: int) -> Optional[bytes]:
+    """Returns what rows of dots say as the symbol that they are; None where they are none."""
+    digits = "".join(rows)
+    high = len(rows)
+    picture = f"P1\n{len(digits) // max(1, high)} {high}\n{digits}".encode()
+    reader = library()
+    found = (reader.read(symbology, picture, scale) for symbology in reader.SYMBOLOGIES)
+    return next((data for data in found if data is not None), None)
+
+
+class Band(NamedTuple):
+    """Rows of a symbol on a page of which the same dots are looked at: how many rows of modules
+    they are, if it is turned columns; its first row of dots and their number; its first byte in
+    them and how many these are; the dots that are looked at, as a number.
+    """
+
+    rows: int
+    top: int
+    high: int
+    first: int
+    size: int
+    mask: int
+
+
+@lru_cache(KNOWN)
+def bands_of(place: Geometry) -> list[Band]:
+    """Returns the bands of a symbol, from top to bottom: all of its dots are looked at, but those
+    between longer guards.
+    """
+    rows = ["1" * place.wide] * len(place.bands)
+    if place.guards:
+        guards = list("0" * place.wide)
+        for _, (first, last) in place.guards:
+            guards[first:last] = "1" * (last - first)
+        rows[1] = "".join(guards)
+    bands = []
+    top = place.picture.top
+    first, last = place.picture.left // 8, (place.picture.right + 7) // 8
+    for mask, group in groupby(packed_rows(rows, place), key=itemgetter(0)):
+        highs = [high for _, high in group]
+        whole = number_of(mask * sum(highs))
+        bands.append(Band(len(highs), top, sum(highs), first, last - first, whole))
+        top += sum(highs)
+    return bands
+
+
+def rows_of_symbol(wanted: Wanted) -> list[tuple[bytes, int]]:
+    """Returns the dots of a symbol as it is on a page: each of its rows in the bytes that its
+    picture touches, with how many rows of dots are so.
     """
     symbol, place = wanted
     digits = symbol.modules.translate(DIGITS).decode("ascii")
@@ -476,40 +545,45 @@ def dots_of_symbol(wanted: Wanted) -> list[tuple[int, int]]:
     starts = range(0, len(digits), symbol.width)
     rows = [before + digits[start : start + symbol.width] + behind for start in starts]
     blank = ["0" * place.wide] * above
-    return dots_of_rows([*blank, *rows, *blank] if symbol.rows > 1 else rows * 2, place)
+    return packed_rows([*blank, *rows, *blank] if symbol.rows > 1 else rows * 2, place)
 
 
-@lru_cache(KNOWN)
-def mask_of(place: Geometry) -> list[int]:
-    """Returns where the dots of a symbol are looked at, as `dots_of_symbol` does: all of them, but
-    between longer guards.
-    """
-    rows = ["1" * place.wide] * len(place.bands)
-    if place.guards:
-        guards = list("0" * place.wide)
-        for _, (first, last) in place.guards:
-            guards[first:last] = "1" * (last - first)
-        rows[1] = "".join(guards)
-    return [dots for dots, _ in dots_of_rows(rows, place)]
-
-
-def dots_of_rows(rows: Sequence[str], place: Geometry) -> list[tuple[int, int]]:
-    """Returns rows of modules as they are on a page, as `dots_of_symbol` does."""
+def packed_rows(rows: Sequence[str], place: Geometry) -> list[tuple[bytes, int]]:
+    """Returns rows of modules as they are on a page, as `rows_of_symbol` does."""
+    box = place.picture
+    size = (box.right + 7) // 8 - box.left // 8
+    lines, highs, wides = rows, place.bands, place.bands[::-1]
     if place.quarters % 2:
-        columns = zip(*reversed(rows))
-        highs = place.bands[::-1]
-        found = [("".join(map(mul, column, highs)), place.scale) for column in columns]
-    else:
-        found = [(wide(row, place.scale), high) for row, high in zip(rows, place.bands)]
+        lines = ["".join(column) for column in zip(*reversed(rows))]
+        highs = (place.scale,) * place.wide
     if place.quarters >= 2:
-        found = [(dots[::-1], high) for dots, high in reversed(found)]
-    shift = -place.picture.right % 8
-    return [(int(dots, 2) << shift, high) for dots, high in found]
+        lines = [line[::-1] for line in reversed(lines)]
+        highs, wides = highs[::-1], wides[::-1]
+    if place.quarters % 2 and place.is_linear:
+        numbers = {line: int("".join(map(mul, line, wides)), 2) for line in set(lines)}
+        packed = {line: dots_at(box, dots, 1) for line, dots in numbers.items()}
+        return [(packed[line], high) for line, high in zip(lines, highs)]
+    return list(zip(rows_in(spread(lines, place), size), highs))
 
 
-def wide(row: str, scale: int) -> str:
-    """Returns a row of modules as dots."""
-    return row.replace("1", "x").replace("0", "0" * scale).replace("x", "1" * scale)
+def spread(lines: Sequence[str], place: Geometry) -> bytes:
+    """Returns rows of modules as dots, each in the bytes that their symbol touches: all of them as
+    one number, in which a dot is set for each dark module, and then those beside it.
+    """
+    box, scale = place.picture, place.scale
+    size = (box.right + 7) // 8 - box.left // 8
+    apart = "0" * (scale - 1)
+    digits = "".join(lines).replace("", apart)
+    length = box.width
+    rows = [digits[start : start + length] for start in range(0, length * len(lines), length)]
+    dots = int(("0" * (8 * size - length)).join(rows), 2) * ((1 << scale) - 1)
+    return dots_at(box, dots, len(lines))
+
+
+def dots_at(box: Box, dots: int, high: int) -> bytes:
+    """Returns rows of dots, which end where a box does, as bytes."""
+    size = (box.right + 7) // 8 - box.left // 8
+    return (dots << -box.right % 8).to_bytes(size * high, "big")
 
 
 def number_of(packed: bytes) -> int:

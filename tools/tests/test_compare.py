@@ -5,7 +5,7 @@ import tempfile
 import unittest
 from contextlib import contextmanager
 from dataclasses import dataclass, replace
-from itertools import count, product
+from itertools import count, permutations, product
 from pathlib import Path
 from typing import Any, Callable, Iterator, Optional, Sequence
 from unittest import mock
@@ -187,11 +187,11 @@ def placed(across: int) -> Callable[..., Any]:
 
 
 def in_rows(change: Callable[[list[str], int], object]) -> Callable[..., bytes]:
-    """`run_lengths` whose texts of rows, each of some digits, are changed."""
+    """`run_lengths` whose texts of rows, each of some bytes, are changed."""
 
-    def call(rows: Any) -> bytes:
-        size = 2 * len(rows[0])
-        texts = [RUN_LENGTHS((row,)).decode() for row in rows]
+    def call(dots: bytes, size: int) -> bytes:
+        rows = [dots[start : start + size] for start in range(0, len(dots), size)]
+        texts = [RUN_LENGTHS(row, size).decode() for row in rows]
         whole = [
             ":" if n and rows[n - 1] == row else text
             for n, (text, row) in enumerate(zip(texts, rows))
@@ -210,7 +210,7 @@ def first_letters(whole: list[str]) -> int:
 def wrong_count(whole: list[str], size: int) -> None:
     """Makes a count of a row above all codes one more; the row keeps its length."""
     number = first_letters(whole)
-    row = decode.rows_of_field(whole[number].encode(), size // 2)[0].hex().upper()
+    row = decode.new_dots((whole[number].encode(), size)).hex().upper()
     whole[number] = "0" + row[:-1]
 
 
@@ -448,10 +448,10 @@ class Read(unittest.TestCase):
 
     def test_rows_by_the_manual(self) -> None:
         """The examples of the ZPL II manual for counts: M6 is seven of 6, hB forty of B."""
-        self.assertEqual(decode.expanded(b"M6hBgMF"), "6666666" + "B" * 40 + "F" * 27)
-        rows = decode.rows_of_field(b"F0!J5,:,12345678,M9!", 4)
-        wanted = ("F0FFFFFF", "55550000", "55550000", "00000000", "12345678", "00000000")
-        self.assertEqual([row.hex().upper() for row in rows], [*wanted, "9999999F"])
+        self.assertEqual(decode.expanded(b"M6hBgMF"), b"6666666" + b"B" * 40 + b"F" * 27)
+        rows = decode.new_dots((b"F0!J5,:,12345678,M9!", 4)).hex(" ", 4).upper()
+        wanted = "F0FFFFFF 55550000 55550000 00000000 12345678 00000000 9999999F"
+        self.assertEqual(rows, wanted)
         for text in (
             b"F0F",
             b"12345678F",
@@ -462,6 +462,10 @@ class Read(unittest.TestCase):
             b"M:",
             b"G!",
             b"12 3",
+            b"12345678:\n:",
+            b"12345678::+",
+            b"abcdefab::",
+            b"12345678:::",
         ):
             with self.subTest(text=text), self.assertRaises(decode.NotDecoded):
                 decode.dots_of("zpl", FIELD % text, 32)
@@ -487,20 +491,65 @@ class Read(unittest.TestCase):
         compare.CodesOfPage(page, 0.125).check(wanted)
 
     def test_large_letters_are_fields_of_their_own(self) -> None:
-        """A byte of white parts them where it is in 20 rows; both widths are read back."""
-        for rows, fields in ((19, 1), (20, 2)):
-            picture = Picture(24, rows, tuple(bytes([255, 0, row]) for row in range(1, rows + 1)))
+        """A byte of white parts them where it is in 50 rows that differ; both widths are read."""
+        for rows, fields in ((49, 1), (50, 2)):
+            dots = [bytes([255, 0, row]) for row in range(1, rows + 1)]
+            picture = Picture(24, 2 * rows, tuple(row for row in dots for _ in range(2)))
             label = zpl.zpl(picture, 1)
             self.assertEqual(label.count(b"^FO"), fields)
-            self.assertEqual(tuple(decode.dots_of("zpl", label, 24).rows), picture.rows)
+            self.assertEqual(decode.dots_of("zpl", label, 24).rows, picture.rows)
+
+    def test_counts_where_they_save_much(self) -> None:
+        """A run of six in 30 digits is counted, L0; in 32 they are as they are; both are read."""
+        for digits, text in (
+            (b"123456789ABCDEF000000FEDCBA987", b"123456789ABCDEFL0FEDCBA987"),
+            (b"123456789ABCDEF000000FEDCBA98765", b"123456789ABCDEF000000FEDCBA98765"),
+        ):
+            dots = bytes.fromhex(digits.decode())
+            self.assertEqual(zpl.run_lengths(dots, len(dots)), text)
+            self.assertEqual(decode.new_dots((text, len(dots))), dots)
 
     def test_fields_over_one_another(self) -> None:
-        """Dark dots of both are dark, whichever is first and where rows end."""
-        fields = (b"^FO0,0^GFA,4,4,2,80010000^FS\n", b"^FO8,0^GFA,3,3,1,F0F00F^FS\n")
-        for first, last in (fields, fields[::-1]):
-            label = b"^XA^PON^LH0,0^LS0^PW16^LL3\n%b%b^XZ\n" % (first, last)
-            rows = decode.dots_of("zpl", label, 16).rows
-            self.assertEqual([row.hex() for row in rows], ["80f1", "00f0", "000f"])
+        """Fields may touch, in any order, and have no byte in common: printers add their dots."""
+        field = b"^FO%d,%d^GFA,%d,%d,%d,%b^FS\n"
+        first = field % (0, 1, 4, 4, 2, b"80010000")
+        beside = (
+            field % (0, 0, 2, 2, 2, b"F00F"),
+            field % (0, 3, 1, 1, 1, b"07"),
+            field % (16, 2, 2, 2, 1, b"3C:"),
+        )
+        over = (
+            field % (8, 2, 1, 1, 1, b"01"),
+            field % (8, 0, 4, 4, 1, b"00:::"),
+            field % (0, 0, 6, 6, 2, b"0000::"),
+        )
+        label = b"^XA^PON^LH0,0^LS0^PW24^LL4\n%b^XZ\n"
+        for fields in permutations((first, *beside)):
+            rows = decode.dots_of("zpl", label % b"".join(fields), 24).rows
+            self.assertEqual([row.hex() for row in rows], ["f00f00", "800100", "00003c", "07003c"])
+        for other, is_last in product(over, (True, False)):
+            fields = (first, other) if is_last else (other, first)
+            with self.subTest(fields=fields), self.assertRaises(decode.NotDecoded):
+                decode.dots_of("zpl", label % b"".join(fields), 24)
+
+    def test_fields_that_are_not_whole(self) -> None:
+        """Each field ends, is in the label, and has whole bytes."""
+        label = b"^XA^PON^LH0,0^LS0^PW32^LL3\n%b^XZ\n"
+        for field in (
+            b"^FO0,0^GFA,4,4,4,12345678",
+            b"^FO0,0^GFA,4,4,4,12345678^FS",
+            b"^FO0,0^GFA,4,4,4,12345678^FR\n",
+            b"^FO8,0^GFA,4,4,4,12345678^FS\n",
+            b"^FO0,3^GFA,4,4,4,12345678^FS\n",
+            b"^FO4,0^GFA,1,1,1,12^FS\n",
+            b"^FO0,0^GFA,4,5,4,12345678^FS\n",
+            b"^FO0,0^GFA,4,4,3,12345678^FS\n",
+            b"^FO0,0^GFA,0,0,0,^FS\n",
+        ):
+            with self.subTest(field=field), self.assertRaises(decode.NotDecoded):
+                decode.dots_of("zpl", label % field, 32)
+        whole = decode.dots_of("zpl", label % b"^FO0,2^GFA,4,4,4,12345678^FS\n", 32)
+        self.assertEqual(whole.packed.hex(), "00" * 8 + "12345678")
 
     def test_where_letters_are(self) -> None:
         """A letter of an em, with its ink from 0.1 to 0.8; one apart from the others."""
