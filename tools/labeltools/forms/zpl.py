@@ -24,7 +24,7 @@ BEFORE_TWENTY = ord("f")
 # five or more: a count of fewer saves next to nothing; one pattern for both takes twice the time
 OFTEN = (re.compile("(000000*)"), re.compile("(FFFFFF*)"))
 RUNS = ("000000", "FFFFFF")
-RARELY = 30  # digits to one of these: where there are more, counts save less than a quarter
+RARELY = 20  # digits to one of these: where there are more, counts save less than a third
 KNOWN = 1024  # sizes of blocks that are kept
 BLOCKS: Kept[tuple[bytes, int], bytes] = Kept(1024)
 RESTS = {"0": ",", "F": "!"}  # the rest of a row is light or dark
