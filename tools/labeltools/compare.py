@@ -32,7 +32,6 @@ from labeltools.pen import bits_of
 from labeltools.text import Text
 
 Labels = Sequence[tuple[LaidOut, tuple[int, int]]]
-Rows = Sequence[bytes]
 Inks = tuple[Ink, ...]
 LONGER = 5  # modules by which guards are longer (GS1 General Specifications, 5.2)
 # modules of the longer bars, from the first bar on: ISO/IEC 15420
@@ -190,7 +189,7 @@ class Comparison:
         self.regions = lru_cache(PAGES)(Regions)
 
     def check(
-        self, data: bytes, pages: Sequence[Labels], copies: int = 1, rows: Optional[Rows] = None
+        self, data: bytes, pages: Sequence[Labels], copies: int = 1, drawn: Optional[bytes] = None
     ) -> None:
         """Raises `ToolError` where a document has not the codes of the labels on its pages, or, of
         a form of dots, not the dots of the page that was drawn.
@@ -199,7 +198,7 @@ class Comparison:
         record = pages[0][0][0].label.record if is_alone else None
         symbols: dict[Geometry, LineRecord] = {}
         try:
-            for labels, page in zip(pages, self.read(data, pages, copies, rows)):
+            for labels, page in zip(pages, self.read(data, pages, copies, drawn)):
                 symbols = {}
                 for item, at in labels:
                     record = item.label.record
@@ -216,7 +215,7 @@ class Comparison:
             raise fault(error.what, record) from error
 
     def read(
-        self, data: bytes, pages: Sequence[Labels], copies: int, rows: Optional[Rows]
+        self, data: bytes, pages: Sequence[Labels], copies: int, drawn: Optional[bytes]
     ) -> Iterator["DotsOfPage | CodesOfPage"]:
         """Yields the pages of a document as they are read back."""
         dot = self.plan.dot
@@ -229,8 +228,8 @@ class Comparison:
         else:
             dots = dots_of(self.form, data, self.plan.page[0])
             self.check_size(dots, copies)
-            if rows is not None:
-                self.check_rows(dots, rows, pages[0])
+            if drawn is not None:
+                self.check_rows(dots, drawn, pages[0])
             yield DotsOfPage(dots, dot)
 
     def check_size(self, dots: Dots, copies: int) -> None:
@@ -244,11 +243,11 @@ class Comparison:
             what = Text("{} copies go out, and {} are asked for", dots.copies, copies)
             raise Different(what)
 
-    def check_rows(self, dots: Dots, rows: Rows, labels: Labels) -> None:
-        """Raises `Different` where dots are not those of the rows of a page that was drawn."""
-        if dots.packed == b"".join(rows):
+    def check_rows(self, dots: Dots, drawn: bytes, labels: Labels) -> None:
+        """Raises `Different` where dots are not those of the page that was drawn."""
+        if dots.packed == drawn:
             return
-        pairs = enumerate(zip(dots.rows, rows))
+        pairs = enumerate(zip(dots.rows, rows_in(drawn, dots.stride)))
         number = next(number for number, (found, row) in pairs if found != row)
         what = Text("its dots are wrong as they go out, {:.1f} mm down", number * self.plan.dot)
         high = self.plan.area.height

@@ -87,13 +87,13 @@ class Prints:
 
 class Written(NamedTuple):
     """A page in dots in its form, as `Comparison.check` takes it: how often it is printed, and its
-    rows as they were drawn.
+    dots as they were drawn.
     """
 
     data: bytes
     pages: Sequence[Page]
     copies: int
-    rows: Sequence[bytes]
+    dots: bytes
 
 
 def with_copies(items: Sequence[LaidOut]) -> Prints:
@@ -214,7 +214,7 @@ class Press:
     def written(self, page: Page, is_first: bool, copies: int = 1) -> Written:
         """Returns a page in dots in the form of the job."""
         picture = drawn_page(self.job.plan.page, self.pen, page, self.turn)
-        return Written(self.form_of(picture, is_first, copies), [page], copies, picture.rows)
+        return Written(self.form_of(picture, is_first, copies), [page], copies, picture.packed)
 
     def form_of(self, picture: Picture, is_first: bool, copies: int) -> bytes:
         """Returns dots in the form of the job."""

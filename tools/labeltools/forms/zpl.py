@@ -1,13 +1,12 @@
 """ZPL II of label printers."""
 
 import re
-from functools import cache, lru_cache, reduce
+from functools import cache, reduce
 from itertools import repeat
 from operator import ne, or_
-from struct import Struct
-from typing import Callable, Iterator, NamedTuple
+from typing import Iterator, NamedTuple
 
-from labeltools.forms.dots import Picture
+from labeltools.forms.dots import Picture, rows_reader
 from labeltools.kept import Kept
 
 MOST_BYTES = 99_999  # of a graphic field
@@ -25,7 +24,6 @@ BEFORE_TWENTY = ord("f")
 OFTEN = (re.compile("(000000*)"), re.compile("(FFFFFF*)"))
 RUNS = ("000000", "FFFFFF")
 RARELY = 20  # digits to one of these: where there are more, counts save less than a third
-KNOWN = 1024  # sizes of blocks that are kept
 BLOCKS: Kept[tuple[bytes, int], bytes] = Kept(1024)
 RESTS = {"0": ",", "F": "!"}  # the rest of a row is light or dark
 
@@ -41,13 +39,13 @@ class Block(NamedTuple):
     bottom: int
 
 
-class Page:
-    """The dots of a label: rows of some bytes, one behind another."""
+class Parts:
+    """The parts of a label that are fields."""
 
     def __init__(self, picture: Picture) -> None:
-        self.packed = b"".join(picture.rows)
-        self.stride = len(picture.rows[0]) if picture.rows else 0
-        self.whole = Block(0, 0, self.stride, len(picture.rows))
+        self.packed = picture.packed
+        self.stride = picture.stride
+        self.whole = Block(0, 0, picture.stride, picture.height)
 
     def rows(self, block: Block) -> tuple[bytes, ...]:
         """Returns the rows of a block."""
@@ -65,7 +63,7 @@ class Page:
             return
         for band in bands:
             rows = set(self.rows(band))
-            dots = map(int.from_bytes, rows, repeat("big"))
+            dots = [int.from_bytes(row, "big") for row in rows]
             inked = reduce(or_, dots).to_bytes(band.right - band.left, "big")
             parts = list(INKED.finditer(inked))
             is_split = len(parts) == 1 and len(rows) >= MANY
@@ -73,7 +71,7 @@ class Page:
                 parts = list(INKED_OF_MANY.finditer(inked))
             for part in parts:
                 first, last = part.span()
-                found = band._replace(left=band.left + first, right=band.left + last)
+                found = Block(band.left + first, band.top, band.left + last, band.bottom)
                 if len(parts) == 1:
                     yield found
                 else:
@@ -84,7 +82,7 @@ class Page:
         blank = bytes(block.right - block.left)
         inked = bytes(map(ne, self.rows(block), repeat(blank)))
         for first, last in map(re.Match.span, INKED_ROWS.finditer(inked)):
-            yield block._replace(top=block.top + first, bottom=block.top + last)
+            yield Block(block.left, block.top + first, block.right, block.top + last)
 
 
 def zpl(picture: Picture, copies: int) -> bytes:
@@ -103,23 +101,15 @@ def zpl(picture: Picture, copies: int) -> bytes:
 
 def graphic_fields(picture: Picture) -> Iterator[bytes]:
     """Yields the graphic fields of a label."""
-    page = Page(picture)
-    for block in page.blocks(page.whole):
+    parts = Parts(picture)
+    for block in parts.blocks(parts.whole):
         size = block.right - block.left
         rows_a_field = MOST_BYTES // size
         for top in range(block.top, block.bottom, rows_a_field):
             bottom = min(block.bottom, top + rows_a_field)
-            dots = b"".join(page.rows(block._replace(top=top, bottom=bottom)))
+            dots = b"".join(parts.rows(block._replace(top=top, bottom=bottom)))
             place = (8 * block.left, top, len(dots), len(dots), size)
             yield b"^FO%d,%d^GFA,%d,%d,%d,%b^FS\n" % (*place, run_lengths(dots, size))
-
-
-@lru_cache(KNOWN)
-def rows_reader(before: int, size: int, behind: int, high: int) -> Callable[..., tuple[bytes, ...]]:
-    """Returns what gives so many bytes of each of some rows, which have others before and behind:
-    a quarter of the time that slices take.
-    """
-    return Struct(f"{before}x{size}s{behind}x" * high).unpack_from
 
 
 def run_lengths(dots: bytes, size: int) -> bytes:
