@@ -551,6 +551,7 @@ def packed_rows(rows: Sequence[str], place: Geometry) -> list[tuple[bytes, int]]
     """Returns rows of modules as they are on a page, as `rows_of_symbol` does."""
     box = place.picture
     size = (box.right + 7) // 8 - box.left // 8
+    behind = -box.right % 8
     lines, highs, wides = rows, place.bands, place.bands[::-1]
     if place.quarters % 2:
         lines = ["".join(column) for column in zip(*reversed(rows))]
@@ -560,29 +561,24 @@ def packed_rows(rows: Sequence[str], place: Geometry) -> list[tuple[bytes, int]]
         highs, wides = highs[::-1], wides[::-1]
     if place.quarters % 2 and place.is_linear:
         numbers = {line: int("".join(map(mul, line, wides)), 2) for line in set(lines)}
-        packed = {line: dots_at(box, dots, 1) for line, dots in numbers.items()}
-        return [(packed[line], high) for line, high in zip(lines, highs)]
-    return list(zip(rows_in(spread(lines, place), size), highs))
+    else:
+        numbers = wide(lines, place.scale)
+    packed = [(numbers[line] << behind).to_bytes(size, "big") for line in lines]
+    return list(zip(packed, highs))
 
 
-def spread(lines: Sequence[str], place: Geometry) -> bytes:
-    """Returns rows of modules as dots, each in the bytes that their symbol touches: all of them as
-    one number, in which a dot is set for each dark module, and then those beside it.
+def wide(lines: Sequence[str], scale: int) -> dict[str, int]:
+    """Returns rows of modules as the numbers that their dots are. A module is one or more digits of
+    at most five dots, the last of which is set first, and then those beside it.
     """
-    box, scale = place.picture, place.scale
-    size = (box.right + 7) // 8 - box.left // 8
-    apart = "0" * (scale - 1)
-    digits = "".join(lines).replace("", apart)
-    length = box.width
-    rows = [digits[start : start + length] for start in range(0, length * len(lines), length)]
-    dots = int(("0" * (8 * size - length)).join(rows), 2) * ((1 << scale) - 1)
-    return dots_at(box, dots, len(lines))
-
-
-def dots_at(box: Box, dots: int, high: int) -> bytes:
-    """Returns rows of dots, which end where a box does, as bytes."""
-    size = (box.right + 7) // 8 - box.left // 8
-    return (dots << -box.right % 8).to_bytes(size * high, "big")
+    dots = next(dots for dots in (5, 4, 3, 2, 1) if scale % dots == 0)
+    apart = "0" * (scale // dots - 1)
+    all_of_module = (1 << scale) - 1
+    if not apart:
+        return {line: int(line, 1 << dots) * all_of_module for line in lines}
+    behind = scale - dots
+    whole = {line: int(line.replace("", apart), 1 << dots) for line in lines}
+    return {line: (number >> behind) * all_of_module for line, number in whole.items()}
 
 
 def number_of(packed: bytes) -> int:
