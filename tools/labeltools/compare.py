@@ -198,7 +198,7 @@ class Comparison:
         record = pages[0][0][0].label.record if is_alone else None
         symbols: dict[Geometry, LineRecord] = {}
         try:
-            for labels, page in zip(pages, self.read(data, pages, copies, drawn)):
+            for labels, page in zip(pages, self.read(data, pages, copies)):
                 symbols = {}
                 for item, at in labels:
                     record = item.label.record
@@ -208,6 +208,8 @@ class Comparison:
                         symbols[wanted.place] = record
                 record = record if is_alone else None
                 page.check_rest(self.regions(tuple(symbols)))
+                if isinstance(page, DotsOfPage) and drawn is not None:
+                    self.check_drawn(page.dots, drawn, labels)
         except Different as error:
             of_place = symbols.get(error.place) if error.place else None
             raise fault(error.what, error.record or of_place or record) from error
@@ -215,7 +217,7 @@ class Comparison:
             raise fault(error.what, record) from error
 
     def read(
-        self, data: bytes, pages: Sequence[Labels], copies: int, drawn: Optional[bytes]
+        self, data: bytes, pages: Sequence[Labels], copies: int
     ) -> Iterator["DotsOfPage | CodesOfPage"]:
         """Yields the pages of a document as they are read back."""
         dot = self.plan.dot
@@ -228,8 +230,6 @@ class Comparison:
         else:
             dots = dots_of(self.form, data, self.plan.page[0])
             self.check_size(dots, copies)
-            if drawn is not None:
-                self.check_rows(dots, drawn, pages[0])
             yield DotsOfPage(dots, dot)
 
     def check_size(self, dots: Dots, copies: int) -> None:
@@ -243,7 +243,7 @@ class Comparison:
             what = Text("{} copies go out, and {} are asked for", dots.copies, copies)
             raise Different(what)
 
-    def check_rows(self, dots: Dots, drawn: bytes, labels: Labels) -> None:
+    def check_drawn(self, dots: Dots, drawn: bytes, labels: Labels) -> None:
         """Raises `Different` where dots are not those of the page that was drawn."""
         if dots.packed == drawn:
             return
@@ -342,7 +342,7 @@ class DotsOfPage:
         rows = iter(rows_of_symbol(wanted))
         for band in bands_of(wanted.place):
             dots = b"".join([row * high for row, high in islice(rows, band.rows)])
-            found = self.part(band)
+            found = self.found(band)
             if found == dots:
                 continue
             other = (number_of(found) ^ number_of(dots)) & band.mask
@@ -351,7 +351,7 @@ class DotsOfPage:
                 across, down = 8 * band.first + bit, band.top + down
                 raise Different(self.said(wanted, across * self.dot, down * self.dot))
 
-    def part(self, band: "Band") -> bytes:
+    def found(self, band: "Band") -> bytes:
         """Returns the dots of a page where a band is."""
         behind = self.dots.stride - band.first - band.size
         read = rows_reader(band.first, band.size, behind, band.high)
@@ -488,18 +488,16 @@ def said(across: float, down: float, rows: Sequence[str] = (), scale: int = 1) -
 
 def data_in(rows: Sequence[str], scale: int) -> Optional[bytes]:
     """Returns what rows of dots say as the symbol that they are; None where they are none."""
-    digits = "".join(rows)
-    high = len(rows)
-    picture = f"P1\n{len(digits) // max(1, high)} {high}\n{digits}".encode()
+    picture = f"P1\n{len(rows[0]) if rows else 0} {len(rows)}\n{''.join(rows)}".encode()
     reader = library()
     found = (reader.read(symbology, picture, scale) for symbology in reader.SYMBOLOGIES)
     return next((data for data in found if data is not None), None)
 
 
 class Band(NamedTuple):
-    """Rows of a symbol on a page of which the same dots are looked at: how many rows of modules
-    they are, if it is turned columns; its first row of dots and their number; its first byte in
-    them and how many these are; the dots that are looked at, as a number.
+    """Rows of a symbol on a page of which the same dots are looked at: how many rows of modules, or
+    if it is turned columns, they are; its first row of dots and their number; its first byte in
+    them and how many these are; which of these dots are looked at, as a number.
     """
 
     rows: int
@@ -523,12 +521,12 @@ def bands_of(place: Geometry) -> list[Band]:
         rows[1] = "".join(guards)
     bands = []
     top = place.picture.top
-    first, last = place.picture.left // 8, (place.picture.right + 7) // 8
     for mask, group in groupby(packed_rows(rows, place), key=itemgetter(0)):
         highs = [high for _, high in group]
-        whole = number_of(mask * sum(highs))
-        bands.append(Band(len(highs), top, sum(highs), first, last - first, whole))
-        top += sum(highs)
+        high = sum(highs)
+        where = (top, high, place.picture.left // 8, len(mask))
+        bands.append(Band(len(highs), *where, number_of(mask * high)))
+        top += high
     return bands
 
 
@@ -562,12 +560,12 @@ def packed_rows(rows: Sequence[str], place: Geometry) -> list[tuple[bytes, int]]
     if place.quarters % 2 and place.is_linear:
         numbers = {line: int("".join(map(mul, line, wides)), 2) for line in set(lines)}
     else:
-        numbers = wide(lines, place.scale)
-    packed = [(numbers[line] << behind).to_bytes(size, "big") for line in lines]
-    return list(zip(packed, highs))
+        numbers = dots_of_lines(lines, place.scale)
+    packed = {line: (dots << behind).to_bytes(size, "big") for line, dots in numbers.items()}
+    return list(zip(map(packed.__getitem__, lines), highs))
 
 
-def wide(lines: Sequence[str], scale: int) -> dict[str, int]:
+def dots_of_lines(lines: Sequence[str], scale: int) -> dict[str, int]:
     """Returns rows of modules as the numbers that their dots are. A module is one or more digits of
     at most five dots, the last of which is set first, and then those beside it.
     """

@@ -9,7 +9,7 @@ from binascii import unhexlify
 from dataclasses import dataclass
 from functools import lru_cache
 from operator import itemgetter
-from typing import Callable, Iterable, NamedTuple, Sequence
+from typing import Callable, Iterable, NamedTuple
 
 from labeltools.kept import Kept
 from labeltools.text import Text
@@ -195,8 +195,8 @@ def field_of(head: bytes) -> Field:
 
 
 def put(page: bytearray, stride: int, field: Field, dots: bytearray, is_first: bool) -> None:
-    """Puts the dots of a field into a page of rows of some bytes: all rows at once, with white beside
-    them, where it is the first one in them, or else one column of bytes after another.
+    """Puts the dots of a field into a page of rows of some bytes: all rows at once, with white
+    beside them, where it is the first one in them, or else one column of bytes after another.
     """
     size = field.right - field.left
     start = stride * field.top + field.left
@@ -237,8 +237,8 @@ def new_dots(key: tuple[bytes, int]) -> bytearray:
 
 
 def filled(text: bytes, digits: int) -> bytes:
-    """Returns digits for signs that fill the rest of a row, as tabs do with spaces. A row that comes
-    again begins as one behind a line end does.
+    """Returns digits for signs that fill the rest of a row, as tabs do with spaces. A sign of a row
+    that comes again is a line end meanwhile, behind which a row begins.
     """
     text = text.translate(FILLING).replace(b"!", b"!\r").expandtabs(digits).translate(ZEROS)
     if b"!" in text:

@@ -1,6 +1,8 @@
 """What is compared before a label goes out: faults are planted, and each has to stop the job."""
 
+import gettext
 import math
+import subprocess
 import tempfile
 import unittest
 from contextlib import contextmanager
@@ -12,13 +14,16 @@ from unittest import mock
 
 import support
 from labeltools import compare, decode, engine, own_layout, pen, press
+from labeltools.engine import Modules
 from labeltools.drawn_letters import Extent, Font, Reach
 from labeltools.drawn_pdf import pages_of_pdf
 from labeltools.forms import dots, escpos, zpl
 from labeltools.forms.dots import Picture
+from labeltools.frames import Box
 from labeltools.kept import Kept
 from labeltools.messages import Silence, ToolError
 from labeltools.print_job import Prepared, PrintOptions, labels_of, planned
+from labeltools.text import Text, translated
 
 SHOP: list[tuple[str, dict[str, Any]]] = [
     ("ean13 4006381333931", {"title": "Bleistift, weich", "price": "0,80 €", "text": ["rot"]}),
@@ -140,13 +145,16 @@ def twice(self: Any, canvas: Any, modules: Any, layout: Any) -> None:
     DRAW_MODULES(self, canvas, modules, layout)
 
 
-def drawn_wrong(number: int) -> Callable[..., Any]:
-    """`Pen.draw_modules` that draws one of the symbols of the first label with a module less."""
+def drawn_wrong(number: int, other: Optional[Modules] = None) -> Callable[..., Any]:
+    """`Pen.draw_modules` that draws one of the symbols of the first label with a module less, or as
+    another symbol.
+    """
     seen = count()
 
     def call(self: Any, canvas: Any, modules: Any, layout: Any) -> None:
         if next(seen) == number:
-            modules = replace(modules, packed=without_a_module(modules.packed))
+            less = replace(modules, packed=without_a_module(modules.packed))
+            modules = other or less
         DRAW_MODULES(self, canvas, modules, layout)
 
     return call
@@ -346,6 +354,62 @@ class Planted(unittest.TestCase):
                 self.assertTrue(write(found_of(options_of(form), COPIES)))
 
 
+class Named(unittest.TestCase):
+    """What a symbol in the place of another one says is part of the message."""
+
+    def message(self, form: str, labels: Sequence[Any], **others: Any) -> Text:
+        """The message of two labels whose symbols are mixed up."""
+        with mock.patch("labeltools.print_job.run_labels", mixed):
+            found = found_of(options_of(form, **others), labels)
+        with self.assertRaises(ToolError) as caught:
+            write(found)
+        return caught.exception.what
+
+    def test_what_is_read_in_each_form_and_direction(self) -> None:
+        pairs = [
+            ("ean13 4006381333931", "ean13 5901234123457"),
+            ("ean8 73513537", "ean8 96385074"),
+            ("upca 036000291452", "upca 012345678905"),
+            ("code128 PALLET-47", "code128 PALLET-48"),
+            ("qr TICKET 1", "qr TICKET 2"),
+        ]
+        for form, lines, turn in product(FORMS, pairs, (False, True)):
+            sheet: dict[str, Any] = {}
+            if turn:
+                is_page = form in ("svg", "png")
+                sheet = {"cell" if is_page else "paper": (40.0, 62.0)}
+            with self.subTest(form=form, lines=lines, turn=turn):
+                labels = [(line, {"title": "A"}) for line in lines]
+                message = self.message(form, labels, turn=turn, **sheet)
+                read = lines[1].partition(" ")[2]
+                self.assertRegex(message, rf'^row 2: its code .* down: there it reads "{read}"$')
+
+    def test_nothing_is_said_of_what_is_no_symbol(self) -> None:
+        for form in FORMS:
+            with self.subTest(form=form):
+                found = found_of(options_of(form), PAIR)
+                wrong = of_modules(without_a_module)
+                with mock.patch(PEN + "Pen.draw_modules", wrong):
+                    with self.assertRaisesRegex(ToolError, "^row 2: its code .* mm down;"):
+                        write(found)
+
+    def test_languages(self) -> None:
+        support.needs("msgfmt")
+        message = self.message("zpl", PAIR)
+        for language, said in (
+            ("de", 'sein Code ist falsch, .* mm von oben: dort steht "5901234123457"$'),
+            ("fr", 'son code sort faux, .* mm du haut : on y lit "5901234123457"$'),
+        ):
+            with self.subTest(language), tempfile.TemporaryDirectory() as folder:
+                path = Path(folder, language, "LC_MESSAGES", "label-tools.mo")
+                path.parent.mkdir(parents=True)
+                source = support.TOOLS / f"po/{language}.po"
+                subprocess.run(["msgfmt", "-o", path, source], check=True)
+                texts = gettext.translation("label-tools", folder, [language])
+                with mock.patch("labeltools.text.one_text", texts.gettext):
+                    self.assertRegex(translated(message), said)
+
+
 class OwnDesigns(unittest.TestCase):
     """Designs of the user's own: each symbol, turned or not, is compared in each form."""
 
@@ -376,6 +440,16 @@ class OwnDesigns(unittest.TestCase):
                 wrong = drawn_wrong(number)
                 with mock.patch(PEN + "Pen.draw_modules", wrong):
                     with self.assertRaisesRegex(ToolError, "^row 2: its code is wrong"):
+                        write(found)
+
+    def test_what_is_read_of_another_symbol(self) -> None:
+        lines = (b"code128 B-12-03", b"code128 B-12-03", b"qr B-12-03", b"qr,level=H B-12-03")
+        for form, (number, line) in product(FORMS, enumerate(lines)):
+            with self.subTest(form=form, line=line):
+                found = self.found(form, None, form in ("svg", "png"))
+                wrong = drawn_wrong(number, engine.Engine(()).draw(line))
+                with mock.patch(PEN + "Pen.draw_modules", wrong):
+                    with self.assertRaisesRegex(ToolError, 'down: there it reads "B-12-03";'):
                         write(found)
 
     def test_texts_of_another_row(self) -> None:
@@ -469,6 +543,30 @@ class Read(unittest.TestCase):
         ):
             with self.subTest(text=text), self.assertRaises(decode.NotDecoded):
                 decode.dots_of("zpl", FIELD % text, 32)
+
+    def test_modules_as_dots(self) -> None:
+        """Of each size, in each direction, and from any dot of a byte on: modules, and bars with
+        their guards.
+        """
+        symbols = (["1101", "0010", "1000"], None), (["1101", "1001"], (6, 2))
+        for (rows, bars), scale, quarters, left in product(symbols, range(1, 13), range(4), (0, 5)):
+            bands = bars or (scale,) * len(rows)
+            dots = [
+                "".join(module * scale for module in row)
+                for row, high in zip(rows, bands)
+                for _ in range(high)
+            ]
+            for _ in range(quarters):
+                dots = ["".join(column) for column in zip(*dots[::-1])]
+            box = Box(left, 0, len(dots[0]), len(dots))
+            place = compare.Geometry(box, (), box, quarters, scale, 4, sum(bands), bands)
+            packed = compare.packed_rows(rows, place)
+            found = [f"{int.from_bytes(row, 'big'):0{8 * len(row)}b}" for row, _ in packed]
+            with self.subTest(rows=rows, scale=scale, quarters=quarters, left=left):
+                behind = "0" * (-box.right % 8)
+                wanted = ["0" * left + row + behind for row in dots]
+                highs = [high for _, high in packed]
+                self.assertEqual([row for row, n in zip(found, highs) for _ in range(n)], wanted)
 
     def test_a_picture_that_is_another_one(self) -> None:
         found = found_of(options_of("pdf"), PAIR[:1])
