@@ -33,6 +33,7 @@ from labeltools.text import Text
 
 Labels = Sequence[tuple[LaidOut, tuple[int, int]]]
 Inks = tuple[Ink, ...]
+Symbols = Sequence[tuple["Wanted", LineRecord]]
 LONGER = 5  # modules by which guards are longer (GS1 General Specifications, 5.2)
 # modules of the longer bars, from the first bar on: ISO/IEC 15420
 GUARDS = {
@@ -50,6 +51,7 @@ ZONES = {
     "qr": (4, 4, 4),
 }
 KNOWN = 4096  # geometries that are kept: most labels share some
+TOGETHER = 32  # pages that are compared together
 PAGES = 64  # pages whose symbols are kept by their places
 DIGITS = bytes.maketrans(b"\0\1", b"01")
 FAULT = Text("this is a fault of label-print: nothing of it has gone out; report it")
@@ -127,6 +129,28 @@ class Wanted(NamedTuple):
     place: Geometry
 
 
+class Document(NamedTuple):
+    """What goes out: its bytes, the labels that are on its pages, how often it is printed, and of a
+    form of dots those that were drawn.
+    """
+
+    data: bytes
+    pages: Sequence[Labels]
+    copies: int = 1
+    drawn: Optional[bytes] = None
+
+
+class ReadPage(NamedTuple):
+    """A page that was read back: its labels, what is on it, the line of its label where the
+    document has no other one, and its dots as they were drawn.
+    """
+
+    labels: Labels
+    found: "DotsOfPage | CodesOfPage"
+    alone: Optional[LineRecord]
+    drawn: Optional[bytes]
+
+
 class Regions:
     """The symbols of a page by where they are, so that few are looked at for some ink; `clear` is
     ink that is known to meet none of them.
@@ -188,49 +212,68 @@ class Comparison:
         self.known: dict[tuple[object, ...], Geometry] = {}
         self.regions = lru_cache(PAGES)(Regions)
 
-    def check(
-        self, data: bytes, pages: Sequence[Labels], copies: int = 1, drawn: Optional[bytes] = None
-    ) -> None:
+    def check(self, documents: Iterable[Document]) -> None:
         """Raises `ToolError` where a document has not the codes of the labels on its pages, or, of
         a form of dots, not the dots of the page that was drawn.
-        """
-        is_alone = len(pages) == len(pages[0]) == 1
-        record = pages[0][0][0].label.record if is_alone else None
-        symbols: dict[Geometry, LineRecord] = {}
-        try:
-            for labels, page in zip(pages, self.read(data, pages, copies)):
-                symbols = {}
-                for item, at in labels:
-                    record = item.label.record
-                    for spot in spots_of(item, self.area):
-                        wanted = self.wanted(spot, at)
-                        page.check(wanted)
-                        symbols[wanted.place] = record
-                record = record if is_alone else None
-                page.check_rest(self.regions(tuple(symbols)))
-                if isinstance(page, DotsOfPage) and drawn is not None:
-                    self.check_drawn(page.dots, drawn, labels)
-        except Different as error:
-            of_place = symbols.get(error.place) if error.place else None
-            raise fault(error.what, error.record or of_place or record) from error
-        except NotDecoded as error:
-            raise fault(error.what, record) from error
 
-    def read(
-        self, data: bytes, pages: Sequence[Labels], copies: int
-    ) -> Iterator["DotsOfPage | CodesOfPage"]:
-        """Yields the pages of a document as they are read back."""
+        Each step is taken for several pages before the next one, in three quarters of the time.
+        """
+        pages = self.read(documents)
+        while group := list(islice(pages, TOGETHER)):
+            wanted = [self.wanted_on(page) for page in group]
+            for page, symbols in zip(group, wanted):
+                check_symbols(page, symbols)
+            for page, symbols in zip(group, wanted):
+                self.check_rest(page, symbols)
+
+    def read(self, documents: Iterable[Document]) -> Iterator[ReadPage]:
+        """Yields the pages of documents as they are read back; raises `ToolError`."""
+        for document in documents:
+            is_alone = len(document.pages) == len(document.pages[0]) == 1
+            alone = document.pages[0][0][0].label.record if is_alone else None
+            try:
+                for labels, found in zip(document.pages, self.pages_of(document)):
+                    yield ReadPage(labels, found, alone, document.drawn)
+            except (Different, NotDecoded) as error:
+                raise fault(error.what, alone) from error
+
+    def pages_of(self, document: Document) -> Iterator["DotsOfPage | CodesOfPage"]:
+        """Yields the pages of a document; raises `Different`, and `NotDecoded`."""
         dot = self.plan.dot
         if self.form == "pdf":
-            for page in pages_of_pdf(data, self.plan.dpi, len(pages)):
+            for page in pages_of_pdf(document.data, self.plan.dpi, len(document.pages)):
                 yield CodesOfPage(page, dot)
         elif self.form == "svg":
-            drawing = page_of_svg(data, self.plan.dpi, self.plan.page)
+            drawing = page_of_svg(document.data, self.plan.dpi, self.plan.page)
             yield DotsOfPage(drawing.dots, dot, drawing.inks)
         else:
-            dots = dots_of(self.form, data, self.plan.page[0])
-            self.check_size(dots, copies)
+            dots = dots_of(self.form, document.data, self.plan.page[0])
+            self.check_size(dots, document.copies)
             yield DotsOfPage(dots, dot)
+
+    def wanted_on(self, page: ReadPage) -> Symbols:
+        """Returns what has to be on a page, with the lines of the labels; raises `ToolError`."""
+        found = []
+        for item, at in page.labels:
+            record = item.label.record
+            try:
+                found += [(self.wanted(spot, at), record) for spot in spots_of(item, self.area)]
+            except Different as error:
+                raise fault(error.what, record) from error
+        return found
+
+    def check_rest(self, page: ReadPage, symbols: Symbols) -> None:
+        """Raises `ToolError` where something is drawn over a symbol, or a page in dots is not that
+        which was drawn.
+        """
+        records = {wanted.place: record for wanted, record in symbols}
+        try:
+            page.found.check_rest(self.regions(tuple(records)))
+            if page.drawn is not None and isinstance(page.found, DotsOfPage):
+                self.check_drawn(page.found.dots, page.drawn, page.labels)
+        except Different as error:
+            of_place = records.get(error.place) if error.place else None
+            raise fault(error.what, error.record or of_place or page.alone) from error
 
     def check_size(self, dots: Dots, copies: int) -> None:
         """Raises `Different` where a page has not its size, or not its copies."""
@@ -404,6 +447,15 @@ class CodesOfPage:
         check_inks(self.page.inks + [code.ink for code in self.page.codes], symbols, self.dot)
         if self.page.codes:
             raise Different(Text("a page goes out with a code of no label"))
+
+
+def check_symbols(page: ReadPage, symbols: Symbols) -> None:
+    """Raises `ToolError` where a symbol is not on a page."""
+    for wanted, record in symbols:
+        try:
+            page.found.check(wanted)
+        except Different as error:
+            raise fault(error.what, record) from error
 
 
 def check_inks(inks: Iterable[Ink], symbols: Regions, dot: float) -> None:

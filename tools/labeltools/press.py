@@ -9,10 +9,10 @@ from io import BytesIO
 from itertools import accumulate, islice
 from pathlib import Path
 from shutil import copyfileobj
-from typing import IO, Any, Iterable, Iterator, NamedTuple, Optional, Sequence
+from typing import IO, Any, Iterable, Iterator, Optional, Sequence
 
 from labeltools.area import Plan
-from labeltools.compare import Comparison
+from labeltools.compare import Comparison, Document
 from labeltools.files import BLOCK, save, temporary
 from labeltools.forms import ESCPOS, PBM, PDF, PNG, SVG, ZPL, Form
 from labeltools.forms.dots import Picture, drawn_page, pbm, png
@@ -26,7 +26,7 @@ from labeltools.own_design import OwnDesign
 from labeltools.own_pen import OwnPen
 from labeltools.pen import Medium, Page, Pen
 
-MOST_DOTS_TOGETHER = 8_000_000  # of pages that are compared one behind another
+MOST_DOTS_TOGETHER = 8_000_000  # of pages that are compared together
 
 
 @dataclass(frozen=True)
@@ -83,17 +83,6 @@ class Prints:
             count = copies
         if last is not None:
             yield last, count
-
-
-class Written(NamedTuple):
-    """A page in dots in its form, as `Comparison.check` takes it: how often it is printed, and its
-    dots as they were drawn.
-    """
-
-    data: bytes
-    pages: Sequence[Page]
-    copies: int
-    dots: bytes
 
 
 def with_copies(items: Sequence[LaidOut]) -> Prints:
@@ -161,7 +150,8 @@ class Press:
         if self.job.form == PDF:
             file = self.drawing([], prints)
             pages = range(self.job.pages_of(len(prints)))
-            self.comparison.check(file.read(), [self.page(number, prints) for number in pages])
+            labels = [self.page(number, prints) for number in pages]
+            self.comparison.check([Document(file.read(), labels)])
             file.seek(0)
             yield file
         elif self.job.form == SVG:
@@ -177,7 +167,7 @@ class Press:
         if not self.job.form.is_drawn:
             return next(self.compared([self.written(page, is_first)]))
         file = self.drawing([page], None)
-        self.comparison.check(file.read(), [page])
+        self.comparison.check([Document(file.read(), [page])])
         file.seek(0)
         return file
 
@@ -186,20 +176,17 @@ class Press:
         page = [(item, self.job.plan.places[0])]
         return next(self.compared([self.written(page, True, copies)]))
 
-    def compared(self, pages: Iterable[Written]) -> Iterator[IO[bytes]]:
-        """Yields files of pages in dots; raises as `document`. Some of them are compared one behind
-        another, since Python does that in three quarters of the time.
-        """
+    def compared(self, pages: Iterable[Document]) -> Iterator[IO[bytes]]:
+        """Yields files of pages in dots, compared some at a time; raises as `document`."""
         pages = iter(pages)
         width, height = self.job.plan.page
         together = max(1, MOST_DOTS_TOGETHER // (width * height))
         while group := list(islice(pages, together)):
-            for page in group:
-                self.comparison.check(*page)
+            self.comparison.check(group)
             for page in group:
                 yield BytesIO(page.data)
 
-    def in_dots(self, prints: Prints) -> Iterator[Written]:
+    def in_dots(self, prints: Prints) -> Iterator[Document]:
         """Yields pages in dots, or each label of ZPL with its number of copies."""
         if self.job.form != ZPL:
             for number, page in enumerate(self.pages(prints)):
@@ -211,10 +198,10 @@ class Press:
             done += copies
             self.talk.go_on(done, len(prints))
 
-    def written(self, page: Page, is_first: bool, copies: int = 1) -> Written:
+    def written(self, page: Page, is_first: bool, copies: int = 1) -> Document:
         """Returns a page in dots in the form of the job."""
         picture = drawn_page(self.job.plan.page, self.pen, page, self.turn)
-        return Written(self.form_of(picture, is_first, copies), [page], copies, picture.packed)
+        return Document(self.form_of(picture, is_first, copies), [page], copies, picture.packed)
 
     def form_of(self, picture: Picture, is_first: bool, copies: int) -> bytes:
         """Returns dots in the form of the job."""
