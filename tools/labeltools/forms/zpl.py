@@ -117,7 +117,7 @@ def run_lengths(dots: bytes, size: int) -> bytes:
     saves much, a count before 0 and F that come often, `,` and `!` for a rest of them.
 
     >>> run_lengths(bytes.fromhex("FF00AB FF00AB 00000000000C"), 3)
-    b'FF00AB:,L0C'
+    b'FF00AB:,K0C'
     """
     return BLOCKS.get((dots, size), new_run_lengths)
 
