@@ -6,34 +6,34 @@ itself, and each module of it, its quiet zones included, has to be in its place,
 turned as it is asked for. Nothing else may be drawn there. This holds for each symbol of a label:
 a design of the user's own may have several.
 
-Where the library reads symbols, what it reads of these dots is to be the data of the line too; it
-belongs into `Comparison.code`, beside what the library says that it drew.
+Where a symbol differs, what the library reads in its place is said, if it is a symbol at all.
 """
 
 from bisect import bisect_left
 from dataclasses import dataclass, field
 from functools import cache, lru_cache
-from itertools import islice
-from operator import mul
+from itertools import groupby, islice
+from operator import itemgetter, mul
 from typing import Any, Iterable, Iterator, NamedTuple, Optional, Sequence
 
 from labeltools.area import Plan
-from labeltools.decode import Dots, NotDecoded, dots_of
+from labeltools.decode import Dots, NotDecoded, dots_of, rows_in, rows_reader
 from labeltools.drawn_codes import DrawnCode, DrawnPage, Ink, is_at
 from labeltools.drawn_pdf import pages_of_pdf
 from labeltools.drawn_svg import page_of_svg
-from labeltools.engine import LABELS_FAILED, Engine, Refused, bytes_a_row
+from labeltools.engine import LABELS_FAILED, Engine, Refused, bytes_a_row, library
 from labeltools.frames import Box
 from labeltools.layout import LaidOut, short
 from labeltools.lines_file import LineRecord
-from labeltools.messages import ToolError
+from labeltools.messages import ToolError, quoted
 from labeltools.own_design import PARTS, Place, key_of
 from labeltools.own_layout import OwnLayout, OwnSymbol
+from labeltools.pen import bits_of
 from labeltools.text import Text
 
 Labels = Sequence[tuple[LaidOut, tuple[int, int]]]
-Rows = Sequence[bytes]
 Inks = tuple[Ink, ...]
+Symbols = Sequence[tuple["Wanted", LineRecord]]
 LONGER = 5  # modules by which guards are longer (GS1 General Specifications, 5.2)
 # modules of the longer bars, from the first bar on: ISO/IEC 15420
 GUARDS = {
@@ -51,6 +51,7 @@ ZONES = {
     "qr": (4, 4, 4),
 }
 KNOWN = 4096  # geometries that are kept: most labels share some
+TOGETHER = 32  # pages that are compared together
 PAGES = 64  # pages whose symbols are kept by their places
 DIGITS = bytes.maketrans(b"\0\1", b"01")
 FAULT = Text("this is a fault of label-print: nothing of it has gone out; report it")
@@ -103,6 +104,11 @@ class Geometry:
     bands: tuple[int, ...]
     clear: set[Ink] = field(default_factory=set)
 
+    @property
+    def is_linear(self) -> bool:
+        """Whether its rows are bars and, below them, longer guards."""
+        return len(self.bands) == 2
+
     def is_met_by(self, ink: Ink) -> bool:
         """Returns whether ink meets it."""
         if ink in self.clear:
@@ -121,6 +127,28 @@ class Wanted(NamedTuple):
 
     symbol: Any
     place: Geometry
+
+
+class Document(NamedTuple):
+    """What goes out: its bytes, the labels that are on its pages, how often it is printed, and of a
+    form of dots those that were drawn.
+    """
+
+    data: bytes
+    pages: Sequence[Labels]
+    copies: int = 1
+    drawn: Optional[bytes] = None
+
+
+class ReadPage(NamedTuple):
+    """A page that was read back: its labels, what is on it, the line of its label where the
+    document has no other one, and its dots as they were drawn.
+    """
+
+    labels: Labels
+    found: "DotsOfPage | CodesOfPage"
+    alone: Optional[LineRecord]
+    drawn: Optional[bytes]
 
 
 class Regions:
@@ -184,49 +212,68 @@ class Comparison:
         self.known: dict[tuple[object, ...], Geometry] = {}
         self.regions = lru_cache(PAGES)(Regions)
 
-    def check(
-        self, data: bytes, pages: Sequence[Labels], copies: int = 1, rows: Optional[Rows] = None
-    ) -> None:
+    def check(self, documents: Iterable[Document]) -> None:
         """Raises `ToolError` where a document has not the codes of the labels on its pages, or, of
         a form of dots, not the dots of the page that was drawn.
-        """
-        is_alone = len(pages) == len(pages[0]) == 1
-        record = pages[0][0][0].label.record if is_alone else None
-        symbols: dict[Geometry, LineRecord] = {}
-        try:
-            for labels, page in zip(pages, self.read(data, pages, copies, rows)):
-                symbols = {}
-                for item, at in labels:
-                    record = item.label.record
-                    for spot in spots_of(item, self.area):
-                        wanted = self.wanted(spot, at)
-                        page.check(wanted)
-                        symbols[wanted.place] = record
-                record = record if is_alone else None
-                page.check_rest(self.regions(tuple(symbols)))
-        except Different as error:
-            of_place = symbols.get(error.place) if error.place else None
-            raise fault(error.what, error.record or of_place or record) from error
-        except NotDecoded as error:
-            raise fault(error.what, record) from error
 
-    def read(
-        self, data: bytes, pages: Sequence[Labels], copies: int, rows: Optional[Rows]
-    ) -> Iterator["DotsOfPage | CodesOfPage"]:
-        """Yields the pages of a document as they are read back."""
+        Each step is taken for several pages before the next one, in three quarters of the time.
+        """
+        pages = self.read(documents)
+        while group := list(islice(pages, TOGETHER)):
+            wanted = [self.wanted_on(page) for page in group]
+            for page, symbols in zip(group, wanted):
+                check_symbols(page, symbols)
+            for page, symbols in zip(group, wanted):
+                self.check_rest(page, symbols)
+
+    def read(self, documents: Iterable[Document]) -> Iterator[ReadPage]:
+        """Yields the pages of documents as they are read back; raises `ToolError`."""
+        for document in documents:
+            is_alone = len(document.pages) == len(document.pages[0]) == 1
+            alone = document.pages[0][0][0].label.record if is_alone else None
+            try:
+                for labels, found in zip(document.pages, self.pages_of(document)):
+                    yield ReadPage(labels, found, alone, document.drawn)
+            except (Different, NotDecoded) as error:
+                raise fault(error.what, alone) from error
+
+    def pages_of(self, document: Document) -> Iterator["DotsOfPage | CodesOfPage"]:
+        """Yields the pages of a document; raises `Different`, and `NotDecoded`."""
         dot = self.plan.dot
         if self.form == "pdf":
-            for page in pages_of_pdf(data, self.plan.dpi, len(pages)):
+            for page in pages_of_pdf(document.data, self.plan.dpi, len(document.pages)):
                 yield CodesOfPage(page, dot)
         elif self.form == "svg":
-            drawing = page_of_svg(data, self.plan.dpi, self.plan.page)
+            drawing = page_of_svg(document.data, self.plan.dpi, self.plan.page)
             yield DotsOfPage(drawing.dots, dot, drawing.inks)
         else:
-            dots = dots_of(self.form, data, self.plan.page[0])
-            self.check_size(dots, copies)
-            if rows is not None:
-                self.check_rows(dots, rows, pages[0])
+            dots = dots_of(self.form, document.data, self.plan.page[0])
+            self.check_size(dots, document.copies)
             yield DotsOfPage(dots, dot)
+
+    def wanted_on(self, page: ReadPage) -> Symbols:
+        """Returns what has to be on a page, with the lines of the labels; raises `ToolError`."""
+        found = []
+        for item, at in page.labels:
+            record = item.label.record
+            try:
+                found += [(self.wanted(spot, at), record) for spot in spots_of(item, self.area)]
+            except Different as error:
+                raise fault(error.what, record) from error
+        return found
+
+    def check_rest(self, page: ReadPage, symbols: Symbols) -> None:
+        """Raises `ToolError` where something is drawn over a symbol, or a page in dots is not that
+        which was drawn.
+        """
+        records = {wanted.place: record for wanted, record in symbols}
+        try:
+            page.found.check_rest(self.regions(tuple(records)))
+            if page.drawn is not None and isinstance(page.found, DotsOfPage):
+                self.check_drawn(page.found.dots, page.drawn, page.labels)
+        except Different as error:
+            of_place = records.get(error.place) if error.place else None
+            raise fault(error.what, error.record or of_place or page.alone) from error
 
     def check_size(self, dots: Dots, copies: int) -> None:
         """Raises `Different` where a page has not its size, or not its copies."""
@@ -239,11 +286,11 @@ class Comparison:
             what = Text("{} copies go out, and {} are asked for", dots.copies, copies)
             raise Different(what)
 
-    def check_rows(self, dots: Dots, rows: Rows, labels: Labels) -> None:
-        """Raises `Different` where dots are not those of the rows of a page that was drawn."""
-        if dots.packed == b"".join(rows):
+    def check_drawn(self, dots: Dots, drawn: bytes, labels: Labels) -> None:
+        """Raises `Different` where dots are not those of the page that was drawn."""
+        if dots.packed == drawn:
             return
-        pairs = enumerate(zip(dots.rows, rows))
+        pairs = enumerate(zip(dots.rows, rows_in(drawn, dots.stride)))
         number = next(number for number, (found, row) in pairs if found != row)
         what = Text("its dots are wrong as they go out, {:.1f} mm down", number * self.plan.dot)
         high = self.plan.area.height
@@ -335,21 +382,31 @@ class DotsOfPage:
         is_across = 0 <= box.left and box.right <= self.dots.width
         if not is_across or not 0 <= box.top <= box.bottom <= self.dots.height:
             raise Different(Text("its code leaves the page"))
-        first = box.left // 8
-        size = (box.right + 7) // 8 - first
-        stride = self.dots.stride
-        packed = self.dots.packed
-        start = box.top * stride + first
-        for (dots, high), mask in zip(dots_of_symbol(wanted), mask_of(wanted.place)):
-            end = start + high * stride
-            rows = [packed[at : at + size] for at in range(start, end, stride)]
-            for row in dict.fromkeys(rows):
-                other = (number_of(row) ^ dots) & mask
-                if other:
-                    column = 8 * (first + size) - other.bit_length()
-                    down = start // stride + rows.index(row)
-                    raise Different(said(column * self.dot, down * self.dot))
-            start = end
+        rows = iter(rows_of_symbol(wanted))
+        for band in bands_of(wanted.place):
+            dots = b"".join([row * high for row, high in islice(rows, band.rows)])
+            found = self.found(band)
+            if found == dots:
+                continue
+            other = (number_of(found) ^ number_of(dots)) & band.mask
+            if other:
+                down, bit = divmod(8 * len(dots) - other.bit_length(), 8 * band.size)
+                across, down = 8 * band.first + bit, band.top + down
+                raise Different(self.said(wanted, across * self.dot, down * self.dot))
+
+    def found(self, band: "Band") -> bytes:
+        """Returns the dots of a page where a band is."""
+        behind = self.dots.stride - band.first - band.size
+        read = rows_reader(band.first, band.size, behind, band.high)
+        return b"".join(read(self.dots.packed, band.top * self.dots.stride))
+
+    def said(self, wanted: Wanted, across: float, down: float) -> Text:
+        """Returns where a symbol is wrong, and what is read in its place."""
+        left, top, width, high = wanted.place.bars
+        rows = [bits_of(row)[left : left + width] for row in self.dots.rows[top : top + high]]
+        for _ in range(wanted.place.quarters):
+            rows = ["".join(column) for column in zip(*rows)][::-1]  # back to the left
+        return said(across, down, rows, wanted.place.scale)
 
     def check_rest(self, symbols: Regions) -> None:
         """Raises `Different` where something is drawn over a symbol."""
@@ -365,13 +422,15 @@ class CodesOfPage:
 
     def check(self, wanted: Wanted) -> None:
         """Takes the picture of a symbol; raises `Different` where none is its own."""
-        box = wanted.place.picture
-        code = self.taken(box, wanted.place.quarters)
+        place = wanted.place
+        code = self.taken(place.picture, place.quarters)
         modules = modules_of(wanted)
-        wide = wanted.place.wide
-        size = (wide, len(modules) // bytes_a_row(wide))
+        size = (place.wide, len(modules) // bytes_a_row(place.wide))
         if code is None or code.modules != modules or (code.width, code.height) != size:
-            raise Different(said(box.left * self.dot, box.top * self.dot))
+            rows = rows_in(code.modules, bytes_a_row(code.width)) if code else ()
+            bars = [bits_of(row)[: place.wide] for row in rows[: place.high // place.scale]]
+            across, down = place.picture.left * self.dot, place.picture.top * self.dot
+            raise Different(said(across, down, bars, 1))
 
     def taken(self, box: Box, quarters: int) -> Optional[DrawnCode]:
         """Returns the picture that fills a box, and takes it away."""
@@ -388,6 +447,15 @@ class CodesOfPage:
         check_inks(self.page.inks + [code.ink for code in self.page.codes], symbols, self.dot)
         if self.page.codes:
             raise Different(Text("a page goes out with a code of no label"))
+
+
+def check_symbols(page: ReadPage, symbols: Symbols) -> None:
+    """Raises `ToolError` where a symbol is not on a page."""
+    for wanted, record in symbols:
+        try:
+            page.found.check(wanted)
+        except Different as error:
+            raise fault(error.what, record) from error
 
 
 def check_inks(inks: Iterable[Ink], symbols: Regions, dot: float) -> None:
@@ -457,16 +525,66 @@ def turned(box: Box, size: tuple[int, int], quarters: int) -> Box:
     return box
 
 
-def said(across: float, down: float) -> Text:
-    """Returns where a code is wrong, in millimetres of its page."""
-    return Text(
+def said(across: float, down: float, rows: Sequence[str] = (), scale: int = 1) -> Text:
+    """Returns where a code is wrong, in millimetres of its page, and what is read there of rows of
+    dots, of which a module has so many, if they are a symbol.
+    """
+    where = Text(
         "its code is wrong as it goes out, {:.1f} mm from the left, {:.1f} mm down", across, down
     )
+    data = data_in(rows, scale)
+    if data is None:
+        return where
+    return Text("{}: there it reads {}", where, quoted(data.decode("utf-8", "replace")))
 
 
-def dots_of_symbol(wanted: Wanted) -> list[tuple[int, int]]:
-    """Returns the dots of a symbol as it is on a page: those of each of its rows in the bytes that
-    its picture touches, as a number, with how many rows of dots are so.
+def data_in(rows: Sequence[str], scale: int) -> Optional[bytes]:
+    """Returns what rows of dots say as the symbol that they are; None where they are none."""
+    picture = f"P1\n{len(rows[0]) if rows else 0} {len(rows)}\n{''.join(rows)}".encode()
+    reader = library()
+    found = (reader.read(symbology, picture, scale) for symbology in reader.SYMBOLOGIES)
+    return next((data for data in found if data is not None), None)
+
+
+class Band(NamedTuple):
+    """Rows of a symbol on a page of which the same dots are looked at: how many rows of modules, or
+    if it is turned columns, they are; its first row of dots and their number; its first byte in
+    them and how many these are; which of these dots are looked at, as a number.
+    """
+
+    rows: int
+    top: int
+    high: int
+    first: int
+    size: int
+    mask: int
+
+
+@lru_cache(KNOWN)
+def bands_of(place: Geometry) -> list[Band]:
+    """Returns the bands of a symbol, from top to bottom: all of its dots are looked at, but those
+    between longer guards.
+    """
+    rows = ["1" * place.wide] * len(place.bands)
+    if place.guards:
+        guards = list("0" * place.wide)
+        for _, (first, last) in place.guards:
+            guards[first:last] = "1" * (last - first)
+        rows[1] = "".join(guards)
+    bands = []
+    top = place.picture.top
+    for mask, group in groupby(packed_rows(rows, place), key=itemgetter(0)):
+        highs = [high for _, high in group]
+        high = sum(highs)
+        where = (top, high, place.picture.left // 8, len(mask))
+        bands.append(Band(len(highs), *where, number_of(mask * high)))
+        top += high
+    return bands
+
+
+def rows_of_symbol(wanted: Wanted) -> list[tuple[bytes, int]]:
+    """Returns the dots of a symbol as it is on a page: each of its rows in the bytes that its
+    picture touches, with how many rows of dots are so.
     """
     symbol, place = wanted
     digits = symbol.modules.translate(DIGITS).decode("ascii")
@@ -476,40 +594,41 @@ def dots_of_symbol(wanted: Wanted) -> list[tuple[int, int]]:
     starts = range(0, len(digits), symbol.width)
     rows = [before + digits[start : start + symbol.width] + behind for start in starts]
     blank = ["0" * place.wide] * above
-    return dots_of_rows([*blank, *rows, *blank] if symbol.rows > 1 else rows * 2, place)
+    return packed_rows([*blank, *rows, *blank] if symbol.rows > 1 else rows * 2, place)
 
 
-@lru_cache(KNOWN)
-def mask_of(place: Geometry) -> list[int]:
-    """Returns where the dots of a symbol are looked at, as `dots_of_symbol` does: all of them, but
-    between longer guards.
-    """
-    rows = ["1" * place.wide] * len(place.bands)
-    if place.guards:
-        guards = list("0" * place.wide)
-        for _, (first, last) in place.guards:
-            guards[first:last] = "1" * (last - first)
-        rows[1] = "".join(guards)
-    return [dots for dots, _ in dots_of_rows(rows, place)]
-
-
-def dots_of_rows(rows: Sequence[str], place: Geometry) -> list[tuple[int, int]]:
-    """Returns rows of modules as they are on a page, as `dots_of_symbol` does."""
+def packed_rows(rows: Sequence[str], place: Geometry) -> list[tuple[bytes, int]]:
+    """Returns rows of modules as they are on a page, as `rows_of_symbol` does."""
+    box = place.picture
+    size = (box.right + 7) // 8 - box.left // 8
+    behind = -box.right % 8
+    lines, highs, wides = rows, place.bands, place.bands[::-1]
     if place.quarters % 2:
-        columns = zip(*reversed(rows))
-        highs = place.bands[::-1]
-        found = [("".join(map(mul, column, highs)), place.scale) for column in columns]
-    else:
-        found = [(wide(row, place.scale), high) for row, high in zip(rows, place.bands)]
+        lines = ["".join(column) for column in zip(*reversed(rows))]
+        highs = (place.scale,) * place.wide
     if place.quarters >= 2:
-        found = [(dots[::-1], high) for dots, high in reversed(found)]
-    shift = -place.picture.right % 8
-    return [(int(dots, 2) << shift, high) for dots, high in found]
+        lines = [line[::-1] for line in reversed(lines)]
+        highs, wides = highs[::-1], wides[::-1]
+    if place.quarters % 2 and place.is_linear:
+        numbers = {line: int("".join(map(mul, line, wides)), 2) for line in set(lines)}
+    else:
+        numbers = dots_of_lines(lines, place.scale)
+    packed = {line: (dots << behind).to_bytes(size, "big") for line, dots in numbers.items()}
+    return list(zip(map(packed.__getitem__, lines), highs))
 
 
-def wide(row: str, scale: int) -> str:
-    """Returns a row of modules as dots."""
-    return row.replace("1", "x").replace("0", "0" * scale).replace("x", "1" * scale)
+def dots_of_lines(lines: Sequence[str], scale: int) -> dict[str, int]:
+    """Returns rows of modules as the numbers that their dots are. A module is one or more digits of
+    at most five dots, the last of which is set first, and then those beside it.
+    """
+    dots = next(dots for dots in (5, 4, 3, 2, 1) if scale % dots == 0)
+    apart = "0" * (scale // dots - 1)
+    all_of_module = (1 << scale) - 1
+    if not apart:
+        return {line: int(line, 1 << dots) * all_of_module for line in lines}
+    behind = scale - dots
+    whole = {line: int(line.replace("", apart), 1 << dots) for line in lines}
+    return {line: (number >> behind) * all_of_module for line, number in whole.items()}
 
 
 def number_of(packed: bytes) -> int:

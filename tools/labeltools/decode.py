@@ -5,25 +5,31 @@ manuals. It shares nothing with what writes them.
 import re
 import struct
 import zlib
+from binascii import unhexlify
 from dataclasses import dataclass
-from functools import cache
-from operator import itemgetter, mul
-from typing import Sequence
+from functools import lru_cache
+from operator import itemgetter
+from typing import Callable, Iterable, NamedTuple
 
 from labeltools.kept import Kept
 from labeltools.text import Text
 
 ZPL_HEAD = re.compile(rb"\^XA\^PON\^LH0,0\^LS0\^PW([0-9]+)\^LL([0-9]+)\n")
-ZPL_FIELD = re.compile(rb"\^FO([0-9]+),([0-9]+)\^GFA,([0-9]+),([0-9]+),([0-9]+),([^^]*)\^FS\n")
+ZPL_FIELD = re.compile(rb"\^FO([0-9]+),([0-9]+)\^GFA,([0-9]+),([0-9]+),([0-9]+),")
+FIELD_END = b"^FS\n"
 ZPL_END = re.compile(rb"(?:\^PQ([0-9]+)\n)?\^XZ\n")
+DIGITS = b"0123456789ABCDEF"
+SIGNS = b",:!"
 COUNTS = b"GHIJKLMNOPQRSTUVWXYghijklmnopqrstuvwxyz"
-OTHERS = b"0123456789ABCDEF+:,!"
 WITHOUT_COUNTS = bytes.maketrans(COUNTS, b" " * len(COUNTS))
-COUNTS_ALONE = bytes.maketrans(OTHERS, b" " * len(OTHERS))
-# counts, signs, and digits of which counts are rare
-KINDS = bytes.maketrans(COUNTS + b":!123456789ABCDE", b"G" * len(COUNTS) + b",," + b"F" * 14)
-COLUMN = 500  # bytes of rows that are added in the time of a column of them
-FIELDS: Kept[tuple[bytes, int], Sequence[bytes]] = Kept(1024)
+COUNTS_ALONE = bytes.maketrans(DIGITS + SIGNS, b" " * len(DIGITS + SIGNS))
+FILLING = bytes.maketrans(b",:", b"\t\n")
+ZEROS = bytes.maketrans(b" \n", b"0:")
+ONES = bytes.maketrans(b" ", b"F")
+PART = re.compile(b"([^:]*)(:*)")  # rows, and how often the last of them comes again
+# not as bytes, which Python puts into a column of a page in three times the time
+FIELDS: Kept[tuple[bytes, int], bytearray] = Kept(1024)
+KNOWN = 1024  # sizes of what is read that are kept
 RASTER = b"\x1dv0\0"
 LINES_AND_CUT = b"\x1bd\x03\x1dV\x42\x00"
 RESET = b"\x1b@"
@@ -56,7 +62,7 @@ class Dots:
         return (self.width + 7) // 8
 
     @property
-    def rows(self) -> list[bytes]:
+    def rows(self) -> tuple[bytes, ...]:
         """The rows."""
         return rows_in(self.packed, self.stride)
 
@@ -120,8 +126,8 @@ def dots_of_escpos(data: bytes, width: int) -> Dots:
             raise NotDecoded(Text("no escpos of label-print"))
         at += 8
         image = whole(data[at : at + size * count], size * count)
-        has_dots = image.strip(b"\0")
-        images.append(apart(rows_in(image, size), stride) if has_dots else bytes(stride * count))
+        white = bytes(stride - size)
+        images.append(white.join((*rows_in(image, size), b"")) if white else image)
         height += count
         at += size * count
     return Dots(width, height, b"".join(images))
@@ -136,117 +142,139 @@ def dots_of_zpl(data: bytes, _: int) -> Dots:
     height = int(head[2])
     stride = (width + 7) // 8
     page = bytearray(stride * height)
-    used = 0
     at = head.end()
+    fields: list[Field] = []
+    lowest = 0
     while found := ZPL_FIELD.match(data, at):
-        left, top, length, again, size = map(int, found.group(1, 2, 3, 4, 5))
-        if length != again or length % size or left % 8:
-            raise NotDecoded(Text("zpl with a field that is no whole bytes"))
-        end = top + length // size
-        if end > height or left // 8 + size > stride:
+        field = field_of(found.group())
+        if field.bottom > height or field.right > stride:
             raise NotDecoded(Text("zpl with a field that leaves the label"))
-        field = rows_of_field(found[6], size)
-        if len(field) != end - top:
-            raise NotDecoded(Text("zpl with {} rows, which has {}", end - top, len(field)))
-        start = stride * top + left // 8
-        if start < used:
-            add(page, start, stride, field)
-        else:
-            rows = apart(field, stride)[
-                : len(page) - start
-            ]  # white behind the last row is left away
-            page[start : start + len(rows)] = rows
-        used = max(used, start + stride * len(field))
-        at = found.end()
+        is_first = field.top >= lowest
+        if not is_first and field.meets(fields):
+            raise NotDecoded(Text("zpl with a field over another one"))
+        fields.append(field)
+        lowest = max(lowest, field.bottom)
+        end = data.index(b"^", found.end())
+        put(page, stride, field, dots_of_field(data[found.end() : end], field), is_first)
+        if not data.startswith(FIELD_END, end):
+            raise NotDecoded(Text("zpl with a field that has no end"))
+        at = end + len(FIELD_END)
     end_of_label = ZPL_END.fullmatch(data, at)
     if not end_of_label:
         raise NotDecoded(Text("zpl without an end"))
     return Dots(width, height, bytes(page), int(end_of_label[1] or 1))
 
 
-def apart(rows: Sequence[bytes], stride: int) -> bytes:
-    """Returns rows of one size as rows of a page, of `stride` bytes, with white behind them."""
-    white = bytes(stride - len(rows[0])) if rows else b""
-    return white.join(rows) + white
-
-
-def add(page: bytearray, start: int, stride: int, rows: Sequence[bytes]) -> None:
-    """Adds rows to a page from a byte on, beside what is there: all at once, or where they have few
-    columns of bytes one of these after another, which takes less time.
+class Field(NamedTuple):
+    """Where a graphic field is on a label: its columns in bytes and its rows in dots, from the
+    first to that behind the last.
     """
-    size = len(rows[0]) if rows else 0
-    length = stride * len(rows)
-    if COLUMN * size > length:
-        place = slice(start, start + length)
-        page[place] = either(page[place], apart(rows, stride)[: len(page) - start])
+
+    left: int
+    top: int
+    right: int
+    bottom: int
+
+    def meets(self, others: Iterable["Field"]) -> bool:
+        """Returns whether one of some other fields has a byte in common with this one."""
+        left, top, right, bottom = self
+        return any(
+            top < its_bottom and left < its_right and its_left < right and its_top < bottom
+            for its_left, its_top, its_right, its_bottom in others
+        )
+
+
+@lru_cache(KNOWN)
+def field_of(head: bytes) -> Field:
+    """Returns where the graphic field with a head is; raises `NotDecoded`."""
+    found = ZPL_FIELD.fullmatch(head)
+    left, top, length, again, size = map(int, found.groups() if found else ())
+    if length != again or not size or length % size or left % 8:
+        raise NotDecoded(Text("zpl with a field that is no whole bytes"))
+    return Field(left // 8, top, left // 8 + size, top + length // size)
+
+
+def put(page: bytearray, stride: int, field: Field, dots: bytearray, is_first: bool) -> None:
+    """Puts the dots of a field into a page of rows of some bytes: all rows at once, with white
+    beside them, where it is the first one in them, or else one column of bytes after another.
+    """
+    size = field.right - field.left
+    start = stride * field.top + field.left
+    if is_first:
+        white = bytes(stride - size)
+        rows = white.join(rows_in(dots, size))
+        page[start : start + len(rows)] = rows
         return
-    packed = b"".join(rows)
+    end = stride * field.bottom
     for column in range(size):
-        place = slice(start + column, min(start + column + length, len(page)), stride)
-        page[place] = either(page[place], packed[column::size])
+        page[start + column : end : stride] = dots[column::size]
 
 
-def either(there: bytes, dots: bytes) -> bytes:
-    """Returns dots that are dark where one or the other is."""
-    if there == bytes(len(dots)):
-        return dots
-    both = int.from_bytes(there, "big") | int.from_bytes(dots, "big")
-    return both.to_bytes(len(dots), "big")
+def dots_of_field(text: bytes, field: Field) -> bytearray:
+    """Returns the rows of a graphic field, one behind another; raises `NotDecoded`."""
+    size = field.right - field.left
+    dots = FIELDS.get((text, size), new_dots)
+    if len(dots) != size * (field.bottom - field.top):
+        high = field.bottom - field.top
+        raise NotDecoded(Text("zpl with {} rows, which has {}", high, len(dots) // size))
+    return dots
 
 
-def rows_of_field(text: bytes, size: int) -> Sequence[bytes]:
-    """Returns the rows of a graphic field in run lengths; raises `NotDecoded`."""
-    return FIELDS.get((text, size), new_rows)
-
-
-def new_rows(field: tuple[bytes, int]) -> Sequence[bytes]:
+def new_dots(key: tuple[bytes, int]) -> bytearray:
     """Reads a graphic field of rows of some bytes."""
-    text, size = field
-    rows: list[bytes] = []
-    for part in filled(expanded(text), 2 * size).split("\n"):
-        if part:
-            dots = bytes.fromhex(part)
-            if len(dots) % size:
-                raise NotDecoded(Text("a row of the zpl has not its length"))
-            rows += rows_in(dots, size)
-        rows.append(rows[-1])  # for the sign behind this part
-    return rows[:-1]
+    text, size = key
+    if text.translate(None, DIGITS + b":"):
+        text = filled(expanded(text), 2 * size)
+    dots = bytearray()
+    for part, again in PART.findall(text):
+        rows = unhexlify(part)
+        if len(rows) % size:
+            raise NotDecoded(Text("a row of the zpl has not its length"))
+        dots += rows
+        if again:
+            dots += dots[-size:] * len(again)
+    return dots
 
 
-def filled(text: str, digits: int) -> str:
-    """Returns digits for signs that fill the rest of a row, as tabs do with spaces, and a line end
-    for each sign of a row that comes again.
+def filled(text: bytes, digits: int) -> bytes:
+    """Returns digits for signs that fill the rest of a row, as tabs do with spaces. A sign of a row
+    that comes again is a line end meanwhile, behind which a row begins.
     """
-    text = text.replace(":", "\n").replace("!", "!\r")  # both begin a row
-    text = text.replace(",", "\t").expandtabs(digits).replace(" ", "0")
-    if "!" in text:
-        text = text.replace("!", "\t").expandtabs(digits).replace(" ", "F").replace("\r", "")
+    text = text.translate(FILLING).replace(b"!", b"!\r").expandtabs(digits).translate(ZEROS)
+    if b"!" in text:
+        text = text.replace(b"!", b"\t").replace(b":", b"\n").expandtabs(digits)
+        text = text.translate(ONES, b"\r").replace(b"\n", b":")
     return text
 
 
-def expanded(text: bytes) -> str:
+def expanded(text: bytes) -> bytes:
     """Returns digits for counts and digits.
 
     >>> expanded(b"FIFA")
-    'FFFFA'
+    b'FFFFA'
     """
-    kinds = text.translate(KINDS)
-    if text.translate(None, COUNTS + OTHERS) or b"G," in kinds:
+    counted = text.translate(None, DIGITS + SIGNS)
+    if counted.translate(None, COUNTS):
         raise NotDecoded(Text("no zpl of label-print"))
-    pieces = (b"+" + text).translate(WITHOUT_COUNTS).decode("ascii").split()
-    counts = text.translate(COUNTS_ALONE).decode("ascii").split()
-    found = [""] * (len(pieces) + len(counts))
+    pieces = (b"+" + text).translate(WITHOUT_COUNTS).split()
+    counts = text.translate(COUNTS_ALONE).split()
+    found = [b""] * (len(pieces) + len(counts))
     found[0::2] = pieces
-    if b"GF" in kinds:
-        found[1::2] = map(mul, map(itemgetter(0), pieces[1:]), map(times, counts))
-    else:
-        found[1::2] = map(ZEROS.__getitem__, counts)
-    return "".join(found)[1:]
+    found[1::2] = map(RUNS.__getitem__, zip(counts, map(itemgetter(0), pieces[1:])))
+    return b"".join(found)[1:]
 
 
-def rows_in(data: bytes, size: int) -> list[bytes]:
+def rows_in(data: bytes | bytearray, size: int) -> tuple[bytes, ...]:
     """Returns rows of a size."""
-    return [data[start : start + size] for start in range(0, len(data), size)]
+    return rows_reader(0, size, 0, len(data) // size)(data)
+
+
+@lru_cache(KNOWN)
+def rows_reader(before: int, size: int, behind: int, high: int) -> Callable[..., tuple[bytes, ...]]:
+    """Returns what reads a part of so many rows, which has some bytes before and behind it in each
+    of them: a quarter of the time that slices take.
+    """
+    return struct.Struct(f"{before}x{size}s{behind}x" * high).unpack_from
 
 
 def whole(data: bytes, length: int) -> bytes:
@@ -256,26 +284,28 @@ def whole(data: bytes, length: int) -> bytes:
     return data
 
 
-@cache
-def times(count: str) -> int:
-    """Returns how often a count says a digit that follows once itself: G to Y are 1 to 19, g to z
-    are 20 to 400.
+def times(count: bytes) -> int:
+    """Returns how often a count says that the digit behind it comes: G to Y are 1 to 19, g to z are
+    20 to 400.
 
-    >>> times("I"), times("zgM")
-    (2, 426)
+    >>> times(b"I"), times(b"zgM")
+    (3, 427)
     """
-    return sum(ord(one) - 70 if one <= "Y" else 20 * (ord(one) - 102) for one in count) - 1
+    return sum(one - 70 if one <= 89 else 20 * (one - 102) for one in count)
 
 
-class Zeros(dict[str, str]):
-    """The zeros that counts say, but for the one that follows each of them."""
+class Runs(dict[tuple[bytes, int], bytes]):
+    """The digits that counts say, but for the one that follows each of them."""
 
-    def __missing__(self, count: str) -> str:
-        self[count] = "0" * times(count)
-        return self[count]
+    def __missing__(self, key: tuple[bytes, int]) -> bytes:
+        count, digit = key
+        if digit not in DIGITS:
+            raise NotDecoded(Text("no zpl of label-print"))
+        self[key] = bytes([digit]) * (times(count) - 1)
+        return self[key]
 
 
-ZEROS = Zeros()
+RUNS = Runs()
 DECODERS = {
     "pbm": dots_of_pbm,
     "png": dots_of_png,

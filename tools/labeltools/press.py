@@ -6,13 +6,13 @@ from contextlib import contextmanager
 from dataclasses import dataclass
 from functools import cached_property
 from io import BytesIO
-from itertools import accumulate
+from itertools import accumulate, islice
 from pathlib import Path
 from shutil import copyfileobj
-from typing import IO, Any, Iterator, Optional, Sequence
+from typing import IO, Any, Iterable, Iterator, Optional, Sequence
 
 from labeltools.area import Plan
-from labeltools.compare import Comparison
+from labeltools.compare import Comparison, Document
 from labeltools.files import BLOCK, save, temporary
 from labeltools.forms import ESCPOS, PBM, PDF, PNG, SVG, ZPL, Form
 from labeltools.forms.dots import Picture, drawn_page, pbm, png
@@ -25,6 +25,8 @@ from labeltools.messages import Talk
 from labeltools.own_design import OwnDesign
 from labeltools.own_pen import OwnPen
 from labeltools.pen import Medium, Page, Pen
+
+MOST_DOTS_TOGETHER = 8_000_000  # of pages that are compared together
 
 
 @dataclass(frozen=True)
@@ -148,43 +150,61 @@ class Press:
         if self.job.form == PDF:
             file = self.drawing([], prints)
             pages = range(self.job.pages_of(len(prints)))
-            self.comparison.check(file.read(), [self.page(number, prints) for number in pages])
+            labels = [self.page(number, prints) for number in pages]
+            self.comparison.check([Document(file.read(), labels)])
             file.seek(0)
             yield file
-        elif self.job.form == ZPL:
-            done = 0
-            for item, copies in prints.runs():
-                yield self.label(item, copies)
-                done += copies
-                self.talk.go_on(done, len(prints))
+        elif self.job.form == SVG:
+            for page in self.pages(prints):
+                yield self.document(page)
         else:
-            for number, page in enumerate(self.pages(prints)):
-                yield self.document(page, number == 0)
+            yield from self.compared(self.in_dots(prints))
 
     def document(self, page: Page, is_first: bool = True) -> IO[bytes]:
         """Returns a file of one page; `is_first` is whether it begins a job. Raises `ToolError`
         where it has not the codes of its labels.
         """
         if not self.job.form.is_drawn:
-            return self.in_dots(page, is_first)
+            return next(self.compared([self.written(page, is_first)]))
         file = self.drawing([page], None)
-        self.comparison.check(file.read(), [page])
+        self.comparison.check([Document(file.read(), [page])])
         file.seek(0)
         return file
 
     def label(self, item: LaidOut, copies: int) -> IO[bytes]:
         """Returns a file of one label of ZPL; raises as `document`."""
-        return self.in_dots([(item, self.job.plan.places[0])], True, copies)
+        page = [(item, self.job.plan.places[0])]
+        return next(self.compared([self.written(page, True, copies)]))
 
-    def in_dots(self, page: Page, is_first: bool, copies: int = 1) -> IO[bytes]:
-        """Returns a file of one page in dots; raises as `document`."""
+    def compared(self, pages: Iterable[Document]) -> Iterator[IO[bytes]]:
+        """Yields files of pages in dots, compared some at a time; raises as `document`."""
+        pages = iter(pages)
+        width, height = self.job.plan.page
+        together = max(1, MOST_DOTS_TOGETHER // (width * height))
+        while group := list(islice(pages, together)):
+            self.comparison.check(group)
+            for page in group:
+                yield BytesIO(page.data)
+
+    def in_dots(self, prints: Prints) -> Iterator[Document]:
+        """Yields pages in dots, or each label of ZPL with its number of copies."""
+        if self.job.form != ZPL:
+            for number, page in enumerate(self.pages(prints)):
+                yield self.written(page, number == 0)
+            return
+        done = 0
+        for item, copies in prints.runs():
+            yield self.written([(item, self.job.plan.places[0])], True, copies)
+            done += copies
+            self.talk.go_on(done, len(prints))
+
+    def written(self, page: Page, is_first: bool, copies: int = 1) -> Document:
+        """Returns a page in dots in the form of the job."""
         picture = drawn_page(self.job.plan.page, self.pen, page, self.turn)
-        data = self.written(picture, is_first, copies)
-        self.comparison.check(data, [page], copies, picture.rows)
-        return BytesIO(data)
+        return Document(self.form_of(picture, is_first, copies), [page], copies, picture.packed)
 
-    def written(self, picture: Picture, is_first: bool, copies: int) -> bytes:
-        """Returns a page of dots in the form of the job."""
+    def form_of(self, picture: Picture, is_first: bool, copies: int) -> bytes:
+        """Returns dots in the form of the job."""
         form = self.job.form
         if form == ZPL:
             return zpl(picture, copies)

@@ -1,24 +1,29 @@
 """What is compared before a label goes out: faults are planted, and each has to stop the job."""
 
+import gettext
 import math
+import subprocess
 import tempfile
 import unittest
 from contextlib import contextmanager
 from dataclasses import dataclass, replace
-from itertools import count, product
+from itertools import count, permutations, product
 from pathlib import Path
 from typing import Any, Callable, Iterator, Optional, Sequence
 from unittest import mock
 
 import support
 from labeltools import compare, decode, engine, own_layout, pen, press
+from labeltools.engine import Modules
 from labeltools.drawn_letters import Extent, Font, Reach
 from labeltools.drawn_pdf import pages_of_pdf
 from labeltools.forms import dots, escpos, zpl
 from labeltools.forms.dots import Picture
+from labeltools.frames import Box
 from labeltools.kept import Kept
 from labeltools.messages import Silence, ToolError
 from labeltools.print_job import Prepared, PrintOptions, labels_of, planned
+from labeltools.text import Text, translated
 
 SHOP: list[tuple[str, dict[str, Any]]] = [
     ("ean13 4006381333931", {"title": "Bleistift, weich", "price": "0,80 €", "text": ["rot"]}),
@@ -140,13 +145,16 @@ def twice(self: Any, canvas: Any, modules: Any, layout: Any) -> None:
     DRAW_MODULES(self, canvas, modules, layout)
 
 
-def drawn_wrong(number: int) -> Callable[..., Any]:
-    """`Pen.draw_modules` that draws one of the symbols of the first label with a module less."""
+def drawn_wrong(number: int, other: Optional[Modules] = None) -> Callable[..., Any]:
+    """`Pen.draw_modules` that draws one of the symbols of the first label with a module less, or as
+    another symbol.
+    """
     seen = count()
 
     def call(self: Any, canvas: Any, modules: Any, layout: Any) -> None:
         if next(seen) == number:
-            modules = replace(modules, packed=without_a_module(modules.packed))
+            less = replace(modules, packed=without_a_module(modules.packed))
+            modules = other or less
         DRAW_MODULES(self, canvas, modules, layout)
 
     return call
@@ -187,11 +195,11 @@ def placed(across: int) -> Callable[..., Any]:
 
 
 def in_rows(change: Callable[[list[str], int], object]) -> Callable[..., bytes]:
-    """`run_lengths` whose texts of rows, each of some digits, are changed."""
+    """`run_lengths` whose texts of rows, each of some bytes, are changed."""
 
-    def call(rows: Any) -> bytes:
-        size = 2 * len(rows[0])
-        texts = [RUN_LENGTHS((row,)).decode() for row in rows]
+    def call(dots: bytes, size: int) -> bytes:
+        rows = [dots[start : start + size] for start in range(0, len(dots), size)]
+        texts = [RUN_LENGTHS(row, size).decode() for row in rows]
         whole = [
             ":" if n and rows[n - 1] == row else text
             for n, (text, row) in enumerate(zip(texts, rows))
@@ -210,7 +218,7 @@ def first_letters(whole: list[str]) -> int:
 def wrong_count(whole: list[str], size: int) -> None:
     """Makes a count of a row above all codes one more; the row keeps its length."""
     number = first_letters(whole)
-    row = decode.rows_of_field(whole[number].encode(), size // 2)[0].hex().upper()
+    row = decode.new_dots((whole[number].encode(), size)).hex().upper()
     whole[number] = "0" + row[:-1]
 
 
@@ -229,7 +237,7 @@ def without_row(picture: Picture) -> Picture:
     rows = list(picture.rows)
     number = next(number for number, row in enumerate(rows) if any(row))
     rows[number] = bytes(len(rows[number]))
-    return replace(picture, rows=tuple(rows))
+    return replace(picture, packed=b"".join(rows))
 
 
 RUN_LENGTHS = zpl.run_lengths
@@ -346,6 +354,62 @@ class Planted(unittest.TestCase):
                 self.assertTrue(write(found_of(options_of(form), COPIES)))
 
 
+class Named(unittest.TestCase):
+    """What a symbol in the place of another one says is part of the message."""
+
+    def message(self, form: str, labels: Sequence[Any], **others: Any) -> Text:
+        """The message of two labels whose symbols are mixed up."""
+        with mock.patch("labeltools.print_job.run_labels", mixed):
+            found = found_of(options_of(form, **others), labels)
+        with self.assertRaises(ToolError) as caught:
+            write(found)
+        return caught.exception.what
+
+    def test_what_is_read_in_each_form_and_direction(self) -> None:
+        pairs = [
+            ("ean13 4006381333931", "ean13 5901234123457"),
+            ("ean8 73513537", "ean8 96385074"),
+            ("upca 036000291452", "upca 012345678905"),
+            ("code128 PALLET-47", "code128 PALLET-48"),
+            ("qr TICKET 1", "qr TICKET 2"),
+        ]
+        for form, lines, turn in product(FORMS, pairs, (False, True)):
+            sheet: dict[str, Any] = {}
+            if turn:
+                is_page = form in ("svg", "png")
+                sheet = {"cell" if is_page else "paper": (40.0, 62.0)}
+            with self.subTest(form=form, lines=lines, turn=turn):
+                labels = [(line, {"title": "A"}) for line in lines]
+                message = self.message(form, labels, turn=turn, **sheet)
+                read = lines[1].partition(" ")[2]
+                self.assertRegex(message, rf'^row 2: its code .* down: there it reads "{read}"$')
+
+    def test_nothing_is_said_of_what_is_no_symbol(self) -> None:
+        for form in FORMS:
+            with self.subTest(form=form):
+                found = found_of(options_of(form), PAIR)
+                wrong = of_modules(without_a_module)
+                with mock.patch(PEN + "Pen.draw_modules", wrong):
+                    with self.assertRaisesRegex(ToolError, "^row 2: its code .* mm down;"):
+                        write(found)
+
+    def test_languages(self) -> None:
+        support.needs("msgfmt")
+        message = self.message("zpl", PAIR)
+        for language, said in (
+            ("de", 'sein Code ist falsch, .* mm von oben: dort steht "5901234123457"$'),
+            ("fr", 'son code sort faux, .* mm du haut : on y lit "5901234123457"$'),
+        ):
+            with self.subTest(language), tempfile.TemporaryDirectory() as folder:
+                path = Path(folder, language, "LC_MESSAGES", "label-tools.mo")
+                path.parent.mkdir(parents=True)
+                source = support.TOOLS / f"po/{language}.po"
+                subprocess.run(["msgfmt", "-o", path, source], check=True)
+                texts = gettext.translation("label-tools", folder, [language])
+                with mock.patch("labeltools.text.one_text", texts.gettext):
+                    self.assertRegex(translated(message), said)
+
+
 class OwnDesigns(unittest.TestCase):
     """Designs of the user's own: each symbol, turned or not, is compared in each form."""
 
@@ -376,6 +440,16 @@ class OwnDesigns(unittest.TestCase):
                 wrong = drawn_wrong(number)
                 with mock.patch(PEN + "Pen.draw_modules", wrong):
                     with self.assertRaisesRegex(ToolError, "^row 2: its code is wrong"):
+                        write(found)
+
+    def test_what_is_read_of_another_symbol(self) -> None:
+        lines = (b"code128 B-12-03", b"code128 B-12-03", b"qr B-12-03", b"qr,level=H B-12-03")
+        for form, (number, line) in product(FORMS, enumerate(lines)):
+            with self.subTest(form=form, line=line):
+                found = self.found(form, None, form in ("svg", "png"))
+                wrong = drawn_wrong(number, engine.Engine(()).draw(line))
+                with mock.patch(PEN + "Pen.draw_modules", wrong):
+                    with self.assertRaisesRegex(ToolError, 'down: there it reads "B-12-03";'):
                         write(found)
 
     def test_texts_of_another_row(self) -> None:
@@ -437,8 +511,8 @@ class Read(unittest.TestCase):
     """What is read back is what was written."""
 
     def test_dots_are_read_as_they_were(self) -> None:
-        rows = tuple(bytes([row % 7 * 36, 255 * (row % 3 == 0), 0]) for row in range(40))
-        picture = Picture(24, 80, rows + tuple(bytes(3) for _ in range(40)))
+        rows = [bytes([row % 7 * 36, 255 * (row % 3 == 0), 0]) for row in range(40)]
+        picture = Picture(24, 80, b"".join(rows) + bytes(40 * 3))
         read = decode.dots_of("zpl", zpl.zpl(picture, 2), 24)
         self.assertEqual((read.width, tuple(read.rows), read.copies), (24, picture.rows, 2))
         read = decode.dots_of("escpos", escpos.escpos(picture, True, True), 24)
@@ -448,10 +522,10 @@ class Read(unittest.TestCase):
 
     def test_rows_by_the_manual(self) -> None:
         """The examples of the ZPL II manual for counts: M6 is seven of 6, hB forty of B."""
-        self.assertEqual(decode.expanded(b"M6hBgMF"), "6666666" + "B" * 40 + "F" * 27)
-        rows = decode.rows_of_field(b"F0!J5,:,12345678,M9!", 4)
-        wanted = ("F0FFFFFF", "55550000", "55550000", "00000000", "12345678", "00000000")
-        self.assertEqual([row.hex().upper() for row in rows], [*wanted, "9999999F"])
+        self.assertEqual(decode.expanded(b"M6hBgMF"), b"6666666" + b"B" * 40 + b"F" * 27)
+        rows = decode.new_dots((b"F0!J5,:,12345678,M9!", 4)).hex(" ", 4).upper()
+        wanted = "F0FFFFFF 55550000 55550000 00000000 12345678 00000000 9999999F"
+        self.assertEqual(rows, wanted)
         for text in (
             b"F0F",
             b"12345678F",
@@ -462,9 +536,37 @@ class Read(unittest.TestCase):
             b"M:",
             b"G!",
             b"12 3",
+            b"12345678:\n:",
+            b"12345678::+",
+            b"abcdefab::",
+            b"12345678:::",
         ):
             with self.subTest(text=text), self.assertRaises(decode.NotDecoded):
                 decode.dots_of("zpl", FIELD % text, 32)
+
+    def test_modules_as_dots(self) -> None:
+        """Of each size, in each direction, and from any dot of a byte on: modules, and bars with
+        their guards.
+        """
+        symbols = (["1101", "0010", "1000"], None), (["1101", "1001"], (6, 2))
+        for (rows, bars), scale, quarters, left in product(symbols, range(1, 13), range(4), (0, 5)):
+            bands = bars or (scale,) * len(rows)
+            dots = [
+                "".join(module * scale for module in row)
+                for row, high in zip(rows, bands)
+                for _ in range(high)
+            ]
+            for _ in range(quarters):
+                dots = ["".join(column) for column in zip(*dots[::-1])]
+            box = Box(left, 0, len(dots[0]), len(dots))
+            place = compare.Geometry(box, (), box, quarters, scale, 4, sum(bands), bands)
+            packed = compare.packed_rows(rows, place)
+            found = [f"{int.from_bytes(row, 'big'):0{8 * len(row)}b}" for row, _ in packed]
+            with self.subTest(rows=rows, scale=scale, quarters=quarters, left=left):
+                behind = "0" * (-box.right % 8)
+                wanted = ["0" * left + row + behind for row in dots]
+                highs = [high for _, high in packed]
+                self.assertEqual([row for row, n in zip(found, highs) for _ in range(n)], wanted)
 
     def test_a_picture_that_is_another_one(self) -> None:
         found = found_of(options_of("pdf"), PAIR[:1])
@@ -487,20 +589,65 @@ class Read(unittest.TestCase):
         compare.CodesOfPage(page, 0.125).check(wanted)
 
     def test_large_letters_are_fields_of_their_own(self) -> None:
-        """A byte of white parts them where it is in 20 rows; both widths are read back."""
-        for rows, fields in ((19, 1), (20, 2)):
-            picture = Picture(24, rows, tuple(bytes([255, 0, row]) for row in range(1, rows + 1)))
+        """A byte of white parts them where it is in 50 rows that differ; both widths are read."""
+        for rows, fields in ((49, 1), (50, 2)):
+            dots = [bytes([255, 0, row]) for row in range(1, rows + 1)]
+            picture = Picture(24, 2 * rows, b"".join([row * 2 for row in dots]))
             label = zpl.zpl(picture, 1)
             self.assertEqual(label.count(b"^FO"), fields)
-            self.assertEqual(tuple(decode.dots_of("zpl", label, 24).rows), picture.rows)
+            self.assertEqual(decode.dots_of("zpl", label, 24).rows, picture.rows)
+
+    def test_counts_where_they_save_much(self) -> None:
+        """A run of six in 20 digits is counted, L0; in 22 they are as they are; both are read."""
+        for digits, text in (
+            (b"1234567000000FEDCBA9", b"1234567L0FEDCBA9"),
+            (b"1234567000000FEDCBA987", b"1234567000000FEDCBA987"),
+        ):
+            dots = bytes.fromhex(digits.decode())
+            self.assertEqual(zpl.run_lengths(dots, len(dots)), text)
+            self.assertEqual(decode.new_dots((text, len(dots))), dots)
 
     def test_fields_over_one_another(self) -> None:
-        """Dark dots of both are dark, whichever is first and where rows end."""
-        fields = (b"^FO0,0^GFA,4,4,2,80010000^FS\n", b"^FO8,0^GFA,3,3,1,F0F00F^FS\n")
-        for first, last in (fields, fields[::-1]):
-            label = b"^XA^PON^LH0,0^LS0^PW16^LL3\n%b%b^XZ\n" % (first, last)
-            rows = decode.dots_of("zpl", label, 16).rows
-            self.assertEqual([row.hex() for row in rows], ["80f1", "00f0", "000f"])
+        """Fields may touch, in any order, and have no byte in common: printers add their dots."""
+        field = b"^FO%d,%d^GFA,%d,%d,%d,%b^FS\n"
+        first = field % (0, 1, 4, 4, 2, b"80010000")
+        beside = (
+            field % (0, 0, 2, 2, 2, b"F00F"),
+            field % (0, 3, 1, 1, 1, b"07"),
+            field % (16, 2, 2, 2, 1, b"3C:"),
+        )
+        over = (
+            field % (8, 2, 1, 1, 1, b"01"),
+            field % (8, 0, 4, 4, 1, b"00:::"),
+            field % (0, 0, 6, 6, 2, b"0000::"),
+        )
+        label = b"^XA^PON^LH0,0^LS0^PW24^LL4\n%b^XZ\n"
+        for fields in permutations((first, *beside)):
+            rows = decode.dots_of("zpl", label % b"".join(fields), 24).rows
+            self.assertEqual([row.hex() for row in rows], ["f00f00", "800100", "00003c", "07003c"])
+        for other, is_last in product(over, (True, False)):
+            fields = (first, other) if is_last else (other, first)
+            with self.subTest(fields=fields), self.assertRaises(decode.NotDecoded):
+                decode.dots_of("zpl", label % b"".join(fields), 24)
+
+    def test_fields_that_are_not_whole(self) -> None:
+        """Each field ends, is in the label, and has whole bytes."""
+        label = b"^XA^PON^LH0,0^LS0^PW32^LL3\n%b^XZ\n"
+        for field in (
+            b"^FO0,0^GFA,4,4,4,12345678",
+            b"^FO0,0^GFA,4,4,4,12345678^FS",
+            b"^FO0,0^GFA,4,4,4,12345678^FR\n",
+            b"^FO8,0^GFA,4,4,4,12345678^FS\n",
+            b"^FO0,3^GFA,4,4,4,12345678^FS\n",
+            b"^FO4,0^GFA,1,1,1,12^FS\n",
+            b"^FO0,0^GFA,4,5,4,12345678^FS\n",
+            b"^FO0,0^GFA,4,4,3,12345678^FS\n",
+            b"^FO0,0^GFA,0,0,0,^FS\n",
+        ):
+            with self.subTest(field=field), self.assertRaises(decode.NotDecoded):
+                decode.dots_of("zpl", label % field, 32)
+        whole = decode.dots_of("zpl", label % b"^FO0,2^GFA,4,4,4,12345678^FS\n", 32)
+        self.assertEqual(whole.packed.hex(), "00" * 8 + "12345678")
 
     def test_where_letters_are(self) -> None:
         """A letter of an em, with its ink from 0.1 to 0.8; one apart from the others."""

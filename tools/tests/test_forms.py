@@ -194,14 +194,9 @@ class Zpl(unittest.TestCase):
             (400, "z"),
         ):
             self.assertEqual(count_of(count), text)
-        rows = (
-            b"\xff" * 3 + b"\x00" * 3,
-            b"\xff" * 3 + b"\x00" * 3,
-            bytes(6),
-            b"\x0a" + b"\xff" * 5,
-        )
-        self.assertEqual(run_lengths(rows), b"LF,:,0A!")
-        self.assertEqual(jobs.data_of_run_lengths(run_lengths(rows), 6), b"".join(rows))
+        dots = bytes.fromhex("FFFFFF000000 FFFFFF000000 000000000000 0AFFFFFFFFFF")
+        self.assertEqual(run_lengths(dots, 6), b"LF,:,0A!")
+        self.assertEqual(jobs.data_of_run_lengths(run_lengths(dots, 6), 6), dots)
 
     def test_a_decoder_that_would_see_a_wrong_count(self) -> None:
         with self.assertRaises(jobs.JobError):

@@ -363,7 +363,7 @@ class ReadBack(unittest.TestCase):
             part = row[bars.left : bars.right]
             turned = row[: bars.left] + part[::-1] + row[bars.right :]
             rows[top] = int(turned, 2).to_bytes(len(rows[top]), "big")
-        changed = Picture(picture.width, picture.height, tuple(rows))
+        changed = Picture(picture.width, picture.height, b"".join(rows))
         self.assertEqual(fault_in(changed, item), "its bars as drawn are not those of labels")
 
 

@@ -3,6 +3,8 @@
 import struct
 import zlib
 from dataclasses import dataclass
+from functools import lru_cache
+from typing import Callable
 
 import cairo
 
@@ -13,16 +15,35 @@ from labeltools.messages import ToolError
 from labeltools.pen import REVERSED, Page, Pen
 
 LIGHT = bytes(range(255, -1, -1))  # of PNG, in which 1 is light
+KNOWN = 1024  # sizes of parts of pages that are kept
 MOST_OF_PAGE = 400_000_000  # dots: an A4 page of 1,800 dots an inch has fewer
 
 
 @dataclass(frozen=True, slots=True)
 class Picture:
-    """A page in dots: rows of whole bytes from the left, in which 1 is dark."""
+    """A page in dots: rows of whole bytes from the left, one behind another, in which 1 is dark."""
 
     width: int
     height: int
-    rows: tuple[bytes, ...]
+    packed: bytes
+
+    @property
+    def stride(self) -> int:
+        """The bytes of a row."""
+        return bytes_a_row(self.width)
+
+    @property
+    def rows(self) -> tuple[bytes, ...]:
+        """The rows."""
+        return rows_reader(0, self.stride, 0, self.height)(self.packed)
+
+
+@lru_cache(KNOWN)
+def rows_reader(before: int, size: int, behind: int, high: int) -> Callable[..., tuple[bytes, ...]]:
+    """Returns what gives so many bytes of each of some rows, which have others before and behind:
+    a quarter of the time that slices take.
+    """
+    return struct.Struct(f"{before}x{size}s{behind}x" * high).unpack_from
 
 
 def drawn_page(size: Dots, pen: Pen, page: Page, turn: int = 0) -> Picture:
@@ -32,10 +53,11 @@ def drawn_page(size: Dots, pen: Pen, page: Page, turn: int = 0) -> Picture:
     width, height = size
     surface = drawn_surface(size, pen, page, turn)
     data = bytes(surface.get_data()).translate(REVERSED)
-    stride = surface.get_stride()
     row_size = bytes_a_row(width)
-    starts = range(0, stride * height, stride)
-    return Picture(width, height, tuple(data[start : start + row_size] for start in starts))
+    behind = surface.get_stride() - row_size
+    if behind:
+        data = b"".join(rows_reader(0, row_size, behind, height)(data))
+    return Picture(width, height, data)
 
 
 def drawn_surface(size: Dots, pen: Pen, page: Page, turn: int = 0) -> cairo.ImageSurface:
@@ -62,14 +84,15 @@ def surface_of(size: Dots) -> cairo.ImageSurface:
 
 def pbm(picture: Picture) -> bytes:
     """Returns a page as raw PBM."""
-    return b"P4\n%d %d\n%b" % (picture.width, picture.height, b"".join(picture.rows))
+    return b"P4\n%d %d\n%b" % (picture.width, picture.height, picture.packed)
 
 
 def png(picture: Picture, dot: float) -> bytes:
     """Returns a page as PNG of one bit a pixel, which says the millimetres of a dot."""
     head = struct.pack(">IIBBBBB", picture.width, picture.height, 1, 0, 0, 0, 0)
     a_metre = struct.pack(">I", round(1000 / dot))
-    rows = b"".join(b"\0" + row.translate(LIGHT) for row in picture.rows)
+    light = picture.packed.translate(LIGHT)
+    rows = b"".join(b"\0" + row for row in Picture(picture.width, picture.height, light).rows)
     chunks = (
         chunk(b"IHDR", head),
         chunk(b"pHYs", a_metre + a_metre + b"\1"),

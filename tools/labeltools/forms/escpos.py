@@ -1,10 +1,11 @@
 """ESC/POS of receipt printers."""
 
 import struct
-from itertools import groupby
+from itertools import groupby, repeat
+from operator import eq
 from typing import Iterator
 
-from labeltools.forms.dots import Picture
+from labeltools.forms.dots import Picture, rows_reader
 
 START = b"\x1b@"  # of a job: resets the printer
 CUT = b"\x1bd\x03\x1dV\x42\x00"  # feeds three lines, and cuts
@@ -28,10 +29,21 @@ def bands(picture: Picture) -> Iterator[tuple[bytes, ...]]:
     start = 0
     for is_blank, end in runs(picture.rows):
         for top in range(start, end, MOST_ROWS):
-            rows = picture.rows[top : min(end, top + MOST_ROWS)]
-            size = 1 if is_blank else max(len(row.rstrip(b"\0")) for row in rows)
-            yield tuple(row[: max(1, size)] for row in rows)
+            bottom = min(end, top + MOST_ROWS)
+            size = 1 if is_blank else inked(picture, top, bottom)
+            read = rows_reader(0, size, picture.stride - size, bottom - top)
+            yield read(picture.packed, top * picture.stride)
         start = end
+
+
+def inked(picture: Picture, top: int, bottom: int) -> int:
+    """Returns the bytes of rows that are not light at the right, at least one."""
+    stride = picture.stride
+    blank = bytes(bottom - top)
+    size = stride
+    while size > 1 and picture.packed[top * stride + size - 1 : bottom * stride : stride] == blank:
+        size -= 1
+    return size
 
 
 def runs(rows: tuple[bytes, ...]) -> Iterator[tuple[bool, int]]:
@@ -39,7 +51,8 @@ def runs(rows: tuple[bytes, ...]) -> Iterator[tuple[bool, int]]:
     them.
     """
     start = 0
-    for is_blank, group in groupby(rows, key=lambda row: not any(row)):
+    blank = bytes(len(rows[0]))
+    for is_blank, group in groupby(map(eq, rows, repeat(blank))):
         end = start + len(list(group))
         if is_blank and end - start >= LEAST_BLANK:
             if start:

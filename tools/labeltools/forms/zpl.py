@@ -2,19 +2,19 @@
 
 import re
 from functools import cache, reduce
-from itertools import chain
-from operator import or_
-from typing import Iterator, NamedTuple, Sequence
+from itertools import repeat
+from operator import ne, or_
+from typing import Iterator, NamedTuple
 
-from labeltools.forms.dots import Picture
+from labeltools.forms.dots import Picture, rows_reader
 from labeltools.kept import Kept
 
 MOST_BYTES = 99_999  # of a graphic field
 # white that parts two fields: fewer rows or bytes of it take less than the head of a field
 INKED_ROWS = re.compile(rb"[^\0]+(?:\0{1,7}[^\0]+)*")
 INKED = re.compile(rb"[^\0]+(?:\0{1,2}[^\0]+)*")
-INKED_OF_HIGH = re.compile(rb"[^\0]+")
-HIGH = 20  # rows from which on a byte of white in each takes more than a head: large letters
+INKED_OF_MANY = re.compile(rb"[^\0]+")
+MANY = 50  # rows that differ, from which on a byte of white in each takes more: large letters
 # run lengths: counts of one are a letter from G on, counts of twenty a letter from g on
 MOST_COUNT = 400
 TWENTY = 20
@@ -22,18 +22,67 @@ BEFORE_ONE = ord("F")
 BEFORE_TWENTY = ord("f")
 # five or more: a count of fewer saves next to nothing; one pattern for both takes twice the time
 OFTEN = (re.compile("(000000*)"), re.compile("(FFFFFF*)"))
-BLOCKS: Kept[tuple[bytes, ...], bytes] = Kept(1024)
+RUNS = ("000000", "FFFFFF")
+RARELY = 20  # digits to one of these: where there are more, counts save less than a third
+BLOCKS: Kept[tuple[bytes, int], bytes] = Kept(1024)
 RESTS = {"0": ",", "F": "!"}  # the rest of a row is light or dark
 
 
 class Block(NamedTuple):
-    """A part of a label with white around it: the byte and the row where it begins, and its rows
-    of whole bytes.
+    """A part of a label: its columns in bytes and its rows in dots, from the first to that behind
+    the last.
     """
 
     left: int
     top: int
-    rows: Sequence[bytes]
+    right: int
+    bottom: int
+
+
+class Parts:
+    """The parts of a label that are fields."""
+
+    def __init__(self, picture: Picture) -> None:
+        self.packed = picture.packed
+        self.stride = picture.stride
+        self.whole = Block(0, 0, picture.stride, picture.height)
+
+    def rows(self, block: Block) -> tuple[bytes, ...]:
+        """Returns the rows of a block."""
+        left, top, right, bottom = block
+        read = rows_reader(left, right - left, self.stride - right, bottom - top)
+        return read(self.packed, top * self.stride)
+
+    def blocks(self, block: Block, is_narrow: bool = False) -> Iterator[Block]:
+        """Yields the blocks of a part of a label with white around them, from top to bottom, and
+        from left to right; `is_narrow` is whether no column of white parts it.
+        """
+        bands = list(self.bands(block))
+        if is_narrow and len(bands) == 1:
+            yield from bands
+            return
+        for band in bands:
+            rows = set(self.rows(band))
+            dots = [int.from_bytes(row, "big") for row in rows]
+            inked = reduce(or_, dots).to_bytes(band.right - band.left, "big")
+            parts = list(INKED.finditer(inked))
+            is_split = len(parts) == 1 and len(rows) >= MANY
+            if is_split:
+                parts = list(INKED_OF_MANY.finditer(inked))
+            for part in parts:
+                first, last = part.span()
+                found = Block(band.left + first, band.top, band.left + last, band.bottom)
+                if len(parts) == 1:
+                    yield found
+                else:
+                    yield from self.blocks(found, is_split)
+
+    def bands(self, block: Block) -> Iterator[Block]:
+        """Yields parts of a block with white rows between them, and none at their ends."""
+        blank = bytes(block.right - block.left)
+        inked = bytes(map(ne, self.rows(block), repeat(blank)))
+        for first, last in map(re.Match.span, INKED_ROWS.finditer(inked)):
+            yield Block(block.left, block.top + first, block.right, block.top + last)
 
 
 def zpl(picture: Picture, copies: int) -> bytes:
@@ -50,62 +99,38 @@ def zpl(picture: Picture, copies: int) -> bytes:
     return head + fields + count + b"^XZ\n"
 
 
-def graphic_fields(picture: Picture) -> list[bytes]:
-    """Returns the graphic fields of a label."""
-    fields = []
-    for block in blocks(Block(0, 0, picture.rows)):
-        size = len(block.rows[0])
+def graphic_fields(picture: Picture) -> Iterator[bytes]:
+    """Yields the graphic fields of a label."""
+    parts = Parts(picture)
+    for block in parts.blocks(parts.whole):
+        size = block.right - block.left
         rows_a_field = MOST_BYTES // size
-        for start in range(0, len(block.rows), rows_a_field):
-            rows = block.rows[start : start + rows_a_field]
-            data = run_lengths(tuple(rows))
-            place = (8 * block.left, block.top + start)
-            length = len(rows) * size
-            fields.append(b"^FO%d,%d^GFA,%d,%d,%d,%b^FS\n" % (*place, length, length, size, data))
-    return fields
+        for top in range(block.top, block.bottom, rows_a_field):
+            bottom = min(block.bottom, top + rows_a_field)
+            dots = b"".join(parts.rows(block._replace(top=top, bottom=bottom)))
+            place = (8 * block.left, top, len(dots), len(dots), size)
+            yield b"^FO%d,%d^GFA,%d,%d,%d,%b^FS\n" % (*place, run_lengths(dots, size))
 
 
-def blocks(whole: Block) -> Iterator[Block]:
-    """Yields the blocks of a label from top to bottom, and from left to right."""
-    for band in bands(whole):
-        dots = [int.from_bytes(row, "big") for row in set(band.rows)]
-        inked = reduce(or_, dots).to_bytes(len(band.rows[0]), "big")
-        parted = INKED if len(band.rows) < HIGH else INKED_OF_HIGH
-        spans = [found.span() for found in parted.finditer(inked)]
-        for first, last in spans:
-            rows = [row[first:last] for row in band.rows]
-            block = Block(band.left + first, band.top, rows)
-            if len(spans) > 1:
-                yield from blocks(block)
-            else:
-                yield block
+def run_lengths(dots: bytes, size: int) -> bytes:
+    """Returns rows of some bytes in hexadecimal: `:` for the row above once more, and where it
+    saves much, a count before 0 and F that come often, `,` and `!` for a rest of them.
 
-
-def bands(block: Block) -> Iterator[Block]:
-    """Yields parts of a block with white rows between them, and none at their ends."""
-    blank = bytes(len(block.rows[0])) if block.rows else b""
-    inked = bytes([row != blank for row in block.rows])
-    for first, last in map(re.Match.span, INKED_ROWS.finditer(inked)):
-        yield Block(block.left, block.top + first, block.rows[first:last])
-
-
-def run_lengths(rows: tuple[bytes, ...]) -> bytes:
-    """Returns rows in hexadecimal: a count before 0 and F that come often, `,` and `!` for a rest
-    of them, `:` for the row above once more.
-
-    >>> run_lengths((bytes.fromhex("FF00AB"), bytes.fromhex("FF00AB"), bytes(3)))
-    b'FF00AB:,'
+    >>> run_lengths(bytes.fromhex("FF00AB FF00AB 00000000000C"), 3)
+    b'FF00AB:,K0C'
     """
-    return BLOCKS.get(rows, new_run_lengths)
+    return BLOCKS.get((dots, size), new_run_lengths)
 
 
-def new_run_lengths(rows: tuple[bytes, ...]) -> bytes:
-    """Writes rows in run lengths."""
-    texts = [
-        ":" if row == above else without_rest(row.hex().upper())
-        for above, row in zip(chain([b""], rows), rows)
-    ]
-    whole = "".join(texts)  # no run goes on from a row to the next
+def new_run_lengths(block: tuple[bytes, int]) -> bytes:
+    """Writes rows in run lengths, or without counts, which are quicker to write and to read."""
+    dots, size = block
+    rows = dots.hex("\n", size).upper().split("\n")
+    texts = [":" if row == above else row for above, row in zip(["", *rows], rows)]
+    whole = "".join(texts)
+    if sum(map(whole.count, RUNS)) * RARELY < len(whole):
+        return whole.encode()
+    whole = "".join(map(without_rest, texts))  # no run goes on from a row to the next
     for often in OFTEN:
         pieces = often.split(whole)
         pieces[1::2] = map(run_length_of, pieces[1::2])
