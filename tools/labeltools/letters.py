@@ -3,21 +3,17 @@
 import re
 import unicodedata
 from dataclasses import dataclass
+from functools import cache
 from typing import Any, Iterable, NamedTuple, Optional
-
-import cairo
 
 from labeltools.text import Text
 from labeltools.layout import Extent, PrintLabel
 from labeltools.messages import ToolError
-from labeltools.pango import Pango, PangoCairo
+from labeltools.glyphs import OTHERS, Glyphs
+from labeltools.pango import MEASURED, Pango, PangoCairo, new_layout, pango_context, plain_options
 
-MEASURED = 200  # dots: the size of letters in which they are measured
 KEPT = 2048  # words of which the extent is kept
 MOST_NAMED = 9  # letters that a message names
-# letters that stand one behind another: Latin, Greek, Cyrillic; punctuation; currencies
-SIMPLE = ((0x20, 0x2FF), (0x370, 0x482), (0x48A, 0x52F), (0x2010, 0x2027), (0x20A0, 0x20CF))
-OTHERS = re.compile("[^" + "".join(f"{chr(one)}-{chr(other)}" for one, other in SIMPLE) + "]")
 SPACED = re.compile("[^ ]+ *| +")
 FONTS_OF_LETTERS = "apt-get install fonts-noto-core fonts-noto-cjk"
 FONTS_OF_SIGNS = "apt-get install fonts-symbola"
@@ -54,23 +50,6 @@ def extent_of(sign: Sign) -> Extent:
     return Extent(width, height) if width > 0 and height > 0 else NOTHING
 
 
-def pango_context(options: cairo.FontOptions, is_rounded: bool) -> Any:
-    """Returns what lays texts out; glyphs are at whole dots where `is_rounded`."""
-    context = PangoCairo.FontMap.get_default().create_context()
-    context.set_round_glyph_positions(is_rounded)
-    PangoCairo.context_set_font_options(context, options)
-    return context
-
-
-def plain_options() -> cairo.FontOptions:
-    """Returns the options of letters that keep their shapes in any size."""
-    options = cairo.FontOptions()
-    options.set_hint_metrics(cairo.HintMetrics.OFF)
-    options.set_hint_style(cairo.HintStyle.NONE)
-    options.set_antialias(cairo.Antialias.GRAY)
-    return options
-
-
 def font_for(family: str) -> str:
     """Returns the font that is there for a wanted one: itself, or what is taken in its place."""
     context = pango_context(plain_options(), False)
@@ -93,24 +72,17 @@ class Letters:
 
     def __init__(self, fonts: Fonts) -> None:
         require_fonts(fonts)
+        self.family = fonts.texts
+        self.glyphs = cache(Glyphs)
         context = pango_context(plain_options(), False)
-        self.layouts = tuple(self.layout(context, fonts.texts, style) for style in ("", "Bold"))
+        self.layouts = tuple(new_layout(context, fonts.texts, style) for style in ("", "Bold"))
         self.signs: tuple[dict[str, Optional[Sign]], ...] = ({}, {})
         self.words: tuple[dict[str, Optional[Sign]], ...] = ({}, {})
-        self.wrapped = self.layout(context, fonts.texts, "")
+        self.wrapped = new_layout(context, fonts.texts, "")
         self.wrapped.set_width(1)  # so that each part of a line is a line
         blanks = [self.extents(" ", is_bold)[1] for is_bold in (False, True)]
         self.spaces = [blank.width for blank in blanks]
         self.heights = [blank.height for blank in blanks]  # of lines
-
-    @staticmethod
-    def layout(context: Any, family: str, style: str) -> Any:
-        """Returns a layout in the size that is measured."""
-        layout = Pango.Layout.new(context)
-        font = Pango.FontDescription(f"{family}, {style}")
-        font.set_absolute_size(MEASURED * Pango.SCALE)
-        layout.set_font_description(font)
-        return layout
 
     def extent(self, text: str, is_bold: bool) -> Extent:
         """Returns the extent of a line of text; zeros for one without ink."""
@@ -176,7 +148,7 @@ class Letters:
 
     def new_sign(self, letter: str, is_bold: bool) -> Optional[Sign]:
         """Measures a letter; None where it may change beside others."""
-        if not any(first <= ord(letter) <= last for first, last in SIMPLE):
+        if OTHERS.search(letter):
             return None
         return self.whole_sign(letter, is_bold)
 

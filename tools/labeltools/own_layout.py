@@ -60,6 +60,11 @@ class OwnSymbol:
     module: int
     boxes: Mapping[str, Box]
 
+    @property
+    def quarters(self) -> int:
+        """By how many quarters it is turned to the right."""
+        return self.place.quarters
+
 
 @dataclass(frozen=True, slots=True)
 class OwnLayout(Layout):
