@@ -2,6 +2,7 @@
 else by Pango. Lengths are in dots.
 """
 
+import math
 import re
 from functools import cache
 from typing import Any, Hashable, NamedTuple, Optional, Sequence
@@ -52,24 +53,35 @@ class Style(NamedTuple):
 
 
 class Line(NamedTuple):
-    """A line of glyphs: their numbers, where each begins, and their base line."""
+    """A line of glyphs, and where it begins on its base line."""
 
-    numbers: Sequence[int]
-    places: Sequence[float]
-    base: float
+    glyphs: Spaced
+    x: float
+    y: float
 
 
 class Fitted(NamedTuple):
-    """A text in letters of a size: its lines, or a layout of Pango where these are not known; where
-    that begins in its box, and how high it is.
+    """A text in letters of a size: its lines and their font, or a layout of Pango where these are
+    not known; where that begins in its box, and how high it is.
     """
 
     size: int
+    face: Any
     lines: Sequence[Line]
     layout: Any
     x: int
     y: int
     height: int
+
+
+class Known(NamedTuple):
+    """What is known of a style: the glyphs of its font, if their places are known; its first base
+    line, and the height of a line of text.
+    """
+
+    glyphs: Optional[Glyphs]
+    base: float
+    high: int
 
 
 class Fitter:
@@ -87,14 +99,18 @@ class Fitter:
         self.pango = pango
         self.context = pango_context(options, is_dots)
         self.blank = cache(self.new_blank)
-        self.measures = cache(self.new_measures)
-        self.glyphs = cache(self.new_glyphs)
+        self.known = cache(self.new_known)
         self.kept: Kept[Hashable, Fitted] = Kept(KEPT)
 
-    def new_glyphs(self, family: str, is_bold: bool) -> Optional[Glyphs]:
-        """Returns the glyphs of a font; None where their places are not known."""
-        is_known = family.lower().startswith(BY_PAIRS) and family not in self.pango
-        return self.letters.glyphs(family, is_bold) if is_known and not self.is_dots else None
+    def new_known(self, style: Style) -> Known:
+        """Returns what is known of a style."""
+        family = style.family
+        layout = self.laid_out("x", style._replace(across=LEFT), 0, style.size)
+        lines = layout.get_baseline() / UNIT, layout.get_pixel_size()[1]
+        is_pango = self.is_dots or family in self.pango or style.struck
+        if is_pango or not family.lower().startswith(BY_PAIRS):
+            return Known(None, *lines)
+        return Known(self.letters.glyphs(family, style.is_bold), *lines)
 
     def found(self, text: str, style: Style, width: int, height: int) -> Fitted:
         """Returns what fitted() does. A text that comes again is kept as it is fitted."""
@@ -103,62 +119,16 @@ class Fitter:
 
     def fitted(self, text: str, style: Style, width: int, height: int) -> Fitted:
         """Returns a text as it fits a box: smaller where its ink would leave it."""
-        known = None
+        known = self.known(style)
+        found = None
         if style.base is not None:
-            known = self.on_base(text, style, width)
-        elif not style.struck:
-            glyphs = self.glyphs(style.family, style.is_bold)
-            fit = self.wrapped if style.lines else self.in_line
-            known = fit(glyphs, text, style, width, height) if glyphs else None
-        return known or self.by_pango(text, style, width, height)
+            found = self.on_base(known, text, style, width)
+        elif known.glyphs is not None:
+            fit = wrapped if style.lines else in_line
+            found = fit(known.glyphs, known, text, style, width, height)
+        return found or self.by_pango(text, style, width, height)
 
-    def wrapped(
-        self, glyphs: Glyphs, text: str, style: Style, width: int, height: int
-    ) -> Optional[Fitted]:
-        """Returns a text in whole lines; None where Pango has to say them, or another size."""
-        if NOT_LATIN.search(text):
-            return None
-        side = style.size // SIDE
-        room = (width - 2 * side) * UNIT
-        rows: list[Spaced] = []
-        for paragraph in text.split("\n"):
-            found = rows_of(glyphs.line(paragraph, style.size), paragraph, room)
-            if not found or len(found) > style.lines:
-                return None
-            rows += found
-        step = line_step(style.size)
-        high = -(-len(rows) * step // UNIT)
-        if high > height:
-            return None
-        base, _ = self.measures(style, style.size)
-        lines = [
-            line_at(row, shift_of(row.width, room, style.across), base + number * step)
-            for number, row in enumerate(rows)
-        ]
-        return Fitted(style.size, lines, None, side, int((height - high) * style.down), high)
-
-    def in_line(
-        self, glyphs: Glyphs, text: str, style: Style, width: int, height: int
-    ) -> Optional[Fitted]:
-        """Returns a text in one line; None where Pango has to say it, or another size."""
-        size = style.size
-        row = glyphs.line(text, size)
-        if row is None:
-            return None
-        base, high = self.measures(style, size)
-        found = glyphs.ink(text, row, size)
-        left = found.left // UNIT
-        top = (base + found.top) // UNIT
-        right = -(-found.right // UNIT)
-        bottom = -(-(base + found.bottom) // UNIT)
-        ink = Box(left, top, right - left, bottom - top)
-        if not 0 < ink.width <= width or not 0 < ink.height <= height:
-            return None
-        x = (width - -(-row.width // UNIT)) * (style.across + 1) // 2
-        x, y = inside(x, int((height - high) * style.down), ink, width, height)
-        return Fitted(size, [line_at(row, 0, base)], None, x, y, high)
-
-    def on_base(self, text: str, style: Style, width: int) -> Optional[Fitted]:
+    def on_base(self, known: Known, text: str, style: Style, width: int) -> Optional[Fitted]:
         """Returns a line of text on its base line by the widths of its letters, which Pango takes
         long to say; None in dots, where their shapes are others.
         """
@@ -170,13 +140,13 @@ class Fitter:
         size = style.size
         ink = (sign.advance - sign.left - sign.right) * size
         x = round((width - ink) * (style.across + 1) / 2 - sign.left * size)
-        base, high = self.measures(style, size)
-        y = (style.base or 0) - base // UNIT
-        glyphs = self.glyphs(style.family, style.is_bold)
-        row = glyphs.line(text, size) if glyphs and not style.struck else None
-        if row is None:
-            return Fitted(size, (), self.laid_out(text, style, width, size), x, y, high)
-        return Fitted(size, [line_at(row, 0, base)], None, x, y, high)
+        y = (style.base or 0) - math.floor(known.base)
+        row = known.glyphs.line(text, size) if known.glyphs else None
+        if known.glyphs is None or row is None:
+            layout = self.laid_out(text, style, width, size)
+            return Fitted(size, None, (), layout, x, y, known.high)
+        lines = (Line(row, 0.0, known.base),)
+        return Fitted(size, known.glyphs.face, lines, None, x, y, known.high)
 
     def by_pango(self, text: str, style: Style, width: int, height: int) -> Fitted:
         """Returns a text as Pango fits it."""
@@ -196,12 +166,7 @@ class Fitter:
         else:
             x = size // SIDE if style.lines else (width - across) * (style.across + 1) // 2
             y = int((height - high) * style.down)
-        return Fitted(size, (), layout, *inside(x, y, ink, width, height), high)
-
-    def new_measures(self, style: Style, size: int) -> tuple[int, int]:
-        """Returns the base line of a style in units of Pango, and the height of its line."""
-        layout = self.laid_out("x", style._replace(across=LEFT), 0, size)
-        return layout.get_baseline(), layout.get_pixel_size()[1]
+        return Fitted(size, None, (), layout, *inside(x, y, ink, width, height), high)
 
     def is_cut(self, text: str, style: Style, width: int, height: int) -> bool:
         """Returns whether a text ends in an ellipsis as it fits a box."""
@@ -214,16 +179,17 @@ class Fitter:
 
     def is_surely_whole(self, line: str, style: Style, room: float) -> bool:
         """Returns whether a line is whole by the widths of its words, which is quick to see."""
-        words = [self.letters.word(word, style.is_bold) for word in line.split(" ") if word]
+        words = self.letters.words[style.is_bold]
         lines = 1
         used = 0.0
-        for word in words:
-            if word is None or word.advance > room:
+        for word in line.split(" "):
+            sign = words[word]
+            if sign is None or sign.advance > room:
                 return False
-            if used + word.advance > room:
+            if used + sign.advance > room:
                 lines += 1
                 used = 0.0
-            used += word.advance + SPACE
+            used += sign.advance + SPACE * bool(word)
         return lines <= style.lines
 
     def shown(self, text: str, style: Style, width: int, height: int) -> str:
@@ -253,6 +219,55 @@ class Fitter:
         layout = self.blank(plain, width if style.lines else 0, size)
         layout.set_text(text, -1)
         return layout
+
+
+def wrapped(
+    glyphs: Glyphs, known: Known, text: str, style: Style, width: int, height: int
+) -> Optional[Fitted]:
+    """Returns a text in whole lines; None where Pango has to say them, or another size."""
+    if not text.isascii() and NOT_LATIN.search(text):
+        return None
+    size = style.size
+    side = size // SIDE
+    room = width - 2 * side
+    rows: list[Spaced] = []
+    for paragraph in text.split("\n"):
+        found = rows_of(glyphs.line(paragraph, size), paragraph, room)
+        if not found or len(found) > style.lines:
+            return None
+        rows += found
+    step = line_step(size) / UNIT
+    high = math.ceil(len(rows) * step)
+    if high > height:
+        return None
+    lines = [
+        Line(row, shift_of(row.width, room, style.across), known.base + number * step)
+        for number, row in enumerate(rows)
+    ]
+    y = int((height - high) * style.down)
+    return Fitted(size, glyphs.face, lines, None, side, y, high)
+
+
+def in_line(
+    glyphs: Glyphs, known: Known, text: str, style: Style, width: int, height: int
+) -> Optional[Fitted]:
+    """Returns a text in one line; None where Pango has to say it, or another size."""
+    size = style.size
+    row = glyphs.line(text, size)
+    if row is None:
+        return None
+    found = glyphs.ink(text, row, size)
+    left = math.floor(found.left)
+    top = math.floor(known.base + found.top)
+    wide = math.ceil(found.right) - left
+    ink = Box(left, top, wide, math.ceil(known.base + found.bottom) - top)
+    if not 0 < ink.width <= width or not 0 < ink.height <= height:
+        return None
+    x = (width - math.ceil(row.width)) * (style.across + 1) // 2
+    y = int((height - known.high) * style.down)
+    lines = (Line(row, 0.0, known.base),)
+    place = inside(x, y, ink, width, height)
+    return Fitted(size, glyphs.face, lines, None, *place, known.high)
 
 
 def copied(text: Fitted) -> Fitted:
@@ -288,29 +303,26 @@ def attributes_of(style: Style, size: int) -> Any:
 
 
 def rows_of(line: Optional[Spaced], text: str, room: int) -> Sequence[Spaced]:
-    """Returns the rows of a line of text in a room, in units of Pango, as Pango parts it: as many
-    words as fit on each. None where it would part it elsewhere.
+    """Returns the rows of a line of text in a room as Pango parts it: as many words as fit on each.
+    None where it would part it elsewhere.
     """
     if line is None or not text or text[0] == " " or text[-1] == " ":
         return ()
     if line.width <= room:
-        return [line]
+        return (line,)
     if SEVERAL.search(text):
         return ()
-    numbers, places = line
-    ends = [place for place, letter in enumerate(text) if letter == " "] + [len(text)]
+    places = line.places
     rows = []
     first = last = 0  # letters: where a row begins and where it ends
-    for end in ends:
+    for end in [place for place, letter in enumerate(text) if letter == " "] + [len(text)]:
         if places[end] - places[first] > room:
-            if last == first:
-                return ()
             rows.append(part_of(line, first, last))
             first = last + 1
-            if places[end] - places[first] > room:
+            if last < first - 1 or places[end] - places[first] > room:
                 return ()
         last = end
-    return [*rows, part_of(line, first, len(numbers))]
+    return [*rows, part_of(line, first, len(text))]
 
 
 def part_of(line: Spaced, first: int, last: int) -> Spaced:
@@ -320,21 +332,15 @@ def part_of(line: Spaced, first: int, last: int) -> Spaced:
     return Spaced(line.numbers[first:last], places)
 
 
-def shift_of(width: int, room: int, across: int) -> int:
-    """Returns where Pango begins a line in a room, in its units."""
+def shift_of(width: float, room: int, across: int) -> float:
+    """Returns where Pango begins a line in a room."""
     if across == LEFT:
-        return 0
+        return 0.0
     if across == RIGHT:
         return room - width
-    shift = (room - width) // 2
-    is_whole = not (room | width) % UNIT
-    return (shift + UNIT // 2) // UNIT * UNIT if is_whole else shift
-
-
-def line_at(row: Spaced, shift: int, base: int) -> Line:
-    """Returns a row as a line of dots, of its shift and base line in units of Pango."""
-    numbers, places = row
-    return Line(numbers, [(shift + place) / UNIT for place in places[:-1]], base / UNIT)
+    if width.is_integer():
+        return math.floor((room - width + 1) / 2)
+    return int((room - width) * UNIT) // 2 / UNIT
 
 
 def seen_in(layout: Any) -> str:

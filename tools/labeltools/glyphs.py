@@ -2,22 +2,24 @@
 
 In fonts that are named here letters of Latin, Greek and Cyrillic stand one behind another, and are
 nearer or farther by pairs alone. So the places of a line are known by its pairs, as Pango says them
-for a whole line, in a tenth of the time. Lengths are in units of Pango, of which a dot has 1024.
+for a whole line, in a tenth of the time. Lengths are in dots; those in the size that is measured,
+and of letters beside one another, in units of Pango.
 """
 
+import math
 import re
 from functools import cache, partial
 from itertools import accumulate
 from operator import add
-from typing import Any, Callable, Generic, Hashable, NamedTuple, Optional, Sequence, TypeVar
+from typing import Any, NamedTuple, Optional, Sequence
 
 import cairo
 
-from labeltools.pango import MEASURED, Pango, new_layout, pango_context, plain_options
+from labeltools.kept import Found
+from labeltools.pango import MEASURED, Pango, plain_options
 
-Key = TypeVar("Key", bound=Hashable)
-Value = TypeVar("Value")
-Pair = tuple[str, str]  # a letter and the next one; at the end of a line that is none
+Pair = tuple[str, str]  # a letter and the next one
+END = "\0"  # what is behind the last letter of a line
 # letters that stand one behind another: Latin, Greek, Cyrillic; punctuation; currencies
 SIMPLE = ((0x20, 0x2FF), (0x370, 0x482), (0x48A, 0x52F), (0x2010, 0x2027), (0x20A0, 0x20CF))
 OTHERS = re.compile("[^" + "".join(f"{chr(one)}-{chr(other)}" for one, other in SIMPLE) + "]")
@@ -38,10 +40,10 @@ class Spaced(NamedTuple):
     """The numbers of the glyphs of a line, where each of them begins, and where the line ends."""
 
     numbers: Sequence[int]
-    places: Sequence[int]
+    places: Sequence[float]
 
     @property
-    def width(self) -> int:
+    def width(self) -> float:
         """Where the line ends."""
         return self.places[-1]
 
@@ -56,36 +58,24 @@ class Letter(NamedTuple):
 class Ink(NamedTuple):
     """Where a glyph, or a line of them, has ink, from where it begins on its base line."""
 
-    left: int
-    top: int
-    right: int
-    bottom: int
+    left: float
+    top: float
+    right: float
+    bottom: float
 
 
-NO_INK = Ink(1 << 30, 1 << 30, -1 << 30, -1 << 30)
-
-
-class Found(dict[Key, Value], Generic[Key, Value]):
-    """What is found for keys when they are first asked for."""
-
-    def __init__(self, find: Callable[[Key], Value]) -> None:
-        super().__init__()
-        self.find = find
-
-    def __missing__(self, key: Key) -> Value:
-        found = self[key] = self.find(key)
-        return found
+NO_INK = Ink(math.inf, math.inf, -math.inf, -math.inf)
 
 
 class Glyphs:
     """The glyphs of a font without hints, and how far each one is from the next."""
 
-    def __init__(self, family: str, is_bold: bool) -> None:
+    def __init__(self, family: str, is_bold: bool, layout: Any) -> None:
+        """Takes what lays its letters out in the size that is measured."""
         weight = cairo.FONT_WEIGHT_BOLD if is_bold else cairo.FONT_WEIGHT_NORMAL
         self.face = cairo.ToyFontFace(family, cairo.FONT_SLANT_NORMAL, weight)
         self.font = self.font_of(MEASURED)
-        context = pango_context(plain_options(), False)
-        self.layout = new_layout(context, family, "Bold" if is_bold else "")
+        self.layout = layout
         self.letter = cache(self.new_letter)
         self.nearer: dict[Pair, Optional[int]] = {}  # than the letters by themselves
         self.numbers: Found[str, int] = Found(lambda letter: self.clear(letter).number)
@@ -99,15 +89,14 @@ class Glyphs:
 
     def line(self, text: str, size: int) -> Optional[Spaced]:
         """Returns the glyphs of a line in letters of a size; None where they are not clear."""
-        steps = self.steps(size)
-        pairs = [*zip(text, (*text[1:], ""))]
+        step = self.steps(size).__getitem__
         for _ in range(2):
             try:
                 numbers = [*map(self.numbers.__getitem__, text)]
-                places = accumulate(map(steps.__getitem__, pairs), initial=0)
-                return Spaced(numbers, [*places])
+                steps = map(step, zip(text, text[1:] + END))
+                return Spaced(numbers, [*accumulate(steps, initial=0.0)])
             except Unknown:
-                self.learn(text, pairs)
+                self.learn(text)
             except Unclear:
                 break
         return None
@@ -123,20 +112,21 @@ class Glyphs:
             max(bottoms),
         )
 
-    def new_steps(self, size: int) -> Found[Pair, int]:
+    def new_steps(self, size: int) -> Found[Pair, float]:
         """Returns how far letters in a size are from the next ones, by both."""
         return Found(partial(self.step, size))
 
-    def step(self, size: int, pair: Pair) -> int:
+    def step(self, size: int, pair: Pair) -> float:
         """Returns how far a letter is from the next one, rounded as HarfBuzz does it; raises
         `Unclear` and `Unknown`.
         """
-        if pair[1] and pair not in self.nearer:
+        first, second = pair
+        if second != END and pair not in self.nearer:
             raise Unknown
-        nearer = self.nearer[pair] if pair[1] else 0
+        nearer = self.nearer[pair] if second != END else 0
         if nearer is None:
             raise Unclear
-        return in_size(self.clear(pair[0]).advance, size) + in_size(nearer, size)
+        return (in_size(self.clear(first).advance, size) + in_size(nearer, size)) / UNIT
 
     def new_inks(self, size: int) -> Found[str, Ink]:
         """Returns where letters have ink in a size."""
@@ -147,10 +137,8 @@ class Glyphs:
         extents = font.glyph_extents([cairo.Glyph(self.numbers[letter], 0, 0)])
         if not extents.width or not extents.height:
             return NO_INK
-        left, top = round(extents.x_bearing * UNIT), round(extents.y_bearing * UNIT)
-        return Ink(
-            left, top, left + round(extents.width * UNIT), top + round(extents.height * UNIT)
-        )
+        left, top = extents.x_bearing, extents.y_bearing
+        return Ink(left, top, left + extents.width, top + extents.height)
 
     def clear(self, letter: str) -> Letter:
         """Returns a letter that is clear; raises `Unclear`."""
@@ -174,27 +162,27 @@ class Glyphs:
         is_same = all(abs(one / UNIT - other) < NEAR for one, other in (*sides, *sizes))
         return Letter(glyph.index, whole.width) if is_same else None
 
-    def learn(self, text: str, pairs: Sequence[Pair]) -> None:
+    def learn(self, text: str) -> None:
         """Has Pango lay out a line, or, where it has other glyphs, each pair; raises `Unclear` for
         letters that are not.
         """
-        for letter in text:
-            self.clear(letter)
-        new = [pair for pair in pairs[:-1] if pair not in self.nearer]
+        advances = [self.clear(letter).advance for letter in text]
+        pairs = [*zip(text, text[1:])]
         if self.has_glyphs(text):
-            line = self.layout.get_line_readonly(0)
-            ends = accumulate(len(letter.encode()) for letter in text)
-            places = [0, *(line.index_to_x(end, False) for end in ends)]
-            for pair, start, end in zip(pairs[:-1], places, places[1:]):
-                self.nearer[pair] = end - start - self.clear(pair[0]).advance
+            places = self.places(text)
+            for pair, start, end, advance in zip(pairs, places, places[1:], advances):
+                self.nearer[pair] = end - start - advance
             return
-        for first, second in new:
-            nearer = None
-            if self.has_glyphs(first + second):
-                line = self.layout.get_line_readonly(0)
-                place = line.index_to_x(len(first.encode()), False)
-                nearer = place - self.clear(first).advance
-            self.nearer[first, second] = nearer
+        for pair, advance in zip(pairs, advances):
+            if pair not in self.nearer:
+                is_clear = self.has_glyphs("".join(pair))
+                self.nearer[pair] = self.places(pair[0])[1] - advance if is_clear else None
+
+    def places(self, text: str) -> list[int]:
+        """Returns where letters of the line that is laid out begin, and where the last one ends."""
+        line = self.layout.get_line_readonly(0)
+        ends = accumulate(len(letter.encode()) for letter in text)
+        return [0, *(line.index_to_x(end, False) for end in ends)]
 
     def has_glyphs(self, letters: str) -> bool:
         """Lays letters out, and returns whether each has a glyph of the same font."""

@@ -17,7 +17,7 @@ from base64 import b64decode
 from contextlib import suppress
 from copy import deepcopy
 from dataclasses import dataclass, replace
-from functools import lru_cache
+from functools import cached_property, lru_cache
 from pathlib import Path
 from typing import Any, Iterable, Iterator, Mapping, NamedTuple, Optional
 from xml.etree import ElementTree
@@ -73,7 +73,7 @@ BLACK = (0.0, 0.0, 0.0)
 WHITE = (1.0, 1.0, 1.0)
 
 
-@dataclass(frozen=True)
+@dataclass(frozen=True, eq=False)
 class Place:
     """The place of a part: how messages call it, its name, its sides, by how many quarters it is
     turned to the right; how its letters are written, and their colour (None: what can be read on
@@ -104,12 +104,16 @@ class Place:
         """Whether a symbol is there."""
         return bool(self.symbology) or self.part == "code"
 
-    @property
+    @cached_property
+    def key(self) -> str:
+        """Its name, as names are compared."""
+        return key_of(self.name)
+
+    @cached_property
     def part(self) -> str:
         """The part or column that it is for, as names are compared, without a number behind it."""
-        known = key_of(self.name)
-        match = AGAIN.fullmatch(known)
-        return match[1] if match else known
+        match = AGAIN.fullmatch(self.key)
+        return match[1] if match else self.key
 
     def meets(self, other: "Place") -> bool:
         """Returns whether it has room in common with another one."""
@@ -190,7 +194,7 @@ def read_design(name: str, cell: Size, white: Edges, turn: Optional[bool]) -> Ow
     smaller = [one.title for one, whole in zip(cut, placed) if is_smaller(one, whole)]
     for parent, rect, _ in places:
         parent.remove(rect)
-    keys = frozenset(key for place in placed for key in (key_of(place.name), place.part))
+    keys = frozenset(key for place in placed for key in (place.key, place.part))
     groups = frozenset(key for _, _, key in groups_of(root) if key in keys)
     how = (root, corner, size, groups, tuple(smaller), fonts_of(root), shapes_of(root))
     return OwnDesign(name, label, is_turned, cut, *how)

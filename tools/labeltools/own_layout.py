@@ -4,16 +4,18 @@ texts in sizes of their letters.
 """
 
 import math
+from bisect import bisect_left
 from collections import Counter
 from dataclasses import dataclass, field
 from functools import cache
+from operator import neg
 from typing import Iterable, Iterator, Mapping, NamedTuple, Optional, Sequence
 
 from labeltools.area import LARGEST_MODULE, TINY, Area
 from labeltools.engine import Modules, run_labels
 from labeltools.frames import DIGITS_ROOM, HINTING, LEAST_TEXT, LINE, LOWEST, Box, Frame, share
 from labeltools.layout import ASKED, LaidOut, LaidOutFile, Layout, PrintLabel, short
-from labeltools.letters import BLANK, Fonts, Letters, Sign, font_for
+from labeltools.letters import BLANK, Fonts, Letters, Sign, extent_of, font_for
 from labeltools.lines_file import symbology_and_data
 from labeltools.messages import Place as LinePlace
 from labeltools.messages import Talk, quoted
@@ -125,6 +127,7 @@ class Room:
     most_lines: int = 1  # and the most lines, which have these
     common: int = 0
     fits: dict[str, Fit] = field(default_factory=dict)
+    signs: dict[str, Sign] = field(default_factory=dict)  # of lines
 
     @property
     def wide(self) -> int:
@@ -146,9 +149,9 @@ class Room:
         """Finds the letters of all texts that come here, which are given with how often."""
         is_bold = self.place.is_bold
         lines = {line for text in counts for line in text.split("\n")}
-        signs = [sign_of(self.letters, line, is_bold) for line in lines]
-        self.top = min(sign.top for sign in signs)
-        self.bottom = max(sign.bottom for sign in signs)
+        self.signs = {line: sign_of(self.letters, line, is_bold) for line in lines}
+        self.top = min(sign.top for sign in self.signs.values())
+        self.bottom = max(sign.bottom for sign in self.signs.values())
         if self.bottom - self.top <= 0:
             self.top, self.bottom = -1.0, 0.0
         self.least = max(1, min(math.ceil(LEAST_TEXT / self.dot), self.largest(1)))
@@ -164,9 +167,14 @@ class Room:
 
     def largest_fit(self, text: str) -> Fit:
         """Returns the largest letters in which a text is whole, or else the least ones."""
+        ink = self.ink_of(text)
+        sizes = sizes_between(self.least, self.largest(text.count("\n") + 1))
+        if ink > 0:
+            alone = bisect_left(sizes, -self.wide / HINTING / ink, key=neg)
+            if alone < len(sizes) and sizes[alone] >= self.largest(2):
+                return Fit(sizes[alone], 1)  # no more lines have room for letters as large
         measured = self.measured(text)
         best = Fit(self.least, self.most_lines, True)
-        sizes = sizes_between(self.least, self.largest(len(measured.paragraphs)))
         first = 0
         last = len(sizes)
         while first < last:  # the sizes fall: the first one in which it is whole
@@ -194,9 +202,12 @@ class Room:
 
     def measured(self, text: str) -> Measured:
         """Returns the widths of a text; those of a price are of one word."""
-        lines = text.split("\n")
-        ink = self.letters.extent(text, self.place.is_bold).width if len(lines) == 1 else 0.0
-        return Measured([self.words(line) for line in lines], ink)
+        return Measured([self.words(line) for line in text.split("\n")], self.ink_of(text))
+
+    def ink_of(self, text: str) -> float:
+        """Returns the width of the ink of a text where it is one line, else 0."""
+        sign = self.signs.get(text)
+        return extent_of(sign).width if sign else 0.0
 
     def words(self, line: str) -> list[Word]:
         """Returns the words of a line; a price is one word."""
@@ -309,7 +320,7 @@ class OwnLayouts:
 
     def __post_init__(self) -> None:
         self.places = self.design.places
-        self.own = frozenset(key_of(place.name) for place in self.places)
+        self.own = frozenset(place.key for place in self.places)
         self.own |= frozenset(place.part for place in self.places)
         self.boxes = {place: self.box_of(place) for place in self.places}
 
@@ -343,7 +354,7 @@ class OwnLayouts:
 
     def text_at(self, place: Place, values: Values) -> str:
         """Returns the text of a label in a place."""
-        return values.texts.get(key_of(place.name)) or values.texts.get(place.part) or ""
+        return values.texts.get(place.key) or values.texts.get(place.part) or ""
 
     def rooms(self, values: Iterable[Values]) -> dict[Place, Room]:
         """Returns the rooms of texts."""
@@ -501,7 +512,7 @@ class OwnLayouts:
             named = ", ".join(lost)
             yield first, Text("{} has no place for {}: not on the labels", file, named)
         known = {*names, *PARTS}
-        empty = [one for one in self.places if not known & {key_of(one.name), one.part}]
+        empty = [one for one in self.places if not known & {one.key, one.part}]
         if empty:
             named = ", ".join(place.title for place in empty)
             hint = Text(

@@ -36,6 +36,7 @@ class OwnPen(Pen):
         self.drawing = cache(self.new_drawing)
         self.dark_rows = cache(self.new_dark_rows)
         self.packed = cache(self.new_packed)
+        self.own_style = cache(self.new_own_style)
 
     @property
     def size(self) -> tuple[int, int]:
@@ -124,10 +125,13 @@ class OwnPen(Pen):
         """Returns how a text is written."""
         place = text.place
         struck = len(text.text.encode()) if place.part == "was" else 0
-        family = place.font or self.fonts.texts
         is_parted = text.lines > 1 or text.is_cut or "\n" in text.text
-        lines = text.lines * is_parted
-        return Style(family, place.is_bold, text.size, lines, place.across, 0.0, struck, text.base)
+        return self.own_style(place, text.size, text.lines * is_parted, struck, text.base)
+
+    def new_own_style(self, place: Place, size: int, lines: int, struck: int, base: int) -> Style:
+        """Returns how texts of a place are written."""
+        family = place.font or self.fonts.texts
+        return Style(family, place.is_bold, size, lines, place.across, 0.0, struck, base)
 
 
 def own_layout(item: LaidOut) -> OwnLayout:

@@ -34,12 +34,3 @@ def plain_options() -> cairo.FontOptions:
     options.set_hint_style(cairo.HintStyle.NONE)
     options.set_antialias(cairo.Antialias.GRAY)
     return options
-
-
-def new_layout(context: Any, family: str, style: str) -> Any:
-    """Returns a layout in the size that is measured."""
-    layout = Pango.Layout.new(context)
-    font = Pango.FontDescription(f"{family}, {style}")
-    font.set_absolute_size(MEASURED * Pango.SCALE)
-    layout.set_font_description(font)
-    return layout

@@ -5,7 +5,7 @@ import re
 from collections import defaultdict
 from contextlib import contextmanager
 from dataclasses import dataclass
-from functools import cache, partial
+from functools import cache
 from typing import (
     Any,
     Iterable,
@@ -37,6 +37,7 @@ GUARD = 5
 DIGITS_TOP = 1
 DIGITS_SIZE = 10.4
 LARGE = 1000  # dots: the size in which digits are measured
+DIGITS = "0123456789"
 BETWEEN = "   "  # old price and unit price on one line
 WITHOUT_END = 1 << 20  # dots: the height of a text of which all lines are wanted
 Colour = tuple[float, float, float]  # red, green and blue, from 0 to 1
@@ -143,7 +144,7 @@ class Pen:
         extents = large.text_extents("0")
         self.digit_width = extents.x_advance / LARGE
         self.digit_height = -extents.y_bearing / LARGE
-        self.digits_of_size = cache(partial(self.digits_font, self.options))
+        self.digits_of_size = cache(self.new_digits)
         self.style = cache(self.new_style)
         self.digit_places = cache(self.new_digit_places)
 
@@ -206,7 +207,7 @@ class Pen:
             used = min(title.text.height, box.height - below)
         top = box.top + (box.height - below - used) // 2 if is_middle else box.top
         if title is not None:
-            yield title._replace(box=box._replace(top=top))
+            yield Placed(title.text, title.style, Box(box.left, top, box.width, box.height))
         if has_text:
             rest = box._replace(top=top + used, height=box.bottom - top - used)
             yield self.placed(*self.text_of("text", label, layout), rest)
@@ -216,7 +217,7 @@ class Pen:
         text, style = self.text_of("title", label, layout)
         box = layout.boxes["title"]
         most = math.ceil(layout.frame.lines * LINE * style.size)
-        return self.placed(text, style, box._replace(height=min(most, room)))
+        return self.placed(text, style, Box(box.left, box.top, box.width, min(most, room)))
 
     def placed(self, text: str, style: Style, box: Box) -> Placed:
         """Returns a text as it fits a box; those of one line often come again."""
@@ -324,13 +325,12 @@ class Pen:
         self, canvas: Any, text: Fitted, style: Style, left: int, top: int, runs: Runs
     ) -> None:
         """Shows a text in a box that begins there, as shapes where its font needs that."""
-        glyphs = self.fitter.glyphs(style.family, style.is_bold) if text.lines else None
-        if glyphs is not None:
-            found = runs[glyphs.face, text.size]
-            across = left + text.x
-            for numbers, places, base in text.lines:
-                y = top + text.y + base
-                found += [(number, across + x, y) for number, x in zip(numbers, places)]
+        if text.lines:
+            found = runs[text.face, text.size]
+            for (numbers, places), across, down in text.lines:
+                x = left + text.x + across
+                y = top + text.y + down
+                found += [(number, x + place, y) for number, place in zip(numbers, places)]
             return
         canvas.move_to(left + text.x, top + text.y)
         if style.family in self.medium.outlines:
@@ -367,7 +367,7 @@ class Pen:
         mask = bars_mask(modules, layout.symbology, high)
         if len(modules.packed) == modules.row_size and layout.symbology.guards:
             high += GUARD
-        place = box._replace(height=high * module)
+        place = Box(box.left, box.top, box.width, high * module)
         mask.set_matrix(scaled(place, modules.width, high))
         canvas.mask(mask)
 
@@ -388,9 +388,22 @@ class Pen:
             return
         base = top + round((DIGITS_TOP + DIGITS_SIZE * self.digit_height) * module)
         for first, last, size, start in self.digit_places(symbol.symbology.name, module):
-            font = self.digits_of_size(size)
-            digits = font.text_to_glyphs(left + start, base, data[first:last], False)
-            runs[self.digits_face, size] += digits
+            found = runs[self.digits_face, size]
+            digits = self.digits_of_size(size)
+            x: float = left + start
+            for digit in data[first:last]:
+                number, advance = digits[digit]
+                found.append((number, x, base))
+                x += advance
+
+    def new_digits(self, size: int) -> dict[str, tuple[int, float]]:
+        """Returns the glyphs of digits in a size, and how far each one is from the next."""
+        font = self.digits_font(self.options, size)
+        found = {}
+        for digit in DIGITS:
+            first, second = font.text_to_glyphs(0, 0, 2 * digit, False)
+            found[digit] = first.index, second.x
+        return found
 
     def new_digit_places(self, symbology: str, module: int) -> list[DigitPlace]:
         """Returns which digits are where below the bars, and how large."""
@@ -460,15 +473,15 @@ def bars_mask(modules: Modules, symbology: Symbology, high: int) -> Any:
     """
     size = modules.row_size
     stride = size + -size % 4
-    rows = [padded(row, stride) for row in modules.rows()]
-    if len(rows) == 1:
+    rows = b"".join([padded(row, stride) for row in modules.rows()])
+    if len(rows) == stride:
         rows *= high
         if symbology.guards:
             bits = int.from_bytes(modules.packed, "big") & guard_bits(symbology.name, 8 * size)
-            rows += [padded(bits.to_bytes(size, "big"), stride)] * GUARD
-    data = memoryview(bytearray().join(rows))
+            rows += padded(bits.to_bytes(size, "big"), stride) * GUARD
+    data = memoryview(bytearray(rows))
     picture = cairo.ImageSurface.create_for_data(
-        data, cairo.FORMAT_A1, modules.width, len(rows), stride
+        data, cairo.FORMAT_A1, modules.width, len(rows) // stride, stride
     )
     mask = cairo.SurfacePattern(picture)
     mask.set_filter(cairo.Filter.NEAREST)

@@ -3,6 +3,7 @@ in millimetres.
 """
 
 import argparse
+import gc
 import re
 import sys
 import time
@@ -397,6 +398,7 @@ def run() -> int:
         from labeltools import stream
 
         return stream.run(options, job, arguments.lines, sender_of(arguments))
+    gc.disable()  # no label leaves a cycle behind, and looking for them takes a twentieth of the time
     talk = PrintTalk()
     found = found_labels(options, job, arguments.lines, talk)
     say(found)
