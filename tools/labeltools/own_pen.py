@@ -60,8 +60,8 @@ class OwnPen(Pen):
 
     def new_packed(self, absent: frozenset[str], stride: int, height: int) -> bytes:
         """Returns the drawing without some parts as the rows of a page of Cairo."""
-        rows = [padded(row, stride) for row in self.dark_rows(absent)[:height]]
-        return b"".join(rows).ljust(stride * height, b"\0")
+        rows = self.dark_rows(absent)[:height]
+        return padded(b"".join(rows), len(rows[0]), stride).ljust(stride * height, b"\0")
 
     def draw_below(self, canvas: Any, page: Page, is_turned: bool) -> None:
         """Draws what is alike on the labels of a page."""
@@ -216,7 +216,7 @@ def dark_row(row: bytes) -> bytes:
 def mask_of(rows: list[bytes], wide: int) -> cairo.SurfacePattern:
     """Returns rows of dots as what is drawn by `mask`."""
     stride = -(-wide // 32) * 4
-    data = memoryview(bytearray().join(padded(row, stride) for row in rows))
+    data = memoryview(bytearray(padded(b"".join(rows), len(rows[0]), stride)))
     picture = cairo.ImageSurface.create_for_data(data, cairo.FORMAT_A1, wide, len(rows), stride)
     mask = cairo.SurfacePattern(picture)
     mask.set_filter(cairo.Filter.NEAREST)

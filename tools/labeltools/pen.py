@@ -473,12 +473,12 @@ def bars_mask(modules: Modules, symbology: Symbology, high: int) -> Any:
     """
     size = modules.row_size
     stride = size + -size % 4
-    rows = b"".join([padded(row, stride) for row in modules.rows()])
+    rows = padded(modules.packed, size, stride)
     if len(rows) == stride:
         rows *= high
         if symbology.guards:
             bits = int.from_bytes(modules.packed, "big") & guard_bits(symbology.name, 8 * size)
-            rows += padded(bits.to_bytes(size, "big"), stride) * GUARD
+            rows += padded(bits.to_bytes(size, "big"), size, stride) * GUARD
     data = memoryview(bytearray(rows))
     picture = cairo.ImageSurface.create_for_data(
         data, cairo.FORMAT_A1, modules.width, len(rows) // stride, stride
@@ -505,7 +505,7 @@ def draw_dots(canvas: Any, modules: Modules, box: Box, module: int) -> None:
     for row in modules.rows():
         digits = bits_of(row)[: modules.width].replace("1", "x").replace("0", "0" * module)
         dots = int(digits.replace("x", "1" * module) + blank, 2).to_bytes(size, "big")
-        rows.append(padded(dots, stride) * module)
+        rows.append(padded(dots, size, stride) * module)
     data = memoryview(bytearray().join(rows))
     high = len(data) // stride
     picture = cairo.ImageSurface.create_for_data(data, cairo.FORMAT_A1, wide, high, stride)
@@ -525,9 +525,11 @@ def scaled(box: Box, width: int, height: int) -> cairo.Matrix:
     return cairo.Matrix(across, 0, 0, down, -(box.left + INSET) * across, -(box.top + INSET) * down)
 
 
-def padded(row: bytes, stride: int) -> bytes:
-    """Returns a row of modules as Cairo has it: the first one is the lowest bit."""
-    return row.translate(REVERSED).ljust(stride, b"\0")
+def padded(packed: bytes, size: int, stride: int) -> bytes:
+    """Returns rows of some bytes as Cairo has them: longer, the first dot in the lowest bit."""
+    found = packed.translate(REVERSED)
+    behind = bytes(stride - size)
+    return b"".join([found[at : at + size] + behind for at in range(0, len(found), size)])
 
 
 def draw_rectangles(
