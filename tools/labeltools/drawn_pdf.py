@@ -122,6 +122,13 @@ class Steps(NamedTuple):
     font: Optional[Font]
     beside: dict[tuple[Font, Spans], bool]
 
+    def begun(self, line: Matrix) -> Matrix:
+        """Returns the line of text that is begun where the one before begins at a place."""
+        found = self.line or line
+        for move in self.moves:
+            found = found.moved(*move)
+        return found
+
     def is_beside(self, letters: Shown, spans: Spans) -> bool:
         """Returns whether letters that follow may be as high on a page as one of the spans."""
         if self.line is None:
@@ -223,32 +230,26 @@ class Reader:
         corner.
         """
         found = DrawnPage()
-        shown: list[tuple[Steps, Shown]] = []
         around = self.place(upright, ())
+        shown: list[tuple[Steps, Shown]] = []
         line = PLAIN
         font = None
         parts = [*DIFFERENT.split(content), None, None, None, None]
         columns = (parts[place::5] for place in range(5))
         for part, number, strings, plain, coded in zip(*columns):
             steps = around.known.get(part) or self.steps(around, part)
-            around, begin, moves, inks, named, _ = steps
-            font = named or font
-            if inks:
-                found.inks += inks
-            if begin or moves:
-                line = at = begin or line
-                for move in moves:
-                    line = at = line.moved(*move)
+            around = steps.around
+            font = steps.font or font
+            found.inks += steps.inks
+            is_new = steps.line is not None or steps.moves
+            line = steps.begun(line)
             if number:
                 self.draw(int(number), around, found)
                 continue
             letters = strings or one_string(plain, coded)
-            if letters is None:
+            if letters is None or font is None:
                 continue
-            if font is None:
-                raise ValueError("letters without a font")
-            if not begin and not moves:
-                at = shown[-1][1].behind
+            at = line if is_new else shown[-1][1].behind
             shown.append((steps, Shown(at, font, letters)))
         spans = tuple({(code.ink.top, code.ink.bottom): None for code in found.codes})
         found.letters += [letters for steps, letters in shown if steps.is_beside(letters, spans)]
@@ -272,11 +273,8 @@ class Reader:
         inks: list[Ink] = []
         for step in STEP.finditer(part):
             kind = step.lastgroup
-            if kind == "kept" and step["kept"] == b"q":
-                kept = (*kept, matrix)
-            elif kind == "kept":
-                *rest, matrix = kept
-                kept = tuple(rest)
+            if kind == "kept":
+                matrix, kept = kept_by(step["kept"], matrix, kept)
             elif kind == "matrix":
                 moved = Matrix(*map(float, step["six"].split())).before(matrix)
                 if step["matrix"] == b"Tm":
@@ -293,11 +291,8 @@ class Reader:
                 inks += inks_of_path(step["path"], matrix)
         if len(around.known) > KNOWN:
             around.known.clear()
-        if line is not None:
-            for move in moves:
-                line = line.moved(*move)
-            moves = []
-        found = Steps(self.place(matrix, kept), line, tuple(moves), tuple(inks), font, {})
+        place = self.place(matrix, kept)
+        found = Steps(place, line, tuple(moves), tuple(inks), font, {})
         around.known[part] = found
         return found
 
@@ -311,6 +306,16 @@ class Reader:
         elif found.codes:
             over = around.matrix.ink(*self.pdf.form(number))
             found.inks += [code.ink for code in found.codes if over.meets(code.ink)]
+
+
+def kept_by(
+    operator: bytes, matrix: Matrix, kept: tuple[Matrix, ...]
+) -> tuple[Matrix, tuple[Matrix, ...]]:
+    """Returns the matrix and those that are kept when one is kept, or brought back."""
+    if operator == b"q":
+        return matrix, (*kept, matrix)
+    *rest, last = kept
+    return last, tuple(rest)
 
 
 def is_beside(letters: Shown, spans: Spans) -> bool:

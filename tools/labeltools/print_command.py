@@ -398,7 +398,7 @@ def run() -> int:
         from labeltools import stream
 
         return stream.run(options, job, arguments.lines, sender_of(arguments))
-    gc.disable()  # no label leaves a cycle behind, and looking for them takes a twentieth of the time
+    gc.disable()  # no label leaves a cycle behind, and to look for them takes time
     talk = PrintTalk()
     found = found_labels(options, job, arguments.lines, talk)
     say(found)

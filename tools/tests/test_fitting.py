@@ -7,7 +7,8 @@ from pathlib import Path
 from typing import Any, Optional, Sequence
 
 import designs
-from labeltools.fitting import LEFT, MIDDLE, RIGHT, UNIT, Fitted, Fitter, Style
+from labeltools.fitting import LEFT, MIDDLE, RIGHT, Fitted, Fitter, Style
+from labeltools.glyphs import UNIT
 from labeltools.letters import Fonts, Letters
 from labeltools.messages import Silence
 from labeltools.pango import plain_options
