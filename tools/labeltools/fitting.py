@@ -170,9 +170,10 @@ class Fitter:
 
     def is_cut(self, text: str, style: Style, width: int, height: int) -> bool:
         """Returns whether a text ends in an ellipsis as it fits a box."""
+        if not style.lines:
+            return False
         room = (width - 2 * (style.size // SIDE)) / (style.size * HINTED)
-        lines = text.split("\n")
-        if not style.lines or all(self.is_surely_whole(line, style, room) for line in lines):
+        if all(self.is_surely_whole(line, style, room) for line in text.split("\n")):
             return False
         layout = self.fitted(text, style, width, height).layout
         return layout is not None and bool(layout.is_ellipsized())

@@ -48,8 +48,7 @@ class OwnText:
     is_cut: bool
 
 
-@dataclass(frozen=True, slots=True)
-class OwnSymbol:
+class OwnSymbol(NamedTuple):
     """A symbol in a place: its box, its data and modules, and where its bars and digits are in that
     as it is read.
     """
@@ -61,11 +60,6 @@ class OwnSymbol:
     symbology: Symbology
     module: int
     boxes: Mapping[str, Box]
-
-    @property
-    def quarters(self) -> int:
-        """By how many quarters it is turned to the right."""
-        return self.place.quarters
 
 
 @dataclass(frozen=True, slots=True)
@@ -323,6 +317,7 @@ class OwnLayouts:
         self.own = frozenset(place.key for place in self.places)
         self.own |= frozenset(place.part for place in self.places)
         self.boxes = {place: self.box_of(place) for place in self.places}
+        self.boxes_of = cache(self.new_boxes)
 
     def box_of(self, place: Place) -> Box:
         """Returns the dots of a place that the paper takes."""
@@ -424,34 +419,41 @@ class OwnLayouts:
                 texts.append(rooms[place].text(text))
         finest = min(symbols, key=lambda one: (one.symbology.nominal > 0, one.module))
         found = (finest.symbology, finest.module, finest.boxes, False)
-        absent = frozenset(key for key in self.design.groups if not values.texts.get(key))
+        absent = self.design.groups.difference(values.texts)
         return OwnLayout(NO_FRAME, *found, tuple(texts), tuple(symbols), absent)
 
     def symbol(
         self, place: Place, symbology: Symbology, modules: Modules, data: bytes
     ) -> OwnSymbol:
         """Returns a symbol in the middle of its place; raises `NoRoom`."""
+        module, boxes = self.boxes_of(place, symbology.name, modules.width, modules.height)
+        return OwnSymbol(place, self.boxes[place], data, modules, symbology, module, boxes)
+
+    def new_boxes(
+        self, place: Place, name: str, width: int, height: int
+    ) -> tuple[int, Mapping[str, Box]]:
+        """Returns the module and the boxes of symbols of a size in modules; raises `NoRoom`."""
+        symbology = SYMBOLOGIES[name]
         box = self.boxes[place]
         room = Box(0, 0, box.height, box.width) if place.quarters % 2 else box
         least, most = self.allowed(place, symbology)
-        rows = modules.height if modules.height > 1 else 0  # else bars are as high as there is room
+        rows = height if height > 1 else 0  # else bars are as high as there is room
         below = DIGITS_ROOM if symbology.nominal else 0
         lowest = rows * least or math.ceil(LOWEST / self.area.dot)
-        module = min(most, room.width // modules.width)
+        module = min(most, room.width // width)
         if rows:
             module = min(module, room.height // (rows + below))
         high = rows * module or room.height - below * module
         if module < least or high < lowest:
-            wanted = modules.width * least, lowest + below * least
-            raise NoRoom(self.no_room(place, symbology, wanted))
+            raise NoRoom(self.no_room(place, symbology, (width * least, lowest + below * least)))
         high -= high % module
-        left = (room.width - modules.width * module) // 2
+        left = (room.width - width * module) // 2
         top = (room.height - high - below * module) // 2
-        bars = Box(left, top, modules.width * module, high)
+        bars = Box(left, top, width * module, high)
         boxes = {"bars": bars}
         if below:
             boxes["digits"] = bars._replace(top=bars.bottom, height=below * module)
-        return OwnSymbol(place, box, data, modules, symbology, module, boxes)
+        return module, boxes
 
     def allowed(self, place: Place, symbology: Symbology) -> tuple[int, int]:
         """Returns the least and the most dots of a module. EAN and UPC have a largest one."""

@@ -104,10 +104,10 @@ class OwnPen(Pen):
     def texts(self, item: LaidOut) -> Iterator[Placed]:
         """Yields the texts of a label, each of which is drawn before the next one is fitted."""
         for text in own_layout(item).texts:
-            fitted = self.fitter.found(*self.in_room(text))
+            found = self.in_room(text)
             place = text.place
             colour = None if place.colour == BLACK else place.colour
-            yield Placed(fitted, self.style_of(text), text.box, place.quarters, colour)
+            yield Placed(self.fitter.found(*found), found[1], text.box, place.quarters, colour)
 
     def lines_of(self, item: LaidOut) -> Iterator[tuple[str, Style, int, int]]:
         """Yields the texts of a label that may be cut, with their room."""

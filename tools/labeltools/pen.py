@@ -10,10 +10,8 @@ from typing import (
     Any,
     Iterable,
     Iterator,
-    Mapping,
     NamedTuple,
     Optional,
-    Protocol,
     Sequence,
 )
 
@@ -25,6 +23,8 @@ from labeltools.fitting import LEFT, MIDDLE, RIGHT, Fitted, Fitter, Style
 from labeltools.frames import LINE, Box, Frame
 from labeltools.layout import LaidOut, Layout, PrintLabel
 from labeltools.letters import Fonts, Letters
+from labeltools.own_design import Colour, Place
+from labeltools.own_layout import OwnSymbol
 from labeltools.pango import PangoCairo, plain_options
 from labeltools.symbologies import SYMBOLOGIES, Span, Symbology
 
@@ -40,54 +40,9 @@ LARGE = 1000  # dots: the size in which digits are measured
 DIGITS = "0123456789"
 BETWEEN = "   "  # old price and unit price on one line
 WITHOUT_END = 1 << 20  # dots: the height of a text of which all lines are wanted
-Colour = tuple[float, float, float]  # red, green and blue, from 0 to 1
+CODE = Place("code", "code")  # of a built-in design: it begins where the label does
+WHOLE = Box(0, 0, 0, 0)
 Page = Sequence[tuple[LaidOut, Dots]]  # labels, with the upper left corners of their areas
-
-
-class Symbol(Protocol):
-    """A symbol as it is drawn: its modules and data, its module in dots, the boxes of its bars and
-    digits, and the box in which these are, turned to the right by some quarters.
-    """
-
-    @property
-    def modules(self) -> Modules:
-        """Its modules."""
-
-    @property
-    def data(self) -> bytes:
-        """What it says."""
-
-    @property
-    def box(self) -> Box:
-        """Its box."""
-
-    @property
-    def quarters(self) -> int:
-        """By how many quarters it is turned."""
-
-    @property
-    def symbology(self) -> Symbology:
-        """Its symbology."""
-
-    @property
-    def module(self) -> int:
-        """The dots of a module."""
-
-    @property
-    def boxes(self) -> Mapping[str, Box]:
-        """Its boxes, by `bars` and `digits`."""
-
-
-class LabelSymbol(NamedTuple):
-    """The symbol of a label in a built-in design."""
-
-    modules: Modules
-    data: bytes
-    symbology: Symbology
-    module: int
-    boxes: Mapping[str, Box]
-    box: Box = Box(0, 0, 0, 0)
-    quarters: int = 0
 
 
 class Placed(NamedTuple):
@@ -175,12 +130,12 @@ class Pen:
     def draw_below(self, canvas: Any, page: Page, is_turned: bool) -> None:
         """Draws what is below the symbols and texts of a page: nothing."""
 
-    def symbols(self, item: LaidOut) -> Iterable[Symbol]:
+    def symbols(self, item: LaidOut) -> Iterable[OwnSymbol]:
         """Returns the symbols of a label."""
         label = item.label
         layout = item.layout
-        data = label.record.data
-        yield LabelSymbol(label.modules, data, layout.symbology, layout.module, layout.boxes)
+        how = (layout.symbology, layout.module, layout.boxes)
+        yield OwnSymbol(CODE, WHOLE, label.record.data, label.modules, *how)
 
     def texts(self, item: LaidOut) -> Iterator[Placed]:
         """Yields the texts of a label, each of which is drawn before the next one is fitted."""
@@ -273,16 +228,16 @@ class Pen:
             box = layout.boxes.get("text") or layout.boxes["title"]
             yield *self.text_of("text", label, layout), box.width, WITHOUT_END
 
-    def draw_symbol(self, canvas: Any, symbol: Symbol, place: Dots, runs: Runs) -> None:
+    def draw_symbol(self, canvas: Any, symbol: OwnSymbol, place: Dots, runs: Runs) -> None:
         """Draws a symbol of a label whose area begins at a place, with what is below its bars."""
         box = symbol.box
-        if not symbol.quarters:
+        if not symbol.place.quarters:
             self.draw_upright(canvas, symbol, (place[0] + box.left, place[1] + box.top), runs)
             return
-        with self.turned(canvas, box, symbol.quarters, place) as own:
+        with self.turned(canvas, box, symbol.place.quarters, place) as own:
             self.draw_upright(canvas, symbol, (0, 0), own)
 
-    def draw_upright(self, canvas: Any, symbol: Symbol, corner: Dots, runs: Runs) -> None:
+    def draw_upright(self, canvas: Any, symbol: OwnSymbol, corner: Dots, runs: Runs) -> None:
         """Draws a symbol in a box that begins at a corner."""
         matrix = canvas.get_matrix()
         canvas.translate(*corner)
@@ -351,7 +306,7 @@ class Pen:
             else:
                 canvas.show_glyphs(glyphs)
 
-    def draw_modules(self, canvas: Any, modules: Modules, layout: Symbol) -> None:
+    def draw_modules(self, canvas: Any, modules: Modules, layout: OwnSymbol) -> None:
         """Draws the modules of a label, and the longer guards of bars."""
         box = layout.boxes["bars"]
         module = layout.module
@@ -371,7 +326,7 @@ class Pen:
         mask.set_matrix(scaled(place, modules.width, high))
         canvas.mask(mask)
 
-    def draw_data(self, canvas: Any, symbol: Symbol, corner: Dots, runs: Runs) -> None:
+    def draw_data(self, canvas: Any, symbol: OwnSymbol, corner: Dots, runs: Runs) -> None:
         """Draws what is below the bars of a symbol whose box begins at a corner: digits in their
         places, or all data in the middle.
         """
