@@ -64,6 +64,7 @@ FAMILY = re.compile(r"(?<![\w-])font-family\s*:\s*([^;}]+)")
 GENERAL = ("serif", "sans-serif", "sans", "monospace", "cursive", "fantasy", "system-ui", "inherit")
 ACROSS = {"left": -1, "middle": 0, "right": 1}
 DOWN = {"top": 0.0, "centre": 0.5, "bottom": 1.0}
+NAMES = 256  # whose keys are kept: a table has few columns
 LENGTH = re.compile(r"\d{1,3}(?:\.\d{1,3})?", re.ASCII)
 NUMBERS = {"module": LENGTH, "size": LENGTH, "lines": re.compile("[0-9]{1,2}")}
 
@@ -165,6 +166,7 @@ def is_file(design: str) -> bool:
 
 
 @lru_cache(maxsize=MOST_KNOWN)
+@lru_cache(NAMES)
 def key_of(name: str) -> str:
     """Returns a name as it is compared.
 
