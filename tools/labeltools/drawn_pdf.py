@@ -8,7 +8,7 @@ import re
 import zlib
 from dataclasses import dataclass, field
 from functools import lru_cache
-from typing import Iterable, Iterator, NamedTuple, Optional
+from typing import Iterator, NamedTuple, Optional
 
 from labeltools.decode import NotDecoded
 from labeltools.drawn_codes import PLAIN, POINTS, DrawnCode, DrawnPage, Ink, Matrix, ink_of
@@ -34,10 +34,13 @@ STEP = re.compile(
     % (N, N, N)
 )
 PART = re.compile(rb"((?:%b\s+)+)(m|l|c|v|y|re)\b" % N)
-CONTENT = re.compile(rb"/Contents ([0-9]+) 0 R")
-SIZE = re.compile(rb"/MediaBox \[ 0 0 ([0-9.]+) ([0-9.]+) \]")
-MASK = re.compile(rb"/ImageMask true\s+/Width ([0-9]+)\s+/Height ([0-9]+)")
-DARK = b"/Decode [1 0]"  # a bit of 1 is dark
+PAGE = re.compile(
+    rb"[^>]*/MediaBox \[ 0 0 [0-9.]+ (?P<high>[0-9.]+) \][^>]*/Contents (?P<content>[0-9]+) 0 R"
+)
+MASK = re.compile(
+    rb"[^>]*/ImageMask true\s+/Width ([0-9]+)\s+/Height ([0-9]+)[^>]*"
+    rb"/Decode \[1 0\][^>]*>>\s*stream\n"  # a bit of 1 is dark
+)
 FORM = re.compile(rb"/Subtype /Form\s+/BBox \[ ?([-0-9.]+) ([-0-9.]+) ([-0-9.]+) ([-0-9.]+) ?\]")
 FONTS = re.compile(rb"/(f-[0-9]+-[0-9]+) ([0-9]+) 0 R")
 KIDS = re.compile(rb"/Kids \[([^\]]*)\]")
@@ -49,6 +52,9 @@ STREAM = b"stream\n"
 END_OF_STREAM = b"\nendstream"
 END = b"endobj"
 KNOWN = 4096  # texts whose extent is kept: many labels have the same price
+
+
+Spans = tuple[tuple[float, float], ...]
 
 
 class Picture(NamedTuple):
@@ -70,6 +76,11 @@ class Shown(NamedTuple):
     def rough(self) -> tuple[Ink, ...]:
         """Rectangles in which all of their ink is for certain."""
         return inks_at(self.matrix, self.font.rough(self.letters))
+
+    @property
+    def behind(self) -> Matrix:
+        """Where letters behind them begin."""
+        return self.matrix.moved(self.font.advance(self.letters), 0)
 
     def inks(self) -> tuple[Ink, ...]:
         """Returns the rectangles in which their ink is."""
@@ -100,14 +111,33 @@ class Around:
 
 class Steps(NamedTuple):
     """What steps of a page do: what is around those that follow; the line of text that they begin,
-    to dots, or by how much they move the last one; the font that they name; the ink of their paths.
+    to dots, or by how much they move the last one; the ink of their paths; the font that they name;
+    whether letters of a font that follow may be as high on the page as some codes.
     """
 
     around: Around
     line: Optional[Matrix]
     moves: tuple[tuple[float, float], ...]
-    font: bytes
     inks: tuple[Ink, ...]
+    font: Optional[Font]
+    beside: dict[tuple[Font, Spans], bool]
+
+    def begun(self, line: Matrix) -> Matrix:
+        """Returns the line of text that is begun where the one before begins at a place."""
+        found = self.line or line
+        for move in self.moves:
+            found = found.moved(*move)
+        return found
+
+    def is_beside(self, letters: Shown, spans: Spans) -> bool:
+        """Returns whether letters that follow may be as high on a page as one of the spans."""
+        if self.line is None:
+            return is_beside(letters, spans)
+        key = letters.font, spans
+        found = self.beside.get(key)
+        if found is None:
+            found = self.beside[key] = is_beside(letters, spans)
+        return found
 
 
 class Pdf:
@@ -154,22 +184,19 @@ class Pdf:
 
     def page(self, number: int) -> DrawnPage:
         """Returns what is on a page."""
-        head = self.dictionary(number)
-        content = CONTENT.search(head)
-        size = SIZE.search(head)
-        if content is None or size is None:
+        head = PAGE.match(self.data, self.start(number))
+        if head is None:
             raise ValueError("a page without content")
-        upright = Matrix(self.scale, 0, 0, -self.scale, 0, self.scale * float(size[2]))
-        return self.reader.page(upright, self.stream(int(content[1])))
+        high = self.scale * float(head["high"])
+        upright = Matrix(self.scale, 0, 0, -self.scale, 0, high)
+        return self.reader.page(upright, self.stream(int(head["content"])))
 
     def picture(self, number: int) -> Optional[Picture]:
         """Returns the picture that an object is; None where it is another thing."""
-        start = self.start(number)
-        middle = self.data.index(STREAM, start)
-        mask = MASK.search(self.data, start, middle)
-        if mask is None or self.data.find(DARK, mask.end(), middle) < 0:
+        mask = MASK.match(self.data, self.start(number))
+        if mask is None:
             return None
-        begin = middle + len(STREAM)
+        begin = mask.end()
         packed = self.data[begin : self.data.index(END_OF_STREAM, begin)]
         return Picture(int(mask[1]), int(mask[2]), zlib.decompress(packed))
 
@@ -203,10 +230,10 @@ class Reader:
         corner.
         """
         found = DrawnPage()
-        shown: list[Shown] = []
         around = self.place(upright, ())
+        shown: list[tuple[Steps, Shown]] = []
         line = PLAIN
-        font = b""
+        font = None
         parts = [*DIFFERENT.split(content), None, None, None, None]
         columns = (parts[place::5] for place in range(5))
         for part, number, strings, plain, coded in zip(*columns):
@@ -215,21 +242,17 @@ class Reader:
             font = steps.font or font
             found.inks += steps.inks
             is_new = steps.line is not None or steps.moves
-            line = steps.line or line
-            for move in steps.moves:
-                line = line.moved(*move)
+            line = steps.begun(line)
             if number:
                 self.draw(int(number), around, found)
                 continue
             letters = strings or one_string(plain, coded)
-            if letters is None:
+            if letters is None or font is None:
                 continue
-            if not is_new:
-                last = shown[-1]
-                line = last.matrix.moved(last.font.advance(last.letters), 0)
-            shown.append(Shown(line, self.pdf.font(font), letters))
-        spans = {(code.ink.top, code.ink.bottom) for code in found.codes}
-        found.letters += [letters for letters in shown if is_beside(letters, spans)]
+            at = line if is_new else shown[-1][1].behind
+            shown.append((steps, Shown(at, font, letters)))
+        spans = tuple({(code.ink.top, code.ink.bottom): None for code in found.codes})
+        found.letters += [letters for steps, letters in shown if steps.is_beside(letters, spans)]
         return found
 
     def place(self, matrix: Matrix, kept: tuple[Matrix, ...]) -> Around:
@@ -246,15 +269,12 @@ class Reader:
         matrix, kept = around.matrix, around.kept
         line = None
         moves: list[tuple[float, float]] = []
-        font = b""
+        font = None
         inks: list[Ink] = []
         for step in STEP.finditer(part):
             kind = step.lastgroup
-            if kind == "kept" and step["kept"] == b"q":
-                kept = (*kept, matrix)
-            elif kind == "kept":
-                *rest, matrix = kept
-                kept = tuple(rest)
+            if kind == "kept":
+                matrix, kept = kept_by(step["kept"], matrix, kept)
             elif kind == "matrix":
                 moved = Matrix(*map(float, step["six"].split())).before(matrix)
                 if step["matrix"] == b"Tm":
@@ -266,12 +286,13 @@ class Reader:
                 x, y = map(float, step["two"].split())
                 moves.append((x, y))
             elif kind == "font":
-                font = step["font"]
+                font = self.pdf.font(step["font"])
             elif not step["how"].endswith(b"n"):
                 inks += inks_of_path(step["path"], matrix)
         if len(around.known) > KNOWN:
             around.known.clear()
-        found = Steps(self.place(matrix, kept), line, tuple(moves), font, tuple(inks))
+        place = self.place(matrix, kept)
+        found = Steps(place, line, tuple(moves), tuple(inks), font, {})
         around.known[part] = found
         return found
 
@@ -287,7 +308,17 @@ class Reader:
             found.inks += [code.ink for code in found.codes if over.meets(code.ink)]
 
 
-def is_beside(letters: Shown, spans: Iterable[tuple[float, float]]) -> bool:
+def kept_by(
+    operator: bytes, matrix: Matrix, kept: tuple[Matrix, ...]
+) -> tuple[Matrix, tuple[Matrix, ...]]:
+    """Returns the matrix and those that are kept when one is kept, or brought back."""
+    if operator == b"q":
+        return matrix, (*kept, matrix)
+    *rest, last = kept
+    return last, tuple(rest)
+
+
+def is_beside(letters: Shown, spans: Spans) -> bool:
     """Returns whether letters may be as high on a page as one of the spans."""
     matrix, font, _ = letters
     if matrix.b or matrix.c:

@@ -36,3 +36,15 @@ class Kept(Generic[Key, Made]):
             self.made.clear()
         self.made[key] = copy(found)
         return found
+
+
+class Found(dict[Key, Made], Generic[Key, Made]):
+    """What is found for keys when they are first asked for."""
+
+    def __init__(self, find: Callable[[Key], Made]) -> None:
+        super().__init__()
+        self.find = find
+
+    def __missing__(self, key: Key) -> Made:
+        found = self[key] = self.find(key)
+        return found

@@ -3,21 +3,18 @@
 import re
 import unicodedata
 from dataclasses import dataclass
-from typing import Any, Iterable, NamedTuple, Optional
-
-import cairo
+from functools import cache, lru_cache, partial
+from typing import Any, Iterable, NamedTuple, Optional, Sequence
 
 from labeltools.text import Text
 from labeltools.layout import Extent, PrintLabel
 from labeltools.messages import ToolError
-from labeltools.pango import Pango, PangoCairo
+from labeltools.glyphs import OTHERS, Glyphs
+from labeltools.kept import Found
+from labeltools.pango import MEASURED, Pango, PangoCairo, pango_context, plain_options
 
-MEASURED = 200  # dots: the size of letters in which they are measured
 KEPT = 2048  # words of which the extent is kept
 MOST_NAMED = 9  # letters that a message names
-# letters that stand one behind another: Latin, Greek, Cyrillic; punctuation; currencies
-SIMPLE = ((0x20, 0x2FF), (0x370, 0x482), (0x48A, 0x52F), (0x2010, 0x2027), (0x20A0, 0x20CF))
-OTHERS = re.compile("[^" + "".join(f"{chr(one)}-{chr(other)}" for one, other in SIMPLE) + "]")
 SPACED = re.compile("[^ ]+ *| +")
 FONTS_OF_LETTERS = "apt-get install fonts-noto-core fonts-noto-cjk"
 FONTS_OF_SIGNS = "apt-get install fonts-symbola"
@@ -47,28 +44,17 @@ BLANK = Sign(0.0, 0.0, 0.0, 0.0, 0.0)
 NOTHING = Extent(0.0, 0.0)
 
 
+def together(signs: Sequence[Sign], spaces: float = 0.0) -> Sign:
+    """Returns letters or words as one, with spaces between them."""
+    advances, lefts, rights, tops, bottoms = zip(*signs)
+    return Sign(sum(advances) + spaces, lefts[0], rights[-1], min(tops), max(bottoms))
+
+
 def extent_of(sign: Sign) -> Extent:
     """Returns the extent of the ink of a word; zeros where it has none."""
     width = sign.advance - sign.left - sign.right
     height = sign.bottom - sign.top
     return Extent(width, height) if width > 0 and height > 0 else NOTHING
-
-
-def pango_context(options: cairo.FontOptions, is_rounded: bool) -> Any:
-    """Returns what lays texts out; glyphs are at whole dots where `is_rounded`."""
-    context = PangoCairo.FontMap.get_default().create_context()
-    context.set_round_glyph_positions(is_rounded)
-    PangoCairo.context_set_font_options(context, options)
-    return context
-
-
-def plain_options() -> cairo.FontOptions:
-    """Returns the options of letters that keep their shapes in any size."""
-    options = cairo.FontOptions()
-    options.set_hint_metrics(cairo.HintMetrics.OFF)
-    options.set_hint_style(cairo.HintStyle.NONE)
-    options.set_antialias(cairo.Antialias.GRAY)
-    return options
 
 
 def font_for(family: str) -> str:
@@ -93,26 +79,35 @@ class Letters:
 
     def __init__(self, fonts: Fonts) -> None:
         require_fonts(fonts)
-        context = pango_context(plain_options(), False)
-        self.layouts = tuple(self.layout(context, fonts.texts, style) for style in ("", "Bold"))
-        self.signs: tuple[dict[str, Optional[Sign]], ...] = ({}, {})
-        self.words: tuple[dict[str, Optional[Sign]], ...] = ({}, {})
-        self.wrapped = self.layout(context, fonts.texts, "")
+        self.family = fonts.texts
+        self.glyphs = cache(self.new_glyphs)
+        self.extent = lru_cache(KEPT)(self.new_extent)
+        self.context = pango_context(plain_options(), False)
+        self.layouts = [self.layout(fonts.texts, is_bold) for is_bold in (False, True)]
+        self.signs = tuple(Found(partial(self.sign, is_bold)) for is_bold in (False, True))
+        self.words = tuple(Found(partial(self.word, is_bold)) for is_bold in (False, True))
+        self.wrapped = self.layout(fonts.texts, False)
         self.wrapped.set_width(1)  # so that each part of a line is a line
         blanks = [self.extents(" ", is_bold)[1] for is_bold in (False, True)]
         self.spaces = [blank.width for blank in blanks]
         self.heights = [blank.height for blank in blanks]  # of lines
 
-    @staticmethod
-    def layout(context: Any, family: str, style: str) -> Any:
-        """Returns a layout in the size that is measured."""
-        layout = Pango.Layout.new(context)
-        font = Pango.FontDescription(f"{family}, {style}")
+    def layout(self, family: str, is_bold: bool) -> Any:
+        """Returns what lays texts out in the size that is measured."""
+        layout = Pango.Layout.new(self.context)
+        font = Pango.FontDescription(f"{family}, {'Bold' * is_bold}")
         font.set_absolute_size(MEASURED * Pango.SCALE)
         layout.set_font_description(font)
         return layout
 
-    def extent(self, text: str, is_bold: bool) -> Extent:
+    def new_glyphs(self, family: str, is_bold: bool) -> Glyphs:
+        """Returns the glyphs of a font."""
+        is_own = family == self.family
+        return Glyphs(
+            family, is_bold, (self.layouts[is_bold] if is_own else self.layout(family, is_bold))
+        )
+
+    def new_extent(self, text: str, is_bold: bool) -> Extent:
         """Returns the extent of a line of text; zeros for one without ink."""
         if not text:
             return NOTHING
@@ -123,19 +118,16 @@ class Letters:
         """Returns what a line of text takes, letter by letter; None where letters change beside
         others.
         """
-        found = []
-        for word in text.split(" "):
-            sign = self.word(word, is_bold) if word else BLANK
-            if sign is None:
-                return None
-            found.append(sign)
-        if len(found) == 1:
-            return found[0]
-        spaces = (len(found) - 1) * self.spaces[is_bold]
-        advance = sum([sign.advance for sign in found]) + spaces
-        top = min([sign.top for sign in found])
-        bottom = max([sign.bottom for sign in found])
-        return Sign(advance, found[0].left, found[-1].right, top, bottom)
+        words = self.words[is_bold]
+        if len(words) >= KEPT:
+            words.clear()
+        if " " not in text:
+            return words[text]
+        parts = text.split(" ")
+        found = [sign for sign in map(words.__getitem__, parts) if sign]
+        if len(found) < len(parts):
+            return None
+        return together(found, (len(found) - 1) * self.spaces[is_bold])
 
     def parts(self, line: str) -> list[str]:
         """Returns the parts of a line behind which it may be wrapped, with the spaces behind them:
@@ -149,35 +141,14 @@ class Letters:
         ends = [found.start_index + found.length for found in lines]
         return [written[start:end].decode() for start, end in zip([0, *ends], ends)]
 
-    def word(self, word: str, is_bold: bool) -> Optional[Sign]:
-        """Returns what a word takes, letter by letter; None where letters change beside others."""
-        known = self.words[is_bold]
-        if word not in known:
-            if len(known) >= KEPT:
-                known.clear()
-            known[word] = self.new_word(word, is_bold)
-        return known[word]
-
-    def new_word(self, word: str, is_bold: bool) -> Optional[Sign]:
-        """Measures a word."""
-        signs = self.signs[is_bold]
-        for letter in set(word).difference(signs):
-            signs[letter] = self.new_sign(letter, is_bold)
-        found = []
-        for letter in word:
-            sign = signs[letter]
-            if sign is None:
-                return None
-            found.append(sign)
-        advance = sum([sign.advance for sign in found])
-        top = min([sign.top for sign in found])
-        bottom = max([sign.bottom for sign in found])
-        return Sign(advance, found[0].left, found[-1].right, top, bottom)
-
-    def new_sign(self, letter: str, is_bold: bool) -> Optional[Sign]:
-        """Measures a letter; None where it may change beside others."""
-        if not any(first <= ord(letter) <= last for first, last in SIMPLE):
+    def word(self, is_bold: bool, word: str) -> Optional[Sign]:
+        """Measures a word, letter by letter; None where letters change beside others."""
+        if OTHERS.search(word):
             return None
+        return together([*map(self.signs[is_bold].__getitem__, word)]) if word else BLANK
+
+    def sign(self, is_bold: bool, letter: str) -> Sign:
+        """Measures a letter."""
         return self.whole_sign(letter, is_bold)
 
     def whole(self, text: str, is_bold: bool) -> Extent:

@@ -15,7 +15,7 @@ else the id. Lengths are in millimetres from the left upper corner of the label 
 import re
 from copy import deepcopy
 from dataclasses import dataclass, replace
-from functools import lru_cache
+from functools import cached_property, lru_cache
 from typing import Any, Iterable, Iterator, Mapping, NamedTuple, Optional
 from xml.etree.ElementTree import Element
 
@@ -89,7 +89,7 @@ BLACK = (0.0, 0.0, 0.0)
 WHITE = (1.0, 1.0, 1.0)
 
 
-@dataclass(frozen=True)
+@dataclass(frozen=True, eq=False)
 class Place:
     """The place of a part: how messages call it, its name, its sides, by how many quarters it is
     turned to the right; how its letters are written, and their colour (None: what can be read on
@@ -120,7 +120,12 @@ class Place:
         """Whether a symbol is there."""
         return bool(self.symbology) or self.part == "code"
 
-    @property
+    @cached_property
+    def key(self) -> str:
+        """Its name, as names are compared."""
+        return key_of(self.name)
+
+    @cached_property
     def part(self) -> str:
         """The part or column that it is for, as names are compared, without a number behind it."""
         return part_of(self.name)
@@ -176,7 +181,7 @@ def is_file(design: str) -> bool:
     return design.lower().endswith(SUFFIXES)
 
 
-@lru_cache(maxsize=MOST_KNOWN)
+@lru_cache(MOST_KNOWN)
 def key_of(name: str) -> str:
     """Returns a name as it is compared.
 
@@ -223,7 +228,7 @@ def read_design(name: str, cell: Size, white: Edges, turn: Optional[bool]) -> Ow
     for parent, rect, _ in taken_places(name, root):
         parent.remove(rect)
     ends = (edges[0], edges[1], label[0] - edges[2], label[1] - edges[3])
-    keys = frozenset(key for place in placed for key in (key_of(place.name), place.part))
+    keys = frozenset(key for place in placed for key in (place.key, place.part))
     groups = frozenset(key for _, _, key in groups_of(root) if key in keys)
     how = (root, corner, size, groups, tuple(smaller), fonts_of(root), keys_of(shapes_in(root)))
     remarks = (*remarks_on(name, root), *cut_words(name, handle, words, area, ends))

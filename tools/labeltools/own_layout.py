@@ -4,16 +4,18 @@ texts in sizes of their letters.
 """
 
 import math
+from bisect import bisect_left
 from collections import Counter
 from dataclasses import dataclass, field
 from functools import cache
+from operator import neg
 from typing import Iterable, Iterator, Mapping, NamedTuple, Optional, Sequence
 
 from labeltools.area import LARGEST_MODULE, TINY, Area
 from labeltools.engine import Modules, run_labels
 from labeltools.frames import DIGITS_ROOM, HINTING, LEAST_TEXT, LINE, LOWEST, Box, Frame, share
 from labeltools.layout import ASKED, LaidOut, LaidOutFile, Layout, PrintLabel, short
-from labeltools.letters import BLANK, Fonts, Letters, Sign, font_for, reasons_of
+from labeltools.letters import BLANK, Fonts, Letters, Sign, extent_of, font_for, reasons_of
 from labeltools.lines_file import symbology_and_data
 from labeltools.messages import Place as LinePlace
 from labeltools.messages import Talk, quoted
@@ -46,8 +48,7 @@ class OwnText:
     is_cut: bool
 
 
-@dataclass(frozen=True, slots=True)
-class OwnSymbol:
+class OwnSymbol(NamedTuple):
     """A symbol in a place: its box, its data and modules, and where its bars and digits are in that
     as it is read.
     """
@@ -120,6 +121,7 @@ class Room:
     most_lines: int = 1  # and the most lines, which have these
     common: int = 0
     fits: dict[str, Fit] = field(default_factory=dict)
+    signs: dict[str, Sign] = field(default_factory=dict)  # of lines
 
     @property
     def wide(self) -> int:
@@ -141,9 +143,9 @@ class Room:
         """Finds the letters of all texts that come here, which are given with how often."""
         is_bold = self.place.is_bold
         lines = {line for text in counts for line in text.split("\n")}
-        signs = [sign_of(self.letters, line, is_bold) for line in lines]
-        self.top = min(sign.top for sign in signs)
-        self.bottom = max(sign.bottom for sign in signs)
+        self.signs = {line: sign_of(self.letters, line, is_bold) for line in lines}
+        self.top = min(sign.top for sign in self.signs.values())
+        self.bottom = max(sign.bottom for sign in self.signs.values())
         if self.bottom - self.top <= 0:
             self.top, self.bottom = -1.0, 0.0
         self.least = max(1, min(math.ceil(LEAST_TEXT / self.dot), self.largest(1)))
@@ -159,9 +161,14 @@ class Room:
 
     def largest_fit(self, text: str) -> Fit:
         """Returns the largest letters in which a text is whole, or else the least ones."""
+        ink = self.ink_of(text)
+        sizes = sizes_between(self.least, self.largest(text.count("\n") + 1))
+        if ink > 0:
+            alone = bisect_left(sizes, -self.wide / HINTING / ink, key=neg)
+            if alone < len(sizes) and sizes[alone] >= self.largest(2):
+                return Fit(sizes[alone], 1)  # no more lines have room for letters as large
         measured = self.measured(text)
         best = Fit(self.least, self.most_lines, True)
-        sizes = sizes_between(self.least, self.largest(len(measured.paragraphs)))
         first = 0
         last = len(sizes)
         while first < last:  # the sizes fall: the first one in which it is whole
@@ -189,9 +196,12 @@ class Room:
 
     def measured(self, text: str) -> Measured:
         """Returns the widths of a text; those of a price are of one word."""
-        lines = text.split("\n")
-        ink = self.letters.extent(text, self.place.is_bold).width if len(lines) == 1 else 0.0
-        return Measured([self.words(line) for line in lines], ink)
+        return Measured([self.words(line) for line in text.split("\n")], self.ink_of(text))
+
+    def ink_of(self, text: str) -> float:
+        """Returns the width of the ink of a text where it is one line, else 0."""
+        sign = self.signs.get(text)
+        return extent_of(sign).width if sign else 0.0
 
     def words(self, line: str) -> list[Word]:
         """Returns the words of a line; a price is one word."""
@@ -304,9 +314,10 @@ class OwnLayouts:
 
     def __post_init__(self) -> None:
         self.places = self.design.places
-        self.own = frozenset(key_of(place.name) for place in self.places)
+        self.own = frozenset(place.key for place in self.places)
         self.own |= frozenset(place.part for place in self.places)
         self.boxes = {place: self.box_of(place) for place in self.places}
+        self.boxes_of = cache(self.new_boxes)
 
     def box_of(self, place: Place) -> Box:
         """Returns the dots of a place that the paper takes."""
@@ -338,7 +349,7 @@ class OwnLayouts:
 
     def text_at(self, place: Place, values: Values) -> str:
         """Returns the text of a label in a place."""
-        return values.texts.get(key_of(place.name)) or values.texts.get(place.part) or ""
+        return values.texts.get(place.key) or values.texts.get(place.part) or ""
 
     def rooms(self, values: Iterable[Values]) -> dict[Place, Room]:
         """Returns the rooms of texts."""
@@ -408,34 +419,41 @@ class OwnLayouts:
                 texts.append(rooms[place].text(text))
         finest = min(symbols, key=lambda one: (one.symbology.nominal > 0, one.module))
         found = (finest.symbology, finest.module, finest.boxes, False)
-        absent = frozenset(key for key in self.design.groups if not values.texts.get(key))
+        absent = self.design.groups.difference(values.texts)
         return OwnLayout(NO_FRAME, *found, tuple(texts), tuple(symbols), absent)
 
     def symbol(
         self, place: Place, symbology: Symbology, modules: Modules, data: bytes
     ) -> OwnSymbol:
         """Returns a symbol in the middle of its place; raises `NoRoom`."""
+        module, boxes = self.boxes_of(place, symbology.name, modules.width, modules.height)
+        return OwnSymbol(place, self.boxes[place], data, modules, symbology, module, boxes)
+
+    def new_boxes(
+        self, place: Place, name: str, width: int, height: int
+    ) -> tuple[int, Mapping[str, Box]]:
+        """Returns the module and the boxes of symbols of a size in modules; raises `NoRoom`."""
+        symbology = SYMBOLOGIES[name]
         box = self.boxes[place]
         room = Box(0, 0, box.height, box.width) if place.quarters % 2 else box
         least, most = self.allowed(place, symbology)
-        rows = modules.height if modules.height > 1 else 0  # else bars are as high as there is room
+        rows = height if height > 1 else 0  # else bars are as high as there is room
         below = DIGITS_ROOM if symbology.nominal else 0
         lowest = rows * least or math.ceil(LOWEST / self.area.dot)
-        module = min(most, room.width // modules.width)
+        module = min(most, room.width // width)
         if rows:
             module = min(module, room.height // (rows + below))
         high = rows * module or room.height - below * module
         if module < least or high < lowest:
-            wanted = modules.width * least, lowest + below * least
-            raise NoRoom(self.no_room(place, symbology, wanted))
+            raise NoRoom(self.no_room(place, symbology, (width * least, lowest + below * least)))
         high -= high % module
-        left = (room.width - modules.width * module) // 2
+        left = (room.width - width * module) // 2
         top = (room.height - high - below * module) // 2
-        bars = Box(left, top, modules.width * module, high)
+        bars = Box(left, top, width * module, high)
         boxes = {"bars": bars}
         if below:
             boxes["digits"] = bars._replace(top=bars.bottom, height=below * module)
-        return OwnSymbol(place, box, data, modules, symbology, module, boxes)
+        return module, boxes
 
     def allowed(self, place: Place, symbology: Symbology) -> tuple[int, int]:
         """Returns the least and the most dots of a module. EAN and UPC have a largest one."""
@@ -487,7 +505,7 @@ class OwnLayouts:
             named = ", ".join(lost)
             yield first, Text("{} has no place for {}: not on the labels", file, named)
         known = {*names, *PARTS}
-        empty = [one for one in self.places if not known & {key_of(one.name), one.part}]
+        empty = [one for one in self.places if not known & {one.key, one.part}]
         if empty:
             named = ", ".join(place.title for place in empty)
             hint = Text(

@@ -2,24 +2,22 @@
 
 from dataclasses import replace
 from functools import cache
-from typing import Any, Iterable, Optional
+from typing import Any, Iterable, Iterator, Optional
 
 import cairo
 
-from labeltools.area import MILLIMETRES
+from labeltools.area import MILLIMETRES, Dots
 from labeltools.engine import bytes_a_row
-from labeltools.frames import Box
+from labeltools.fitting import Style
 from labeltools.layout import LaidOut
 from labeltools.letters import Fonts, Letters
 from labeltools.messages import ToolError
 from labeltools.own_drawing import with_thin_lines
 from labeltools.own_design import BLACK, WHITE, Colour, OwnDesign, Place
-from labeltools.own_layout import OwnLayout, OwnText
-from labeltools.pen import Fitted, Medium, Page, Pen, Style, copied, ink_of, padded, seen_in
-from labeltools.pango import Pango
+from labeltools.own_layout import OwnLayout, OwnSymbol, OwnText
+from labeltools.pen import Medium, Page, Pen, Placed, is_light, light_of, padded
 from labeltools.text import Text
 
-STEP = 40  # letters that do not fit lose this part of their size
 DARK = bytes(128) + b"\1" * 128  # the darkness of a dot from which on it is black
 CHECKED = 8.0  # dots a millimetre, in which a drawing is looked at
 LIGHT = bytes(range(160, 256))  # what symbols take behind them
@@ -39,6 +37,7 @@ class OwnPen(Pen):
         self.drawing = cache(self.new_drawing)
         self.dark_rows = cache(self.new_dark_rows)
         self.packed = cache(self.new_packed)
+        self.own_style = cache(self.new_own_style)
 
     @property
     def size(self) -> tuple[int, int]:
@@ -63,22 +62,14 @@ class OwnPen(Pen):
 
     def new_packed(self, absent: frozenset[str], stride: int, height: int) -> bytes:
         """Returns the drawing without some parts as the rows of a page of Cairo."""
-        rows = [padded(row, stride) for row in self.dark_rows(absent)[:height]]
-        return b"".join(rows).ljust(stride * height, b"\0")
+        rows = self.dark_rows(absent)[:height]
+        return padded(b"".join(rows), len(rows[0]), stride).ljust(stride * height, b"\0")
 
-    def draw(self, canvas: Any, page: Page, turn: int = 0) -> None:
-        """Draws labels in the areas that begin at their places, as `Pen.draw` does."""
-        whole = canvas.get_matrix()
-        is_begun = not turn and self.is_begun(canvas, page)
-        for item, place in page:
-            canvas.set_matrix(whole)
-            canvas.translate(*place)
-            if turn:
-                canvas.transform(cairo.Matrix(0, 1, -1, 0, turn, 0))
-            if not is_begun:
-                self.draw_drawing(canvas, item)
-            self.draw_label(canvas, item)
-        canvas.set_matrix(whole)
+    def draw_below(self, canvas: Any, page: Page, is_turned: bool) -> None:
+        """Draws what is alike on the labels of a page."""
+        if is_turned or not self.is_begun(canvas, page):
+            for item, place in page:
+                self.draw_drawing(canvas, item, place)
 
     def is_begun(self, canvas: Any, page: Page) -> bool:
         """Copies the drawing where a page in dots is one label: Cairo would take as long for it as
@@ -96,129 +87,59 @@ class OwnPen(Pen):
         surface.mark_dirty()
         return True
 
-    def draw_drawing(self, canvas: Any, item: LaidOut) -> None:
-        """Draws what is alike on labels."""
+    def draw_drawing(self, canvas: Any, item: LaidOut, place: Dots) -> None:
+        """Draws what is alike on labels on the one whose area begins at a place."""
         drawing = self.drawing(own_layout(item).absent)
         if drawing:
             canvas.save()
+            canvas.translate(*place)
             if self.medium.is_dots:  # which takes a quarter of the time of a mask
                 canvas.set_operator(cairo.Operator.ADD)
             canvas.set_source(drawing)
             canvas.paint()
             canvas.restore()
 
-    def draw_label(self, canvas: Any, item: LaidOut) -> None:
-        """Draws the symbols and letters of a label."""
-        layout = own_layout(item)
-        for symbol in layout.symbols:
-            canvas.save()
-            turned(canvas, symbol.box, symbol.place.quarters)
-            self.draw_modules(canvas, symbol.modules, symbol)
-            if "digits" in symbol.boxes:
-                self.draw_data(canvas, symbol.data, symbol)
-            canvas.restore()
-        for text in layout.texts:
-            self.draw_letters(canvas, text)
+    def symbols(self, item: LaidOut) -> Iterable[OwnSymbol]:
+        """Returns the symbols of a label."""
+        return own_layout(item).symbols
 
-    def draw_letters(self, canvas: Any, text: OwnText) -> None:
-        """Draws a text in its colour; in dots it is black, or takes black dots away."""
-        found = self.fitted_text(text)
-        family = self.family_of(text.place)
-        colour = text.place.colour or BLACK
-        if colour == BLACK and not text.place.quarters:
-            self.show(canvas, found, family, text.box.left, text.box.top)
-            return
-        canvas.save()
-        turned(canvas, text.box, text.place.quarters)
-        if not self.medium.is_dots:
-            canvas.set_source_rgb(*colour)
-        elif is_light(colour):
-            canvas.set_operator(cairo.Operator.DEST_OUT)
-        self.show(canvas, found, family, 0, 0)
-        canvas.restore()
+    def texts(self, item: LaidOut) -> Iterator[Placed]:
+        """Yields the texts of a label, each of which is drawn before the next one is fitted."""
+        for text in own_layout(item).texts:
+            found = self.in_room(text)
+            place = text.place
+            colour = None if place.colour == BLACK else place.colour
+            yield Placed(self.fitter.found(*found), found[1], text.box, place.quarters, colour)
 
-    def is_shortened(self, item: LaidOut) -> bool:
-        """Returns whether a text of a label ends in an ellipsis."""
-        return item.label.is_cut or any(map(self.is_ellipsized, own_layout(item).texts))
+    def lines_of(self, item: LaidOut) -> Iterator[tuple[str, Style, int, int]]:
+        """Yields the texts of a label that may be cut, with their room."""
+        for text in own_layout(item).texts:
+            yield self.in_room(text)
 
-    def shown_texts(self, item: LaidOut) -> tuple[str, ...]:
-        """Returns the texts of a label as they are seen, up to the ellipsis where one is."""
-        return tuple(
-            seen_in(self.fitted_text(text).layout) if self.is_ellipsized(text) else text.text
-            for text in own_layout(item).texts
-        )
-
-    def is_ellipsized(self, text: OwnText) -> bool:
-        """Returns whether a text ends in an ellipsis."""
-        may_be = text.is_cut or text.lines > 1
-        return may_be and bool(self.fitted_text(text).layout.is_ellipsized())
-
-    def fitted_text(self, text: OwnText) -> Fitted:
-        """Returns a text as it fits its box. One that comes again is kept as it is laid out."""
-        key = id(text.place), text.text, text.size, text.lines
-        return self.kept.get(key, lambda _: self.new_fitted(text), copied)
-
-    def new_fitted(self, text: OwnText) -> Fitted:
-        """Returns a text as it fits its box: smaller where its ink would leave it."""
+    def in_room(self, text: OwnText) -> tuple[str, Style, int, int]:
+        """Returns a text, how it is written, and its room as it is read."""
         wide, high = text.box.width, text.box.height
         if text.place.quarters % 2:
             wide, high = high, wide
-        quick = self.quick_text(text, wide)
-        if quick is not None:
-            return quick
-        size = text.size
-        while True:
-            is_lines = text.lines > 1 or text.is_cut or "\n" in text.text
-            style = self.style_of(text, size, text.lines * is_lines)
-            layout = self.laid_out(text.text, style, wide, size)
-            ink = ink_of(layout)
-            if (ink.width <= wide and ink.height <= high) or size <= 1:
-                break
-            size -= max(1, size // STEP)
-        x = (wide - ink.width) * (text.place.across + 1) // 2 - ink.left
-        y = text.base - layout.get_baseline() // Pango.SCALE
-        x = max(-ink.left, min(x, wide - ink.width - ink.left))
-        return Fitted(layout, x, max(-ink.top, min(y, high - ink.height - ink.top)))
+        return text.text, self.style_of(text), wide, high
 
-    def quick_text(self, text: OwnText, wide: int) -> Optional[Fitted]:
-        """Returns a line of text as it fits its box by the widths of its letters, which Pango takes
-        long to say; None in dots, where their shapes are others.
-        """
-        if self.medium.is_dots or text.lines > 1 or text.is_cut or text.place.font:
-            return None
-        sign = self.letters.line(text.text, text.place.is_bold) if "\n" not in text.text else None
-        if sign is None:
-            return None
-        size = text.size
-        layout = self.laid_out(text.text, self.style_of(text, size, 0), wide, size)
-        ink = (sign.advance - sign.left - sign.right) * size
-        x = (wide - ink) * (text.place.across + 1) / 2 - sign.left * size
-        return Fitted(layout, round(x), text.base - layout.get_baseline() // Pango.SCALE)
-
-    def style_of(self, text: OwnText, size: int, lines: int) -> Style:
+    def style_of(self, text: OwnText) -> Style:
         """Returns how a text is written."""
         place = text.place
         struck = len(text.text.encode()) if place.part == "was" else 0
-        family = self.family_of(place)
-        return Style(family, place.is_bold, size, lines, place.across, 0.0, struck)
+        is_parted = text.lines > 1 or text.is_cut or "\n" in text.text
+        return self.own_style(place, text.size, text.lines * is_parted, struck, text.base)
 
-    def family_of(self, place: Place) -> str:
-        """Returns the font of a place."""
-        return place.font or self.fonts.texts
+    def new_own_style(self, place: Place, size: int, lines: int, struck: int, base: int) -> Style:
+        """Returns how texts of a place are written."""
+        family = place.font or self.fonts.texts
+        return Style(family, place.is_bold, size, lines, place.across, 0.0, struck, base)
 
 
 def own_layout(item: LaidOut) -> OwnLayout:
     """Returns the layout of a label in a design."""
     assert isinstance(item.layout, OwnLayout)
     return item.layout
-
-
-def turned(canvas: Any, box: Box, quarters: int) -> None:
-    """Moves a canvas to a box, which is turned to the right by some quarters."""
-    corners = ((0, 0), (box.width, 0), (box.width, box.height), (0, box.height))
-    rows = ((1, 0, 0, 1), (0, 1, -1, 0), (-1, 0, 0, -1), (0, -1, 1, 0))
-    canvas.translate(box.left, box.top)
-    canvas.transform(cairo.Matrix(*rows[quarters], *corners[quarters]))
 
 
 def recorded(
@@ -270,17 +191,6 @@ def colour_on(file: str, place: Place, behind: bytes) -> Colour:
     return wanted if is_light(wanted) == is_light(usual) and contrast > CONTRAST else usual
 
 
-def light_of(colour: Colour) -> float:
-    """Returns how light a colour is, from 0 to 1."""
-    red, green, blue = colour
-    return 0.3 * red + 0.59 * green + 0.11 * blue
-
-
-def is_light(colour: Colour) -> bool:
-    """Returns whether a colour is white in dots."""
-    return light_of(colour) >= 0.5
-
-
 def lightness(
     design: OwnDesign,
     wide: int,
@@ -318,7 +228,7 @@ def dark_row(row: bytes) -> bytes:
 def mask_of(rows: list[bytes], wide: int) -> cairo.SurfacePattern:
     """Returns rows of dots as what is drawn by `mask`."""
     stride = -(-wide // 32) * 4
-    data = memoryview(bytearray().join(padded(row, stride) for row in rows))
+    data = memoryview(bytearray(padded(b"".join(rows), len(rows[0]), stride)))
     picture = cairo.ImageSurface.create_for_data(data, cairo.FORMAT_A1, wide, len(rows), stride)
     mask = cairo.SurfacePattern(picture)
     mask.set_filter(cairo.Filter.NEAREST)

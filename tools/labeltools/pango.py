@@ -3,7 +3,10 @@
 import importlib
 from typing import Any
 
+import cairo
 import gi
+
+MEASURED = 200  # dots: the size of letters in which they are measured
 
 
 def library(name: str, version: str) -> Any:
@@ -14,3 +17,20 @@ def library(name: str, version: str) -> Any:
 
 Pango = library("Pango", "1.0")
 PangoCairo = library("PangoCairo", "1.0")
+
+
+def pango_context(options: cairo.FontOptions, is_rounded: bool) -> Any:
+    """Returns what lays texts out; glyphs are at whole dots where `is_rounded`."""
+    context = PangoCairo.FontMap.get_default().create_context()
+    context.set_round_glyph_positions(is_rounded)
+    PangoCairo.context_set_font_options(context, options)
+    return context
+
+
+def plain_options() -> cairo.FontOptions:
+    """Returns the options of letters that keep their shapes in any size."""
+    options = cairo.FontOptions()
+    options.set_hint_metrics(cairo.HintMetrics.OFF)
+    options.set_hint_style(cairo.HintStyle.NONE)
+    options.set_antialias(cairo.Antialias.GRAY)
+    return options

@@ -2,16 +2,16 @@
 
 import math
 import re
+from collections import defaultdict
+from contextlib import contextmanager
 from dataclasses import dataclass
 from functools import cache
 from typing import (
     Any,
-    Hashable,
     Iterable,
     Iterator,
-    Mapping,
     NamedTuple,
-    Protocol,
+    Optional,
     Sequence,
 )
 
@@ -19,20 +19,17 @@ import cairo
 
 from labeltools.area import Dots
 from labeltools.engine import Modules, bytes_a_row
+from labeltools.fitting import LEFT, MIDDLE, RIGHT, Fitted, Fitter, Style
 from labeltools.frames import LINE, Box, Frame
-from labeltools.kept import Kept
 from labeltools.layout import LaidOut, Layout, PrintLabel
-from labeltools.letters import Fonts, Letters, pango_context, plain_options
-from labeltools.pango import Pango, PangoCairo
+from labeltools.letters import Fonts, Letters
+from labeltools.own_design import Colour, Place
+from labeltools.own_layout import OwnSymbol
+from labeltools.pango import PangoCairo, plain_options
 from labeltools.symbologies import SYMBOLOGIES, Span, Symbology
 
 DARK = re.compile("1+")
 INSET = 0.01  # of a dot: what touches a dot paints it
-NOT_LATIN = re.compile("[^\0-\u024f]")  # letters that may leave their line
-ELLIPSIS = 1 << 1  # PANGO_ANALYSIS_FLAG_IS_ELLIPSIS of a run
-SIDE = 16  # lines have this part of the size of letters as room at their sides
-STEP = 20  # letters that do not fit lose this part of their size
-KEPT = 1536  # texts that are kept as they are laid out
 SHOWN = {code: 0x2400 + code for code in range(32)} | {127: 0x2421}  # control characters
 REVERSED = bytes(int(f"{byte:08b}"[::-1], 2) for byte in range(256))
 # modules: how much longer guards are, where digits begin below bars, their size
@@ -40,60 +37,29 @@ GUARD = 5
 DIGITS_TOP = 1
 DIGITS_SIZE = 10.4
 LARGE = 1000  # dots: the size in which digits are measured
+DIGITS = "0123456789"
 BETWEEN = "   "  # old price and unit price on one line
-SPACE = 0.4  # more than the width of a space
-HINTED = 1.04  # by how much letters in dots may be wider than they are measured
-LEFT = -1
-MIDDLE = 0
-RIGHT = 1
-ALIGNMENTS = {
-    LEFT: Pango.Alignment.LEFT,
-    MIDDLE: Pango.Alignment.CENTER,
-    RIGHT: Pango.Alignment.RIGHT,
-}
-
-
-PARTS = ("bars", "digits", "title", "text", "price", "details")
+WITHOUT_END = 1 << 20  # dots: the height of a text of which all lines are wanted
+CODE = Place("code", "code")  # of a built-in design: it begins where the label does
+WHOLE = Box(0, 0, 0, 0)
 Page = Sequence[tuple[LaidOut, Dots]]  # labels, with the upper left corners of their areas
 
 
-class Style(NamedTuple):
-    """How a text is drawn: its letters and their size; the most lines that each line of it takes,
-    the last of which may end in an ellipsis, or 0 where it is whole; where it is across (LEFT,
-    MIDDLE, RIGHT) and down (0 to 1) its box; how many bytes at its beginning are struck through.
+class Placed(NamedTuple):
+    """A text that is fitted into a box: its style; the box, turned to the right by some quarters;
+    its colour where that is not black.
     """
 
-    family: str
-    is_bold: bool
-    size: int
-    lines: int
-    across: int
-    down: float
-    struck: int
+    text: Fitted
+    style: Style
+    box: Box
+    quarters: int = 0
+    colour: Optional[Colour] = None
 
 
-class Fitted(NamedTuple):
-    """A layout of Pango, and where it is in its box."""
-
-    layout: Any
-    x: int
-    y: int
-
-
-class Symbol(Protocol):
-    """A symbol as it is drawn: its module in dots, and the boxes of its bars and digits."""
-
-    @property
-    def symbology(self) -> Symbology:
-        """Its symbology."""
-
-    @property
-    def module(self) -> int:
-        """The dots of a module."""
-
-    @property
-    def boxes(self) -> Mapping[str, Box]:
-        """Its boxes, by `bars` and `digits`."""
+# glyphs of many labels that are drawn together, by their faces and sizes: a call of Cairo takes as
+# long as a line of glyphs
+Runs = defaultdict[tuple[Any, int], list[tuple[int, float, float]]]
 
 
 class DigitPlace(NamedTuple):
@@ -119,169 +85,99 @@ class Medium:
 
 
 class Pen:
-    """Draws labels on a medium."""
+    """Draws labels on a medium, in a built-in design."""
 
     def __init__(self, medium: Medium, fonts: Fonts, letters: Letters) -> None:
         self.medium = medium
         self.fonts = fonts
         self.letters = letters
         self.options = options_of(medium)
+        self.fitter = Fitter(letters, self.options, medium.is_dots, medium.outlines)
         # Cairo keeps a face as it was first used: a name of its own for each medium
         self.digits_face = cairo.ToyFontFace(fonts.digits + " " * medium.is_dots)
-        scale = cairo.Matrix(LARGE, 0, 0, LARGE)
-        large = cairo.ScaledFont(self.digits_face, scale, cairo.Matrix(), plain_options())
+        large = self.digits_font(plain_options(), LARGE)
         extents = large.text_extents("0")
         self.digit_width = extents.x_advance / LARGE
         self.digit_height = -extents.y_bearing / LARGE
-        self.context = pango_context(self.options, medium.is_dots)
-        self.blank = cache(self.new_blank)
-        self.kept: Kept[Hashable, Fitted] = Kept(KEPT)
+        self.digits_of_size = cache(self.new_digits)
         self.style = cache(self.new_style)
         self.digit_places = cache(self.new_digit_places)
+
+    def digits_font(self, options: cairo.FontOptions, size: int) -> Any:
+        """Returns the font of digits in a size."""
+        scale = cairo.Matrix(size, 0, 0, size)
+        return cairo.ScaledFont(self.digits_face, scale, cairo.Matrix(), options)
 
     def draw(self, canvas: Any, page: Page, turn: int = 0) -> None:
         """Draws labels in the areas that begin at their places, turned to the right where the width
         of the areas on the paper is given.
-
-        One kind of part is drawn after another: fonts change less often so, which saves a third of
-        the time.
         """
         whole = canvas.get_matrix()
-        for kind in PARTS:
-            for item, place in page:
-                if kind not in item.layout.boxes:
-                    continue
-                canvas.set_matrix(whole)
-                canvas.translate(*place)
-                if turn:
-                    canvas.transform(cairo.Matrix(0, 1, -1, 0, turn, 0))
-                self.draw_part(canvas, kind, item.label, item.layout)
+        if turn:
+            canvas.transform(cairo.Matrix(0, 1, -1, 0, turn, 0))
+            page = [(item, (top, -left)) for item, (left, top) in page]
+        self.draw_below(canvas, page, bool(turn))
+        runs: Runs = defaultdict(list)
+        for item, place in page:
+            for symbol in self.symbols(item):
+                self.draw_symbol(canvas, symbol, place, runs)
+        for item, place in page:
+            for text in self.texts(item):
+                self.draw_text(canvas, text, place, runs)
+        self.show_runs(canvas, runs)
         canvas.set_matrix(whole)
 
-    def draw_part(self, canvas: Any, kind: str, label: PrintLabel, layout: Layout) -> None:
-        """Draws a part of a label."""
-        if kind == "bars":
-            self.draw_modules(canvas, label.modules, layout)
-        elif kind == "digits":
-            self.draw_data(canvas, label.record.data, layout)
-        elif kind == "title":
-            self.draw_head(canvas, label, layout)
-        else:
-            text, style = self.text_of(kind, label, layout)
-            self.draw_text(canvas, text, style, layout.boxes[kind])
+    def draw_below(self, canvas: Any, page: Page, is_turned: bool) -> None:
+        """Draws what is below the symbols and texts of a page: nothing."""
 
-    def is_shortened(self, item: LaidOut) -> bool:
-        """Returns whether the title or a line of the text of a label ends in an ellipsis."""
-        if item.label.is_cut:
-            return True
-        return any(self.is_cut(*part) for part in self.lines_of(item.label, item.layout))
+    def symbols(self, item: LaidOut) -> Iterable[OwnSymbol]:
+        """Returns the symbols of a label."""
+        label = item.label
+        layout = item.layout
+        how = (layout.symbology, layout.module, layout.boxes)
+        yield OwnSymbol(CODE, WHOLE, label.record.data, label.modules, *how)
 
-    def shown_texts(self, item: LaidOut) -> tuple[str, ...]:
-        """Returns the title and the text of a label as they are seen: up to the ellipsis, where
-        they have one.
-        """
-        shown = []
-        for text, style, width in self.lines_of(item.label, item.layout):
-            layout = self.laid_out(text, style, width, style.size)
-            shown.append(seen_in(layout) if layout.is_ellipsized() else text)
-        return tuple(shown)
+    def texts(self, item: LaidOut) -> Iterator[Placed]:
+        """Yields the texts of a label, each of which is drawn before the next one is fitted."""
+        label = item.label
+        layout = item.layout
+        boxes = layout.boxes
+        if "title" in boxes:
+            yield from self.head(label, layout)
+        for kind in ("text", "price", "details"):
+            if kind in boxes:
+                yield self.placed(*self.text_of(kind, label, layout), boxes[kind])
 
-    def lines_of(self, label: PrintLabel, layout: Layout) -> Iterator[tuple[str, Style, int]]:
-        """Yields the texts of a label that may be cut, with the width of their lines."""
-        if label.title:
-            yield *self.text_of("title", label, layout), layout.boxes["title"].width
-        if label.text:
-            box = layout.boxes.get("text") or layout.boxes["title"]
-            yield *self.text_of("text", label, layout), box.width
-
-    def is_cut(self, text: str, style: Style, width: int) -> bool:
-        """Returns whether a text ends in an ellipsis in lines of a width."""
-        room = (width - 2 * (style.size // SIDE)) / (style.size * HINTED)
-        if all(self.is_surely_whole(line, style, room) for line in text.split("\n")):
-            return False
-        layout = self.laid_out(text, style, width, style.size)
-        return bool(layout.is_ellipsized())
-
-    def is_surely_whole(self, line: str, style: Style, room: float) -> bool:
-        """Returns whether a line is whole by the widths of its words, which is quick to see."""
-        words = [self.letters.word(word, style.is_bold) for word in line.split(" ") if word]
-        lines = 1
-        used = 0.0
-        for word in words:
-            if word is None or word.advance > room:
-                return False
-            if used + word.advance > room:
-                lines += 1
-                used = 0.0
-            used += word.advance + SPACE
-        return lines <= style.lines
-
-    def new_blank(self, style: Style, width: int, size: int) -> Any:
-        """Returns a layout of Pango without a text, its letters of a size in dots."""
-        layout = Pango.Layout.new(self.context)
-        font = Pango.FontDescription(f"{style.family}, {'Bold' * style.is_bold}")
-        font.set_absolute_size(size * Pango.SCALE)
-        layout.set_font_description(font)
-        if style.lines:
-            layout.set_width((width - size // SIDE * 2) * Pango.SCALE)
-            layout.set_wrap(Pango.WrapMode.WORD_CHAR)
-            layout.set_ellipsize(Pango.EllipsizeMode.END)
-            layout.set_height(-style.lines)  # of each paragraph
-        layout.set_alignment(ALIGNMENTS[style.across])
-        layout.set_attributes(attributes_of(style, size))
-        return layout
-
-    def laid_out(self, text: str, style: Style, width: int, size: int) -> Any:
-        """Returns a text in a style and size, until another one is laid out so."""
-        layout = self.blank(style, width if style.lines else 0, size)
-        layout.set_text(text, -1)
-        return layout
-
-    def fitted(self, text: str, style: Style, width: int, height: int) -> Fitted:
-        """Returns a text as it fits a box: smaller where its ink would leave it."""
-        size = style.size
-        while True:
-            layout = self.laid_out(text, style, width, size)
-            across, high = layout.get_pixel_size()
-            is_plain = style.lines and not NOT_LATIN.search(text)
-            ink = Box(0, 0, across, high) if is_plain else ink_of(layout)
-            if (ink.width <= width and ink.height <= height) or size <= 1:
-                break
-            size -= max(1, size // STEP)
-        x = size // SIDE if style.lines else (width - across) * (style.across + 1) // 2
-        y = int((height - high) * style.down)
-        x = max(-ink.left, min(x, width - ink.width - ink.left))
-        return Fitted(layout, x, max(-ink.top, min(y, height - ink.height - ink.top)))
-
-    def found(self, text: str, style: Style, width: int, height: int) -> Fitted:
-        """Returns what fitted() does. A text that comes again is kept as it is laid out."""
-        key = text, style, width, height
-        return self.kept.get(key, lambda _: self.fitted(text, style, width, height), copied)
-
-    def draw_head(self, canvas: Any, label: PrintLabel, layout: Layout) -> None:
-        """Draws a title, and the text below it where that has no place of its own."""
+    def head(self, label: PrintLabel, layout: Layout) -> Iterator[Placed]:
+        """Yields a title, and the text below it where that has no place of its own."""
         frame = layout.frame
         box = layout.boxes["title"]
         has_text = bool(label.text) and "text" not in layout.boxes
         is_middle = frame.kind == "beside" and "price" not in frame.boxes
         lines = label.text.count("\n") + 1 if has_text else 0
         below = math.ceil(lines * LINE * frame.sizes["text"])
-        title = self.title(label, layout, box.height - below) if label.title else None
         used = 0
+        title = self.title(label, layout, box.height - below) if label.title else None
         if title is not None and (has_text or is_middle):
-            used = min(title.layout.get_pixel_size()[1], box.height - below)
+            used = min(title.text.height, box.height - below)
         top = box.top + (box.height - below - used) // 2 if is_middle else box.top
         if title is not None:
-            self.show(canvas, title, self.fonts.texts, box.left, top)
+            yield Placed(title.text, title.style, Box(box.left, top, box.width, box.height))
         if has_text:
             rest = box._replace(top=top + used, height=box.bottom - top - used)
-            self.draw_text(canvas, *self.text_of("text", label, layout), rest)
+            yield self.placed(*self.text_of("text", label, layout), rest)
 
-    def title(self, label: PrintLabel, layout: Layout, room: int) -> Fitted:
+    def title(self, label: PrintLabel, layout: Layout, room: int) -> Placed:
         """Returns the title of a label in a height."""
         text, style = self.text_of("title", label, layout)
+        box = layout.boxes["title"]
         most = math.ceil(layout.frame.lines * LINE * style.size)
-        return self.fitted(text, style, layout.boxes["title"].width, min(most, room))
+        return self.placed(text, style, Box(box.left, box.top, box.width, min(most, room)))
+
+    def placed(self, text: str, style: Style, box: Box) -> Placed:
+        """Returns a text as it fits a box; those of one line often come again."""
+        fit = self.fitter.fitted if style.lines else self.fitter.found
+        return Placed(fit(text, style, box.width, box.height), style, box)
 
     def text_of(self, kind: str, label: PrintLabel, layout: Layout) -> tuple[str, Style]:
         """Returns a text of a label and how it is written."""
@@ -311,24 +207,106 @@ class Pen:
             return Style(family, True, size, 0, numbers, 0.5, 0)
         return Style(family, False, size, 0, numbers, 1.0, 0)
 
-    def draw_text(self, canvas: Any, text: str, style: Style, box: Box) -> None:
-        """Draws a text in a box."""
-        if style.lines:
-            found = self.fitted(text, style, box.width, box.height)
-        else:
-            found = self.found(text, style, box.width, box.height)
-        self.show(canvas, found, style.family, box.left, box.top)
+    def is_shortened(self, item: LaidOut) -> bool:
+        """Returns whether a text of a label ends in an ellipsis."""
+        return item.label.is_cut or any(self.fitter.is_cut(*text) for text in self.lines_of(item))
 
-    def show(self, canvas: Any, text: Fitted, family: str, left: int, top: int) -> None:
+    def shown_texts(self, item: LaidOut) -> tuple[str, ...]:
+        """Returns the texts of a label that may be cut as they are seen: up to the ellipsis, where
+        they have one.
+        """
+        return tuple(self.fitter.shown(*text) for text in self.lines_of(item))
+
+    def lines_of(self, item: LaidOut) -> Iterator[tuple[str, Style, int, int]]:
+        """Yields the texts of a label that may be cut, with the room of their lines."""
+        label = item.label
+        layout = item.layout
+        if label.title:
+            width = layout.boxes["title"].width
+            yield *self.text_of("title", label, layout), width, WITHOUT_END
+        if label.text:
+            box = layout.boxes.get("text") or layout.boxes["title"]
+            yield *self.text_of("text", label, layout), box.width, WITHOUT_END
+
+    def draw_symbol(self, canvas: Any, symbol: OwnSymbol, place: Dots, runs: Runs) -> None:
+        """Draws a symbol of a label whose area begins at a place, with what is below its bars."""
+        box = symbol.box
+        if not symbol.place.quarters:
+            self.draw_upright(canvas, symbol, (place[0] + box.left, place[1] + box.top), runs)
+            return
+        with self.turned(canvas, box, symbol.place.quarters, place) as own:
+            self.draw_upright(canvas, symbol, (0, 0), own)
+
+    def draw_upright(self, canvas: Any, symbol: OwnSymbol, corner: Dots, runs: Runs) -> None:
+        """Draws a symbol in a box that begins at a corner."""
+        matrix = canvas.get_matrix()
+        canvas.translate(*corner)
+        self.draw_modules(canvas, symbol.modules, symbol)
+        canvas.set_matrix(matrix)
+        if "digits" in symbol.boxes:
+            self.draw_data(canvas, symbol, corner, runs)
+
+    def draw_text(self, canvas: Any, placed: Placed, place: Dots, runs: Runs) -> None:
+        """Draws a text of a label whose area begins at a place; in dots it is black, or takes black
+        dots away.
+        """
+        text, style, box, quarters, colour = placed
+        if not quarters and colour is None:
+            self.show(canvas, text, style, place[0] + box.left, place[1] + box.top, runs)
+            return
+        with self.turned(canvas, box, quarters, place) as own:
+            if colour and not self.medium.is_dots:
+                canvas.set_source_rgb(*colour)
+            elif colour and is_light(colour):
+                canvas.set_operator(cairo.Operator.DEST_OUT)
+            self.show(canvas, text, style, 0, 0, own)
+
+    @contextmanager
+    def turned(self, canvas: Any, box: Box, quarters: int, place: Dots) -> Iterator[Runs]:
+        """Gives glyphs that are shown at the end in a box of a label, which is turned to the right
+        by some quarters, as is the canvas until then.
+        """
+        corners = ((0, 0), (box.width, 0), (box.width, box.height), (0, box.height))
+        rows = ((1, 0, 0, 1), (0, 1, -1, 0), (-1, 0, 0, -1), (0, -1, 1, 0))
+        canvas.save()
+        canvas.translate(place[0] + box.left, place[1] + box.top)
+        canvas.transform(cairo.Matrix(*rows[quarters], *corners[quarters]))
+        runs: Runs = defaultdict(list)
+        yield runs
+        self.show_runs(canvas, runs)
+        canvas.restore()
+
+    def show(
+        self, canvas: Any, text: Fitted, style: Style, left: int, top: int, runs: Runs
+    ) -> None:
         """Shows a text in a box that begins there, as shapes where its font needs that."""
+        if text.lines:
+            found = runs[text.face, text.size]
+            for (numbers, places), across, down in text.lines:
+                x = left + text.x + across
+                y = top + text.y + down
+                found += [(number, x + place, y) for number, place in zip(numbers, places)]
+            return
         canvas.move_to(left + text.x, top + text.y)
-        if family in self.medium.outlines:
+        if style.family in self.medium.outlines:
             PangoCairo.layout_path(canvas, text.layout)
             canvas.fill()
         else:
             show_layout(canvas, text.layout)
 
-    def draw_modules(self, canvas: Any, modules: Modules, layout: Symbol) -> None:
+    def show_runs(self, canvas: Any, runs: Runs) -> None:
+        """Shows glyphs, as shapes where their font needs that."""
+        canvas.set_font_options(self.options)
+        for (face, size), glyphs in runs.items():
+            canvas.set_font_face(face)
+            canvas.set_font_size(size)
+            if face is self.digits_face and self.fonts.digits in self.medium.outlines:
+                canvas.glyph_path(glyphs)
+                canvas.fill()
+            else:
+                canvas.show_glyphs(glyphs)
+
+    def draw_modules(self, canvas: Any, modules: Modules, layout: OwnSymbol) -> None:
         """Draws the modules of a label, and the longer guards of bars."""
         box = layout.boxes["bars"]
         module = layout.module
@@ -344,40 +322,43 @@ class Pen:
         mask = bars_mask(modules, layout.symbology, high)
         if len(modules.packed) == modules.row_size and layout.symbology.guards:
             high += GUARD
-        place = box._replace(height=high * module)
+        place = Box(box.left, box.top, box.width, high * module)
         mask.set_matrix(scaled(place, modules.width, high))
         canvas.mask(mask)
 
-    def draw_data(self, canvas: Any, whole: bytes, layout: Symbol) -> None:
-        """Draws what is below the bars: digits in their places, or all data in the middle."""
-        box = layout.boxes["digits"]
-        data = whole.decode("ascii", "replace")
-        if layout.symbology.is_number:
-            self.draw_digits(canvas, data, layout)
+    def draw_data(self, canvas: Any, symbol: OwnSymbol, corner: Dots, runs: Runs) -> None:
+        """Draws what is below the bars of a symbol whose box begins at a corner: digits in their
+        places, or all data in the middle.
+        """
+        box = symbol.boxes["digits"]
+        left = corner[0] + box.left
+        top = corner[1] + box.top
+        data = symbol.data.decode("ascii", "replace")
+        module = symbol.module
+        if not symbol.symbology.is_number:
+            size = round(DIGITS_SIZE * module)
+            style = Style(self.fonts.digits, False, size, 0, MIDDLE, 0.3, 0)
+            text = self.fitter.fitted(data.translate(SHOWN), style, box.width, box.height)
+            self.show(canvas, text, style, left, top, runs)
             return
-        size = round(DIGITS_SIZE * layout.module)
-        style = Style(self.fonts.digits, False, size, 0, MIDDLE, 0.3, 0)
-        text = self.fitted(data.translate(SHOWN), style, box.width, box.height)
-        self.show(canvas, text, style.family, box.left, box.top)
+        base = top + round((DIGITS_TOP + DIGITS_SIZE * self.digit_height) * module)
+        for first, last, size, start in self.digit_places(symbol.symbology.name, module):
+            found = runs[self.digits_face, size]
+            digits = self.digits_of_size(size)
+            x: float = left + start
+            for digit in data[first:last]:
+                number, advance = digits[digit]
+                found.append((number, x, base))
+                x += advance
 
-    def draw_digits(self, canvas: Any, data: str, layout: Symbol) -> None:
-        """Draws the digits of EAN and UPC in their places."""
-        box = layout.boxes["digits"]
-        module = layout.module
-        is_outline = self.fonts.digits in self.medium.outlines
-        draw = canvas.text_path if is_outline else canvas.show_text
-        canvas.set_font_face(self.digits_face)
-        canvas.set_font_options(self.options)
-        base = box.top + round((DIGITS_TOP + DIGITS_SIZE * self.digit_height) * module)
-        size = 0
-        for place in self.digit_places(layout.symbology.name, module):
-            if place.size != size:
-                size = place.size
-                canvas.set_font_size(size)
-            canvas.move_to(box.left + place.left, base)
-            draw(data[place.first : place.last])
-            if is_outline:
-                canvas.fill()
+    def new_digits(self, size: int) -> dict[str, tuple[int, float]]:
+        """Returns the glyphs of digits in a size, and how far each one is from the next."""
+        font = self.digits_font(self.options, size)
+        found = {}
+        for digit in DIGITS:
+            first, second = font.text_to_glyphs(0, 0, 2 * digit, False)
+            found[digit] = first.index, second.x
+        return found
 
     def new_digit_places(self, symbology: str, module: int) -> list[DigitPlace]:
         """Returns which digits are where below the bars, and how large."""
@@ -395,11 +376,6 @@ class Pen:
 show_layout = PangoCairo.show_layout
 
 
-def copied(text: Fitted) -> Fitted:
-    """Returns a text with a layout of its own, which no other text is laid out by."""
-    return text._replace(layout=text.layout.copy())
-
-
 def options_of(medium: Medium) -> cairo.FontOptions:
     """Returns how letters are drawn on a medium."""
     if not medium.is_dots:
@@ -411,21 +387,15 @@ def options_of(medium: Medium) -> cairo.FontOptions:
     return options
 
 
-def attributes_of(style: Style, size: int) -> Any:
-    """Returns the attributes of a style: lines of equal height, whatever fonts their letters are
-    of; no hyphens; what is struck through.
-    """
-    attributes = Pango.AttrList()
-    if style.lines or style.struck:
-        height = round(LINE * size * Pango.SCALE)
-        attributes.insert(Pango.attr_line_height_new_absolute(height))
-    attributes.insert(Pango.attr_insert_hyphens_new(False))
-    if style.struck:
-        strike = Pango.attr_strikethrough_new(True)
-        strike.start_index = 0
-        strike.end_index = style.struck
-        attributes.insert(strike)
-    return attributes
+def light_of(colour: Colour) -> float:
+    """Returns how light a colour is, from 0 to 1."""
+    red, green, blue = colour
+    return 0.3 * red + 0.59 * green + 0.11 * blue
+
+
+def is_light(colour: Colour) -> bool:
+    """Returns whether a colour is white in dots."""
+    return light_of(colour) >= 0.5
 
 
 def titled(title: str, frame: Frame) -> tuple[str, int]:
@@ -436,24 +406,6 @@ def titled(title: str, frame: Frame) -> tuple[str, int]:
     if lines < 1:
         return title.replace("\n", " "), max(1, frame.lines)
     return title, lines
-
-
-def seen_in(layout: Any) -> str:
-    """Returns the letters of a layout of Pango, with an ellipsis where it has left some out."""
-    text = layout.get_text().encode()
-    seen = b""
-    for line in layout.get_lines_readonly():
-        for run in line.runs:
-            item = run.item
-            is_ellipsis = item.analysis.flags & ELLIPSIS
-            seen += "…".encode() if is_ellipsis else text[item.offset : item.offset + item.length]
-    return seen.decode()
-
-
-def ink_of(layout: Any) -> Box:
-    """Returns where a layout has ink; each number is read once, since Pango takes long for it."""
-    ink, _ = layout.get_pixel_extents()
-    return Box(ink.x, ink.y, ink.width, ink.height)
 
 
 def bits_of(row: bytes) -> str:
@@ -476,15 +428,15 @@ def bars_mask(modules: Modules, symbology: Symbology, high: int) -> Any:
     """
     size = modules.row_size
     stride = size + -size % 4
-    rows = [padded(row, stride) for row in modules.rows()]
-    if len(rows) == 1:
+    rows = padded(modules.packed, size, stride)
+    if len(rows) == stride:
         rows *= high
         if symbology.guards:
             bits = int.from_bytes(modules.packed, "big") & guard_bits(symbology.name, 8 * size)
-            rows += [padded(bits.to_bytes(size, "big"), stride)] * GUARD
-    data = memoryview(bytearray().join(rows))
+            rows += padded(bits.to_bytes(size, "big"), size, stride) * GUARD
+    data = memoryview(bytearray(rows))
     picture = cairo.ImageSurface.create_for_data(
-        data, cairo.FORMAT_A1, modules.width, len(rows), stride
+        data, cairo.FORMAT_A1, modules.width, len(rows) // stride, stride
     )
     mask = cairo.SurfacePattern(picture)
     mask.set_filter(cairo.Filter.NEAREST)
@@ -508,7 +460,7 @@ def draw_dots(canvas: Any, modules: Modules, box: Box, module: int) -> None:
     for row in modules.rows():
         digits = bits_of(row)[: modules.width].replace("1", "x").replace("0", "0" * module)
         dots = int(digits.replace("x", "1" * module) + blank, 2).to_bytes(size, "big")
-        rows.append(padded(dots, stride) * module)
+        rows.append(padded(dots, size, stride) * module)
     data = memoryview(bytearray().join(rows))
     high = len(data) // stride
     picture = cairo.ImageSurface.create_for_data(data, cairo.FORMAT_A1, wide, high, stride)
@@ -528,9 +480,11 @@ def scaled(box: Box, width: int, height: int) -> cairo.Matrix:
     return cairo.Matrix(across, 0, 0, down, -(box.left + INSET) * across, -(box.top + INSET) * down)
 
 
-def padded(row: bytes, stride: int) -> bytes:
-    """Returns a row of modules as Cairo has it: the first one is the lowest bit."""
-    return row.translate(REVERSED).ljust(stride, b"\0")
+def padded(packed: bytes, size: int, stride: int) -> bytes:
+    """Returns rows of some bytes as Cairo has them: longer, the first dot in the lowest bit."""
+    found = packed.translate(REVERSED)
+    behind = bytes(stride - size)
+    return b"".join([found[at : at + size] + behind for at in range(0, len(found), size)])
 
 
 def draw_rectangles(

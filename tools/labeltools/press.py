@@ -67,6 +67,12 @@ class Prints:
         """Returns a label by its number from 0 among all copies."""
         return self.items[bisect_right(self.ends, number)]
 
+    def between(self, first: int, last: int) -> Sequence[LaidOut]:
+        """Returns labels from a number up to another one among all copies."""
+        if len(self) == len(self.items):
+            return self.items[first:last]
+        return [self[number] for number in range(first, min(last, len(self)))]
+
     def runs(self) -> Iterator[tuple[LaidOut, int]]:
         """Yields labels that differ from the one before, with how many follow one another that are
         the same.
@@ -127,8 +133,8 @@ class Press:
         """Returns a page by its number, from 0."""
         places = self.job.plan.places
         start = number * len(places) - (self.job.first - 1)
-        end = min(start + len(places), len(prints))
-        return [(prints[label], places[label - start]) for label in range(max(0, start), end)]
+        first = max(0, start)
+        return list(zip(prints.between(first, start + len(places)), places[first - start :]))
 
     def pages(self, prints: Prints) -> Iterator[Page]:
         """Yields labels in the cells of one page after another."""

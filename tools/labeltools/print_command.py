@@ -4,6 +4,7 @@ in millimetres.
 
 import argparse
 import fcntl
+import gc
 import os
 import re
 import stat
@@ -457,6 +458,7 @@ def run() -> int:
         from labeltools import stream
 
         return stream.run(options, job, arguments.lines, sender_of(arguments))
+    gc.disable()  # no label leaves a cycle behind, and to look for them takes time
     talk = PrintTalk()
     found = found_labels(options, job, arguments.lines, talk)
     say(found)

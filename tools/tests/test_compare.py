@@ -106,14 +106,16 @@ def changed(function: Callable[..., Any], **changes: Callable[[Any], Any]) -> Ca
     return call
 
 
-def moved_part(kind: str, across: int, down: int) -> Callable[..., Any]:
-    """`Pen.draw_part` that draws one kind of part elsewhere."""
-    draw = pen.Pen.draw_part
+def moved_text(is_large: bool, across: int, down: int) -> Callable[..., Any]:
+    """`Pen.texts` with prices, or titles, elsewhere."""
+    texts = pen.Pen.texts
 
-    def call(self: Any, canvas: Any, part: str, label: Any, layout: Any) -> None:
-        is_moved = part == kind
-        canvas.translate(across * is_moved, down * is_moved)
-        draw(self, canvas, part, label, layout)
+    def call(self: Any, item: Any) -> Iterator[Any]:
+        for text in texts(self, item):
+            box = text.box
+            if text.style.is_bold and is_large == (text.style.lines == 0):
+                box = box._replace(left=box.left + across, top=box.top + down)
+            yield text._replace(box=box)
 
     return call
 
@@ -281,9 +283,7 @@ FAULTS = {
         of_modules(lambda packed: bytes(255 - byte for byte in packed)),
         FORMS,
     ),
-    "bits of bytes exchanged": Fault(
-        PEN + "padded", lambda row, stride: row.ljust(stride, b"\0"), ("pdf",)
-    ),
+    "bits of bytes exchanged": Fault(PEN + "REVERSED", bytes(range(256)), ("pdf",)),
     "guards too short": Fault(PEN + "GUARD", 4, FORMS, PAIR),
     "a dot to the right": Fault(
         PEN + "scaled",
@@ -309,9 +309,14 @@ FAULTS = {
     "a code twice in its place": Fault(PEN + "Pen.draw_modules", twice, ("pdf", "svg")),
     "lines mixed up": Fault("labeltools.print_job.run_labels", mixed, FORMS, PAIR),
     "a quiet zone a module short": Fault("labeltools.engine.Engine.draw", without_zone, FORMS),
-    "a title over the code": Fault(PEN + "Pen.draw_part", moved_part("title", 0, 110), FORMS),
-    "a price over the code": Fault(PEN + "Pen.draw_part", moved_part("price", -150, 40), FORMS),
-    "digits over the code": Fault(PEN + "Pen.draw_part", moved_part("digits", 0, -30), FORMS, PAIR),
+    "a title over the code": Fault(PEN + "Pen.texts", moved_text(False, 0, 110), FORMS),
+    "a price over the code": Fault(PEN + "Pen.texts", moved_text(True, -150, 40), FORMS),
+    "digits over the code": Fault(
+        PEN + "Pen.draw_data",
+        changed(pen.Pen.draw_data, corner=lambda corner: (corner[0], corner[1] - 30)),
+        FORMS,
+        PAIR,
+    ),
     "a cell off the sheet": Fault("labeltools.press.Press.page", placed(900), ("pdf", "pbm")),
     "labels overlapping": Fault("labeltools.press.Press.page", placed(0), ("svg", "png")),
     "copies lost": Fault(

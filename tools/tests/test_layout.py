@@ -459,7 +459,8 @@ class Words(unittest.TestCase):
         cut = 0
         for item in laid.labels:
             text, style = laid.pen.text_of("title", item.label, item.layout)
-            layout = laid.pen.laid_out(text, style, item.layout.boxes["title"].width, style.size)
+            width = item.layout.boxes["title"].width
+            layout = laid.pen.fitter.laid_out(text, style, width, style.size)
             self.assertEqual(laid.pen.is_shortened(item), layout.is_ellipsized(), item.label.title)
             cut += layout.is_ellipsized()
         self.assertTrue(5 < cut < 150, cut)

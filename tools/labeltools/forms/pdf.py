@@ -1,5 +1,6 @@
 """Drawings: PDF and SVG by Cairo."""
 
+import mmap
 import os
 import re
 import tempfile
@@ -9,6 +10,7 @@ from typing import IO, Any, Callable, Iterable
 import cairo
 
 from labeltools.area import MILLIMETRES
+from labeltools.files import BLOCK
 from labeltools.pen import Page, Pen
 from labeltools.stock import Size
 
@@ -47,15 +49,21 @@ def drawing(
 
 def drawn_by(paper: Paper, pen: Pen, pages: Iterable[Page], is_svg: bool) -> IO[bytes]:
     """Returns a file of pages that a pen draws."""
-    file: Any = tempfile.TemporaryFile()  # Cairo takes no notice of a short write elsewhere
+    file = tempfile.TemporaryFile()
+    name = f"/proc/self/fd/{file.fileno()}"  # Cairo writes there sooner than into a file of Python
     try:
-        draw_pages(file, paper, pen, pages, is_svg)
+        draw_pages(name if os.path.exists(name) else file, paper, pen, pages, is_svg)
         file.flush()
+    except cairo.Error:
+        with file:
+            file.seek(0, os.SEEK_END)
+            file.write(bytes(BLOCK))  # says why nothing can be written, as Cairo does not
+            file.flush()
+        raise
     except BaseException:
         file.close()
         raise
-    whole: IO[bytes] = file
-    return whole
+    return file
 
 
 def draw_pages(file: Any, paper: Paper, pen: Pen, pages: Iterable[Page], is_svg: bool) -> None:
@@ -77,10 +85,11 @@ def draw_pages(file: Any, paper: Paper, pen: Pen, pages: Iterable[Page], is_svg:
 
 def is_whole(file: IO[bytes]) -> bool:
     """Returns whether each object of a PDF is where its table has it."""
-    file.seek(-TABLE_AT, os.SEEK_END)
-    file.seek(int(file.read().split()[-2]))
-    for number, entry in enumerate(OBJECT.finditer(file.read()), 1):
-        name = b"%d 0 obj" % number
-        if os.pread(file.fileno(), len(name), int(entry[1])) != name:
-            return False
+    with mmap.mmap(file.fileno(), 0, access=mmap.ACCESS_READ) as data:
+        start = int(data[-TABLE_AT:].split()[-2])
+        for number, entry in enumerate(OBJECT.findall(data, start), 1):
+            name = b"%d 0 obj" % number
+            place = int(entry)
+            if data[place : place + len(name)] != name:
+                return False
     return True
