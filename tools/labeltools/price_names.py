@@ -1,0 +1,275 @@
+"""What the name of a column says about its amounts: which price they are, by the words of the trade
+in many languages.
+"""
+
+import re
+import unicodedata
+from dataclasses import dataclass
+from enum import Enum, auto
+
+from labeltools.column_words import any_of, apart, named, plain
+from labeltools.money import FOLDED
+
+# parts of names of prices
+PRICE = (
+    "vk verkauf ttc brutto retail pvp pvc avp rrp srp msrp ladenpreis preis price prix precio"
+    " prezzo prijs cena ceny fiyat pris hinta preco pret cijena kaina hind цена ціна τιμη tarif"
+    " eladasi fogyasztoi 税込 売価 定価 价格 零售 售价 售價 价格 價格 판매가 가격 uvp"
+).split()
+# what a shop pays
+PAID = any_of(
+    r"ek einkauf einstand ankauf anschaff beschaff bezugs handler wiederverk grosshand lieferant"
+    r" bestellpreis bewertungs selbstkost gestehung hek lek dek aek aep wek hap gld"
+    r" cost(?!um) cogs purchas buy\b(?!.it) buying bought wholesale wsp dealer trade reseller"
+    r" distributor supplier vendor landed fob exw jobber"
+    r" achat pa revient cession gros\b grossist revendeur fournisseur pamp pmp prmp franco"
+    r" (?:tarif|prix)\spro\b cout inkoop inkp kostprijs groothandel leverancier"
+    r" acquis ingrosso rivendit fornitore compra mayorist mayoreo por\smayor distribuidor"
+    r" proveedor pvd adquisic custo coste atacado revend fornecedor"
+    r" inkop inpris innpris innkjop indkob kost engros forhandler aterforsal sjalvkost leverand"
+    r" osto sisaanosto hankinta tukku omakust jalleenmyy ostu hulgi"
+    r" zakup nabyc hurt koszt dostawc nakup porizovac velkoobch voc obstarav dodavatel"
+    r" beszerz nagyker bekerul onkolts viszontelad achizit en-gros angro furnizor"
+    r" nabav veleprod vpc alis maliyet toptan bayi iepirk vairum pirkim isigij didmen savikain"
+    r" закуп опт себестоим собиварт собіварт поставщ постачал дилер гурт доставн едро"
+    r" αγορ κοστ χονδρ 仕入 原価 卸 进价 進價 成本 批发 批發 采购 採購 매입 원가 도매 공급"
+)
+# what is not paid now, or not here: older prices, those that the law wants beside a reduction,
+# limits, averages, prices of others
+OLD = any_of(
+    r"alt alte alter altes alten fruher vorher bisher statt streich durchgestr niedrigst tiefst"
+    r" old was before previous former compare origin initial strike lowest pseudo"
+    r" ancien barre avant precedent plus\sbas antes anterior antiguo tachado mas\sbajo"
+    r" vecchio vecchi barrato piu\sbasso oud oude vanprijs van-prijs voorheen doorgestr laagst"
+    r" velho gammal gammel gamle tidigare forpris for-pris for\spris aiempi vanha aikaisem"
+    r" star\b stara\b stare\b stary\b poprzed przed najnizsz pierwotn puvodn povodn"
+    r" vechi regi eredeti eski onceki sena\b vana\b veca\b"
+    r" стар прежн преди παλι αρχικ 旧 原价 原價 划线"
+    r" mindest minim min map floor durchschn average avg moyen medio gemiddeld sredni prumer"
+    r" wettbewerb konkurren competit concurren concorren competenc marktpreis market amazon ebay"
+)
+TAX = (
+    r"\b(?:mw\s?st|mehrwertst|u\s?st|umsatzst|steuer|vat|tax|gst|hst|tva|tax(?:e|es)|iva|i\.v\.a|btw|moms"
+    r"|mva|dph|pdv|ddv|pvm|pvn|alv|kdv|ндс|пдв|ддс|φπα|impost|impuest)\w*\.?"
+)
+RATE = r"[\s.'’d]*(?:[0-9.,]+\s?%?\s*|\w+\.\s*|der\s|de\s|la\s)?"  # inkl. 19 % MwSt, inkl. ges. MwSt
+WITHOUT = (
+    r"(?:ohne|o|zzgl|plus|without|no|w/o|sans|hors|sin|senza|sem|zonder|utan|uden|uten|u/|s/|bez"
+    r"|brez|be|fara|ex|excl\w*|exkl\w*|exclu\w*|ekskl\w*|eks|escl\w*|vor|before|без|χωρις|προ)"
+)
+WITH = (
+    r"(?:mit|m|inc|inkl\w*|incl\w*|avec|with|con|c/|com|med|m/|met|cu|su|ar|s|sa|z|sis|с|з|із|με)"
+)
+NET = re.compile(
+    rf"\b{WITHOUT}{RATE}{TAX}|{TAX}\s*(?:e[xk][ck]|escl|nicht|haric|0\b)|netto"
+    r"|\b(?:nett?|neto|ht|htva|e[xk]c?l?(?:vat|gst|tax|mwst|moms|btw)|untaxed|imponibile|veroton"
+    r"|alviton|kdvsiz)\b"
+    r"|\b(?:excl|exkl|ekskl|ex)\.?\s*\Z|nelkul|税抜|税別|税别|未税|不含税|本体"
+)
+GROSS = re.compile(
+    rf"\b{WITH}{RATE}{TAX}|{TAX}\s*(?:in[ck]|compr|dahil|sis)"
+    r"|brutto|\b(?:gross|in[ck]l?(?:vat|gst|tax|mwst|moms|btw)|ttc|tvac|ivato|verolli\w*|kdvli)\b|\b(?:inc|incl|inkl)\.?\s*\Z|税込|含税"
+)
+# of many articles
+MANY = any_of(
+    r"case carton outer inner pallet colis vpe kart[aoó]n palette palet gebinde umkart"
+    r" master doos doosprijs omdoos overdoos caja scatola kolli \w*karton"
+    r" (?:ab|from|des|da|desde|od|vanaf|fra|fran)\s[0-9] \w*staffel [0-9]+\s?\+ box"
+)
+# of a pack, which may be the article, too
+PACK = any_of("pack packung paket bundle multi confezione opak balen dozen dutzend tray cassa")
+# for a time
+PERIOD = any_of(
+    r"\w*miet rent\b rental leasing monat mtl mensu mensile raten installment"
+    r" (?:je|pro|per|par|por|al|om|za)\s?(?:tag|monat|jahr|woche|stunde|nacht|day|month|year|week"
+    r"|hour|night|jour|mois|an|semaine|heure|dia|mes|hora|giorno|mese|ora|dag|maand|uur)\b"
+)
+# amounts that no customer pays, even where the name has a word of prices
+NO_AMOUNT = any_of(
+    r"marge margin margen margine marza avance aufschlag markup mark-up \w*spanne gewinn profit"
+    r" benefic \w*ertrag kalkul \w*ersparnis saving save \w*differenz difference \w*vorteil"
+    r" \w*anderung change \w*umsatz \w*summe \w*gesamt total \w*wert\b revenue turnover value"
+    r" \w+gruppe\b"
+    r" preiseinheit preisgruppe preiskategorie price\s?(?:unit\b|group|categor) ricarico recargo"
+    r" risparmio ahorro economie zysk nachlass"
+)
+# other numbers with decimals, where the name has no word of prices
+OTHER_NUMBERS = any_of(
+    r"pfand kaution deposit consigne statiegeld cauzione kaucja zaloha pant pantti miete"
+    r" gewicht weight poids peso waga vikt vekt mass inhalt content volum rating bewertung coef"
+    r" fa[ck]tor provision commission rabatt discount remise sconto descuento korting rabat"
+    r" lange breite hohe length width height versand porto shipping freight hauteur largeur"
+    r" longueur profondeur weee eco-part ecotax gebuhr"
+    rf" {TAX} %"
+)
+# names of numbers that are no amounts, and no titles: Tariff No., Zolltarifnummer, Code article
+NUMBERED = re.compile(
+    r"\bno(?:\.|\s*\Z)|\b(?:num|numero|number|code|codigo|codice|kod|id|ref|reference)\b"
+    r"|nummer\b|nr\b|\bn ?[°º]|№|#|zoll|customs|douan|tariff"
+)
+# the price of a unit or of a measure, which may be the one that is paid where there is no other. In
+# French, Italian and Spanish, or with its tax, that of a unit is that of one article.
+UNIT = re.compile(r"unit(?!air|ari)|einheit|/ ?1|grund")
+MEASURE = re.compile(
+    r"liter|litre|litro|kilo|(?<![0-9])(?<![0-9] )\bkg\b|jamfor|jmf|jmfr"
+    r"|(?:/|\b(?:je|pro|per|par|por|au|al|le|za)) ?(?:[0-9]+ ?)?"
+    r"(?:g|gr|kg|l|lt|ltr|ml|cl|lbs?|oz|m|m2|m²|qm|lfm)\b"
+)
+# what a shop sells for
+SOLD = any_of(
+    r"vk vkp sell selling sales(?=\W+(?:price|in[ck])) unser unsere our notre nostro nuestro eigen verkauf vente venta"
+    r" vendita venda verkoop pv sprzed prodej predaj prodaj salg forsalj utpris utsalg udsalg"
+    r" ulosmyy myynti satis eladas vanzar parduo pardav pardosan muugi"
+    r" продаж продаж πωλησ 販売 售价 售價 销售 판매"
+)
+# what everybody pays in a shop
+PUBLIC = any_of(
+    r"pvp pvc avp evp laden endkund endverbrauch verbraucher konsument privatkund regal"
+    r" retail rsp shelf consumer customer public pubblic particulier client rayon"
+    r" scaffale dettaglio banco minorist varejo consument winkel klant"
+    r" butik kundpris detal detail klient amanunt maloobch moc mpc maloprod kisker fogyaszt"
+    r" vahittais kuluttaja perakende jaehind mazum mazmen"
+    r" розн дребно роздріб λιαν 売価 零售 店頭 소매"
+)
+NOW = any_of("neu neue neuer neues new now jetzt aktuell current nu nieuw nuevo nouveau nuovo ny")
+# what a maker or a list recommends: a price of the shop goes before it
+LISTED = any_of(
+    r"uvp upe rrp srp msrp mrp list listen katalog catalog rec recom empf empfoh unverb richtpreis"
+    r" conseil indicatif sugg suger sugier consigl advies richtprijs rek rekom cirka vejl veil"
+    r" ohje ovh scd dopor odporuc preporuc priporoc ajanl tavsiye"
+    r" ррц рекоменд препоръч προτειν 希望 参考 定価 市场价 建议 권장"
+)
+# prices for a while or for some: beside another price only the keeper knows who pays them
+FOR_SOME = any_of(
+    r"aktion akcij akci akce angebot sonder promo offer special sale\b sold remis rabatt oferta"
+    r" ofert offert club klub member membre medlem mitglied reduz reduc redui discount ermass"
+    r" scont clearance saldi rebaj descuent korting actie aanbied kampan tilbud erbjud rea"
+    r" tarjous obniz wyprzed slev indirim kampanya popust snizen staff\b employ mitarbeiter"
+    r" schuler student kinder child senior gutschein coupon loyal stamm abo vip student"
+    r" акци скидк распрод знижк промо προσφορ 特価 セール 会員 促销 會員 会员 할인 회원"
+)
+# what others call the price of the reader, who may be the shop
+YOURS = any_of("ihr dein your votre vos uw jouw su tuo vostro ditt dit din twoja vase")
+# the number or the letter of one of several lists of prices
+LEVEL = re.compile(r"(?P<base>.*\S)[\s(-]+(?:[0-9]|[b-h]|i{1,3}|iv)\)?\s*\Z")
+
+
+class Role(Enum):
+    """What a name says of a column of amounts, as far as it says it."""
+
+    OTHER = auto()  # no customer pays it
+    NET = auto()  # without its tax
+    OF_UNIT = auto()
+    YOURS = auto()
+    UNKNOWN = auto()  # no word of prices
+    PLAIN = auto()  # a price, and no more that is known
+    PACK = auto()
+    LISTED = auto()
+    FOR_SOME = auto()
+    NOW = auto()
+    SOLD = auto()
+    PUBLIC = auto()
+
+
+# words beside which a price is still no more than a price
+NO_MORE = re.compile(
+    r"\b(?:eur|euro|usd|gbp|chf|pln|sek|dkk|nok|czk|huf|ron|variant|item|article|artikel|product"
+    r"|produkt|amount|value|in|a|the|de|per|je|pro|st|stk|stuck|piece|pc|pcs|each|unit\w*)\b"
+)
+
+
+@dataclass(frozen=True)
+class PriceName:
+    """What the name of a column says: its role; its plain words, and those without the number of a
+    list, empty where it has none; whether it says that it is a price, that the tax is in it, and no
+    more than that it is a price.
+    """
+
+    role: Role
+    words: str
+    base: str
+    is_price: bool
+    is_gross: bool
+    is_bare: bool
+
+
+def price_name(name: str) -> PriceName:
+    """Returns what the name of a column of amounts says.
+
+    >>> price_name("VK brutto").role, price_name("EK brutto").role, price_name("Preis").role
+    (<Role.SOLD: 11>, <Role.OTHER: 1>, <Role.PLAIN: 6>)
+    >>> price_name("Sell inc VAT").role, price_name("Sales tax").role
+    (<Role.SOLD: 11>, <Role.OTHER: 1>)
+    """
+    words = " ".join(apart(name).split())
+    level = LEVEL.fullmatch(words)
+    more = [word for word in re.findall(r"\w+", NO_MORE.sub(" ", words)) if not is_named_price(word)]
+    is_gross = GROSS.search(words) is not None
+    return PriceName(
+        role=role_of(name, words),
+        words=words,
+        base=level["base"] if level else "",
+        is_price=is_gross or is_named_price(name) or has_sign(name),
+        is_gross=is_gross,
+        is_bare=not more,
+    )
+
+
+def role_of(name: str, words: str) -> Role:
+    """Returns the role that a name has, by its plain words."""
+    is_named = is_named_price(name)
+    nouns = NET.sub(" ", GROSS.sub(" ", words))
+    if NUMBERED.search(words) or NO_AMOUNT.search(words):
+        return Role.OTHER
+    if OTHER_NUMBERS.search(nouns) and not is_named:
+        return Role.OTHER
+    if any(pattern.search(words) for pattern in (PAID, OLD, MANY, PERIOD)):
+        return Role.OTHER
+    if NET.search(words):
+        return Role.NET
+    is_gross = GROSS.search(words) is not None
+    is_sold = SOLD.search(words) or PUBLIC.search(words)
+    if MEASURE.search(words) or UNIT.search(words) and not (is_gross or is_sold):
+        return Role.OF_UNIT
+    return role_of_paid(words, is_named or is_gross or has_sign(name))
+
+
+def role_of_paid(words: str, is_named: bool) -> Role:
+    """Returns the role of a price that customers may pay for one article."""
+    patterns = (
+        (FOR_SOME, Role.FOR_SOME),
+        (LISTED, Role.LISTED),
+        (PACK, Role.PACK),
+        (PUBLIC, Role.PUBLIC),
+        (SOLD, Role.SOLD),
+        (GROSS, Role.SOLD),
+        (YOURS, Role.YOURS),
+        (NOW, Role.NOW),
+    )
+    default = Role.PLAIN if is_named else Role.UNKNOWN
+    return next((role for pattern, role in patterns if pattern.search(words)), default)
+
+
+def is_new(name: str) -> bool:
+    """Returns whether a name says that what it names takes the place of another."""
+    return NOW.search(plain(name)) is not None
+
+
+def is_named_price(name: str) -> bool:
+    """Returns whether a name says that a column has prices."""
+    return named(name, PRICE) > 0
+
+
+def has_sign(name: str) -> bool:
+    """Returns whether a name has a currency, such as `Fr. / Stück`.
+
+    >>> has_sign("Fr. / Stück"), has_sign("€/St"), has_sign("Stück")
+    (True, True, False)
+    """
+    words = re.findall(r"[^\W\d_]+\.?", name.casefold())
+    return any(word in FOLDED for word in words) or any(map(is_currency_sign, name))
+
+
+def is_currency_sign(letter: str) -> bool:
+    """Returns whether a letter is a sign of a currency."""
+    return unicodedata.category(letter) == "Sc"
