@@ -15,7 +15,7 @@ from labeltools.columns import names_of, texts_of
 from labeltools.messages import RowError, Talk
 from labeltools.money import parse
 from labeltools.price_choice import Amounts, price_among
-from labeltools.price_names import NUMBERED, PriceName, Role, is_new, price_name
+from labeltools.price_names import NUMBERED, PriceName, Role, is_new, is_of_many, price_name
 from labeltools.symbologies import CODE128, QR
 from labeltools.table import head_of
 from labeltools.table_options import TableOptions
@@ -30,8 +30,7 @@ NAMES = {
     "nome naam item",
     "copies": "etiketten labels etiquettes etiquetas etichette etykiet copies kopien exemplare",
 }
-# parts of names of the codes of a case; and of codes that are surely EAN or UPC
-CASE = re.compile(r"\b(?:case|carton|outer|inner|box|pallet|colis|vpe)\b|karton|palette")
+# parts of names of codes that are surely EAN or UPC
 NUMBER = re.compile(r"ean|gtin|upc|isbn")
 # parts of names of numbers that a shop gives to each piece, where others give one to an article
 PIECE = re.compile(r"\b(?:serie|serial|s/n|imei|inventar|inventory|inventaire|accession|exempl)")
@@ -176,7 +175,7 @@ def is_other_code(column: Filled, is_sure: bool) -> bool:
     """
     words = plain(column.name)
     if is_sure and share(column.texts, is_code) >= LEAST:
-        return not CASE.search(words)
+        return not is_of_many(column.name)
     is_like = PIECE.search(words) if is_sure else named(words, NAMES["code"].split())
     return bool(is_like) and is_number(column)
 
@@ -231,7 +230,7 @@ def score(kind: str, column: Filled) -> float:
     if kind == "code":
         if OTHER_CODES.search(words) and not NUMBER.search(words):
             by_name = 0
-        is_case = 3 * bool(CASE.search(words))
+        is_case = 3 * is_of_many(column.name)
         return by_name + 3 * share(texts, is_code) + share(texts, LINK.search) - is_case
     if kind == "copies":
         return by_name if share(texts, COPIES.fullmatch) == 1 else 0.0

@@ -69,7 +69,7 @@ def price_among(columns: Columns) -> int | None:
         columns = without_older(columns)
         columns = without_lists(columns)
         columns = without_net(columns)
-        columns = without_packs(columns)
+        columns = without_weak(columns)
         columns = without_recommended(columns)
     if len(columns) > 1:
         return own_among(columns)
@@ -142,9 +142,9 @@ def without_net(columns: Columns) -> Columns:
     }
 
 
-def without_packs(columns: Columns) -> Columns:
-    """Returns the columns without the prices of packs, where there are others."""
-    others = {at: one for at, one in columns.items() if one.role is not Role.PACK}
+def without_weak(columns: Columns) -> Columns:
+    """Returns the columns without prices of packs and of other places, where there are others."""
+    others = {at: one for at, one in columns.items() if one.role is not Role.WEAK}
     return others or columns
 
 

@@ -21,10 +21,10 @@ PAID = any_of(
     r"ek einkauf einstand ankauf anschaff beschaff bezugs handler wiederverk grosshand lieferant"
     r" bestellpreis bewertungs selbstkost gestehung hek lek dek aek aep wek hap gld"
     r" cost(?!um) cogs purchas buy\b(?!.it) buying bought wholesale wsp dealer trade reseller"
-    r" distributor supplier vendor landed fob exw jobber"
+    r" distributor suppl(?:y|ier) vendor landed fob exw jobber"
     r" achat pa revient cession gros\b grossist revendeur fournisseur pamp pmp prmp franco"
     r" (?:tarif|prix)\spro\b cout inkoop inkp kostprijs groothandel leverancier"
-    r" acquis ingrosso rivendit fornitore compra mayorist mayoreo por\smayor distribuidor"
+    r" acquis ingrosso rivendit fornit forn compra mayorist mayoreo por\smayor distribuidor"
     r" proveedor pvd adquisic custo coste atacado revend fornecedor"
     r" inkop inpris innpris innkjop indkob kost engros forhandler aterforsal sjalvkost leverand"
     r" osto sisaanosto hankinta tukku omakust jalleenmyy ostu hulgi"
@@ -46,7 +46,7 @@ OLD = any_of(
     r" vechi regi eredeti eski onceki sena\b vana\b veca\b"
     r" стар прежн преди παλι αρχικ 旧 原价 原價 划线"
     r" mindest minim min map floor durchschn average avg moyen medio gemiddeld sredni prumer"
-    r" wettbewerb konkurren competit concurren concorren competenc marktpreis market amazon ebay"
+    r" wettbewerb konkurren competit concurren concorren competenc marktpreis market\b"
 )
 TAX = (
     r"\b(?:mw\s?st|mehrwertst|u\s?st|umsatzst|steuer|vat|tax|gst|hst|tva|tax(?:e|es)|iva|i\.v\.a|btw|moms"
@@ -73,11 +73,14 @@ GROSS = re.compile(
 # of many articles
 MANY = any_of(
     r"case carton outer inner pallet colis vpe kart[aoó]n palette palet gebinde umkart"
-    r" master doos doosprijs omdoos overdoos caja scatola kolli \w*karton"
+    r" master doos doosprijs omdoos overdoos caja scatola kolli colli ve zbiorcz umverp \w*karton"
     r" (?:ab|from|des|da|desde|od|vanaf|fra|fran)\s[0-9] \w*staffel [0-9]+\s?\+ box"
 )
-# of a pack, which may be the article, too
-PACK = any_of("pack packung paket bundle multi confezione opak balen dozen dutzend tray cassa")
+# of a pack, which may be the article, too; or of another place than the shop
+WEAK = any_of(
+    r"pack packung paket bundle multi confezione opak balen dozen dutzend tray cassa"
+    r" online web\w* internet amazon e\s?bay marktplatz marketplace export"
+)
 # for a time
 PERIOD = any_of(
     r"\w*miet rent\b rental leasing monat mtl mensu mensile raten installment"
@@ -91,7 +94,7 @@ NO_AMOUNT = any_of(
     r" \w*anderung change \w*umsatz \w*summe \w*gesamt total \w*wert\b revenue turnover value"
     r" \w+gruppe\b"
     r" preiseinheit preisgruppe preiskategorie price\s?(?:unit\b|group|categor) ricarico recargo"
-    r" risparmio ahorro economie zysk nachlass"
+    r" risparmio ahorro economie zysk nachlass share anteil"
 )
 # other numbers with decimals, where the name has no word of prices
 OTHER_NUMBERS = any_of(
@@ -135,7 +138,7 @@ NOW = any_of("neu neue neuer neues new now jetzt aktuell current nu nieuw nuevo 
 # what a maker or a list recommends: a price of the shop goes before it
 LISTED = any_of(
     r"uvp upe rrp srp msrp mrp list listen katalog catalog rec recom empf empfoh unverb richtpreis"
-    r" conseil indicatif sugg suger sugier consigl advies richtprijs rek rekom cirka vejl veil"
+    r" conseil ppc indicatif sugg suger sugier consigl advies richtprijs rek rekom cirka vejl veil"
     r" ohje ovh scd dopor odporuc preporuc priporoc ajanl tavsiye"
     r" ррц рекоменд препоръч προτειν 希望 参考 定価 市场价 建议 권장"
 )
@@ -151,7 +154,10 @@ FOR_SOME = any_of(
 # what others call the price of the reader, who may be the shop
 YOURS = any_of("ihr dein your votre vos uw jouw su tuo vostro ditt dit din twoja vase")
 # the number or the letter of one of several lists of prices
-LEVEL = re.compile(r"(?P<base>.*\S)[\s(-]+(?:[0-9]|[b-h]|i{1,3}|iv)\)?\s*\Z")
+LEVEL = re.compile(
+    r"(?P<base>.*?\S)(?:[\s-](?:level|tier|stufe|liste?|niveau|livello|nivel))?"
+    r"[\s(-]+(?:[0-9]|[b-h]|i{1,3}|iv)\)?\s*"
+)
 
 
 class Role(Enum):
@@ -163,7 +169,7 @@ class Role(Enum):
     YOURS = auto()
     UNKNOWN = auto()  # no word of prices
     PLAIN = auto()  # a price, and no more that is known
-    PACK = auto()
+    WEAK = auto()
     LISTED = auto()
     FOR_SOME = auto()
     NOW = auto()
@@ -239,7 +245,7 @@ def role_of_paid(words: str, is_named: bool) -> Role:
     patterns = (
         (FOR_SOME, Role.FOR_SOME),
         (LISTED, Role.LISTED),
-        (PACK, Role.PACK),
+        (WEAK, Role.WEAK),
         (PUBLIC, Role.PUBLIC),
         (SOLD, Role.SOLD),
         (GROSS, Role.SOLD),
@@ -248,6 +254,11 @@ def role_of_paid(words: str, is_named: bool) -> Role:
     )
     default = Role.PLAIN if is_named else Role.UNKNOWN
     return next((role for pattern, role in patterns if pattern.search(words)), default)
+
+
+def is_of_many(name: str) -> bool:
+    """Returns whether a name is of a case of articles."""
+    return MANY.search(plain(name)) is not None
 
 
 def is_new(name: str) -> bool:
