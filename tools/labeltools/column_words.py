@@ -10,6 +10,7 @@ FOLDED_LETTERS = str.maketrans("łøđı", "lodi")
 TOGETHER = re.compile(
     r"\b(?:[ehlv]k|u?vp)(?=preis|brutto|netto)|\bp[auv]?(?=(?:ht|ttc)\b)|[a-z]{2}(?=[0-9])"
 )
+DOTTED = re.compile(r"\b(?:[a-z]\.){2,}")
 
 
 def plain(name: str) -> str:
@@ -29,10 +30,11 @@ def plain(name: str) -> str:
 def apart(name: str) -> str:
     """Returns a plain name whose abbreviations stand apart.
 
-    >>> apart("VKbrutto"), apart("PVTTC"), apart("Preis2")
-    ('vk brutto', 'pv ttc', 'preis 2')
+    >>> apart("VKbrutto"), apart("PVTTC"), apart("Preis2"), apart("P.V.P.")
+    ('vk brutto', 'pv ttc', 'preis 2', 'pvp ')
     """
-    return TOGETHER.sub(r"\g<0> ", plain(name))
+    words = DOTTED.sub(lambda found: found[0].replace(".", "") + " ", plain(name))
+    return TOGETHER.sub(r"\g<0> ", words)
 
 
 def named(name: str, words: Sequence[str]) -> float:

@@ -10,12 +10,12 @@ from functools import partial
 from itertools import islice, zip_longest
 
 from labeltools.codes import AUTO, CodeRules, code_of
-from labeltools.column_words import named, plain
+from labeltools.column_words import any_of, named, plain
 from labeltools.columns import names_of, texts_of
 from labeltools.messages import RowError, Talk
 from labeltools.money import parse
 from labeltools.price_choice import Amounts, price_among
-from labeltools.price_names import NUMBERED, PriceName, Role, is_new, is_of_many, price_name
+from labeltools.price_names import NUMBERED, PriceName, Role, is_new, is_of_many, is_of_pack, price_name
 from labeltools.symbologies import CODE128, QR
 from labeltools.table import head_of
 from labeltools.table_options import TableOptions
@@ -32,6 +32,8 @@ NAMES = {
 }
 # parts of names of codes that are surely EAN or UPC
 NUMBER = re.compile(r"ean|gtin|upc|isbn")
+# parts of names of one article, where there are packs
+ONE = any_of("einzel stuck piece each single stuks pezzo sztuk bouteille flasche bottle")
 # parts of names of numbers that a shop gives to each piece, where others give one to an article
 PIECE = re.compile(r"\b(?:serie|serial|s/n|imei|inventar|inventory|inventaire|accession|exempl)")
 # parts of names of numbers of others than articles
@@ -151,10 +153,13 @@ def best_of(kind: str, columns: Mapping[int, Filled]) -> tuple[int | None, Seque
 
 def code_of_all(columns: Mapping[int, Filled], codes: Sequence[int]) -> tuple[int, Sequence[int]]:
     """Returns the place of the codes; and those of which only the keeper knows it. A column that is
-    empty in most rows is none beside a full one, unless it has the new codes.
+    empty in most rows is none beside a full one, unless it has the new codes; nor is that of packs
+    beside that of pieces.
     """
     most = max(len(columns[at].texts) for at in codes)
     full = [at for at in codes if 2 * len(columns[at].texts) >= most or is_new(columns[at].name)]
+    if any(ONE.search(plain(columns[at].name)) for at in full):
+        full = [at for at in full if not is_of_pack(columns[at].name)] or full
     return full[0], sorted(full) if len(full) > 1 else []
 
 
@@ -241,8 +246,10 @@ def score(kind: str, column: Filled) -> float:
 
 
 def bare(texts: Sequence[str]) -> list[str]:
-    """Returns codes without what separates their digits."""
-    return ["".join(filter(str.isalnum, text)) for text in texts]
+    """Returns codes without what separates their digits, and without zeros in front: a UPC-A is the
+    EAN-13 that has one.
+    """
+    return ["".join(filter(str.isalnum, text)).lstrip("0") for text in texts]
 
 
 def share(texts: Sequence[str], test: Callable[[str], object]) -> float:

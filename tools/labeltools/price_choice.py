@@ -25,7 +25,7 @@ OF_A_FIFTH = Decimal(25)  # a rate, and what is added to a price that is reduced
 LEAST_ROWS = 4  # that show a rate
 MOST_RATES = 3  # of one table
 ROUNDED = Decimal("0.012")  # what two roundings to cents may make
-NEAR = Decimal("0.85")  # of the price that a maker recommends: a dealer pays less
+NEAR = Decimal("0.8")  # of the price that a maker recommends: a dealer pays less
 OF_SHOPS = (0, 5, 9)  # the last digits of the prices of shops
 OWN = (Role.NOW, Role.SOLD, Role.PUBLIC)
 

@@ -14,14 +14,14 @@ from labeltools.money import FOLDED
 PRICE = (
     "vk verkauf ttc brutto retail pvp pvc avp rrp srp msrp ladenpreis preis price prix precio"
     " prezzo prijs cena ceny fiyat pris hinta preco pret cijena kaina hind цена ціна τιμη tarif"
-    " eladasi fogyasztoi 税込 売価 定価 价格 零售 售价 售價 价格 價格 판매가 가격 uvp"
+    " eladasi fogyasztoi 税込 価格 売価 定価 价格 零售 售价 售價 价格 價格 판매가 가격 uvp"
 ).split()
 # what a shop pays
 PAID = any_of(
     r"ek einkauf einstand ankauf anschaff beschaff bezugs handler wiederverk grosshand lieferant"
     r" bestellpreis bewertungs selbstkost gestehung hek lek dek aek aep wek hap gld"
     r" cost(?!um) cogs purchas buy\b(?!.it) buying bought wholesale wsp dealer trade reseller"
-    r" distributor suppl(?:y|ier) vendor landed fob exw jobber"
+    r" distributor suppl(?:y|ier) vendor landed fob exw jobber invoice factory"
     r" achat pa revient cession gros\b grossist revendeur fournisseur pamp pmp prmp franco"
     r" (?:tarif|prix)\spro\b cout inkoop inkp kostprijs groothandel leverancier"
     r" acquis ingrosso rivendit fornit forn compra mayorist mayoreo por\smayor distribuidor"
@@ -31,38 +31,38 @@ PAID = any_of(
     r" zakup nabyc hurt koszt dostawc nakup porizovac velkoobch voc obstarav dodavatel"
     r" beszerz nagyker bekerul onkolts viszontelad achizit en-gros angro furnizor"
     r" nabav veleprod vpc alis maliyet toptan bayi iepirk vairum pirkim isigij didmen savikain"
-    r" закуп опт себестоим собиварт собіварт поставщ постачал дилер гурт доставн едро"
-    r" αγορ κοστ χονδρ 仕入 原価 卸 进价 進價 成本 批发 批發 采购 採購 매입 원가 도매 공급"
+    r" закуп приход входн опт себестоим собиварт собіварт поставщ постачал дилер гурт доставн едро"
+    r" αγορ κοστ χονδρ 仕入 原価 卸 下代 进价 進價 进货 成本 批发 批發 采购 採購 매입 원가 도매 공급 입고"
 )
 # what is not paid now, or not here: older prices, those that the law wants beside a reduction,
 # limits, averages, prices of others
 OLD = any_of(
     r"alt alte alter altes alten fruher vorher bisher statt streich durchgestr niedrigst tiefst"
     r" old was before previous former compare origin initial strike lowest pseudo"
-    r" ancien barre avant precedent plus\sbas antes anterior antiguo tachado mas\sbajo"
-    r" vecchio vecchi barrato piu\sbasso oud oude vanprijs van-prijs voorheen doorgestr laagst"
+    r" ancien barre avant precedent plus\sbas antes anterior antig tachado mas\sbajo"
+    r" vecchio vecchi barrato piu\sbasso oud oude vanprijs van-prijs voorheen doorgestr laagst vorig"
     r" velho gammal gammel gamle tidigare forpris for-pris for\spris aiempi vanha aikaisem"
     r" star\b stara\b stare\b stary\b poprzed przed najnizsz pierwotn puvodn povodn"
-    r" vechi regi eredeti eski onceki sena\b vana\b veca\b"
+    r" vechi regi eredeti prethodn eski onceki sena\b vana\b veca\b"
     r" стар прежн преди παλι αρχικ 旧 原价 原價 划线"
     r" mindest minim min map floor durchschn average avg moyen medio gemiddeld sredni prumer"
     r" wettbewerb konkurren competit concurren concorren competenc marktpreis market\b"
 )
 TAX = (
     r"\b(?:mw\s?st|mehrwertst|u\s?st|umsatzst|steuer|vat|tax|gst|hst|tva|tax(?:e|es)|iva|i\.v\.a|btw|moms"
-    r"|mva|dph|pdv|ddv|pvm|pvn|alv|kdv|ндс|пдв|ддс|φπα|impost|impuest)\w*\.?"
+    r"|mva|dph|pdv|ddv|pvm|pvn|alv|kdv|afa|ндс|пдв|ддс|φπα|impost|impuest)\w*\.?"
 )
 RATE = r"[\s.'’d]*(?:[0-9.,]+\s?%?\s*|\w+\.\s*|der\s|de\s|la\s)?"  # inkl. 19 % MwSt, inkl. ges. MwSt
 WITHOUT = (
     r"(?:ohne|o|zzgl|plus|without|no|w/o|sans|hors|sin|senza|sem|zonder|utan|uden|uten|u/|s/|bez"
-    r"|brez|be|fara|ex|excl\w*|exkl\w*|exclu\w*|ekskl\w*|eks|escl\w*|vor|before|без|χωρις|προ)"
+    r"|brez|be|fara|ilman|ex|excl\w*|exkl\w*|exclu\w*|ekskl\w*|eks|escl\w*|vor|before|без|χωρισ|προ)"
 )
 WITH = (
     r"(?:mit|m|inc|inkl\w*|incl\w*|avec|with|con|c/|com|med|m/|met|cu|su|ar|s|sa|z|sis|с|з|із|με)"
 )
 NET = re.compile(
-    rf"\b{WITHOUT}{RATE}{TAX}|{TAX}\s*(?:e[xk][ck]|escl|nicht|haric|0\b)|netto"
-    r"|\b(?:nett?|neto|ht|htva|e[xk]c?l?(?:vat|gst|tax|mwst|moms|btw)|untaxed|imponibile|veroton"
+    rf"\b{WITHOUT}{RATE}{TAX}|{TAX}\s*(?:e[xk][ck]|escl|nicht|haric|0\b)|\+\s?{TAX}|netto"
+    r"|\b(?:nett?|neto|ht|htva|e[xk]c?l?(?:vat|gst|tax|mwst|moms|btw)|untaxed|imponibile|imponible|liquido|veroton"
     r"|alviton|kdvsiz)\b"
     r"|\b(?:excl|exkl|ekskl|ex)\.?\s*\Z|nelkul|税抜|税別|税别|未税|不含税|本体"
 )
@@ -73,7 +73,7 @@ GROSS = re.compile(
 # of many articles
 MANY = any_of(
     r"case carton outer inner pallet colis vpe kart[aoó]n palette palet gebinde umkart"
-    r" master doos doosprijs omdoos overdoos caja scatola kolli colli ve zbiorcz umverp \w*karton"
+    r" master doos doosprijs omdoos overdoos caja caixa scatola kolli kassepris koli colli ve zbiorcz umverp \w*karton"
     r" (?:ab|from|des|da|desde|od|vanaf|fra|fran)\s[0-9] \w*staffel [0-9]+\s?\+ box"
 )
 # of a pack, which may be the article, too; or of another place than the shop
@@ -101,8 +101,9 @@ OTHER_NUMBERS = any_of(
     r"pfand kaution deposit consigne statiegeld cauzione kaucja zaloha pant pantti miete"
     r" gewicht weight poids peso waga vikt vekt mass inhalt content volum rating bewertung coef"
     r" fa[ck]tor provision commission rabatt discount remise sconto descuento korting rabat"
-    r" lange breite hohe length width height versand porto shipping freight hauteur largeur"
-    r" longueur profondeur weee eco-part ecotax gebuhr"
+    r" lange breite hohe length width height versand verzend porto shipping freight fragt frakt hauteur largeur"
+    r" longueur profondeur indirim reducere popust slev скидк наценк garant adaos depozit marj"
+    r" greutat agirlik suly kedvezm arres вес\b weee eco-part ecotax gebuhr"
     rf" {TAX} %"
 )
 # names of numbers that are no amounts, and no titles: Tariff No., Zolltarifnummer, Code article
@@ -114,7 +115,7 @@ NUMBERED = re.compile(
 # French, Italian and Spanish, or with its tax, that of a unit is that of one article.
 UNIT = re.compile(r"unit(?!air|ari)|einheit|/ ?1|grund")
 MEASURE = re.compile(
-    r"liter|litre|litro|kilo|(?<![0-9])(?<![0-9] )\bkg\b|jamfor|jmf|jmfr"
+    r"liter|litr|kilo|литр|кило|κιλ|λιτρ|\bкг\b|(?<![0-9])(?<![0-9] )\bkg\b|jamfor|jmf|jmfr"
     r"|(?:/|\b(?:je|pro|per|par|por|au|al|le|za)) ?(?:[0-9]+ ?)?"
     r"(?:g|gr|kg|l|lt|ltr|ml|cl|lbs?|oz|m|m2|m²|qm|lfm)\b"
 )
@@ -130,17 +131,17 @@ PUBLIC = any_of(
     r"pvp pvc avp evp laden endkund endverbrauch verbraucher konsument privatkund regal"
     r" retail rsp shelf consumer customer public pubblic particulier client rayon"
     r" scaffale dettaglio banco minorist varejo consument winkel klant"
-    r" butik kundpris detal detail klient amanunt maloobch moc mpc maloprod kisker fogyaszt"
+    r" butik kundpris detal detail klient amanunt maloobch moc mpc maloprod kisker fogyaszt bolti etiket"
     r" vahittais kuluttaja perakende jaehind mazum mazmen"
-    r" розн дребно роздріб λιαν 売価 零售 店頭 소매"
+    r" розн дребно роздріб λιαν 売価 上代 店頭 零售 소매"
 )
 NOW = any_of("neu neue neuer neues new now jetzt aktuell current nu nieuw nuevo nouveau nuovo ny")
 # what a maker or a list recommends: a price of the shop goes before it
 LISTED = any_of(
-    r"uvp upe rrp srp msrp mrp list listen katalog catalog rec recom empf empfoh unverb richtpreis"
+    r"uvp upe rrp srp msrp mrp pvpr list listen katalog catalog rec recom empf empfoh unverb richtpreis"
     r" conseil ppc indicatif sugg suger sugier consigl advies richtprijs rek rekom cirka vejl veil"
     r" ohje ovh scd dopor odporuc preporuc priporoc ajanl tavsiye"
-    r" ррц рекоменд препоръч προτειν 希望 参考 定価 市场价 建议 권장"
+    r" ррц рекоменд препоръч προτειν 希望 参考 定価 市场价 建议 권장 소비자가"
 )
 # prices for a while or for some: beside another price only the keeper knows who pays them
 FOR_SOME = any_of(
@@ -259,6 +260,11 @@ def role_of_paid(words: str, is_named: bool) -> Role:
 def is_of_many(name: str) -> bool:
     """Returns whether a name is of a case of articles."""
     return MANY.search(plain(name)) is not None
+
+
+def is_of_pack(name: str) -> bool:
+    """Returns whether a name is of a pack, and none of one article."""
+    return WEAK.search(plain(name)) is not None
 
 
 def is_new(name: str) -> bool:
