@@ -21,7 +21,8 @@ def plain(name: str) -> str:
     >>> plain("Alış"), plain("EK-Preis"), plain("판매가")
     ('alis', 'ek-preis', '판매가')
     """
-    words = re.sub(r"(?<=[a-z])(?=[A-Z])|(?<=[A-Z])(?=[A-Z][a-z])|_", " ", name)
+    spaced = re.sub(r"\b[EVHL]K(?=[a-z])", r"\g<0> ", name)
+    words = re.sub(r"(?<=[a-z])(?=[A-Z])|(?<=[A-Z])(?=[A-Z][a-z])|_", " ", spaced)
     letters = unicodedata.normalize("NFD", words.casefold())
     bare = "".join(letter for letter in letters if not unicodedata.combining(letter))
     return unicodedata.normalize("NFC", bare).translate(FOLDED_LETTERS)

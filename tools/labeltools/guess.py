@@ -15,7 +15,15 @@ from labeltools.columns import names_of, texts_of
 from labeltools.messages import RowError, Talk
 from labeltools.money import parse
 from labeltools.price_choice import Amounts, price_among
-from labeltools.price_names import NUMBERED, PriceName, Role, is_new, is_of_many, is_of_pack, price_name
+from labeltools.price_names import (
+    NUMBERED,
+    PriceName,
+    Role,
+    is_new,
+    is_of_many,
+    is_of_pack,
+    price_name,
+)
 from labeltools.symbologies import CODE128, QR
 from labeltools.table import head_of
 from labeltools.table_options import TableOptions
@@ -65,7 +73,7 @@ is_code = partial(code_of, rules=CodeRules())  # surely an EAN or UPC
 
 @dataclass(frozen=True)
 class Filled:
-    """A column: its name, its cells without white space at their ends, and those that have a text."""
+    """A column: its name, its cells without white space at their ends, and those with a text."""
 
     name: str
     cells: Sequence[str]
@@ -140,7 +148,9 @@ def symbology_of(column: Filled) -> str:
 
 
 def best_of(kind: str, columns: Mapping[int, Filled]) -> tuple[int | None, Sequence[int]]:
-    """Returns the place of the best column of a kind; and those of which only the keeper knows it."""
+    """Returns the place of the best column of a kind; and those of which only the keeper knows
+    it.
+    """
     scores = {place: score(kind, column) for place, column in columns.items()}
     best = max(columns, key=scores.__getitem__, default=-1)
     if scores.get(best, 0) < LEAST:

@@ -188,7 +188,7 @@ def rates_of(both: Sequence[tuple[Decimal, Decimal]]) -> Sequence[Decimal]:
     """Returns the few rates that make the second price of each row of the first; none where there
     are no such.
     """
-    found = []
+    found: list[Decimal] = []
     left = [[rate for rate in RATES if is_taxed(*row, rate)] for row in both]
     while left and len(found) < MOST_RATES:
         counts = Counter(rate for rates in left for rate in rates)

@@ -19,67 +19,67 @@ PRICE = (
 # what a shop pays
 PAID = any_of(
     r"ek einkauf einstand ankauf anschaff beschaff bezugs handler wiederverk grosshand lieferant"
-    r" bestellpreis bewertungs selbstkost gestehung hek lek dek aek aep wek hap gld"
-    r" cost(?!um) cogs purchas buy\b(?!.it) buying bought wholesale wsp dealer trade reseller"
-    r" distributor suppl(?:y|ier) vendor landed fob exw jobber invoice factory"
-    r" achat pa revient cession gros\b grossist revendeur fournisseur pamp pmp prmp franco"
-    r" (?:tarif|prix)\spro\b cout inkoop inkp kostprijs groothandel leverancier"
-    r" acquis ingrosso rivendit fornit forn compra mayorist mayoreo por\smayor distribuidor"
-    r" proveedor pvd adquisic custo coste atacado revend fornecedor"
-    r" inkop inpris innpris innkjop indkob kost engros forhandler aterforsal sjalvkost leverand"
-    r" osto sisaanosto hankinta tukku omakust jalleenmyy ostu hulgi"
-    r" zakup nabyc hurt koszt dostawc nakup porizovac velkoobch voc obstarav dodavatel"
-    r" beszerz nagyker bekerul onkolts viszontelad achizit en-gros angro furnizor"
-    r" nabav veleprod vpc alis maliyet toptan bayi iepirk vairum pirkim isigij didmen savikain"
-    r" закуп приход входн опт себестоим собиварт собіварт поставщ постачал дилер гурт доставн едро"
-    r" αγορ κοστ χονδρ 仕入 原価 卸 下代 进价 進價 进货 成本 批发 批發 采购 採購 매입 원가 도매 공급 입고"
+    r" bestellpreis bewertungs selbstkost gestehung hek lek dek aek aep wek hap gld cost(?!um)"
+    r" cogs purchas buy\b(?!.it) buying bought wholesale wsp dealer trade reseller distributor"
+    r" suppl(?:y|ier) vendor landed fob exw jobber invoice factory achat pa revient cession"
+    r" gros\b grossist revendeur fournisseur pamp pmp prmp franco (?:tarif|prix)\spro\b cout"
+    r" inkoop inkp kostprijs groothandel leverancier acquis ingrosso rivendit fornit forn compra"
+    r" mayorist mayoreo por\smayor distribuidor proveedor pvd adquisic custo coste atacado revend"
+    r" fornecedor inkop inpris innpris innkjop indkob kost engros forhandler aterforsal sjalvkost"
+    r" leverand osto sisaanosto hankinta tukku omakust jalleenmyy ostu hulgi zakup nabyc hurt"
+    r" koszt dostawc nakup porizovac velkoobch voc obstarav dodavatel beszerz nagyker bekerul"
+    r" onkolts viszontelad achizit en-gros angro furnizor nabav veleprod vpc alis maliyet toptan"
+    r" bayi iepirk vairum pirkim isigij didmen savikain закуп приход входн опт себестоим собиварт"
+    r" собіварт поставщ постачал дилер гурт доставн едро αγορ κοστ χονδρ 仕入 原価 卸 下代 进价 進價 进货 成本"
+    r" 批发 批發 采购 採購 매입 원가 도매 공급 입고"
 )
 # what is not paid now, or not here: older prices, those that the law wants beside a reduction,
 # limits, averages, prices of others
 OLD = any_of(
     r"alt alte alter altes alten fruher vorher bisher statt streich durchgestr niedrigst tiefst"
-    r" old was before previous former compare origin initial strike lowest pseudo"
-    r" ancien barre avant precedent plus\sbas antes anterior antig tachado mas\sbajo"
-    r" vecchio vecchi barrato piu\sbasso oud oude vanprijs van-prijs voorheen doorgestr laagst vorig"
-    r" velho gammal gammel gamle tidigare forpris for-pris for\spris aiempi vanha aikaisem"
-    r" star\b stara\b stare\b stary\b poprzed przed najnizsz pierwotn puvodn povodn"
-    r" vechi regi eredeti prethodn eski onceki sena\b vana\b veca\b"
-    r" стар прежн преди παλι αρχικ 旧 原价 原價 划线"
-    r" mindest minim min map floor durchschn average avg moyen medio gemiddeld sredni prumer"
-    r" wettbewerb konkurren competit concurren concorren competenc marktpreis market\b"
+    r" old was before previous former compare origin initial strike lowest pseudo ancien barre"
+    r" avant precedent plus\sbas antes anterior antig tachado mas\sbajo vecchio vecchi barrato"
+    r" piu\sbasso oud oude vanprijs van-prijs voorheen doorgestr laagst vorig velho gammal gammel"
+    r" gamle tidigare forpris for-pris for\spris aiempi vanha aikaisem star\b stara\b stare\b"
+    r" stary\b poprzed przed najnizsz pierwotn puvodn povodn vechi regi eredeti prethodn eski"
+    r" onceki sena\b vana\b veca\b стар прежн преди παλι αρχικ 旧 原价 原價 划线 mindest minim min map"
+    r" floor durchschn average avg moyen medio gemiddeld sredni prumer wettbewerb konkurren"
+    r" competit concurren concorren competenc marktpreis market\b"
 )
 TAX = (
-    r"\b(?:mw\s?st|mehrwertst|u\s?st|umsatzst|steuer|vat|tax|gst|hst|tva|tax(?:e|es)|iva|i\.v\.a|btw|moms"
-    r"|mva|dph|pdv|ddv|pvm|pvn|alv|kdv|afa|ндс|пдв|ддс|φπα|impost|impuest)\w*\.?"
+    r"\b(?:mw\s?st|mehrwertst|u\s?st|umsatzst|steuer|vat|tax|gst|hst|tva|iva|btw|moms|mva|dph"
+    r"|pdv|ddv|pvm|pvn|alv|kdv|afa|ндс|пдв|ддс|φπα|impost|impuest)\w*\.?"
 )
-RATE = r"[\s.'’d]*(?:[0-9.,]+\s?%?\s*|\w+\.\s*|der\s|de\s|la\s)?"  # inkl. 19 % MwSt, inkl. ges. MwSt
+RATE = r"[\s.'’d]*(?:[0-9.,]+\s?%?\s*|\w+\.\s*|der\s|de\s|la\s)?"  # inkl. 19 %, incl. ges.
 WITHOUT = (
     r"(?:ohne|o|zzgl|plus|without|no|w/o|sans|hors|sin|senza|sem|zonder|utan|uden|uten|u/|s/|bez"
-    r"|brez|be|fara|ilman|ex|excl\w*|exkl\w*|exclu\w*|ekskl\w*|eks|escl\w*|vor|before|без|χωρισ|προ)"
+    r"|brez|be|fara|ilman|ex|excl\w*|exkl\w*|ekskl\w*|eks|escl\w*|vor|before|без|χωρισ|προ)"
 )
 WITH = (
     r"(?:mit|m|inc|inkl\w*|incl\w*|avec|with|con|c/|com|med|m/|met|cu|su|ar|s|sa|z|sis|с|з|із|με)"
 )
 NET = re.compile(
     rf"\b{WITHOUT}{RATE}{TAX}|{TAX}\s*(?:e[xk][ck]|escl|nicht|haric|0\b)|\+\s?{TAX}|netto"
-    r"|\b(?:nett?|neto|ht|htva|e[xk]c?l?(?:vat|gst|tax|mwst|moms|btw)|untaxed|imponibile|imponible|liquido|veroton"
-    r"|alviton|kdvsiz)\b"
+    r"|\b(?:nett?|neto|ht|htva|e[xk]c?l?(?:vat|gst|tax|mwst|moms|btw)|untaxed|imponibile"
+    r"|imponible|liquido|veroton|alviton|kdvsiz)\b"
     r"|\b(?:excl|exkl|ekskl|ex)\.?\s*\Z|nelkul|税抜|税別|税别|未税|不含税|本体"
 )
 GROSS = re.compile(
     rf"\b{WITH}{RATE}{TAX}|{TAX}\s*(?:in[ck]|compr|dahil|sis)"
-    r"|brutto|\b(?:gross|in[ck]l?(?:vat|gst|tax|mwst|moms|btw)|ttc|tvac|ivato|verolli\w*|kdvli)\b|\b(?:inc|incl|inkl)\.?\s*\Z|税込|含税"
+    r"|brutto|\b(?:gross|in[ck]l?(?:vat|gst|tax|mwst|moms|btw)|ttc|tvac"
+    r"|ivato|verolli\w*|kdvli)\b|\b(?:inc|incl|inkl)\.?\s*\Z|税込|含税"
 )
 # of many articles
 MANY = any_of(
-    r"case carton outer inner pallet colis vpe kart[aoó]n palette palet gebinde umkart"
-    r" master doos doosprijs omdoos overdoos caja caixa scatola kolli kassepris koli colli ve zbiorcz umverp \w*karton"
-    r" (?:ab|from|des|da|desde|od|vanaf|fra|fran)\s[0-9] \w*staffel [0-9]+\s?\+ box"
+    r"case carton outer inner pallet colis vpe kart[aoó]n palette palet gebinde umkart master"
+    r" doos doosprijs omdoos overdoos caja caixa scatola kolli kassepris koli colli ve zbiorcz"
+    r" umverp \w*karton (?:ab|from|des|da|desde|od|vanaf|fra|fran)\s[0-9] \w*staffel [0-9]+\s?\+"
+    r" box"
 )
 # of a pack, which may be the article, too; or of another place than the shop
 WEAK = any_of(
-    r"pack packung paket bundle multi confezione opak balen dozen dutzend tray cassa"
-    r" online web\w* internet amazon e\s?bay marktplatz marketplace export"
+    r"pack packung paket bundle multi confezione opak balen dozen dutzend tray cassa online"
+    r" web\w* internet amazon e\s?bay marktplatz marketplace export"
 )
 # for a time
 PERIOD = any_of(
@@ -92,18 +92,17 @@ NO_AMOUNT = any_of(
     r"marge margin margen margine marza avance aufschlag markup mark-up \w*spanne gewinn profit"
     r" benefic \w*ertrag kalkul \w*ersparnis saving save \w*differenz difference \w*vorteil"
     r" \w*anderung change \w*umsatz \w*summe \w*gesamt total \w*wert\b revenue turnover value"
-    r" \w+gruppe\b"
-    r" preiseinheit preisgruppe preiskategorie price\s?(?:unit\b|group|categor) ricarico recargo"
-    r" risparmio ahorro economie zysk nachlass share anteil"
+    r" \w+gruppe\b preiseinheit preisgruppe preiskategorie price\s?(?:unit\b|group|categor)"
+    r" ricarico recargo risparmio ahorro economie zysk nachlass share anteil"
 )
 # other numbers with decimals, where the name has no word of prices
 OTHER_NUMBERS = any_of(
-    r"pfand kaution deposit consigne statiegeld cauzione kaucja zaloha pant pantti miete"
-    r" gewicht weight poids peso waga vikt vekt mass inhalt content volum rating bewertung coef"
-    r" fa[ck]tor provision commission rabatt discount remise sconto descuento korting rabat"
-    r" lange breite hohe length width height versand verzend porto shipping freight fragt frakt hauteur largeur"
-    r" longueur profondeur indirim reducere popust slev скидк наценк garant adaos depozit marj"
-    r" greutat agirlik suly kedvezm arres вес\b weee eco-part ecotax gebuhr"
+    r"pfand kaution deposit consigne statiegeld cauzione kaucja zaloha pant pantti miete gewicht"
+    r" weight poids peso waga vikt vekt mass inhalt content volum rating bewertung coef fa[ck]tor"
+    r" provision commission rabatt discount remise sconto descuento korting rabat lange breite"
+    r" hohe length width height versand verzend porto shipping freight fragt frakt hauteur"
+    r" largeur longueur profondeur indirim reducere popust slev скидк наценк garant adaos depozit"
+    r" marj greutat agirlik suly kedvezm arres вес\b weee eco-part ecotax gebuhr"
     rf" {TAX} %"
 )
 # names of numbers that are no amounts, and no titles: Tariff No., Zolltarifnummer, Code article
@@ -121,27 +120,26 @@ MEASURE = re.compile(
 )
 # what a shop sells for
 SOLD = any_of(
-    r"vk vkp sell selling sales(?=\W+(?:price|in[ck])) unser unsere our notre nostro nuestro eigen verkauf vente venta"
-    r" vendita venda verkoop pv sprzed prodej predaj prodaj salg forsalj utpris utsalg udsalg"
-    r" ulosmyy myynti satis eladas vanzar parduo pardav pardosan muugi"
-    r" продаж продаж πωλησ 販売 售价 售價 销售 판매"
+    r"vk vkp sell selling sales(?=\W+(?:price|in[ck])) unser unsere our notre nostro nuestro"
+    r" eigen verkauf vente venta vendita venda verkoop pv sprzed prodej predaj prodaj salg"
+    r" forsalj utpris utsalg udsalg ulosmyy myynti satis eladas vanzar parduo pardav pardosan"
+    r" muugi продаж πωλησ 販売 售价 售價 销售 판매"
 )
 # what everybody pays in a shop
 PUBLIC = any_of(
-    r"pvp pvc avp evp laden endkund endverbrauch verbraucher konsument privatkund regal"
-    r" retail rsp shelf consumer customer public pubblic particulier client rayon"
-    r" scaffale dettaglio banco minorist varejo consument winkel klant"
-    r" butik kundpris detal detail klient amanunt maloobch moc mpc maloprod kisker fogyaszt bolti etiket"
-    r" vahittais kuluttaja perakende jaehind mazum mazmen"
-    r" розн дребно роздріб λιαν 売価 上代 店頭 零售 소매"
+    r"pvp pvc avp evp laden endkund endverbrauch verbraucher konsument privatkund regal retail"
+    r" rsp shelf consumer customer public pubblic particulier client rayon scaffale dettaglio"
+    r" banco minorist varejo consument winkel klant butik kundpris detal detail klient amanunt"
+    r" maloobch moc mpc maloprod kisker fogyaszt bolti etiket vahittais kuluttaja perakende"
+    r" jaehind mazum mazmen розн дребно роздріб λιαν 売価 上代 店頭 零售 소매"
 )
 NOW = any_of("neu neue neuer neues new now jetzt aktuell current nu nieuw nuevo nouveau nuovo ny")
 # what a maker or a list recommends: a price of the shop goes before it
 LISTED = any_of(
-    r"uvp upe rrp srp msrp mrp pvpr list listen katalog catalog rec recom empf empfoh unverb richtpreis"
-    r" conseil ppc indicatif sugg suger sugier consigl advies richtprijs rek rekom cirka vejl veil"
-    r" ohje ovh scd dopor odporuc preporuc priporoc ajanl tavsiye"
-    r" ррц рекоменд препоръч προτειν 希望 参考 定価 市场价 建议 권장 소비자가"
+    r"uvp upe rrp srp msrp mrp pvpr list listen katalog catalog rec recom empf empfoh unverb"
+    r" richtpreis conseil ppc indicatif sugg suger sugier consigl advies richtprijs rek rekom"
+    r" cirka vejl veil ohje ovh scd dopor odporuc preporuc priporoc ajanl tavsiye ррц рекоменд"
+    r" препоръч προτειν 希望 参考 定価 市场价 建议 권장 소비자가"
 )
 # prices for a while or for some: beside another price only the keeper knows who pays them
 FOR_SOME = any_of(
@@ -149,8 +147,8 @@ FOR_SOME = any_of(
     r" ofert offert club klub member membre medlem mitglied reduz reduc redui discount ermass"
     r" scont clearance saldi rebaj descuent korting actie aanbied kampan tilbud erbjud rea"
     r" tarjous obniz wyprzed slev indirim kampanya popust snizen staff\b employ mitarbeiter"
-    r" schuler student kinder child senior gutschein coupon loyal stamm abo vip student"
-    r" акци скидк распрод знижк промо προσφορ 特価 セール 会員 促销 會員 会员 할인 회원"
+    r" schuler student kinder child senior gutschein coupon loyal stamm abo vip акци"
+    r" скидк распрод знижк промо προσφορ 特価 セール 会員 促销 會員 会员 할인 회원"
 )
 # what others call the price of the reader, who may be the shop
 YOURS = any_of("ihr dein your votre vos uw jouw su tuo vostro ditt dit din twoja vase")
@@ -210,7 +208,9 @@ def price_name(name: str) -> PriceName:
     """
     words = " ".join(apart(name).split())
     level = LEVEL.fullmatch(words)
-    more = [word for word in re.findall(r"\w+", NO_MORE.sub(" ", words)) if not is_named_price(word)]
+    more = [
+        word for word in re.findall(r"\w+", NO_MORE.sub(" ", words)) if not is_named_price(word)
+    ]
     is_gross = GROSS.search(words) is not None
     return PriceName(
         role=role_of(name, words),
