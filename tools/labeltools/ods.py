@@ -4,6 +4,7 @@ import re
 from dataclasses import dataclass, field
 from datetime import date, datetime
 from decimal import Decimal
+from functools import cache
 from itertools import chain, groupby, product
 from typing import Iterator, Mapping, Sequence
 from xml.etree.ElementTree import Element
@@ -11,11 +12,13 @@ from zipfile import ZipFile
 
 from labeltools.text import NOTHING, Text
 from labeltools.messages import RowError, ToolError, quoted
+from labeltools.money import currency_of
 from labeltools.number_format import DAY_ZERO, Formatter, date_section, date_text, digits_of
 from labeltools.cells import OF_SIGNS, RAISED, STRUCK, Cell, Fault, Kind, Run, Signs, Special, Truth
 from labeltools.cells import text_of_runs
 from labeltools.ods_styles import CELL, LETTERS, NO_FORM, PARAGRAPH, SPAN, Form, Styles
 from labeltools.ods_styles import common_styles
+from labeltools.prices import is_same
 from labeltools.rows import Doubt, Merge, Row
 from labeltools.workbook import (
     LARGEST_ROW,
@@ -56,6 +59,8 @@ HEADS = (
 # the corner of an area behind the name of its sheet
 CORNER = re.compile(r"(?:^|\.)\$?([A-Z]{1,3})\$?([0-9]{1,7})(?![^\s:])")
 NUMBERS = ("float", "percentage", "currency", "date", "time")
+VALUED = NUMBERS[:3]  # which the file has beside their text
+FIGURES = re.compile(r"[-+−0-9.,'’\s()]+")  # of an amount, beside its currency
 # white space that counts, by signs that no XML has, and other white space
 SIGNS = {"s": "\0", "tab": "\1", "line-break": "\2"}
 UNSIGNED = {0: " ", 1: "\t", 2: "\n"}
@@ -365,6 +370,12 @@ def cell_of(cell: Element, content: Content, form: Form) -> Cell:
         value = cell.get("value", "")
         if form.place:
             return Fault(RAISED, TYPED, value or text)
+        if kind == "currency" and is_of_other(text, cell.get("currency", "")):
+            what = Text("has the currency {} and the text {}", cell.get("currency"), quoted(text))
+            return Fault(what, SAVE_AGAIN, text)
+        if not value and text and kind in VALUED:
+            what = Text("has a number without its value, and the text {}", quoted(text))
+            return Fault(what, SAVE_AGAIN, text)
         exact = exact_of(value) if value else None
         moment = cell.get("date-value", "")
         own = Kind.MOMENT if kind in ("date", "time") else Kind.NUMBER
@@ -383,6 +394,24 @@ def cell_of(cell: Element, content: Content, form: Form) -> Cell:
         what = Text("has the value {} and the text {}", quoted(own_text), quoted(text))
         return Fault(what, SAVE_AGAIN, text)
     return text
+
+
+def is_of_other(text: str, currency: str) -> bool:
+    """Returns whether a text has another currency than the cell; one that has none has no other.
+
+    >>> is_of_other("2,50 €", "EUR"), is_of_other("2,50 CHF", "EUR"), is_of_other("2,50", "EUR")
+    (False, True, False)
+    >>> is_of_other("$2.50", "CAD"), is_of_other("2,50 €/kg", "EUR")
+    (False, False)
+    """
+    return is_other_sign(FIGURES.sub("", text), currency)
+
+
+@cache
+def is_other_sign(sign: str, currency: str) -> bool:
+    """Returns whether the sign beside an amount is of another currency."""
+    code = currency_of(sign)
+    return bool(code and currency) and code != "cent" and not is_same(code, currency)
 
 
 def is_surely(text: str, value: str) -> bool:
