@@ -2,6 +2,7 @@
 
 import re
 import unicodedata
+from functools import cache
 from typing import Sequence
 
 # letters that Unicode does not take apart
@@ -59,6 +60,7 @@ def is_in(word: str, name: str) -> bool:
     return re.search(rf"\b{re.escape(word)}{at_end}", name) is not None
 
 
+@cache
 def any_of(words: str) -> re.Pattern[str]:
     """Returns a pattern of words of the trade: the beginnings of words of a name. One of three
     letters or fewer is a whole word, and one in another script may be anywhere.

@@ -41,7 +41,7 @@ NAMES = {
 # parts of names of codes that are surely EAN or UPC
 NUMBER = re.compile(r"ean|gtin|upc|isbn")
 # parts of names of one article, where there are packs
-ONE = any_of("einzel stuck piece each single stuks pezzo sztuk bouteille flasche bottle")
+ONE = "einzel stuck piece each single stuks pezzo sztuk bouteille flasche bottle"
 # parts of names of numbers that a shop gives to each piece, where others give one to an article
 PIECE = re.compile(r"\b(?:serie|serial|s/n|imei|inventar|inventory|inventaire|accession|exempl)")
 # parts of names of numbers of others than articles
@@ -168,7 +168,7 @@ def code_of_all(columns: Mapping[int, Filled], codes: Sequence[int]) -> tuple[in
     """
     most = max(len(columns[at].texts) for at in codes)
     full = [at for at in codes if 2 * len(columns[at].texts) >= most or is_new(columns[at].name)]
-    if any(ONE.search(plain(columns[at].name)) for at in full):
+    if any(any_of(ONE).search(plain(columns[at].name)) for at in full):
         full = [at for at in full if not is_of_pack(columns[at].name)] or full
     return full[0], sorted(full) if len(full) > 1 else []
 

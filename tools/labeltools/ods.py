@@ -59,8 +59,7 @@ HEADS = (
 # the corner of an area behind the name of its sheet
 CORNER = re.compile(r"(?:^|\.)\$?([A-Z]{1,3})\$?([0-9]{1,7})(?![^\s:])")
 NUMBERS = ("float", "percentage", "currency", "date", "time")
-VALUED = NUMBERS[:3]  # which the file has beside their text
-FIGURES = re.compile(r"[-+−0-9.,'’\s()]+")  # of an amount, beside its currency
+FIGURES = "-+−()0123456789.,'’ \u00a0\u202f"  # of an amount, beside its currency
 # white space that counts, by signs that no XML has, and other white space
 SIGNS = {"s": "\0", "tab": "\1", "line-break": "\2"}
 UNSIGNED = {0: " ", 1: "\t", 2: "\n"}
@@ -79,11 +78,12 @@ ROUNDING = Decimal("0.5000001")  # of the last digit that is shown
 CALCULATES = ("LibreOffice", "OpenOffice", "Collabora", "NeoOffice")
 
 
-@dataclass(frozen=True, slots=True)
+@dataclass(slots=True)  # not frozen: each number of a table is made anew
 class Number(Special):
     """A cell with a number, a date or a time, and the text that is shown.
 
-    `exact` is its number, None for a date; `moment` is the date, as the file has it.
+    `exact` is its number, None for a date; `moment` is the date and `currency` the code of the
+    currency, as the file has them.
     """
 
     value: str
@@ -92,21 +92,30 @@ class Number(Special):
     moment: str
     formatter: Formatter
     kind: Kind = Kind.NUMBER
+    currency: str = ""
 
     def number(self) -> Decimal | None:
         """Returns the number that it has."""
         return self.exact
 
     def agree(self) -> None:
-        """Raises `RowError` where the text has a number, or a date, that is not the value."""
+        """Raises `RowError` where the text has a number, a date or a currency that is not that of
+        the value.
+        """
         value = self.value
         if self.exact is None:
             value = self.moment
+            if self.kind is Kind.NUMBER and self.text:
+                what = Text("has a number without its value, and the text {}", quoted(self.text))
+                raise RowError(what, SAVE_AGAIN)
             is_right = not value or is_date_of(self.text, value)
         else:
             is_right = is_surely(self.text, value) or is_text_of(self.text, self.exact)
         if not is_right:
             what = Text("has the value {} and the text {}", value, quoted(self.text))
+            raise RowError(what, SAVE_AGAIN)
+        if self.currency and is_other_sign(self.text.strip(FIGURES), self.currency):
+            what = Text("has the currency {} and the text {}", self.currency, quoted(self.text))
             raise RowError(what, SAVE_AGAIN)
 
     def shown(self) -> str:
@@ -370,16 +379,11 @@ def cell_of(cell: Element, content: Content, form: Form) -> Cell:
         value = cell.get("value", "")
         if form.place:
             return Fault(RAISED, TYPED, value or text)
-        if kind == "currency" and is_of_other(text, cell.get("currency", "")):
-            what = Text("has the currency {} and the text {}", cell.get("currency"), quoted(text))
-            return Fault(what, SAVE_AGAIN, text)
-        if not value and text and kind in VALUED:
-            what = Text("has a number without its value, and the text {}", quoted(text))
-            return Fault(what, SAVE_AGAIN, text)
         exact = exact_of(value) if value else None
         moment = cell.get("date-value", "")
         own = Kind.MOMENT if kind in ("date", "time") else Kind.NUMBER
-        return Number(value or text, text, exact, moment, content.formatter, own)
+        currency = cell.get("currency", "")
+        return Number(value or text, text, exact, moment, content.formatter, own, currency)
     if kind == "error":
         what = Text(
             "has {}, which the spreadsheet writes where it has no value to show", quoted(text)
@@ -396,22 +400,17 @@ def cell_of(cell: Element, content: Content, form: Form) -> Cell:
     return text
 
 
-def is_of_other(text: str, currency: str) -> bool:
-    """Returns whether a text has another currency than the cell; one that has none has no other.
-
-    >>> is_of_other("2,50 €", "EUR"), is_of_other("2,50 CHF", "EUR"), is_of_other("2,50", "EUR")
-    (False, True, False)
-    >>> is_of_other("$2.50", "CAD"), is_of_other("2,50 €/kg", "EUR")
-    (False, False)
-    """
-    return is_other_sign(FIGURES.sub("", text), currency)
-
-
 @cache
 def is_other_sign(sign: str, currency: str) -> bool:
-    """Returns whether the sign beside an amount is of another currency."""
+    """Returns whether what is beside an amount is another currency than that of its cell.
+
+    >>> [is_other_sign(sign, "EUR") for sign in ("€", "CHF", "", "€/kg")]
+    [False, True, False, False]
+    >>> is_other_sign("$", "CAD"), is_other_sign("kr", "DKK")
+    (False, False)
+    """
     code = currency_of(sign)
-    return bool(code and currency) and code != "cent" and not is_same(code, currency)
+    return code is not None and code != "cent" and not is_same(code, currency)
 
 
 def is_surely(text: str, value: str) -> bool:

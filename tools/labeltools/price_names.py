@@ -17,7 +17,7 @@ PRICE = (
     " eladasi fogyasztoi 税込 価格 売価 定価 价格 零售 售价 售價 价格 價格 판매가 가격 uvp"
 ).split()
 # what a shop pays
-PAID = any_of(
+PAID = (
     r"ek einkauf einstand ankauf anschaff beschaff bezugs handler wiederverk grosshand lieferant"
     r" bestellpreis bewertungs selbstkost gestehung hek lek dek aek aep wek hap gld cost(?!um)"
     r" cogs purchas buy\b(?!.it) buying bought wholesale wsp dealer trade reseller distributor"
@@ -35,7 +35,7 @@ PAID = any_of(
 )
 # what is not paid now, or not here: older prices, those that the law wants beside a reduction,
 # limits, averages, prices of others
-OLD = any_of(
+OLD = (
     r"alt alte alter altes alten fruher vorher bisher statt streich durchgestr niedrigst tiefst"
     r" old was before previous former compare origin initial strike lowest pseudo ancien barre"
     r" avant precedent plus\sbas antes anterior antig tachado mas\sbajo vecchio vecchi barrato"
@@ -70,25 +70,25 @@ GROSS = re.compile(
     r"|ivato|verolli\w*|kdvli)\b|\b(?:inc|incl|inkl)\.?\s*\Z|税込|含税"
 )
 # of many articles
-MANY = any_of(
+MANY = (
     r"case carton outer inner pallet colis vpe kart[aoó]n palette palet gebinde umkart master"
     r" doos doosprijs omdoos overdoos caja caixa scatola kolli kassepris koli colli ve zbiorcz"
     r" umverp \w*karton (?:ab|from|des|da|desde|od|vanaf|fra|fran)\s[0-9] \w*staffel [0-9]+\s?\+"
     r" box"
 )
 # of a pack, which may be the article, too; or of another place than the shop
-WEAK = any_of(
+WEAK = (
     r"pack packung paket bundle multi confezione opak balen dozen dutzend tray cassa online"
     r" web\w* internet amazon e\s?bay marktplatz marketplace export"
 )
 # for a time
-PERIOD = any_of(
+PERIOD = (
     r"\w*miet rent\b rental leasing monat mtl mensu mensile raten installment"
     r" (?:je|pro|per|par|por|al|om|za)\s?(?:tag|monat|jahr|woche|stunde|nacht|day|month|year|week"
     r"|hour|night|jour|mois|an|semaine|heure|dia|mes|hora|giorno|mese|ora|dag|maand|uur)\b"
 )
 # amounts that no customer pays, even where the name has a word of prices
-NO_AMOUNT = any_of(
+NO_AMOUNT = (
     r"marge margin margen margine marza avance aufschlag markup mark-up \w*spanne gewinn profit"
     r" benefic \w*ertrag kalkul \w*ersparnis saving save \w*differenz difference \w*vorteil"
     r" \w*anderung change \w*umsatz \w*summe \w*gesamt total \w*wert\b revenue turnover value"
@@ -96,7 +96,7 @@ NO_AMOUNT = any_of(
     r" ricarico recargo risparmio ahorro economie zysk nachlass share anteil"
 )
 # other numbers with decimals, where the name has no word of prices
-OTHER_NUMBERS = any_of(
+OTHER_NUMBERS = (
     r"pfand kaution deposit consigne statiegeld cauzione kaucja zaloha pant pantti miete gewicht"
     r" weight poids peso waga vikt vekt mass inhalt content volum rating bewertung coef fa[ck]tor"
     r" provision commission rabatt discount remise sconto descuento korting rabat lange breite"
@@ -119,30 +119,30 @@ MEASURE = re.compile(
     r"(?:g|gr|kg|l|lt|ltr|ml|cl|lbs?|oz|m|m2|m²|qm|lfm)\b"
 )
 # what a shop sells for
-SOLD = any_of(
+SOLD = (
     r"vk vkp sell selling sales(?=\W+(?:price|in[ck])) unser unsere our notre nostro nuestro"
     r" eigen verkauf vente venta vendita venda verkoop pv sprzed prodej predaj prodaj salg"
     r" forsalj utpris utsalg udsalg ulosmyy myynti satis eladas vanzar parduo pardav pardosan"
     r" muugi продаж πωλησ 販売 售价 售價 销售 판매"
 )
 # what everybody pays in a shop
-PUBLIC = any_of(
+PUBLIC = (
     r"pvp pvc avp evp laden endkund endverbrauch verbraucher konsument privatkund regal retail"
     r" rsp shelf consumer customer public pubblic particulier client rayon scaffale dettaglio"
     r" banco minorist varejo consument winkel klant butik kundpris detal detail klient amanunt"
     r" maloobch moc mpc maloprod kisker fogyaszt bolti etiket vahittais kuluttaja perakende"
     r" jaehind mazum mazmen розн дребно роздріб λιαν 売価 上代 店頭 零售 소매"
 )
-NOW = any_of("neu neue neuer neues new now jetzt aktuell current nu nieuw nuevo nouveau nuovo ny")
+NOW = "neu neue neuer neues new now jetzt aktuell current nu nieuw nuevo nouveau nuovo ny"
 # what a maker or a list recommends: a price of the shop goes before it
-LISTED = any_of(
+LISTED = (
     r"uvp upe rrp srp msrp mrp pvpr list listen katalog catalog rec recom empf empfoh unverb"
     r" richtpreis conseil ppc indicatif sugg suger sugier consigl advies richtprijs rek rekom"
     r" cirka vejl veil ohje ovh scd dopor odporuc preporuc priporoc ajanl tavsiye ррц рекоменд"
     r" препоръч προτειν 希望 参考 定価 市场价 建议 권장 소비자가"
 )
 # prices for a while or for some: beside another price only the keeper knows who pays them
-FOR_SOME = any_of(
+FOR_SOME = (
     r"aktion akcij akci akce angebot sonder promo offer special sale\b sold remis rabatt oferta"
     r" ofert offert club klub member membre medlem mitglied reduz reduc redui discount ermass"
     r" scont clearance saldi rebaj descuent korting actie aanbied kampan tilbud erbjud rea"
@@ -151,7 +151,7 @@ FOR_SOME = any_of(
     r" скидк распрод знижк промо προσφορ 特価 セール 会員 促销 會員 会员 할인 회원"
 )
 # what others call the price of the reader, who may be the shop
-YOURS = any_of("ihr dein your votre vos uw jouw su tuo vostro ditt dit din twoja vase")
+YOURS = "ihr dein your votre vos uw jouw su tuo vostro ditt dit din twoja vase"
 # the number or the letter of one of several lists of prices
 LEVEL = re.compile(
     r"(?P<base>.*?\S)(?:[\s-](?:level|tier|stufe|liste?|niveau|livello|nivel))?"
@@ -226,16 +226,16 @@ def role_of(name: str, words: str) -> Role:
     """Returns the role that a name has, by its plain words."""
     is_named = is_named_price(name)
     nouns = NET.sub(" ", GROSS.sub(" ", words))
-    if NUMBERED.search(words) or NO_AMOUNT.search(words):
+    if NUMBERED.search(words) or any_of(NO_AMOUNT).search(words):
         return Role.OTHER
-    if OTHER_NUMBERS.search(nouns) and not is_named:
+    if any_of(OTHER_NUMBERS).search(nouns) and not is_named:
         return Role.OTHER
-    if any(pattern.search(words) for pattern in (PAID, OLD, MANY, PERIOD)):
+    if any(any_of(listed).search(words) for listed in (PAID, OLD, MANY, PERIOD)):
         return Role.OTHER
     if NET.search(words):
         return Role.NET
     is_gross = GROSS.search(words) is not None
-    is_sold = SOLD.search(words) or PUBLIC.search(words)
+    is_sold = any_of(SOLD).search(words) or any_of(PUBLIC).search(words)
     if MEASURE.search(words) or UNIT.search(words) and not (is_gross or is_sold):
         return Role.OF_UNIT
     return role_of_paid(words, is_named or is_gross or has_sign(name))
@@ -244,14 +244,14 @@ def role_of(name: str, words: str) -> Role:
 def role_of_paid(words: str, is_named: bool) -> Role:
     """Returns the role of a price that customers may pay for one article."""
     patterns = (
-        (FOR_SOME, Role.FOR_SOME),
-        (LISTED, Role.LISTED),
-        (WEAK, Role.WEAK),
-        (PUBLIC, Role.PUBLIC),
-        (SOLD, Role.SOLD),
+        (any_of(FOR_SOME), Role.FOR_SOME),
+        (any_of(LISTED), Role.LISTED),
+        (any_of(WEAK), Role.WEAK),
+        (any_of(PUBLIC), Role.PUBLIC),
+        (any_of(SOLD), Role.SOLD),
         (GROSS, Role.SOLD),
-        (YOURS, Role.YOURS),
-        (NOW, Role.NOW),
+        (any_of(YOURS), Role.YOURS),
+        (any_of(NOW), Role.NOW),
     )
     default = Role.PLAIN if is_named else Role.UNKNOWN
     return next((role for pattern, role in patterns if pattern.search(words)), default)
@@ -259,17 +259,17 @@ def role_of_paid(words: str, is_named: bool) -> Role:
 
 def is_of_many(name: str) -> bool:
     """Returns whether a name is of a case of articles."""
-    return MANY.search(plain(name)) is not None
+    return any_of(MANY).search(plain(name)) is not None
 
 
 def is_of_pack(name: str) -> bool:
     """Returns whether a name is of a pack, and none of one article."""
-    return WEAK.search(plain(name)) is not None
+    return any_of(WEAK).search(plain(name)) is not None
 
 
 def is_new(name: str) -> bool:
     """Returns whether a name says that what it names takes the place of another."""
-    return NOW.search(plain(name)) is not None
+    return any_of(NOW).search(plain(name)) is not None
 
 
 def is_named_price(name: str) -> bool:
