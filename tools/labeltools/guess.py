@@ -14,7 +14,7 @@ from labeltools.column_words import any_of, named, plain
 from labeltools.columns import names_of, texts_of
 from labeltools.messages import RowError, Talk
 from labeltools.money import parse
-from labeltools.price_choice import Amounts, price_among
+from labeltools.price_choice import Amounts, is_net_beside, price_among
 from labeltools.price_names import (
     NUMBERED,
     PriceName,
@@ -59,7 +59,7 @@ ARTICLE = re.compile(
     r"[\w./-]{4,30}"
 )
 KINDS = ("code", "title", "price", "copies")
-NOT_PAID = (Role.OTHER, Role.NET, Role.OF_UNIT)
+NOT_PAID = (Role.OTHER, Role.SUM, Role.NET, Role.OF_UNIT)
 UNSURE = (Role.NET, Role.OF_UNIT)  # may be asked for, where there is no other
 SAMPLE = 300  # rows that are looked at
 COPIES = re.compile("[0-9]{1,3}")
@@ -214,7 +214,9 @@ def price_of(columns: Mapping[int, Filled]) -> tuple[int | None, Sequence[int]]:
         if not has_rows or column.texts
     }
     of_shops = {
-        at: one for at, one in prices.items() if may_be_paid(one.says, columns[at].texts, has_rows)
+        at: one
+        for at, one in prices.items()
+        if may_be_paid(one.says, columns[at].texts, has_rows) and (one.filled or not has_rows)
     }
     unsure = {
         at: one
@@ -223,10 +225,15 @@ def price_of(columns: Mapping[int, Filled]) -> tuple[int | None, Sequence[int]]:
     }
     if of_shops and all(one.role is Role.FOR_SOME for one in of_shops.values()):
         of_shops |= {at: one for at, one in unsure.items() if one.role is Role.OF_UNIT}
-    if not of_shops:
-        return None, sorted(unsure)
-    price = price_among(of_shops)
-    return price, sorted(of_shops) if price is None else []
+    price = price_among(of_shops) if of_shops else None
+    asked = of_shops or unsure if price is None else {price: of_shops[price]}
+    sums = [at for at, one in prices.items() if any(is_taxed(one, net) for net in asked.values())]
+    return (price, []) if price is not None and not sums else (None, sorted([*asked, *sums]))
+
+
+def is_taxed(one: Amounts, price: Amounts) -> bool:
+    """Returns whether a column that has no name of prices has those of another with a tax."""
+    return one.role is Role.SUM and not price.says.is_gross and is_net_beside(price, one)
 
 
 def may_be_paid(says: PriceName, texts: Sequence[str], has_rows: bool) -> bool:

@@ -44,7 +44,7 @@ class Amounts:
 
     @cached_property
     def values(self) -> Sequence[Decimal | None]:
-        """The amount of each row; None where a cell has none."""
+        """The amount of each row; None where a cell has none, or a zero."""
         return tuple(map(value_of, self.cells))
 
     @property
@@ -57,9 +57,9 @@ Columns = Mapping[int, Amounts]
 
 
 def value_of(cell: str) -> Decimal | None:
-    """Returns the amount of a cell; None where it has none."""
+    """Returns the amount of a cell; None where it has none, or a zero."""
     with suppress(RowError):
-        return parse(cell).value
+        return parse(cell).value or None
     return None
 
 
@@ -172,16 +172,23 @@ def is_near_to(one: Amounts, listed: Amounts) -> bool:
 
 def is_net_of(net: Amounts, gross: Amounts) -> bool:
     """Returns whether prices with a tax make others, as their name or their last digits say."""
-    both = list(pairs(net, gross))
-    if len(both) < LEAST_ROWS:
-        return False
-    rates = rates_of(both)
-    if not rates:
+    if not is_net_beside(net, gross):
         return False
     if gross.says.is_gross:
         return True
+    both = list(pairs(net, gross))
     ends = [sum(int(value * 100) % 10 in OF_SHOPS for value in column) for column in zip(*both)]
-    return OF_A_FIFTH not in rates and 2 * ends[0] <= len(both) and 10 * ends[1] >= 9 * len(both)
+    return (
+        OF_A_FIFTH not in rates_of(both)
+        and 2 * ends[0] <= len(both)
+        and 10 * ends[1] >= 9 * len(both)
+    )
+
+
+def is_net_beside(net: Amounts, gross: Amounts) -> bool:
+    """Returns whether prices with a tax make the amounts of another column, whatever its name."""
+    both = list(pairs(net, gross))
+    return len(both) >= LEAST_ROWS and bool(rates_of(both))
 
 
 def rates_of(both: Sequence[tuple[Decimal, Decimal]]) -> Sequence[Decimal]:

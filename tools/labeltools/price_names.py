@@ -13,7 +13,7 @@ from labeltools.money import FOLDED
 # parts of names of prices
 PRICE = (
     "vk verkauf ttc brutto retail pvp pvc avp rrp srp msrp ladenpreis preis price prix precio"
-    " prezzo prijs cena ceny fiyat pris hinta preco pret cijena kaina hind цена ціна τιμη tarif"
+    " prezzo prz px prijs cena ceny fiyat pris hinta preco pret cijena kaina hind цена ціна τιμη tarif"
     " eladasi fogyasztoi 税込 価格 売価 定価 价格 零售 售价 售價 价格 價格 판매가 가격 uvp"
 ).split()
 # what a shop pays
@@ -23,7 +23,7 @@ PAID = (
     r" cogs purchas buy\b(?!.it) buying bought wholesale wsp dealer trade reseller distributor"
     r" suppl(?:y|ier) vendor landed fob exw jobber invoice factory achat pa revient cession"
     r" gros\b grossist revendeur fournisseur pamp pmp prmp franco (?:tarif|prix)\spro\b cout"
-    r" inkoop inkp kostprijs groothandel leverancier acquis ingrosso rivendit fornit forn compra"
+    r" inkoop inkp kostprijs groothandel leverancier acquis acq ingrosso rivendit fornit forn compra"
     r" mayorist mayoreo por\smayor distribuidor proveedor pvd adquisic custo coste atacado revend"
     r" fornecedor inkop inpris innpris innkjop indkob kost engros forhandler aterforsal sjalvkost"
     r" leverand osto sisaanosto hankinta tukku omakust jalleenmyy ostu hulgi zakup nabyc hurt"
@@ -39,7 +39,7 @@ OLD = (
     r"alt alte alter altes alten fruher vorher bisher statt streich durchgestr niedrigst tiefst"
     r" old was before previous former compare origin initial strike lowest pseudo ancien barre"
     r" avant precedent plus\sbas antes anterior antig tachado mas\sbajo vecchio vecchi barrato"
-    r" piu\sbasso oud oude vanprijs van-prijs voorheen doorgestr laagst vorig velho gammal gammel"
+    r" piu\sbasso oud oude vanprijs van-prijs voorheen doorgestr laagst vorig vortag vorjahr yesterday last\s(?:year|week|month) velho gammal gammel"
     r" gamle tidigare forpris for-pris for\spris aiempi vanha aikaisem star\b stara\b stare\b"
     r" stary\b poprzed przed najnizsz pierwotn puvodn povodn vechi regi eredeti prethodn eski"
     r" onceki sena\b vana\b veca\b стар прежн преди παλι αρχικ 旧 原价 原價 划线 mindest minim min map"
@@ -60,7 +60,7 @@ WITH = (
 )
 NET = re.compile(
     rf"\b{WITHOUT}{RATE}{TAX}|{TAX}\s*(?:e[xk][ck]|escl|nicht|haric|0\b)|\+\s?{TAX}|netto"
-    r"|\b(?:nett?|neto|ht|htva|e[xk]c?l?(?:vat|gst|tax|mwst|moms|btw)|untaxed|imponibile"
+    r"|\b(?:nett?|neto|sub-?total|ht|htva|e[xk]c?l?(?:vat|gst|tax|mwst|moms|btw)|untaxed|imponibile"
     r"|imponible|liquido|veroton|alviton|kdvsiz)\b"
     r"|\b(?:excl|exkl|ekskl|ex)\.?\s*\Z|nelkul|税抜|税別|税别|未税|不含税|本体"
 )
@@ -73,8 +73,8 @@ GROSS = re.compile(
 MANY = (
     r"case carton outer inner pallet colis vpe kart[aoó]n palette palet gebinde umkart master"
     r" doos doosprijs omdoos overdoos caja caixa scatola kolli kassepris koli colli ve zbiorcz"
-    r" umverp \w*karton (?:ab|from|des|da|desde|od|vanaf|fra|fran)\s[0-9] \w*staffel [0-9]+\s?\+"
-    r" box"
+    r" umverp \w*karton (?:ab|from|des|da|desde|od|vanaf|fra|fran)\s[0-9]+(?![0-9./-]) \w*staffel"
+    r" [0-9]+\s?\+ box"
 )
 # of a pack, which may be the article, too; or of another place than the shop
 WEAK = (
@@ -121,14 +121,14 @@ MEASURE = re.compile(
 # what a shop sells for
 SOLD = (
     r"vk vkp sell selling sales(?=\W+(?:price|in[ck])) unser unsere our notre nostro nuestro"
-    r" eigen verkauf vente venta vendita venda verkoop pv sprzed prodej predaj prodaj salg"
+    r" eigen verkauf vente venta vendita venda vend verkoop pv sprzed prodej predaj prodaj salg"
     r" forsalj utpris utsalg udsalg ulosmyy myynti satis eladas vanzar parduo pardav pardosan"
     r" muugi продаж πωλησ 販売 售价 售價 销售 판매"
 )
 # what everybody pays in a shop
 PUBLIC = (
     r"pvp pvc avp evp laden endkund endverbrauch verbraucher konsument privatkund regal retail"
-    r" rsp shelf consumer customer public pubblic particulier client rayon scaffale dettaglio"
+    r" rsp shelf kassenpreis consumer customer public pubblic particulier client rayon scaffale dettaglio"
     r" banco minorist varejo consument winkel klant butik kundpris detal detail klient amanunt"
     r" maloobch moc mpc maloprod kisker fogyaszt bolti etiket vahittais kuluttaja perakende"
     r" jaehind mazum mazmen розн дребно роздріб λιαν 売価 上代 店頭 零售 소매"
@@ -150,6 +150,8 @@ FOR_SOME = (
     r" schuler student kinder child senior gutschein coupon loyal stamm abo vip акци"
     r" скидк распрод знижк промо προσφορ 特価 セール 会員 促销 會員 会员 할인 회원"
 )
+# from a day on, or up to it, or in a year
+DATED = re.compile(r"(?<![0-9])[0-9]{1,2}\. ?(?:[0-9]{1,2}\.|[a-z])|[0-9]/[0-9]|\b20[0-9]{2}\b")
 # what others call the price of the reader, who may be the shop
 YOURS = "ihr dein your votre vos uw jouw su tuo vostro ditt dit din twoja vase"
 # the number or the letter of one of several lists of prices
@@ -163,6 +165,7 @@ class Role(Enum):
     """What a name says of a column of amounts, as far as it says it."""
 
     OTHER = auto()  # no customer pays it
+    SUM = auto()  # an amount that is no price, such as a margin or a total
     NET = auto()  # without its tax
     OF_UNIT = auto()
     YOURS = auto()
@@ -201,10 +204,10 @@ class PriceName:
 def price_name(name: str) -> PriceName:
     """Returns what the name of a column of amounts says.
 
-    >>> price_name("VK brutto").role, price_name("EK brutto").role, price_name("Preis").role
-    (<Role.SOLD: 11>, <Role.OTHER: 1>, <Role.PLAIN: 6>)
-    >>> price_name("Sell inc VAT").role, price_name("Sales tax").role
-    (<Role.SOLD: 11>, <Role.OTHER: 1>)
+    >>> [price_name(name).role.name for name in ("VK brutto", "EK brutto", "Preis", "VK ab 1.12.")]
+    ['SOLD', 'OTHER', 'PLAIN', 'FOR_SOME']
+    >>> [price_name(name).role.name for name in ("Sell inc VAT", "Sales tax", "VK (Subtotal)")]
+    ['SOLD', 'OTHER', 'NET']
     """
     words = " ".join(apart(name).split())
     level = LEVEL.fullmatch(words)
@@ -226,7 +229,9 @@ def role_of(name: str, words: str) -> Role:
     """Returns the role that a name has, by its plain words."""
     is_named = is_named_price(name)
     nouns = NET.sub(" ", GROSS.sub(" ", words))
-    if NUMBERED.search(words) or any_of(NO_AMOUNT).search(words):
+    if any_of(NO_AMOUNT).search(words):
+        return Role.SUM
+    if NUMBERED.search(words):
         return Role.OTHER
     if any_of(OTHER_NUMBERS).search(nouns) and not is_named:
         return Role.OTHER
@@ -245,6 +250,7 @@ def role_of_paid(words: str, is_named: bool) -> Role:
     """Returns the role of a price that customers may pay for one article."""
     patterns = (
         (any_of(FOR_SOME), Role.FOR_SOME),
+        (DATED, Role.FOR_SOME),
         (any_of(LISTED), Role.LISTED),
         (any_of(WEAK), Role.WEAK),
         (any_of(PUBLIC), Role.PUBLIC),
