@@ -6,7 +6,7 @@ from functools import cache
 from typing import Sequence
 
 # letters that Unicode does not take apart
-FOLDED_LETTERS = str.maketrans("łøđı", "lodi")
+FOLDED_LETTERS = str.maketrans("łøđðı", "loddi")
 # what is written together: EKpreis, PVTTC, VK1
 TOGETHER = re.compile(
     r"\b(?:[ehlv]k|u?vp)(?=preis|brutto|netto)|\bp[auv]?(?=(?:ht|ttc)\b)|[a-z]{2}(?=[0-9])"

@@ -13,47 +13,49 @@ from labeltools.money import FOLDED
 # parts of names of prices
 PRICE = (
     "vk verkauf ttc brutto retail pvp pvc avp rrp srp msrp ladenpreis preis price prix precio"
-    " prezzo prz px prijs cena ceny fiyat pris hinta preco pret cijena kaina hind цена ціна τιμη tarif"
-    " eladasi fogyasztoi 税込 価格 売価 定価 价格 零售 售价 售價 价格 價格 판매가 가격 uvp"
+    " prezzo prz px prijs cena ceny fiyat pris verd hinta preco pret cijena kaina hind harga tarif"
+    " eladasi fogyasztoi цена ціна τιμη 税込 価格 売価 定価 价格 零售 售价 售價 價格 판매가 가격 מחיר سعر uvp"
 ).split()
 # what a shop pays
 PAID = (
-    r"ek einkauf einstand ankauf anschaff beschaff bezugs handler wiederverk grosshand lieferant"
-    r" bestellpreis bewertungs selbstkost gestehung hek lek dek aek aep wek hap gld cost(?!um)"
-    r" cogs purchas buy\b(?!.it) buying bought wholesale wsp dealer trade reseller distributor"
-    r" suppl(?:y|ier) vendor landed fob exw jobber invoice factory achat pa revient cession"
-    r" gros\b grossist revendeur fournisseur pamp pmp prmp franco (?:tarif|prix)\spro\b cout"
-    r" inkoop inkp kostprijs groothandel leverancier acquis acq ingrosso rivendit fornit forn compra"
-    r" mayorist mayoreo por\smayor distribuidor proveedor pvd adquisic custo coste atacado revend"
-    r" fornecedor inkop inpris innpris innkjop indkob kost engros forhandler aterforsal sjalvkost"
-    r" leverand osto sisaanosto hankinta tukku omakust jalleenmyy ostu hulgi zakup nabyc hurt"
-    r" koszt dostawc nakup porizovac velkoobch voc obstarav dodavatel beszerz nagyker bekerul"
-    r" onkolts viszontelad achizit en-gros angro furnizor nabav veleprod vpc alis maliyet toptan"
-    r" bayi iepirk vairum pirkim isigij didmen savikain закуп приход входн опт себестоим собиварт"
-    r" собіварт поставщ постачал дилер гурт доставн едро αγορ κοστ χονδρ 仕入 原価 卸 下代 进价 進價 进货 成本"
-    r" 批发 批發 采购 採購 매입 원가 도매 공급 입고"
+    r"ek einkauf einstand ankauf anschaff beschaff bezugs handler wiederverk grosshand"
+    r" lieferant bestellpreis bewertungs selbstkost gestehung hek lek dek aek aep wek hap gld"
+    r" cost(?!um) cogs purchas buy\b(?!.it) buying bought wholesale wsp dealer trade reseller"
+    r" distributor suppl(?:y|ier) vendor landed fob exw jobber invoice factory achat pa revient"
+    r" cession gros\b grossist revendeur fournisseur pamp pmp prmp franco (?:tarif|prix)\spro\b"
+    r" cout inkoop inkp kostprijs groothandel leverancier acquis acq ingrosso rivendit fornit"
+    r" forn compra mayorist mayoreo por\smayor distribuidor proveedor pvd adquisic custo coste"
+    r" atacado revend fornecedor inkop inpris innpris innkjop indkob kost engros forhandler"
+    r" aterforsal sjalvkost leverand osto sisaanosto hankinta tukku omakust jalleenmyy ostu"
+    r" hulgi zakup nabyc hurt koszt dostawc nakup porizovac velkoobch voc obstarav dodavatel"
+    r" beszerz nagyker bekerul onkolts viszontelad achizit en-gros angro furnizor nabav"
+    r" veleprod vpc alis maliyet toptan bayi iepirk vairum pirkim isigij didmen savikain закуп"
+    r" приход входн опт себестоим собиварт собіварт поставщ постачал дилер гурт доставн едро"
+    r" αγορ κοστ χονδρ 仕入 原価 卸 下代 进价 進價 进货 成本 批发 批發 采购 採購 매입 원가 도매 공급 입고 beli modal grosir"
+    r" innkaup עלות קני شراء تكلفة جملة"
 )
 # what is not paid now, or not here: older prices, those that the law wants beside a reduction,
 # limits, averages, prices of others
 OLD = (
-    r"alt alte alter altes alten fruher vorher bisher statt streich durchgestr niedrigst tiefst"
-    r" old was before previous former compare origin initial strike lowest pseudo ancien barre"
-    r" avant precedent plus\sbas antes anterior antig tachado mas\sbajo vecchio vecchi barrato"
-    r" piu\sbasso oud oude vanprijs van-prijs voorheen doorgestr laagst vorig vortag vorjahr yesterday last\s(?:year|week|month) velho gammal gammel"
-    r" gamle tidigare forpris for-pris for\spris aiempi vanha aikaisem star\b stara\b stare\b"
-    r" stary\b poprzed przed najnizsz pierwotn puvodn povodn vechi regi eredeti prethodn eski"
-    r" onceki sena\b vana\b veca\b стар прежн преди παλι αρχικ 旧 原价 原價 划线 mindest minim min map"
-    r" floor durchschn average avg moyen medio gemiddeld sredni prumer wettbewerb konkurren"
-    r" competit concurren concorren competenc marktpreis market\b"
+    r"alt alte alter altes alten fruher vorher bisher statt streich durchgestr niedrigst"
+    r" tiefst old was before previous former compare origin initial strike lowest pseudo ancien"
+    r" barre avant precedent plus\sbas antes anterior antig tachado mas\sbajo vecchio vecchi"
+    r" barrato piu\sbasso oud oude vanprijs van-prijs voorheen doorgestr laagst vorig vortag"
+    r" vorjahr yesterday last\s(?:year|week|month) velho gammal gammel gamle tidigare forpris"
+    r" for-pris for\spris aiempi vanha aikaisem star\b stara\b stare\b stary\b poprzed przed"
+    r" najnizsz pierwotn puvodn povodn vechi regi eredeti prethodn eski onceki sena\b vana\b"
+    r" veca\b стар прежн преди παλι αρχικ 旧 原价 原價 划线 mindest minim min map floor durchschn"
+    r" average avg moyen medio gemiddeld sredni prumer wettbewerb konkurren competit concurren"
+    r" concorren competenc marktpreis market\b (?:vor|for)\s(?:rabat|reduz)"
 )
 TAX = (
     r"\b(?:mw\s?st|mehrwertst|u\s?st|umsatzst|steuer|vat|tax|gst|hst|tva|iva|btw|moms|mva|dph"
-    r"|pdv|ddv|pvm|pvn|alv|kdv|afa|ндс|пдв|ддс|φπα|impost|impuest)\w*\.?"
+    r"|pdv|ddv|pvm|pvn|alv|kdv|afa|vsk|ндс|пдв|ддс|φπα|impost|impuest)\w*\.?"
 )
 RATE = r"[\s.'’d]*(?:[0-9.,]+\s?%?\s*|\w+\.\s*|der\s|de\s|la\s)?"  # inkl. 19 %, incl. ges.
 WITHOUT = (
     r"(?:ohne|o|zzgl|plus|without|no|w/o|sans|hors|sin|senza|sem|zonder|utan|uden|uten|u/|s/|bez"
-    r"|brez|be|fara|ilman|ex|excl\w*|exkl\w*|ekskl\w*|eks|escl\w*|vor|before|без|χωρισ|προ)"
+    r"|brez|be|fara|ilman|an|ex|excl\w*|exkl\w*|ekskl\w*|eks|escl\w*|vor|before|без|χωρισ|προ)"
 )
 WITH = (
     r"(?:mit|m|inc|inkl\w*|incl\w*|avec|with|con|c/|com|med|m/|met|cu|su|ar|s|sa|z|sis|с|з|із|με)"
@@ -73,13 +75,14 @@ GROSS = re.compile(
 MANY = (
     r"case carton outer inner pallet colis vpe kart[aoó]n palette palet gebinde umkart master"
     r" doos doosprijs omdoos overdoos caja caixa scatola kolli kassepris koli colli ve zbiorcz"
-    r" umverp \w*karton (?:ab|from|des|da|desde|od|vanaf|fra|fran)\s[0-9]+(?![0-9./-]) \w*staffel"
-    r" [0-9]+\s?\+ box"
+    r" umverp \w*karton (?:ab|from|des|da|desde|od|vanaf|fra|fran)\s[0-9]+(?![0-9./-])"
+    r" \w*staffel [0-9]+\s?\+ box shipper trade\s(?:unit|item)"
 )
 # of a pack, which may be the article, too; or of another place than the shop
 WEAK = (
     r"pack packung paket bundle multi confezione opak balen dozen dutzend tray cassa online"
-    r" web\w* internet amazon e\s?bay marktplatz marketplace export"
+    r" web\w* internet amazon e\s?bay marktplatz marketplace export versand shipping lieferung"
+    r" delivery montage porto"
 )
 # for a time
 PERIOD = (
@@ -89,20 +92,21 @@ PERIOD = (
 )
 # amounts that no customer pays, even where the name has a word of prices
 NO_AMOUNT = (
-    r"marge margin margen margine marza avance aufschlag markup mark-up \w*spanne gewinn profit"
-    r" benefic \w*ertrag kalkul \w*ersparnis saving save \w*differenz difference \w*vorteil"
-    r" \w*anderung change \w*umsatz \w*summe \w*gesamt total \w*wert\b revenue turnover value"
-    r" \w+gruppe\b preiseinheit preisgruppe preiskategorie price\s?(?:unit\b|group|categor)"
-    r" ricarico recargo risparmio ahorro economie zysk nachlass share anteil"
+    r"marge margin margen margine marza avance aufschlag markup mark-up \w*spanne gewinn"
+    r" profit benefic \w*ertrag kalkul \w*ersparnis saving save \w*differenz difference"
+    r" \w*vorteil \w*anderung change \w*umsatz \w*summe \w*gesamt total \w*wert\b revenue"
+    r" turnover value \w+gruppe\b preiseinheit preisgruppe preiskategorie"
+    r" price\s?(?:unit\b|group|categor) ricarico recargo risparmio ahorro economie zysk"
+    r" nachlass share anteil erlos ext extended"
 )
 # other numbers with decimals, where the name has no word of prices
 OTHER_NUMBERS = (
-    r"pfand kaution deposit consigne statiegeld cauzione kaucja zaloha pant pantti miete gewicht"
-    r" weight poids peso waga vikt vekt mass inhalt content volum rating bewertung coef fa[ck]tor"
-    r" provision commission rabatt discount remise sconto descuento korting rabat lange breite"
-    r" hohe length width height versand verzend porto shipping freight fragt frakt hauteur"
-    r" largeur longueur profondeur indirim reducere popust slev скидк наценк garant adaos depozit"
-    r" marj greutat agirlik suly kedvezm arres вес\b weee eco-part ecotax gebuhr"
+    r"pfand kaution deposit consigne statiegeld cauzione kaucja zaloha pant pantti miete"
+    r" gewicht weight poids peso waga vikt vekt mass inhalt content volum rating bewertung coef"
+    r" fa[ck]tor provision commission rabatt discount remise sconto descuento korting rabat"
+    r" lange breite hohe length width height versand verzend porto shipping freight fragt frakt"
+    r" hauteur largeur longueur profondeur indirim reducere popust slev скидк наценк garant"
+    r" adaos depozit marj greutat agirlik suly kedvezm arres вес\b weee eco-part ecotax gebuhr"
     rf" {TAX} %"
 )
 # names of numbers that are no amounts, and no titles: Tariff No., Zolltarifnummer, Code article
@@ -123,15 +127,16 @@ SOLD = (
     r"vk vkp sell selling sales(?=\W+(?:price|in[ck])) unser unsere our notre nostro nuestro"
     r" eigen verkauf vente venta vendita venda vend verkoop pv sprzed prodej predaj prodaj salg"
     r" forsalj utpris utsalg udsalg ulosmyy myynti satis eladas vanzar parduo pardav pardosan"
-    r" muugi продаж πωλησ 販売 售价 售價 销售 판매"
+    r" muugi продаж πωλησ 販売 售价 售價 销售 판매 jual utsoluverd بيع"
 )
 # what everybody pays in a shop
 PUBLIC = (
     r"pvp pvc avp evp laden endkund endverbrauch verbraucher konsument privatkund regal retail"
-    r" rsp shelf kassenpreis consumer customer public pubblic particulier client rayon scaffale dettaglio"
-    r" banco minorist varejo consument winkel klant butik kundpris detal detail klient amanunt"
-    r" maloobch moc mpc maloprod kisker fogyaszt bolti etiket vahittais kuluttaja perakende"
-    r" jaehind mazum mazmen розн дребно роздріб λιαν 売価 上代 店頭 零售 소매"
+    r" rsp shelf kassenpreis consumer customer public pubblic particulier client rayon scaffale"
+    r" dettaglio banco minorist varejo consument winkel klant butik kundpris detal detail"
+    r" klient amanunt maloobch moc mpc maloprod kisker fogyaszt bolti etiket vahittais"
+    r" kuluttaja perakende jaehind mazum mazmen розн дребно роздріб λιαν 売価 上代 店頭 零售 소매 eceran"
+    r" צרכן"
 )
 NOW = "neu neue neuer neues new now jetzt aktuell current nu nieuw nuevo nouveau nuovo ny"
 # what a maker or a list recommends: a price of the shop goes before it
@@ -143,12 +148,12 @@ LISTED = (
 )
 # prices for a while or for some: beside another price only the keeper knows who pays them
 FOR_SOME = (
-    r"aktion akcij akci akce angebot sonder promo offer special sale\b sold remis rabatt oferta"
-    r" ofert offert club klub member membre medlem mitglied reduz reduc redui discount ermass"
-    r" scont clearance saldi rebaj descuent korting actie aanbied kampan tilbud erbjud rea"
-    r" tarjous obniz wyprzed slev indirim kampanya popust snizen staff\b employ mitarbeiter"
-    r" schuler student kinder child senior gutschein coupon loyal stamm abo vip акци"
-    r" скидк распрод знижк промо προσφορ 特価 セール 会員 促销 會員 会员 할인 회원"
+    r"aktion akcij akci akce angebot sonder promo offer special sale\b sold remis oferta ofert"
+    r" offert club klub member membre medlem mitglied reduz reduc redui discount ermass scont"
+    r" clearance saldi rebaj descuent korting actie aanbied kampan tilbud erbjud rea tarjous"
+    r" obniz wyprzed slev indirim kampanya popust snizen staff\b employ mitarbeiter schuler"
+    r" student kinder child senior gutschein coupon loyal stamm abo vip акци скидк распрод"
+    r" знижк промо προσφορ 特価 セール 会員 促销 會員 会员 할인 회원 rabat"
 )
 # from a day on, or up to it, or in a year
 DATED = re.compile(r"(?<![0-9])[0-9]{1,2}\. ?(?:[0-9]{1,2}\.|[a-z])|[0-9]/[0-9]|\b20[0-9]{2}\b")

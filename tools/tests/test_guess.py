@@ -308,6 +308,12 @@ PRICES = (
     ("Jacket;Barcode;Consignor share;Asking price", 4),
     ("Item;EAN;Sales tax;Price", 4),
     ("Name;EAN;Lagerwert €;VK €", 4),
+    ("Kreisel;EAN;VK bis 30.11.;VK ab 1.12.", 0),
+    ("Schraube;EAN;Preis;Preis ab 100 Stück", 3),
+    ("Fisch;EAN;Tagespreis;Vortag", 3),
+    ("Schirm;EAN;Preis;Preis inkl. Versand", 3),
+    ("Pemakai;EAN;Harga beli;Harga jual", 4),
+    ("Vara;EAN;Innkaupsverð;Útsöluverð m. vsk", 4),
 )
 # amounts of three columns, and the number of the one that is the price; 0 where only the keeper
 # knows it
@@ -323,6 +329,9 @@ AMOUNTS = (
     # a price before a reduction is empty in most rows
     ("Prijs;9,99 18,50 4,99 7,00;Adviesverkoop A;- - 5,99 -;Marge;1 2 3 4", 1),
     ("Prezzo scaffale;9,99 18,50 4,99 7,00;Prezzo cantina;5,10 9,90 2,60 3,80;Sconto;1 2 3 4", 1),
+    # a total that is the price with its tax, and columns of zeros
+    ("Venta (neta);2,08 3,50 4,16 5,00;Venta;2,08 3,50 4,16 5,00;Total;2,50 4,20 4,99 6,00", 0),
+    ("Retail price;0,00 0,00 0,00 0,00;Sale price;0,00 0,00 0,00 0,00;Price;2,50 4,20 4,99 6", 3),
     # the net price beside what the maker recommends with its tax
     ("Händler;5,00 7,00 8,00 9,99;UVP inkl. MwSt.;12,00 24,00 6,00 3,60;unser Preis;10 20 5 3", 3),
 )
