@@ -66,7 +66,6 @@ def value_of(cell: str) -> Decimal | None:
 def price_among(columns: Columns) -> int | None:
     """Returns the place of the price; None where only the keeper knows it."""
     if len(columns) > 1:
-        columns = without_older(columns)
         columns = without_lists(columns)
         columns = without_net(columns)
         columns = without_weak(columns)
@@ -104,21 +103,6 @@ def is_of_dealers(one: Amounts, public: Amounts) -> bool:
     return bool(both) and all(low < NEAR * high for low, high in both)
 
 
-def without_older(columns: Columns) -> Columns:
-    """Returns the columns without those that are empty in most rows and else above the prices of a
-    full one: a price before a reduction.
-    """
-    most = max(one.filled for one in columns.values())
-
-    def is_older(one: Amounts) -> bool:
-        full = (other for other in columns.values() if other.filled == most)
-        return 2 * one.filled < most and any(
-            all(old > now for old, now in pairs(one, other)) for other in full
-        )
-
-    return {at: one for at, one in columns.items() if not is_older(one)}
-
-
 def without_lists(columns: Columns) -> Columns:
     """Returns the columns without further lists of prices, such as VK 2 beside VK."""
     firsts = [one for one in columns.values() if not one.says.base]
@@ -154,7 +138,7 @@ def without_recommended(columns: Columns) -> Columns:
     others = {at: one for at, one in columns.items() if one.role is not Role.LISTED}
     has_own = any(one.role in OWN for one in others.values())
     is_near = [
-        all(is_near_to(one, other) for other in listed)
+        all(is_near_to(one, other) or is_seldom_above(other, one) for other in listed)
         for one in others.values()
         if one.role is Role.PLAIN
     ]
@@ -168,6 +152,13 @@ def is_near_to(one: Amounts, listed: Amounts) -> bool:
     both = list(pairs(one, listed))
     near = sum(NEAR * high <= low <= high for low, high in both)
     return len(both) >= LEAST_ROWS and 4 * near >= 3 * len(both)
+
+
+def is_seldom_above(listed: Amounts, price: Amounts) -> bool:
+    """Returns whether what a maker recommends is empty in most rows, and above the price else."""
+    return 2 * listed.filled < price.filled and all(
+        high > low for high, low in pairs(listed, price)
+    )
 
 
 def is_net_of(net: Amounts, gross: Amounts) -> bool:

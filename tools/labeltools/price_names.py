@@ -10,12 +10,14 @@ from enum import Enum, auto
 from labeltools.column_words import any_of, apart, named, plain
 from labeltools.money import FOLDED
 
-# parts of names of prices
+# parts of names of prices; and abbreviations, beside which another noun says what a column has
 PRICE = (
-    "vk verkauf ttc brutto retail pvp pvc avp rrp srp msrp ladenpreis preis price prix precio"
-    " prezzo prz px prijs cena ceny fiyat pris verd hinta preco pret cijena kaina hind harga tarif"
-    " eladasi fogyasztoi цена ціна τιμη 税込 価格 売価 定価 价格 零售 售价 售價 價格 판매가 가격 מחיר سعر uvp"
+    "preis price prix precio prezzo prz px prijs cena ceny fiyat pris verd hinta preco pret cijena"
+    " kaina hind harga tarif eladasi fogyasztoi цена ціна τιμη 税込 価格 売価 定価 价格 零售 售价 售價 價格 판매가"
+    " 가격 מחיר سعر"
 ).split()
+SHORT = "vk pvp pvc avp uvp rrp srp msrp".split()
+HUNGARIAN = re.compile(r"\w ar\Z|egysegar")  # Eladási ár, but no Danish year
 # what a shop pays
 PAID = (
     r"ek einkauf einstand ankauf anschaff beschaff bezugs handler wiederverk grosshand"
@@ -55,13 +57,15 @@ TAX = (
 RATE = r"[\s.'’d]*(?:[0-9.,]+\s?%?\s*|\w+\.\s*|der\s|de\s|la\s)?"  # inkl. 19 %, incl. ges.
 WITHOUT = (
     r"(?:ohne|o|zzgl|plus|without|no|w/o|sans|hors|sin|senza|sem|zonder|utan|uden|uten|u/|s/|bez"
-    r"|brez|be|fara|ilman|an|ex|excl\w*|exkl\w*|ekskl\w*|eks|escl\w*|vor|before|без|χωρισ|προ)"
+    r"|brez|be|fara|ilman|an|ex|z\.?\s?zgl|zuzug\w*|excl\w*|exkl\w*|ekskl\w*|eks|escl\w*|vor|before"
+    r"|без|χωρισ|προ)"
 )
 WITH = (
     r"(?:mit|m|inc|inkl\w*|incl\w*|avec|with|con|c/|com|med|m/|met|cu|su|ar|s|sa|z|sis|с|з|із|με)"
 )
 NET = re.compile(
-    rf"\b{WITHOUT}{RATE}{TAX}|{TAX}\s*(?:e[xk][ck]|escl|nicht|haric|0\b)|\+\s?{TAX}|netto"
+    rf"\b{WITHOUT}{RATE}{TAX}|{TAX}\s*(?:e[xk][ck]|escl|nicht|not?\b|non|niet|haric|0\b)"
+    rf"|\+\s?{TAX}|\b(?:nicht|not|non|niet|ej|ikke) (?:in[ck]l|inbegr|compr)|netto"
     r"|\b(?:nett?|neto|sub-?total|ht|htva|e[xk]c?l?(?:vat|gst|tax|mwst|moms|btw)|untaxed|imponibile"
     r"|imponible|liquido|veroton|alviton|kdvsiz)\b"
     r"|\b(?:excl|exkl|ekskl|ex)\.?\s*\Z|nelkul|税抜|税別|税别|未税|不含税|本体"
@@ -219,12 +223,12 @@ def price_name(name: str) -> PriceName:
     more = [
         word for word in re.findall(r"\w+", NO_MORE.sub(" ", words)) if not is_named_price(word)
     ]
-    is_gross = GROSS.search(words) is not None
+    is_gross = GROSS.search(words) is not None and not NET.search(words)
     return PriceName(
         role=role_of(name, words),
         words=words,
         base=level["base"] if level else "",
-        is_price=is_gross or is_named_price(name) or has_sign(name),
+        is_price=is_named_price(name) or has_sign(name),
         is_gross=is_gross,
         is_bare=not more,
     )
@@ -232,13 +236,12 @@ def price_name(name: str) -> PriceName:
 
 def role_of(name: str, words: str) -> Role:
     """Returns the role that a name has, by its plain words."""
-    is_named = is_named_price(name)
     nouns = NET.sub(" ", GROSS.sub(" ", words))
     if any_of(NO_AMOUNT).search(words):
         return Role.SUM
     if NUMBERED.search(words):
         return Role.OTHER
-    if any_of(OTHER_NUMBERS).search(nouns) and not is_named:
+    if any_of(OTHER_NUMBERS).search(nouns) and not named(name, PRICE):
         return Role.OTHER
     if any(any_of(listed).search(words) for listed in (PAID, OLD, MANY, PERIOD)):
         return Role.OTHER
@@ -248,7 +251,7 @@ def role_of(name: str, words: str) -> Role:
     is_sold = any_of(SOLD).search(words) or any_of(PUBLIC).search(words)
     if MEASURE.search(words) or UNIT.search(words) and not (is_gross or is_sold):
         return Role.OF_UNIT
-    return role_of_paid(words, is_named or is_gross or has_sign(name))
+    return role_of_paid(words, is_named_price(name) or is_gross or has_sign(name))
 
 
 def role_of_paid(words: str, is_named: bool) -> Role:
@@ -285,7 +288,7 @@ def is_new(name: str) -> bool:
 
 def is_named_price(name: str) -> bool:
     """Returns whether a name says that a column has prices."""
-    return named(name, PRICE) > 0
+    return named(name, [*PRICE, *SHORT]) > 0 or HUNGARIAN.search(plain(name)) is not None
 
 
 def has_sign(name: str) -> bool:

@@ -313,6 +313,8 @@ PRICES = (
     ("Fisch;EAN;Tagespreis;Vortag", 3),
     ("Schirm;EAN;Preis;Preis inkl. Versand", 3),
     ("Pemakai;EAN;Harga beli;Harga jual", 4),
+    ("Ware;EAN;Bruttogewicht;Preis", 4),
+    ("Item;EAN;Price VAT not included;Price", 4),
     ("Vara;EAN;Innkaupsverð;Útsöluverð m. vsk", 4),
 )
 # amounts of three columns, and the number of the one that is the price; 0 where only the keeper
@@ -326,8 +328,9 @@ AMOUNTS = (
     # a price of the shop near to what a maker recommends, and one of a dealer
     ("Price;9,99 18,50 4,99 7,00;MSRP;9,99 19,99 4,99 7,49;Weight;1,10 2,20 1,50 3,10", 1),
     ("Price;4,99 9,99 2,49 3,75;MSRP;9,99 19,99 4,99 7,49;Weight;1,10 2,20 1,50 3,10", 0),
-    # a price before a reduction is empty in most rows
-    ("Prijs;9,99 18,50 4,99 7,00;Adviesverkoop A;- - 5,99 -;Marge;1 2 3 4", 1),
+    # what a maker recommends is empty in most rows; a new price is there for some articles
+    ("Prijs;9,99 18,50 4,99 7,00;Adviesprijs;- - 5,99 -;Marge;1 2 3 4", 1),
+    ("VK;9,99 18,50 4,99 7,00;VK neu;- - 5,99 -;Marge;1 2 3 4", 0),
     ("Prezzo scaffale;9,99 18,50 4,99 7,00;Prezzo cantina;5,10 9,90 2,60 3,80;Sconto;1 2 3 4", 1),
     # a total that is the price with its tax, and columns of zeros
     ("Venta (neta);2,08 3,50 4,16 5,00;Venta;2,08 3,50 4,16 5,00;Total;2,50 4,20 4,99 6,00", 0),
@@ -363,7 +366,15 @@ class Prices(unittest.TestCase):
             self.assertEqual("price" in found.doubts, place == 0, columns)
 
     def test_what_is_not_named_a_price_is_none(self) -> None:
-        for name in ("Consignor", "Zuzahlung", "Lagerwert", "EK", "Ihr Preis", "Preis netto"):
+        for name in (
+            "Consignor",
+            "Zuzahlung",
+            "Lagerwert",
+            "EK",
+            "Ihr Preis",
+            "Preis netto",
+            "Bruttogewicht",
+        ):
             columns = [["EAN", *CODES], [name, "1,20 €", "8,40 €", "2,05 €"]]
             self.assertNotIn("price", guess(columns, 1).columns, name)
 
