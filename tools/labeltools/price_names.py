@@ -99,9 +99,9 @@ NO_AMOUNT = (
     r"marge margin margen margine marza avance aufschlag markup mark-up \w*spanne gewinn"
     r" profit benefic \w*ertrag kalkul \w*ersparnis saving save \w*differenz difference"
     r" \w*vorteil \w*anderung change \w*umsatz \w*summe \w*gesamt total \w*wert\b revenue"
-    r" turnover value \w+gruppe\b preiseinheit preisgruppe preiskategorie"
-    r" price\s?(?:unit\b|group|categor) ricarico recargo risparmio ahorro economie zysk"
-    r" nachlass share anteil erlos ext extended"
+    r" turnover value \w+gruppe\b ricarico recargo risparmio ahorro economie zysk nachlass"
+    r" share anteil erlos ext extended preis(?!e?\b|e[ns]\b|empf|brutto|netto|inkl|exkl)[a-z]"
+    r" price\s?(?:unit\b|group|categor|list\b|code|factor|index|zone|band)"
 )
 # other numbers with decimals, where the name has no word of prices
 OTHER_NUMBERS = (
@@ -188,11 +188,18 @@ class Role(Enum):
     PUBLIC = auto()
 
 
-# words beside which a price is still no more than a price
+# words beside which a price is still no more than a price; and those that say no more of it than
+# that it is of the shop, or of one article
 NO_MORE = re.compile(
     r"\b(?:eur|euro|usd|gbp|chf|pln|sek|dkk|nok|czk|huf|ron|variant|item|article|artikel|product"
     r"|produkt|amount|value|in|a|the|de|per|je|pro|st|stk|stuck|piece|pc|pcs|each|unit\w*)\b"
 )
+NEUTRAL = (
+    "standard normal regular regul flasche bottle bouteille bottiglia botella einzel magasin shop"
+    " store negozio tienda sklep loja filiale incl inkl"
+)
+LONGEST_ENDING = 5  # letters behind the beginning of a word: `detaliczna`
+LONGEST_PARTICLE = 3  # letters of a word that says nothing of its own
 
 
 @dataclass(frozen=True)
@@ -241,7 +248,7 @@ def role_of(name: str, words: str) -> Role:
         return Role.SUM
     if NUMBERED.search(words):
         return Role.OTHER
-    if any_of(OTHER_NUMBERS).search(nouns) and not named(name, PRICE):
+    if any_of(OTHER_NUMBERS).search(nouns) and not has_noun(name):
         return Role.OTHER
     if any(any_of(listed).search(words) for listed in (PAID, OLD, MANY, PERIOD)):
         return Role.OTHER
@@ -251,6 +258,8 @@ def role_of(name: str, words: str) -> Role:
     is_sold = any_of(SOLD).search(words) or any_of(PUBLIC).search(words)
     if MEASURE.search(words) or UNIT.search(words) and not (is_gross or is_sold):
         return Role.OF_UNIT
+    if not has_noun(name) and not is_understood(words):
+        return Role.UNKNOWN
     return role_of_paid(words, is_named_price(name) or is_gross or has_sign(name))
 
 
@@ -271,6 +280,22 @@ def role_of_paid(words: str, is_named: bool) -> Role:
     return next((role for pattern, role in patterns if pattern.search(words)), default)
 
 
+def is_understood(words: str) -> bool:
+    """Returns whether each word of a plain name, which has no noun for a price, is one of a price.
+
+    >>> [is_understood(words) for words in ("vk brutto", "vk-menge", "shelf life", "detaliczna")]
+    [True, False, False, True]
+    """
+    left = NO_MORE.sub(" ", NET.sub(" ", GROSS.sub(" ", words)))
+    known = any_of(" ".join((SOLD, PUBLIC, NOW, LISTED, FOR_SOME, WEAK, YOURS, NEUTRAL)))
+    for word in re.findall(r"[^\W\d_]+", left):
+        found = known.search(word)
+        is_ending = found and (not word.isascii() or len(word) - found.end() <= LONGEST_ENDING)
+        if not is_ending and len(word) > LONGEST_PARTICLE and word not in FOLDED:
+            return False
+    return True
+
+
 def is_of_many(name: str) -> bool:
     """Returns whether a name is of a case of articles."""
     return any_of(MANY).search(plain(name)) is not None
@@ -288,7 +313,12 @@ def is_new(name: str) -> bool:
 
 def is_named_price(name: str) -> bool:
     """Returns whether a name says that a column has prices."""
-    return named(name, [*PRICE, *SHORT]) > 0 or HUNGARIAN.search(plain(name)) is not None
+    return has_noun(name) or named(name, SHORT) > 0
+
+
+def has_noun(name: str) -> bool:
+    """Returns whether a name has a word for a price, and not its abbreviation alone."""
+    return named(name, PRICE) > 0 or HUNGARIAN.search(plain(name)) is not None
 
 
 def has_sign(name: str) -> bool:

@@ -317,6 +317,11 @@ PRICES = (
     ("Item;EAN;Price VAT not included;Price", 4),
     ("Vara;EAN;Innkaupsverð;Útsöluverð m. vsk", 4),
 )
+# names of amounts that no customer pays, or of which only the keeper knows it
+NO_PRICES = (
+    *("Consignor", "Zuzahlung", "Lagerwert", "EK", "Ihr Preis", "Preis netto", "Bruttogewicht"),
+    *("VK-Menge", "Shelf life", "Montant TTC", "Preisfaktor", "Price code"),
+)
 # amounts of three columns, and the number of the one that is the price; 0 where only the keeper
 # knows it
 AMOUNTS = (
@@ -366,15 +371,7 @@ class Prices(unittest.TestCase):
             self.assertEqual("price" in found.doubts, place == 0, columns)
 
     def test_what_is_not_named_a_price_is_none(self) -> None:
-        for name in (
-            "Consignor",
-            "Zuzahlung",
-            "Lagerwert",
-            "EK",
-            "Ihr Preis",
-            "Preis netto",
-            "Bruttogewicht",
-        ):
+        for name in NO_PRICES:
             columns = [["EAN", *CODES], [name, "1,20 €", "8,40 €", "2,05 €"]]
             self.assertNotIn("price", guess(columns, 1).columns, name)
 
