@@ -117,13 +117,16 @@ def without_lists(columns: Columns) -> Columns:
 
 
 def without_net(columns: Columns) -> Columns:
-    """Returns the columns without those that become another price of the shop by a tax."""
+    """Returns the columns without those that become another price of the shop by a tax, as their
+    amounts say, or their names: VK beside VK brutto.
+    """
     of_shop = [one for one in columns.values() if one.role in (Role.PLAIN, *OWN)]
-    return {
-        at: one
-        for at, one in columns.items()
-        if one.says.is_gross or not any(is_net_of(one, other) for other in of_shop)
-    }
+    taxed = {one.says.untaxed for one in of_shop if one.says.is_gross}
+
+    def is_net(one: Amounts) -> bool:
+        return one.says.words in taxed or any(is_net_of(one, other) for other in of_shop)
+
+    return {at: one for at, one in columns.items() if one.says.is_gross or not is_net(one)}
 
 
 def without_weak(columns: Columns) -> Columns:

@@ -34,7 +34,7 @@ PAID = (
     r" veleprod vpc alis maliyet toptan bayi iepirk vairum pirkim isigij didmen savikain закуп"
     r" приход входн опт себестоим собиварт собіварт поставщ постачал дилер гурт доставн едро"
     r" αγορ κοστ χονδρ 仕入 原価 卸 下代 进价 進價 进货 成本 批发 批發 采购 採購 매입 원가 도매 공급 입고 beli modal grosir"
-    r" innkaup עלות קני شراء تكلفة جملة"
+    r" innkaup עלות קני شراء تكلفة جملة zak\b"
 )
 # what is not paid now, or not here: older prices, those that the law wants beside a reduction,
 # limits, averages, prices of others
@@ -71,7 +71,7 @@ NET = re.compile(
     r"|\b(?:excl|exkl|ekskl|ex)\.?\s*\Z|nelkul|税抜|税別|税别|未税|不含税|本体"
 )
 GROSS = re.compile(
-    rf"\b{WITH}{RATE}{TAX}|{TAX}\s*(?:in[ck]|compr|dahil|sis)"
+    rf"\b{WITH}{RATE}{TAX}|{TAX}\s*(?:in[ck]|compr|dahil|sis)\w*\.?"
     r"|brutto|\b(?:gross|in[ck]l?(?:vat|gst|tax|mwst|moms|btw)|ttc|tvac"
     r"|ivato|verolli\w*|kdvli)\b|\b(?:inc|incl|inkl)\.?\s*\Z|税込|含税"
 )
@@ -80,7 +80,7 @@ MANY = (
     r"case carton outer inner pallet colis vpe kart[aoó]n palette palet gebinde umkart master"
     r" doos doosprijs omdoos overdoos caja caixa scatola kolli kassepris koli colli ve zbiorcz"
     r" umverp \w*karton (?:ab|from|des|da|desde|od|vanaf|fra|fran)\s[0-9]+(?![0-9./-])"
-    r" \w*staffel [0-9]+\s?\+ box shipper trade\s(?:unit|item)"
+    r" \w*staffel [0-9]+\s?\+ box shipper trade\s(?:unit|item) display"
 )
 # of a pack, which may be the article, too; or of another place than the shop
 WEAK = (
@@ -131,7 +131,7 @@ SOLD = (
     r"vk vkp sell selling sales(?=\W+(?:price|in[ck])) unser unsere our notre nostro nuestro"
     r" eigen verkauf vente venta vendita venda vend verkoop pv sprzed prodej predaj prodaj salg"
     r" forsalj utpris utsalg udsalg ulosmyy myynti satis eladas vanzar parduo pardav pardosan"
-    r" muugi продаж πωλησ 販売 售价 售價 销售 판매 jual utsoluverd بيع"
+    r" muugi продаж πωλησ 販売 售价 售價 销售 판매 jual utsoluverd بيع sprz\b"
 )
 # what everybody pays in a shop
 PUBLIC = (
@@ -196,7 +196,7 @@ NO_MORE = re.compile(
 )
 NEUTRAL = (
     "standard normal regular regul flasche bottle bouteille bottiglia botella einzel magasin shop"
-    " store negozio tienda sklep loja filiale incl inkl"
+    " store negozio tienda sklep loja filiale incl inkl mein"
 )
 LONGEST_ENDING = 5  # letters behind the beginning of a word: `detaliczna`
 LONGEST_PARTICLE = 3  # letters of a word that says nothing of its own
@@ -204,14 +204,15 @@ LONGEST_PARTICLE = 3  # letters of a word that says nothing of its own
 
 @dataclass(frozen=True)
 class PriceName:
-    """What the name of a column says: its role; its plain words, and those without the number of a
-    list, empty where it has none; whether it says that it is a price, that the tax is in it, and no
-    more than that it is a price.
+    """What the name of a column says: its role; its plain words, those without the number of a
+    list, empty where it has none, and those that are not of its tax; whether it says that it is a
+    price, that the tax is in it, and no more than that it is a price.
     """
 
     role: Role
     words: str
     base: str
+    untaxed: str
     is_price: bool
     is_gross: bool
     is_bare: bool
@@ -235,6 +236,7 @@ def price_name(name: str) -> PriceName:
         role=role_of(name, words),
         words=words,
         base=level["base"] if level else "",
+        untaxed=" ".join(GROSS.sub(" ", words).split()),
         is_price=is_named_price(name) or has_sign(name),
         is_gross=is_gross,
         is_bare=not more,

@@ -314,6 +314,7 @@ PRICES = (
     ("Schirm;EAN;Preis;Preis inkl. Versand", 3),
     ("Pemakai;EAN;Harga beli;Harga jual", 4),
     ("Ware;EAN;Bruttogewicht;Preis", 4),
+    ("Prodotto;EAN;Vendita;Vendita IVA incl.", 4),
     ("Item;EAN;Price VAT not included;Price", 4),
     ("Vara;EAN;Innkaupsverð;Útsöluverð m. vsk", 4),
 )
