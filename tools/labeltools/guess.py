@@ -157,17 +157,20 @@ def best_of(kind: str, columns: Mapping[int, Filled]) -> tuple[int | None, Seque
         is_of_codes = kind == "code"
         return None, [at for at, one in columns.items() if is_of_codes and is_number(one)]
     if kind == "code":
-        return code_of_all(columns, [best, *rivals(columns, best)])
+        return code_among(columns, best, rivals(columns, best))
     return best, []
 
 
-def code_of_all(columns: Mapping[int, Filled], codes: Sequence[int]) -> tuple[int, Sequence[int]]:
-    """Returns the place of the codes; and those of which only the keeper knows it. A column that is
-    empty in most rows is none beside a full one, unless it has the new codes; nor is that of packs
-    beside that of pieces.
+def code_among(
+    columns: Mapping[int, Filled], best: int, others: Sequence[int]
+) -> tuple[int, Sequence[int]]:
+    """Returns the place of the codes; and those of which only the keeper knows it. Beside the best
+    column, one that has less than half as many codes is none, unless they are new; nor is that of
+    packs beside that of pieces.
     """
-    most = max(len(columns[at].texts) for at in codes)
-    full = [at for at in codes if 2 * len(columns[at].texts) >= most or is_new(columns[at].name)]
+    least = len(columns[best].texts) / 2
+    codes = [at for at in others if len(columns[at].texts) >= least or is_new(columns[at].name)]
+    full = [best, *codes]
     if any(any_of(ONE).search(plain(columns[at].name)) for at in full):
         full = [at for at in full if not is_of_pack(columns[at].name)] or full
     return full[0], sorted(full) if len(full) > 1 else []

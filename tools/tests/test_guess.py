@@ -187,7 +187,7 @@ class Guesses(unittest.TestCase):
 
     def test_codes_that_most_articles_lack(self) -> None:
         rows = [f"{code};{other}" for code, other in zip(CODES, ("", "", "036000291452"))]
-        for names, wanted in (("EAN;UPC", {"code": 0}), ("EAN;EAN neu", {})):
+        for names, wanted in (("EAN;UPC", {"code": 0}), ("EAN;EAN neu", {}), ("Barcode;EAN", {})):
             self.assertEqual(guessed("\n".join([names, *rows])).columns, wanted, names)
 
     def test_label_table_proposes_columns(self) -> None:
