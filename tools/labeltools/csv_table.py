@@ -7,7 +7,7 @@ from itertools import count, islice
 from typing import Iterator, NamedTuple, Sequence
 
 from labeltools.encoding import decoded
-from labeltools.text import Text
+from labeltools.text import Text, counted
 from labeltools.messages import BAD_ARGUMENTS, RowError, Talk, ToolError, named, quoted
 from labeltools.names import name_of, row_of_names
 from labeltools.rows import Row
@@ -77,6 +77,8 @@ class CsvTable:
     first_cells: dict[int, str] = field(default_factory=dict)
     cut: Cut | None = None
     has_commas: bool = False  # in prices, between quotes
+    spaced: Cut | None = None  # the first text that a space behind a delimiter may have cut
+    spaced_rows: int = 0
 
     def rows(self) -> Iterator[Row]:
         """Yields the rows from the row of names on; one whose cells may have moved has a
@@ -88,11 +90,24 @@ class CsvTable:
             yield from () if head is None else (Row(*head),)
             return
         shape = self.shape(head)
+        has_spaces = f"{self.delimiter} " in self.text
+        columns = self.options.columns
+        printed = self.places(head, [*columns.title, *columns.text])
+        below = 0
         for row in parsed(self.text, self.begin, self.delimiter):
             if row.number == head.number:
                 yield Row(*row)
             elif row.number > head.number:
-                yield self.checked(row, shape)
+                below += 1
+                checked = self.checked(row, shape)
+                if has_spaces and not checked.problem:
+                    self.look_at_spaces(row, printed)
+                yield checked
+        self.say_of_cuts(shape, below)
+        self.say_unnamed()
+
+    def say_of_cuts(self, shape: Shape, below: int) -> None:
+        """Says which cells may be one; a space is a sign of it where most rows have none."""
         if shape.cut:
             first, second = map(quoted, shape.cut)
             text = Text("the cells {} and {} may be one price, in each row", first, second)
@@ -101,16 +116,30 @@ class CsvTable:
             number, first, second = self.cut
             text = Text("row {} has {} and then {}: may be one price", number, first, second)
             self.talk.say(text, HINT)
-        self.say_unnamed()
+        if self.spaced and 2 * self.spaced_rows <= below:
+            text = counted(
+                "row {1} has {2} and then {3}, behind a space: may be one text ({0} row)",
+                "row {1} has {2} and then {3}, behind a space: may be one text ({0} rows)",
+                self.spaced_rows,
+                self.spaced.row,
+                quoted(self.spaced.first),
+                quoted(self.spaced.second.strip()),
+            )
+            self.talk.say(text, HINT)
 
-    def shape(self, head: Record) -> Shape:
-        """Returns the shape of the table."""
-        wanted = set(map(name_of, self.options.columns.prices))
-        prices = tuple(
+    @staticmethod
+    def places(head: Record, columns: Sequence[str]) -> tuple[int, ...]:
+        """Returns the places of columns by the row of names."""
+        wanted = set(map(name_of, columns))
+        return tuple(
             place
             for place, name in enumerate(head.cells)
             if name_of(name) in wanted or str(place + 1) in wanted
         )
+
+    def shape(self, head: Record) -> Shape:
+        """Returns the shape of the table."""
+        prices = self.places(head, self.options.columns.prices)
         below = (
             row.cells
             for row in parsed(self.text, self.begin, self.delimiter)
@@ -143,6 +172,15 @@ class CsvTable:
                 self.has_commas = True
             elif self.cut is None and text.isdecimal() and (both := cut_price(row.cells, [place])):
                 self.cut = Cut(row.number, quoted(both[0]), quoted(both[1]))
+
+    def look_at_spaces(self, row: Record, printed: Sequence[int]) -> None:
+        """Keeps a text that may be cut in two: the second cell begins with a space."""
+        for place in printed:
+            first, second = (*row.cells[place : place + 2], "", "")[:2]
+            if second[:1] == " " and second.strip() and any(map(str.isalpha, first)):
+                self.spaced = self.spaced or Cut(row.number, first, second)
+                self.spaced_rows += 1
+                return
 
     def say_unnamed(self) -> None:
         """Says which columns without a name have values."""

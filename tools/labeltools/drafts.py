@@ -24,6 +24,7 @@ OWN_TABLE = Text("make a table of its own of it")
 ZERO_HINT = Text("it is a zero, which its number format shows so")
 # a text without one of these has nothing that is looked at
 LOOKED_AT = re.compile(f"{LEFT.pattern}|{MARK.pattern}")
+LONGEST_SIGN = 3  # letters of a text that is no more than a sign
 HALF = Decimal("0.5")
 KIND_OF_CODES = re.compile(
     r"(?:EAN|GTIN|UPC|ISBN|JAN)(?:[- ]?(?:[0-9]{1,2}|code|A|E))?", re.IGNORECASE
@@ -83,7 +84,8 @@ class Noticed:
     its template; dates, and texts like dates, by the places of their columns; values like those
     that rows are chosen by, by the same; an old price that is not above the price; prices that
     are shown rounded, by the places of their columns; cells that are doubtful, and texts that are
-    a zero, by their columns; words in columns of prices in rows without a code, by their places.
+    a zero or a sign, by their columns; words in columns of prices in rows without a code, by their
+    places.
     """
 
     left: dict[str, Found] = field(default_factory=dict)
@@ -93,14 +95,14 @@ class Noticed:
     low: Found | None = None
     rounded: dict[int, Found] = field(default_factory=dict)
     doubts: dict[tuple[Column, Doubt], int] = field(default_factory=dict)
-    zeros: dict[Column, int] = field(default_factory=dict)
+    signs: dict[Column, Found] = field(default_factory=dict)
     units: dict[int, str] = field(default_factory=dict)
 
     def text(self, column: Column, row: Row, text: str) -> None:
         """Looks at a title or text; raises `RowError` for one that was encoded twice."""
         cell = row.cells[column.place]
-        if text == "0":
-            self.zeros.setdefault(column, row.number)
+        if len(text) <= LONGEST_SIGN and (text == "0" or not any(map(str.isalnum, text))):
+            self.signs.setdefault(column, Found(row.number, text))
         is_odd = LOOKED_AT.search(text) or not (text.isascii() or BEHIND.isdisjoint(text))
         if isinstance(cell, str) and not is_odd:  # most texts, at once
             return

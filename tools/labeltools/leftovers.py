@@ -18,6 +18,7 @@ SIMPLE = {"\\n": "\n", "\\r": "\r", "\\t": "\t", '\\"': '"', "\\'": "'"}
 QUOTED = re.compile(r"\s*\[?(?:\".*\"|'.*')\]?\s*", re.DOTALL)
 TEMPLATE = re.compile(r"\{\{.+\}\}|\$\{.+\}|\[:[a-z]{2}\]|<%|%\(\w+\)s")
 JSON = re.compile(r'\s*\{\s*"[^"]+"\s*:.*\}\s*', re.DOTALL)
+PHP = re.compile(r'\s*(?:[aO]:[0-9]+:(?:"[^"]*":[0-9]+:)?\{.*\}|s:[0-9]+:".*";)\s*', re.DOTALL)
 LOST = re.compile(r"[^\W\d_]\?[^\W\d_]")
 GUARDED = re.compile("'[-=+@]")
 # by what UTF-8 is read wrongly, and how many pairs of letters a text of it has: one may be a word
@@ -44,8 +45,8 @@ def left_in(text: str) -> Text | None:
 
     >>> [str(left_in(one)) for one in ("<b>Tea</b>", "Salt & Pepper", "100 %", "'Tea'", "'t Hof")]
     ['HTML', 'None', 'None', 'quotes round it', 'None']
-    >>> left_in("K%C3%A4se")
-    'an escape, for "Käse"'
+    >>> left_in("K%C3%A4se"), left_in('a:1:{s:2:"de";s:3:"Tee";}'), left_in('s:3:"Tee";')
+    ('an escape, for "Käse"', 'a value of PHP', 'a value of PHP')
     """
     if not LEFT.search(text):
         return None
@@ -57,6 +58,8 @@ def left_in(text: str) -> Text | None:
         return Text("quotes round it")
     if JSON.fullmatch(text):
         return Text("JSON")
+    if PHP.fullmatch(text):
+        return Text("a value of PHP")
     if TEMPLATE.search(text):
         return Text("the sign of a template")
     if LOST.search(text) and "://" not in text:

@@ -4,6 +4,7 @@ import re
 from dataclasses import dataclass, field
 from datetime import date, datetime
 from decimal import Decimal
+from functools import cache
 from itertools import chain, groupby, product
 from typing import Iterator, Mapping, Sequence
 from xml.etree.ElementTree import Element
@@ -11,11 +12,13 @@ from zipfile import ZipFile
 
 from labeltools.text import NOTHING, Text
 from labeltools.messages import RowError, ToolError, quoted
+from labeltools.money import currency_of
 from labeltools.number_format import DAY_ZERO, Formatter, date_section, date_text, digits_of
 from labeltools.cells import OF_SIGNS, RAISED, STRUCK, Cell, Fault, Kind, Run, Signs, Special, Truth
 from labeltools.cells import text_of_runs
 from labeltools.ods_styles import CELL, LETTERS, NO_FORM, PARAGRAPH, SPAN, Form, Styles
 from labeltools.ods_styles import common_styles
+from labeltools.prices import is_same
 from labeltools.rows import Doubt, Merge, Row
 from labeltools.workbook import (
     LARGEST_ROW,
@@ -56,6 +59,7 @@ HEADS = (
 # the corner of an area behind the name of its sheet
 CORNER = re.compile(r"(?:^|\.)\$?([A-Z]{1,3})\$?([0-9]{1,7})(?![^\s:])")
 NUMBERS = ("float", "percentage", "currency", "date", "time")
+FIGURES = "-+−()0123456789.,'’ \u00a0\u202f"  # of an amount, beside its currency
 # white space that counts, by signs that no XML has, and other white space
 SIGNS = {"s": "\0", "tab": "\1", "line-break": "\2"}
 UNSIGNED = {0: " ", 1: "\t", 2: "\n"}
@@ -74,11 +78,12 @@ ROUNDING = Decimal("0.5000001")  # of the last digit that is shown
 CALCULATES = ("LibreOffice", "OpenOffice", "Collabora", "NeoOffice")
 
 
-@dataclass(frozen=True, slots=True)
+@dataclass(slots=True)  # not frozen: each number of a table is made anew
 class Number(Special):
     """A cell with a number, a date or a time, and the text that is shown.
 
-    `exact` is its number, None for a date; `moment` is the date, as the file has it.
+    `exact` is its number, None for a date; `moment` is the date and `currency` the code of the
+    currency, as the file has them.
     """
 
     value: str
@@ -87,21 +92,30 @@ class Number(Special):
     moment: str
     formatter: Formatter
     kind: Kind = Kind.NUMBER
+    currency: str = ""
 
     def number(self) -> Decimal | None:
         """Returns the number that it has."""
         return self.exact
 
     def agree(self) -> None:
-        """Raises `RowError` where the text has a number, or a date, that is not the value."""
+        """Raises `RowError` where the text has a number, a date or a currency that is not that of
+        the value.
+        """
         value = self.value
         if self.exact is None:
             value = self.moment
+            if self.kind is Kind.NUMBER and self.text:
+                what = Text("has a number without its value, and the text {}", quoted(self.text))
+                raise RowError(what, SAVE_AGAIN)
             is_right = not value or is_date_of(self.text, value)
         else:
             is_right = is_surely(self.text, value) or is_text_of(self.text, self.exact)
         if not is_right:
             what = Text("has the value {} and the text {}", value, quoted(self.text))
+            raise RowError(what, SAVE_AGAIN)
+        if self.currency and is_other_sign(self.text.strip(FIGURES), self.currency):
+            what = Text("has the currency {} and the text {}", self.currency, quoted(self.text))
             raise RowError(what, SAVE_AGAIN)
 
     def shown(self) -> str:
@@ -368,7 +382,8 @@ def cell_of(cell: Element, content: Content, form: Form) -> Cell:
         exact = exact_of(value) if value else None
         moment = cell.get("date-value", "")
         own = Kind.MOMENT if kind in ("date", "time") else Kind.NUMBER
-        return Number(value or text, text, exact, moment, content.formatter, own)
+        currency = cell.get("currency", "")
+        return Number(value or text, text, exact, moment, content.formatter, own, currency)
     if kind == "error":
         what = Text(
             "has {}, which the spreadsheet writes where it has no value to show", quoted(text)
@@ -383,6 +398,19 @@ def cell_of(cell: Element, content: Content, form: Form) -> Cell:
         what = Text("has the value {} and the text {}", quoted(own_text), quoted(text))
         return Fault(what, SAVE_AGAIN, text)
     return text
+
+
+@cache
+def is_other_sign(sign: str, currency: str) -> bool:
+    """Returns whether what is beside an amount is another currency than that of its cell.
+
+    >>> [is_other_sign(sign, "EUR") for sign in ("€", "CHF", "", "€/kg")]
+    [False, True, False, False]
+    >>> is_other_sign("$", "CAD"), is_other_sign("kr", "DKK")
+    (False, False)
+    """
+    code = currency_of(sign)
+    return code is not None and code != "cent" and not is_same(code, currency)
 
 
 def is_surely(text: str, value: str) -> bool:

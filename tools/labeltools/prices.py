@@ -24,6 +24,7 @@ OF_MANY = re.compile(
 )
 ARITHMETIC = Decimal("1e-9")  # what a program's arithmetic may leave
 MOST_LOST = Decimal("0.01")  # of a price that is rounded
+USUAL_DECIMALS = 3  # at most: fuel has three
 THOUSANDS_OR_DECIMALS = Text("may have thousands or decimals")
 SIGN_OF = {"crown": "kr", "EUR": "€", "GBP": "£"}
 ONE_SIGN = {"JPY": "¥", "CNY": "¥"}
@@ -58,8 +59,8 @@ class PriceColumn:
     """What the cells of a price column say together.
 
     `decimal` is the decimal sign where it is known before. `points` and `kinds` are what was seen:
-    each decimal sign, prices that may have thousands or decimals, those with one decimal, and
-    zeros.
+    each decimal sign, prices that may have thousands or decimals, those with one decimal
+    or more than three, and zeros.
     """
 
     decimal: str | None = None
@@ -83,6 +84,8 @@ class PriceColumn:
                 self.groups.add(price.group)
         if price.decimals == 1:
             see(self.kinds, "short", row, price.text)
+        elif price.decimals > USUAL_DECIMALS and not price.unit:
+            see(self.kinds, "long", row, price.text)
         if not price.value:
             see(self.kinds, "zero", row, price.text)
         if price.currency not in ("", "cent"):
@@ -133,6 +136,11 @@ class PriceColumn:
             row, text, rows = self.kinds["short"]
             hint = Text("give --price-as '0.00', or another pattern, to print two")
             yield Said(Text("row {} has {}, one decimal ({})", row, text, rows_text(rows)), hint)
+        if "long" in self.kinds:
+            row, text, rows = self.kinds["long"]
+            hint = Text("give --price-as '0.00', or another pattern, to print two")
+            said = Text("row {} has {}, more than three decimals ({})", row, text, rows_text(rows))
+            yield Said(said, hint)
         yield from self.says_of_values()
 
     def says_of_values(self) -> Iterator[Said]:

@@ -301,9 +301,9 @@ class TableRun:
             self.talk.say(
                 Text("row {} has {} with {}, which is printed as it is", row, quoted(text), more)
             )
-        for column, row in noticed.zeros.items():
-            text = Text("row {} has a zero as text, in {}", row, column.title)
-            self.talk.say(text, Text("is it the number of an empty cell?"))
+        for column, found in noticed.signs.items():
+            text = Text("row {} has {} as text, in {}", found.row, quoted(found.text), column.title)
+            self.talk.say(text, Text("does it stand for an empty cell?"))
         for place, row in noticed.dates.items():
             if like := noticed.like_dates.get(place):
                 text = Text(

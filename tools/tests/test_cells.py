@@ -498,6 +498,19 @@ class Kinds(CellTest):
             self.assertEqual(found, [text] if is_right else [])
             self.assertEqual(["has the value" in one for one in said], [] if is_right else [True])
 
+    def test_an_amount_of_ods_has_its_value_and_its_currency(self) -> None:
+        value = 'office:value="2.5"'
+        for text, more, said in (
+            ("2,50 €", f'{value} office:currency="EUR"', ""),
+            ("2,50", f'{value} office:currency="EUR"', ""),
+            ("kr 2,50", f'{value} office:currency="DKK"', ""),
+            ("2,50 €/kg", f'{value} office:currency="EUR"', ""),
+            ("2,50 CHF", f'{value} office:currency="EUR"', "the currency EUR and the text"),
+            ("2,50 €", 'office:currency="EUR"', "a number without its value"),
+        ):
+            data = ods(table(HEAD, [PENCIL, "Tea", ods_cell(text, "currency", more)]))
+            self.check_price(data, None if said else text, said)
+
     def test_a_text_or_date_of_ods_is_its_value(self) -> None:
         for kind, value, text, is_right in (
             ("string", 'office:string-value="Green tea"', "Green tea", True),
@@ -566,12 +579,13 @@ class Texts(CellTest):
             titles, said = self.ran(f"EAN;Name\n{PENCIL};{text}\n".encode(), *PRICED[:4])
             self.assertEqual((titles, said), ([text], []))
 
-    def test_a_zero_as_text_is_said(self) -> None:
-        data = f"EAN;Name\n{PENCIL};Tea\n{SMALL};0\n{SOAP};0\n{BOOK};7\n".encode()
-        titles, said = self.ran(data, *PRICED[:4])
-        wanted = 'row 3 has a zero as text, in column 2 ("Name"): '
-        wanted += "is it the number of an empty cell?"
-        self.assertEqual((titles, said), (["Tea", "0", "0", "7"], [wanted]))
+    def test_a_sign_as_text_is_said(self) -> None:
+        for sign in ("0", "-", "–", "..."):
+            data = f"EAN;Name\n{PENCIL};Tea\n{SMALL};{sign}\n{SOAP};{sign}\n{BOOK};7\n".encode()
+            titles, said = self.ran(data, *PRICED[:4])
+            wanted = f'row 3 has "{sign}" as text, in column 2 ("Name"): '
+            wanted += "does it stand for an empty cell?"
+            self.assertEqual((titles, said), (["Tea", sign, sign, "7"], [wanted]))
 
     def test_what_a_program_writes_without_a_value(self) -> None:
         for text in ("(NULL)", "[none]", "\\N", "NA", "5,9E+12"):
@@ -592,6 +606,7 @@ class Texts(CellTest):
             ('["Tee"]', "quotes round it"),
             ("{{name}}", "the sign of a template"),
             ('{"de": "Tee"}', "JSON"),
+            ('a:1:{s:2:"de";s:3:"Tee";}', "a value of PHP"),
             ("[:de]Tee[:fr]Thé[:]", "the sign of a template"),
             ("Gr?ntee", "a question mark in a word, as for a lost letter"),
         ):
@@ -685,6 +700,20 @@ class Heads(CellTest):
             data = f"EAN,Name,VK,Stock\n{PENCIL},Tea,2,99\n{SMALL},Tea,{other}\n".encode()
             messages = self.ran(data, "--code", "EAN", "--price", "VK")[1]
             self.assertEqual(messages.count(said), int(is_said), other)
+
+    def test_a_text_that_is_cut_before_a_space_is_said(self) -> None:
+        said = 'row 2 has "Tea" and then "loose", behind a space: may be one text (1 row); '
+        said += "a cell that contains the delimiter has to be in quotes"
+        for first, others, is_said in (
+            ("Tea; loose", ("Jam;M", "Bun;L"), True),
+            ("Tea; loose", ("Jam; M", "Bun; L"), False),
+            ('"Tea; loose";S', ("Jam;M", "Bun;L"), False),
+            ("Tea;loose", ("Jam;M", "Bun;L"), False),
+        ):
+            lines = zip((PENCIL, SMALL, BOOK), (first, *others))
+            data = "EAN;Name;Size\n" + "".join(f"{code};{more}\n" for code, more in lines)
+            messages = self.ran(data.encode(), *PRICED[:4])[1]
+            self.assertEqual(messages, [said] if is_said else [], first)
 
     def test_prices_of_many_are_said(self) -> None:
         said = "has prices of 100 or 1000 by its name, and is printed as it is: "

@@ -7,6 +7,7 @@ from pathlib import Path
 from typing import Sequence
 
 import support
+from labeltools import column_words, price_names
 from labeltools import guess as guesses
 from labeltools.guess import Guess, guess, guess_of
 from labeltools.messages import Silence
@@ -81,6 +82,21 @@ TABLES = (
         "- title code price",
     ),
     ("Bestellnummer;Artikelnummer;Ware", "4500012345;M-10023;Kugellager", "- code title"),
+    (
+        "EAN artikel;EAN omdoos;Omschrijving;Prijs per stuk;Prijs per doos",
+        "4006381333931;4012345678901;Drop zoet;1,95;19,50",
+        "code - title price -",
+    ),
+    (
+        "EAN Einzelpflanze;EAN Tray;Pflanze;Preis",
+        "4006381333931;4012345678901;Lavendel;4,95",
+        "code - title price",
+    ),
+    (
+        "UPC-A;EAN-13;Board game;MSRP",
+        "036000291452;0036000291452;Chess, wood;19.95",
+        "- code title price",
+    ),
 )
 # tables in which two columns may be meant, and those that are
 DOUBTS: Sequence[tuple[str, str, dict[str, list[str]]]] = (
@@ -168,6 +184,11 @@ class Guesses(unittest.TestCase):
         self.assertEqual(said.header, 0)
         said = guessed(f"{row}\n{names}\n", TableOptions(file=FileOptions(header_row=1)))
         self.assertEqual(said.header, 1)
+
+    def test_codes_that_most_articles_lack(self) -> None:
+        rows = [f"{code};{other}" for code, other in zip(CODES, ("", "", "036000291452"))]
+        for names, wanted in (("EAN;UPC", {"code": 0}), ("EAN;EAN neu", {}), ("Barcode;EAN", {})):
+            self.assertEqual(guessed("\n".join([names, *rows])).columns, wanted, names)
 
     def test_label_table_proposes_columns(self) -> None:
         names, row, _ = TABLES[7]
@@ -271,6 +292,57 @@ PRICES = (
     ("Führung;EAN;Preis Gruppe;Preis Schüler", 0),
     ("Platz;EAN;Preis Kategorie A;Preis ermäßigt", 0),
     ("Item;EAN;Reserve price;Buy It Now price", 0),
+    ("Name;EAN;Cost ex VAT;Sell inc VAT", 4),
+    ("Libellé;EAN;PVHT;PVTTC", 4),
+    ("Artículo;EAN;P. coste;P.V.P.", 4),
+    ("Ürün;EAN;Alış fiyatı;Satış fiyatı", 4),
+    ("상품명;바코드;매입가;판매가", 4),
+    ("Towar;EAN;Najniższa cena z 30 dni;Cena", 4),
+    ("Item;EAN;Supply price;RRP", 4),
+    ("Artikel;EAN;Ihr Preis;UVP", 0),
+    ("Style;Barcode;Was;Now £", 4),
+    ("Item;Barcode;Price;Price level 2", 3),
+    ("Kerze;EAN;Preis Webshop;Preis Laden", 4),
+    ("Product;Barcode;Price per 100g;Shelf price", 4),
+    ("Titel;EAN;Mindestpreis;Preis", 4),
+    ("Jacket;Barcode;Consignor share;Asking price", 4),
+    ("Item;EAN;Sales tax;Price", 4),
+    ("Name;EAN;Lagerwert €;VK €", 4),
+    ("Kreisel;EAN;VK bis 30.11.;VK ab 1.12.", 0),
+    ("Schraube;EAN;Preis;Preis ab 100 Stück", 3),
+    ("Fisch;EAN;Tagespreis;Vortag", 3),
+    ("Schirm;EAN;Preis;Preis inkl. Versand", 3),
+    ("Pemakai;EAN;Harga beli;Harga jual", 4),
+    ("Ware;EAN;Bruttogewicht;Preis", 4),
+    ("Prodotto;EAN;Vendita;Vendita IVA incl.", 4),
+    ("Item;EAN;Price VAT not included;Price", 4),
+    ("Vara;EAN;Innkaupsverð;Útsöluverð m. vsk", 4),
+)
+# names of amounts that no customer pays, or of which only the keeper knows it
+NO_PRICES = (
+    *("Consignor", "Zuzahlung", "Lagerwert", "EK", "Ihr Preis", "Preis netto", "Bruttogewicht"),
+    *("VK-Menge", "Shelf life", "Montant TTC", "Preisfaktor", "Price code"),
+)
+# amounts of three columns, and the number of the one that is the price; 0 where only the keeper
+# knows it
+AMOUNTS = (
+    # one of them is without its tax of 19 and of 7 %
+    ("VK 1;8,39 7,55 11,76 2,80;Preis mit MwSt;9,99 8,99 13,99 2,99;UVP;9,99 9,49 13,99 3,19", 2),
+    # what names do not say, but last digits do; and a price that is reduced by a fifth
+    ("Preis I;7,97 10,50 5,03 3,18;Preis II;9,49 12,49 5,99 3,79;Marge;1 2 3 4", 2),
+    ("Preis I;8,00 16,00 4,00 2,40;Preis II;10,00 20,00 5,00 2,99;Marge;1 2 3 4", 0),
+    # a price of the shop near to what a maker recommends, and one of a dealer
+    ("Price;9,99 18,50 4,99 7,00;MSRP;9,99 19,99 4,99 7,49;Weight;1,10 2,20 1,50 3,10", 1),
+    ("Price;4,99 9,99 2,49 3,75;MSRP;9,99 19,99 4,99 7,49;Weight;1,10 2,20 1,50 3,10", 0),
+    # what a maker recommends is empty in most rows; a new price is there for some articles
+    ("Prijs;9,99 18,50 4,99 7,00;Adviesprijs;- - 5,99 -;Marge;1 2 3 4", 1),
+    ("VK;9,99 18,50 4,99 7,00;VK neu;- - 5,99 -;Marge;1 2 3 4", 0),
+    ("Prezzo scaffale;9,99 18,50 4,99 7,00;Prezzo cantina;5,10 9,90 2,60 3,80;Sconto;1 2 3 4", 1),
+    # a total that is the price with its tax, and columns of zeros
+    ("Venta (neta);2,08 3,50 4,16 5,00;Venta;2,08 3,50 4,16 5,00;Total;2,50 4,20 4,99 6,00", 0),
+    ("Retail price;0,00 0,00 0,00 0,00;Sale price;0,00 0,00 0,00 0,00;Price;2,50 4,20 4,99 6", 3),
+    # the net price beside what the maker recommends with its tax
+    ("Händler;5,00 7,00 8,00 9,99;UVP inkl. MwSt.;12,00 24,00 6,00 3,60;unser Preis;10 20 5 3", 3),
 )
 CODES = ("4006381333931", "9780306406157", "5901234123457")
 LOW, HIGH = ("1,20", "8,40", "2,05"), ("1,99", "12,49", "3,10")
@@ -288,6 +360,22 @@ class Prices(unittest.TestCase):
             asked += place == 0
         self.assertLessEqual(3 * asked, len(PRICES))
 
+    def test_amounts_tell_where_names_do_not(self) -> None:
+        for columns, place in AMOUNTS:
+            words = columns.split(";")
+            prices = [
+                [name, *("" if cell == "-" else cell for cell in cells.split())]
+                for name, cells in zip(words[::2], words[1::2])
+            ]
+            found = guess([["EAN", *CODES, "96385074"], *prices], 1)
+            self.assertEqual(found.columns.get("price", 0), place, columns)
+            self.assertEqual("price" in found.doubts, place == 0, columns)
+
+    def test_what_is_not_named_a_price_is_none(self) -> None:
+        for name in NO_PRICES:
+            columns = [["EAN", *CODES], [name, "1,20 €", "8,40 €", "2,05 €"]]
+            self.assertNotIn("price", guess(columns, 1).columns, name)
+
     def test_a_column_that_is_named_as_prices_has_prices(self) -> None:
         for name in ("Tarif", "Preis", "Price"):
             columns = [["EAN", *CODES], ["Name", "Tea", "Book", "Gum"], [name, "A", "B", "C"]]
@@ -299,7 +387,8 @@ class Prices(unittest.TestCase):
 def load_tests(
     loader: unittest.TestLoader, tests: unittest.TestSuite, _: object
 ) -> unittest.TestSuite:
-    tests.addTests(doctest.DocTestSuite(guesses))
+    for module in (guesses, column_words, price_names):
+        tests.addTests(doctest.DocTestSuite(module))
     return tests
 
 

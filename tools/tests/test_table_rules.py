@@ -223,6 +223,11 @@ class Prices(RulesTest):
                 "row 2 has 7.5, one decimal (1 row): "
                 "give --price-as '0.00', or another pattern, to print two"
             ),
+            ("7.9875", "1.859"): (
+                "row 2 has 7.9875, more than three decimals (1 row): "
+                "give --price-as '0.00', or another pattern, to print two"
+            ),
+            ("0.0249 €/g", "0.0184 €/g"): "",
             ("0,00", "0"): "row 2 has the price 0,00 (2 rows)",
             ("5 €", "5 CHF"): "the prices have several currencies: CHF, EUR",
             ("1.234", "0,80"): "",
