@@ -8,19 +8,15 @@ ghost use Rattle.arrayvec.specs.ArrayVec.{array_vec_len};
 ghost use Rattle.linear.specs.Code128.{character_modules, with_check};
 ghost use Rattle.linear.specs.Code128Reading.{meaning, other_set, read_values, symbol_data, read_code128};
 ghost use Rattle.linear.specs.Modules.{same_modules};
-ghost use Rattle.linear_reading.specs.Private.Meanings.{group_value, meant, set_in, with_values};
+ghost use Rattle.linear_reading.specs.Private.Meanings.{group_value, meant, set_in, step};
 
 use crate::full_data::FullData;
 use crate::groups::{each_group, number_of, same_modules};
 use crate::tables::VALUES;
-use arrayvec::ArrayVec;
 use linear::{CHARACTERS, CodeSet, MAX_VALUES, STOP, check_value, start_value};
 
-/// The values of a symbol before the stop character.
-type SymbolValues = ArrayVec<u8, MAX_SYMBOL_VALUES>;
-
-/// The most values of a symbol before the stop character.
-const MAX_SYMBOL_VALUES: usize = MAX_VALUES + 2;
+/// The most values of a symbol before the stop character: with the start and the check value.
+const MOST: usize = MAX_VALUES + 2;
 
 /// What a value means between the start and the check value.
 #[derive(Clone, Copy)]
@@ -48,22 +44,15 @@ fn meaning_of(set: CodeSet, value: u8) -> Meaning
     }
 }
 
-/// Returns the set of the one character after a shift.
-fn other_set(set: CodeSet) -> CodeSet
-    ensures { result ≡ other_set set }
-{
-    match set {
-        CodeSet::A => CodeSet::B,
-        CodeSet::B => CodeSet::A,
-        CodeSet::C => CodeSet::C,
-    }
-}
-
-/// Returns the set in which the next value is read.
+/// Returns the set in which the next value is read: the other one of A and B after a shift.
 fn set_at(set: CodeSet, is_shifted: bool) -> CodeSet
     ensures { result ≡ (if is_shifted then other_set set else set) }
 {
-    if is_shifted { other_set(set) } else { set }
+    match (set, is_shifted) {
+        (CodeSet::A, true) => CodeSet::B,
+        (CodeSet::B, true) => CodeSet::A,
+        _ => set,
+    }
 }
 
 /// Reads a value, appends its text, and returns the set that holds after it and whether the next one is shifted.
@@ -74,8 +63,8 @@ fn read_value(
     value: u8,
 ) -> Option<(CodeSet, bool)>
     requires { array_vec_len full.old + 2 ≤ MAX_FULL_DATA }
-    ensures read { (rest : List ℕ) → with_values full.old.items set is_shifted (value ∷ rest)
-        ≡ option_and_then (λ next. with_values full.new.items next.0 next.1 rest) result }
+    ensures read { option_map (λ next. (full.new.items, next)) result
+        ≡ step full.old.items set is_shifted (meaning (if is_shifted then other_set set else set) value) }
     ensures len { array_vec_len full.new ≤ array_vec_len full.old + 2 }
 {
     match meaning_of(set_at(set, is_shifted), value) {
@@ -107,7 +96,7 @@ fn read_values(start: CodeSet, values: &[u8]) -> Option<FullData>
         set = next.0;
         is_shifted = next.1;
     }
-    if is_shifted { None } else { Some(full) }
+    (!is_shifted).then_some(full)
 }
 
 /// Returns whether the values of a symbol before the stop character begin and end as they do in this set: with its start
@@ -180,6 +169,5 @@ pub fn read_code128(row: &[bool]) -> Option<FullData>
     if !is_stopped(count, row) {
         return None;
     }
-    let values: SymbolValues = each_group(value_of, 11, count, row)?;
-    symbol_data(&values)
+    symbol_data(&each_group::<u8, _, MOST>(value_of, 11, count, row)?)
 }
