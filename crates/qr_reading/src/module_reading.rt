@@ -12,7 +12,7 @@ ghost use Rattle.qr_reading.specs.Private.Walking.{DrawsPatterns, format_named, 
 
 use crate::data_reading::read_data;
 use crate::segment_reading::SymbolData;
-use crate::walk::read_strips;
+use crate::walk::read_walk;
 use qrdata::{Codewords, Level, Mask, Version, are_bytes};
 use qrmatrix::{SIDE, Square, draw_format, draw_functions};
 use std::marker::Model;
@@ -122,7 +122,7 @@ fn read_codewords(rows: &[u64], version: Version, mask: Mask, free: &Square) -> 
         (read_bits version mask (λ x y. bit (slice_index rows.now y) x)) }
 {
     version.prove_range();
-    let bits = read_strips(version, free, rows, mask);
+    let bits = read_walk(version, free, rows, mask);
     are_bytes(&bits.codewords);
     bits.codewords
 }
