@@ -12,8 +12,9 @@ use qrdata::{Codewords, MAX_CODEWORDS, are_bytes, push_codewords};
 
 /// Returns how many codewords of blocks have places below one.
 fn count_below(lengths: &[usize], place: usize) -> usize
-    requires { sum lengths.now ≤ MAX_CODEWORDS }
-    ensures { result ≡ sum_by (min place) lengths.now }
+    requires { (place ≤ 255) × (length lengths.now ≤ 8) }
+    ensures value { result ≡ sum_by (min place) lengths.now }
+    ensures few { result ≤ 2040 }
 {
     let mut count = 0;
     for size in lengths {
@@ -24,29 +25,30 @@ fn count_below(lengths: &[usize], place: usize) -> usize
 
 /// Returns how many blocks have a codeword at a place.
 fn count_at(lengths: &[usize], place: usize) -> usize
-    ensures { result ≡ count_by (nat_lt place) lengths.now }
+    ensures value { result ≡ count_by (nat_lt place) lengths.now }
+    ensures few { result ≤ length lengths.now }
 {
-    let mut count = 0;
-    for size in lengths {
-        if place < *size {
-            count += 1;
-        }
-    }
-    count
+    lengths.iter().filter(|size| place < **size).count()
+}
+
+/// Returns the codeword at a place, or 0 where there is none.
+fn codeword_at(codewords: &[u8], place: usize) -> u8
+    ensures { result ≡ slice_index codewords.now place }
+{
+    codewords.get(place).copied().unwrap_or(0)
 }
 
 /// Returns a block of interleaved codewords.
 fn block_at(lengths: &[usize], codewords: &[u8], block: usize) -> Codewords
-    requires whole { sum lengths.now ≡ length codewords.now }
-    requires block { block < length lengths.now }
+    requires block { (block < length lengths.now) × (length lengths.now ≤ 8) }
     requires short { slice_index lengths.now block ≤ 255 }
-    requires few { length codewords.now ≤ MAX_CODEWORDS }
-    ensures { result.items ≡ block_at lengths.now codewords.now block }
+    ensures block { result.items ≡ block_at lengths.now codewords.now block }
+    ensures len { array_vec_len result ≡ slice_index lengths.now block }
 {
     let mut out = Codewords::new();
     for place in 0..lengths[block] {
         let earlier = count_below(lengths, place) + count_at(&lengths[..block], place);
-        out.push(codewords[earlier]);
+        out.push(codeword_at(codewords, earlier));
     }
     out
 }
@@ -77,12 +79,11 @@ pub(crate) fn sound_blocks(
 ) -> Option<Codewords>
     requires count { IsEcCodewordCount count }
     requires equal { ec_lengths.now ≡ replicate (length lengths.now) count }
-    requires whole { (sum lengths.now ≡ length codewords.now) × (sum ec_lengths.now ≡ length ec_codewords.now) }
     requires short { All (λ n. n + count ≤ 255) lengths.now }
-    requires few { length codewords.now + length ec_codewords.now ≤ MAX_CODEWORDS }
+    requires few { (length lengths.now ≤ 8) × (sum lengths.now ≤ MAX_CODEWORDS) }
     ensures value { option_map (λ message. message.items) result
         ≡ sound_blocks count lengths.now ec_lengths.now codewords.now ec_codewords.now }
-    ensures len { IfSome result (λ message. array_vec_len message ≡ length codewords.now) }
+    ensures len { IfSome result (λ message. array_vec_len message ≡ sum lengths.now) }
 {
     let generator = Generator::new(count);
     let mut message = Codewords::new();
