@@ -3,7 +3,7 @@ use Rattle.std.proofs.Common.{◌≡◌, ℕ, ◌-◌, ◌*◌, ◌/◌, ◌<◌
 use Rattle.std.proofs.Common.{List, [], ◌∷◌, length, map, Option, Some, None, ◌&&◌, ◌==◌}
 use Rattle.std.specs.Prelude.{All, find, if◌then◌else◌, nat_le, nat_lt, option_and_then, slice_index_or}
 use mathlib.Core.Bool.{xor}
-use Rattle.std.specs.List.{filter, flat_map, range_with_len}
+use Rattle.std.specs.List.{filter, flat_map, list_all, range_with_len}
 use Rattle.std.proofs.lemmas.Bool.{and_parts, eqb-true, leb-true, ltb-true}
 use Rattle.std.proofs.lemmas.Bool.Decides.{nat_tests}
 use Rattle.std.proofs.lemmas.List.{length-map}
@@ -22,7 +22,8 @@ use Rattle.qrmatrix.specs.Placement.{remainder_bits}
 use Rattle.qrmatrix.specs.Square.{value_at}
 use Rattle.qrmatrix.specs.Private.Drawing.{MarksFree}
 use Rattle.qrmatrix.specs.Reading.{read_bits, read_format, read_matrix, read_with, shows_functions, shows_version, walk}
-use Rattle.qr_reading.specs.Private.Walking.{format_named, place_at, walk_bits, walked_bit}
+use Rattle.qr_reading.specs.Private.Walking.{DrawsPatterns, format_named, place_at, shows_row, walk_bits, walked_bit}
+use Rattle.qr_reading.proofs.PatternReadingLaws.{patterns_shown}
 use Rattle.qrmatrix.proofs.ComputedLaws.{by_version, same_at}
 use Rattle.qrmatrix.proofs.FoundLaws.{IsFormat-of, find_in_range, format_of, reading_of}
 use Rattle.qrmatrix.proofs.ReadingLaws.{format_shown, version_is_shown}
@@ -95,11 +96,11 @@ module _ (v : ℕ) (least : 1 ≤ v) (most : v ≤ 10) where
 
 -- the level and the mask that five modules name are those of the format information
 named_by_word : (message : ℕ) → message < 32 → format_of (format_word message)
-    ≡ (let word = format_word message in format_named (bit word 14) (bit word 13) (bit word 12) (bit word 11) (bit word 10))
+    ≡ (let word = format_word message in format_named (λ x. bit word (14 - x)))
 unfolding format_word binary_remainder
 named_by_word message low =
     same_at 0 32 (λ message. format_of (format_word message)) (λ message. let word = format_word message in
-    format_named (bit word 14) (bit word 13) (bit word 12) (bit word 11) (bit word 10)) refl message (omega arith) low
+    format_named (λ x. bit word (14 - x))) refl message (omega arith) low
 
 no_reading : {A : Type 0} (a : Bool) (x : A) → (if a && false then Some x else None) ≡ None
 no_reading true x = refl
@@ -108,18 +109,13 @@ no_reading false x = refl
 module _ (n : ℕ) (m : ℕ → ℕ → Bool) where
   -- the level and the mask that the first five modules of row 8 name
   abbrev named : Level × ℕ
-  named = format_named (m 0 8) (m 1 8) (m 2 8) (m 3 8) (m 4 8)
+  named = format_named (λ x. m x 8)
 
   named_is : (format : Level × ℕ) → read_format n m ≡ Some format → format ≡ named
   named_is format e =
       let is = IsFormat-of n m format e in
-      let at : ℕ → List Bool → Bool = λ i l. slice_index_or l i false in
-      let fourteen : m 0 8 ≡ bit (format_word is.message) 14 = ap (at 14) is.first in
-      let thirteen : m 1 8 ≡ bit (format_word is.message) 13 = ap (at 13) is.first in
-      let twelve : m 2 8 ≡ bit (format_word is.message) 12 = ap (at 12) is.first in
-      let eleven : m 3 8 ≡ bit (format_word is.message) 11 = ap (at 11) is.first in
-      let ten : m 4 8 ≡ bit (format_word is.message) 10 = ap (at 10) is.first in
-      is.value ∙ named_by_word is.message is.low ∙ rw (fourteen, thirteen, twelve, eleven, ten) refl
+      is.value ∙ named_by_word is.message is.low
+      ∙ sym (ap (λ (l : List Bool). format_named (λ x. slice_index_or l (14 - x) false)) is.first)
 
   named_low : named.1 < 8
   named_low = grind arith
@@ -143,7 +139,7 @@ module _ (n : ℕ) (m : ℕ → ℕ → Bool) where
     pub is_side : n ≡ side_of v
     is_side = sym (eqb-true (side_of v) n (find_in_range (λ v. side_of v == n) 1 10 v found).0)
 
-    pub unread : shows_functions v named.0 named.1 m ≡ false → read_matrix n m ≡ None
+    unread : shows_functions v named.0 named.1 m ≡ false → read_matrix n m ≡ None
     unfolding read_matrix
     unread wrong = rw found (at (read_format n m) refl)
       where
@@ -154,7 +150,7 @@ module _ (n : ℕ) (m : ℕ → ℕ → Bool) where
             rw (e, named_is format e, wrong)
             (no_reading (shows_version v (side_of v) m) _)
 
-    pub is_read : shows_functions v named.0 named.1 m ≡ true → read_matrix n m ≡ Some (reading_of v named m)
+    is_read : shows_functions v named.0 named.1 m ≡ true → read_matrix n m ≡ Some (reading_of v named m)
     unfolding read_matrix
     is_read shown =
         let range = find_in_range (λ v. side_of v == n) 1 10 v found in
@@ -163,3 +159,17 @@ module _ (n : ℕ) (m : ℕ → ℕ → Bool) where
         let format = subst (λ k. read_format k m ≡ Some named) side
         (format_shown v named.0 named.1 m shown range.1 most named_low) in
         rw (found, format, version_is_shown v named.0 named.1 m shown range.1 most named_low, shown) refl
+
+    -- the reading, by whether the patterns that are named and drawn are shown
+    pub read_if_shown : (format : Level × ℕ) (free dark : List (List Bool)) (shown : Bool) → format ≡ named
+        → DrawsPatterns v format.0 format.1 free dark
+        → shown ≡ list_all (λ y. shows_row n (λ x. m x y) (λ x. value_at free x y) (λ x. value_at dark x y))
+        (range_with_len 0 n) → read_matrix n m ≡ (if shown then Some (reading_of v format m) else None)
+    read_if_shown format free dark shown is draws e =
+        by_case shown (sym (ap (λ (f : Level × ℕ). shows_functions v f.0 f.1 m) is)
+        ∙ sym (e ∙ patterns_shown n v format.0 format.1 free dark m is_side draws))
+      where
+        by_case : (b : Bool) → shows_functions v named.0 named.1 m ≡ b
+            → read_matrix n m ≡ (if b then Some (reading_of v format m) else None)
+        by_case true shows = is_read shows ∙ ap (λ f. Some (reading_of v f m)) (sym is)
+        by_case false shows = unread shows

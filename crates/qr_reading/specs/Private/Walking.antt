@@ -36,11 +36,11 @@ walked_bit n free modules k =
 unfoldable pub walk_bits : ℕ → (free modules : ℕ → ℕ → Bool) → List Bool
 walk_bits n free modules = flat_map (walked_bit n free modules) (range_with_len 0 ((n - 1) / 2 * (2 * n)))
 
--- the level and the mask that the five highest bits of the format information name, the highest first
-abbrev pub format_named : (fourteen thirteen twelve eleven ten : Bool) → Level × ℕ
-format_named fourteen thirteen twelve eleven ten =
-    let level = if fourteen then (if thirteen then L else M) else (if thirteen then Q else H) in
-    (level, 4 * one_if (not twelve) + (2 * one_if eleven + one_if (not ten)))
+-- the level and the mask that the five highest bits of the format information name, the highest at place 0
+abbrev pub format_named : (ℕ → Bool) → Level × ℕ
+format_named at =
+    let level = if at 0 then (if at 1 then L else M) else (if at 1 then Q else H) in
+    (level, 4 * one_if (not (at 2)) + (2 * one_if (at 3) + one_if (not (at 4))))
 
 -- whether each module of a row that is not free is as it should be
 abbrev pub shows_row : ℕ → (row free dark : ℕ → Bool) → Bool

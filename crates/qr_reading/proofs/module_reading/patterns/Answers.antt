@@ -3,7 +3,7 @@ use Rattle.qrmatrix.specs.Functions.{fixed_module, is_free, role}
 use Rattle.qr_reading.proofs.PatternReadingLaws.{role_drawn}
 use Rattle.qrmatrix.specs.Square.{value_at}
 use Rattle.std.proofs.Common.{sym}
-use Rattle.qr_reading.proofs.module_reading.Patterns.draw.Goals as goal
+use Rattle.qr_reading.proofs.module_reading.patterns.Goals as goal
 
 pub returns : goal.returns
 unfolding fixed_module is_free
