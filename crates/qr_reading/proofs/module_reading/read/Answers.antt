@@ -6,8 +6,11 @@ use Rattle.qr_reading.proofs.module_reading.read.Goals as goal
 pub returns-in_err-version : goal.returns-in_err-version
 returns-in_err-version c =
     let m : ℕ → ℕ → Bool = λ x y. bit (slice_index c.args.rows.now y) x in
-    rw (c.from_residual.ensures, unknown_side (length c.args.rows.now) m
-    (sym c.version_of_side.ensures ∙ c.in_err-version.was)) refl
+    rw (
+      c.from_residual.ensures,
+      unknown_side (length c.args.rows.now) m
+          (sym c.version_of_side.ensures ∙ c.in_err-version.was),
+    ) refl
 
 pub returns-then-not-are_shown : goal.returns-then-not-are_shown
 returns-then-not-are_shown c =
@@ -25,6 +28,10 @@ pub returns : goal.returns
 returns c =
     let m : ℕ → ℕ → Bool = λ x y. bit (slice_index c.args.rows.now y) x in
     let codewords = c.deref.ensures.0 ∙ c.read_codewords.ensures in
-    rw (c.read_data.ensures, codewords, read_if_shown (length c.args.rows.now) m c.in_ok-version.version
-    (sym c.version_of_side.ensures ∙ c.in_ok-version.was) _ _ _ true c.format_in-level.ensures
-    c.patterns-free.ensures (sym c.if-not-are_shown.false ∙ c.are_shown.ensures)) refl
+    rw (
+      c.read_data.ensures,
+      codewords,
+      read_if_shown (length c.args.rows.now) m c.in_ok-version.version
+          (sym c.version_of_side.ensures ∙ c.in_ok-version.was) _ _ _ true c.format_in-level.ensures
+          c.patterns-free.ensures (sym c.if-not-are_shown.false ∙ c.are_shown.ensures),
+    ) refl
