@@ -3,7 +3,7 @@ use Rattle.std.proofs.Common.{◌≡◌, ℕ, suc, ◌+◌, ◌*◌, ◌%◌, �
 use Rattle.std.proofs.Common.{length, drop, refl, append_assoc, append-nil, arith, get_or, ◌∙◌, ap}
 use Rattle.std.proofs.Math.Nat.{add-mul, mul_assoc, pow-suc}
 use Rattle.std.proofs.Math.Pow.{pow_mono}
-use Rattle.std.proofs.lemmas.List.{drop_all, drop_more, length-drop}
+use Rattle.std.proofs.lemmas.List.{drop_all, drop_more}
 use Rattle.std.specs.Int.{from_bool}
 use Rattle.std.specs.List.{fold}
 use Rattle.qrdata.specs.Bits.{bits_of, number_of}

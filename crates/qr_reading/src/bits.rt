@@ -27,6 +27,7 @@ fn number_of(bits: &[bool]) -> u32
 
 /// Reads a number of `width` bits, and returns it and the bits after it. `None`: there are fewer bits, or the number is
 /// not below a limit.
+#[tactic(auto, unfolding(qrdata::specs::Reading::number_at))]
 pub(crate) fn number_at(limit: u32, width: usize, bits: &[bool]) -> Option<(u32, &[bool])>
     requires { width ≤ 16 }
     ensures read { option_map (λ found. (found.0, found.1.now)) result ≡ number_at limit width bits.now }

@@ -11,6 +11,7 @@ use crate::segment_reading::{SymbolData, read_segments};
 use qrdata::{Codewords, Lengths, Level, Version, push_lengths};
 
 /// Returns the data codewords of a symbol, block by block. `None`: a block is no multiple of its generator.
+#[tactic(auto, unfolding(crate::specs::Private::Blocks::message_in))]
 fn message_in(version: Version, level: Level, codewords: &[u8]) -> Option<Codewords>
     requires { length codewords.now ≡ total_codewords version }
     ensures value { option_map (λ message. message.items) result ≡ message_in version level codewords.now }

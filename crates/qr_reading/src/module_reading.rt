@@ -53,6 +53,7 @@ fn format_in(rows: &[u64]) -> (Level, Mask)
 
 /// Draws the patterns of a symbol with its format information: returns the modules that the codewords choose, and those
 /// of the others that are dark.
+#[tactic(auto, using(crate::proofs::PatternReadingLaws::role_drawn), unfolding(qrmatrix::specs::Functions::fixed_module, qrmatrix::specs::Functions::is_free))]
 fn patterns(version: Version, level: Level, mask: Mask) -> (Square, Square)
     ensures { DrawsPatterns version level mask result.0 result.1 }
 {

@@ -124,6 +124,7 @@ fn mode_of(indicator: u32) -> Option<Mode>
 }
 
 /// Reads a segment, appends its bytes to the data, and returns the bits after it.
+#[tactic(auto, unfolding(qrdata::specs::Reading::segment_at, crate::specs::Private::ReadSoFar::after))]
 fn read_segment<'a>(version: Version, bits: &'a [bool], out: &mut SymbolData) -> Option<&'a [bool]>
     requires { HasRoom out.old.items bits.now }
     ensures read { option_map (λ end. (out.new.items, end.now)) result

@@ -1,9 +1,8 @@
-use Rattle.std.proofs.Common.{ap, arith, drop, length, replicate, subst, sum, take, ◌≡◌, ◌∙◌}
+use Rattle.std.proofs.Common.{ap, arith, length, subst, sum, ◌≡◌, ◌∙◌}
 use Rattle.arrayvec.specs.ArrayVec.{array_vec_len}
 use Rattle.std.proofs.lemmas.Bool.{leb-true}
 use Rattle.std.proofs.lemmas.List.Sums.{AllPass-from_list_all}
 use Rattle.std.specs.Prelude.{IfSome}
-use Rattle.qr_reading.specs.Private.Blocks.{message_in, sound_blocks}
 use Rattle.qrdata.proofs.DataReadingLaws.{lengths_hold}
 use Rattle.qrdata.proofs.VersionLaws.{IsSound-of}
 use Rattle.qrdata.specs.Versions.{block_lengths}
@@ -29,19 +28,6 @@ sound_blocks-requires-clause-few c =
       omega (arith, ap length lengths, holds.1, sound.few_blocks),
       omega (arith, ap sum lengths, holds.0, sound.all, sound.few_codewords),
     )
-
-pub returns-clause-value : goal.returns-clause-value
-unfolding message_in
-returns-clause-value c =
-    let lengths = c.deref.ensures.0 ∙ c.lengths-lengths.ensures in
-    let size = c.data_codewords.ensures in
-    let k = c.ec_codewords_per_block-count.ensures.value in
-    let ec_lengths = c.deref-2.ensures.0 ∙ (rw c.new-ec_lengths.ensures at c.push_lengths.ensures)
-    ∙ (λ i. replicate ((c.len.ensures.value ∙ ap length c.lengths-lengths.ensures) i) (k i)) in
-    let front = c.split_at.ensures.front ∙ ap (λ n. take n c.args.codewords.now) size in
-    let back = c.split_at.ensures.back ∙ ap (λ n. drop n c.args.codewords.now) size in
-    c.sound_blocks.ensures.value
-    ∙ (λ i. sound_blocks (k i) (lengths i) (ec_lengths i) (front i) (back i))
 
 pub returns-clause-len : goal.returns-clause-len
 returns-clause-len c =

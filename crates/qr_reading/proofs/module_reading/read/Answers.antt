@@ -1,4 +1,4 @@
-use Rattle.std.proofs.Common.{◌≡◌, ◌∙◌, ℕ, Bool, sym, length, slice_index, refl, true, false}
+use Rattle.std.proofs.Common.{◌∙◌, ℕ, Bool, sym, length, slice_index, refl, true, false}
 use Rattle.qrmatrix.specs.Bits.{bit}
 use Rattle.qr_reading.proofs.SymbolReadingLaws.{is_side, read_if_shown, unknown_side}
 use Rattle.qr_reading.proofs.module_reading.read.Goals as goal
