@@ -1,5 +1,5 @@
 -- The tables by which groups are looked up have what the rules find in them (ISO/IEC 15420 and 15417, symbol characters).
-use Rattle.std.proofs.Common.{◌≡◌, ◌<◌, ◌%◌, ℕ, Bool, true, false, Option, Some, None, List, [], length}
+use Rattle.std.proofs.Common.{◌≡◌, ◌<◌, ◌+◌, ◌/◌, ◌%◌, ◌==◌, if◌then◌else◌, ℕ, Bool, true, false, Option, Some, None, List, [], length}
 use Rattle.std.proofs.Common.{refl, sym, ap, ◌∙◌, eqb, get_or, arith}
 use Rattle.std.proofs.lemmas.Bool.{false≢true}
 use Rattle.std.proofs.lemmas.Bool.Decides.{Decides-eqb}
@@ -21,8 +21,18 @@ use Rattle.linear.proofs.PatternLaws.{passes_at}
 use Rattle.linear.proofs.ReadRowLaws.{character_drawn, same_modules-same}
 use Rattle.linear.proofs.TableLaws.{all_characters, characters-all_characters, CHARACTERS-character_modules}
 use Rattle.linear_reading.specs.declared.tables.TheConstants.{DIGITS, VALUES}
-use Rattle.linear_reading.specs.Private.Groups.{number_of, digit_listed}
+use Rattle.linear_reading.specs.Private.Groups.{number_of}
 use Rattle.linear_reading.proofs.GroupNumberLaws.{all_rows, passes_row}
+
+-- the number of a number set in the table of digits
+abbrev kind_of : NumberSet → ℕ
+kind_of A = 1
+kind_of B = 2
+kind_of C = 3
+
+-- the digit that a number of the table of digits stands for in a number set
+abbrev digit_listed : NumberSet → ℕ → Option ℕ
+digit_listed set listed = if listed / 16 == kind_of set then Some (48 + listed % 16) else None
 
 same_found : Option ℕ → Option ℕ → Bool
 same_found None None = true

@@ -1,5 +1,5 @@
 -- The values of a Code 128 symbol are read one after another (ISO/IEC 15417, code sets).
-use Rattle.std.proofs.Common.{◌≡◌, ◌<◌, ℕ, ◌+◌, Bool, true, false, drop, get_or, length, Option, Some, None, List, [], ◌∷◌, ◌++◌, refl, sym, ap, append_assoc}
+use Rattle.std.proofs.Common.{◌≡◌, ◌<◌, ℕ, ◌+◌, Bool, true, false, drop, get_or, length, Option, Some, None, List, [], ◌++◌, refl, sym, ap, append_assoc}
 use Rattle.std.proofs.lemmas.List.{append-nil, drop_more}
 use Rattle.std.specs.Bool.{then_some}
 use Rattle.std.specs.Prelude.{option_and_then, option_map, if◌then◌else◌, not}

@@ -10,7 +10,7 @@ ghost use Rattle.linear.specs.EanReading.{with_first_digit, read_ean13, read_ean
 ghost use Rattle.linear.specs.Private.Data.{AreDigits};
 ghost use Rattle.linear.specs.Tables.{left_half_sets};
 ghost use Rattle.linear_reading.specs.declared.full_data.TheConstants.{MAX_FULL_DATA};
-ghost use Rattle.linear_reading.specs.Private.Groups.{Finds, TakesGroups, digit_listed};
+ghost use Rattle.linear_reading.specs.Private.Groups.{Finds, TakesGroups};
 
 use crate::full_data::{FullData, full_data};
 use crate::groups::{each_group, number_of, same_modules};
@@ -21,16 +21,6 @@ use linear::{CENTRE_GUARD, Digits, NORMAL_GUARD, NumberSet, with_check_digit};
 /// What is found in the groups of a half.
 type Half<Y> = ArrayVec<Y, 6>;
 
-/// Returns the digit that a number of the table of digits stands for in this number set.
-fn digit_listed(set: NumberSet, listed: u8) -> Option<u8>
-    ensures { result ≡ digit_listed set listed }
-{
-    match (set, listed / 16) {
-        (NumberSet::A, 1) | (NumberSet::B, 2) | (NumberSet::C, 3) => Some(b'0' + listed % 16),
-        _ => None,
-    }
-}
-
 /// Returns the digit whose pattern in this number set is the group.
 #[inline(always)]
 #[tactic(auto, using(crate::proofs::FoundLaws::digits_listed))]
@@ -38,7 +28,11 @@ fn digit_in(set: NumberSet, group: &[bool]) -> Option<u8>
     requires { length group.now ≡ 7 }
     ensures { result ≡ digit_in set group.now }
 {
-    digit_listed(set, DIGITS[usize::from(number_of(group) % 128)])
+    let listed = DIGITS[usize::from(number_of(group) % 128)];
+    match (set, listed / 16) {
+        (NumberSet::A, 1) | (NumberSet::B, 2) | (NumberSet::C, 3) => Some(b'0' + listed % 16),
+        _ => None,
+    }
 }
 
 /// Returns the letter of the number set in which a left group is found, `A` or `B`, and its digit there.
@@ -125,10 +119,8 @@ fn checked(count: usize, digits: &[u8]) -> Option<FullData>
     requires digits { AreDigits (count + 1) digits.now }
     ensures { option_map (λ full. full.items) result ≡ result_ok (with_check_digit count digits.now) }
 {
-    match with_check_digit(count, digits) {
-        Ok(full) => Some(full_data(&full)),
-        Err(_) => None,
-    }
+    let full = with_check_digit(count, digits).ok()?;
+    Some(full_data(&full))
 }
 
 /// Reads a row as an EAN-13 symbol: its thirteen digits.
@@ -151,21 +143,12 @@ pub fn read_ean8(row: &[bool]) -> Option<FullData>
     checked(7, &digits)
 }
 
-/// Returns the digits after the first, which has to be 0.
-fn after_zero(full: &[u8]) -> Option<FullData>
-    requires { length full.now ≤ MAX_FULL_DATA }
-    ensures { option_map (λ rest. rest.items) result
-        ≡ then_some (bytes_eq (take 1 full.now) (codes "0")) (drop 1 full.now) }
-{
-    match full {
-        [b'0', rest @ ..] => Some(full_data(rest)),
-        _ => None,
-    }
-}
-
 /// Reads a row as a UPC-A symbol: its twelve digits.
 pub fn read_upca(row: &[bool]) -> Option<FullData>
     ensures { option_map (λ full. full.items) result ≡ read_upca row.now }
 {
-    after_zero(&read_ean13(row)?)
+    match read_ean13(row)?.as_slice() {
+        [b'0', rest @ ..] => Some(full_data(rest)),
+        _ => None,
+    }
 }

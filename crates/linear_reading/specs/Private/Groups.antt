@@ -1,25 +1,13 @@
 -- Groups of modules, as contracts inside this crate see them.
-use Rattle.std.specs.Prelude.{◌≡◌, ℕ, ◌+◌, ◌*◌, ◌/◌, ◌%◌, ◌==◌, Bool, List, Option, Some, None, length, if◌then◌else◌}
+use Rattle.std.specs.Prelude.{◌≡◌, ℕ, ◌+◌, ◌*◌, ◌%◌, Bool, List, Option, length}
 use Rattle.std.specs.List.{fold}
 use Rattle.std.specs.Int.{from_bool}
 use Rattle.std.specs.Fn.{FnReturnsAt, Shared}
 use denote.Ref.{Bor}
-use Rattle.linear.specs.declared.ean.NumberSet.{NumberSet}
-use Rattle.linear.specs.declared.ean.NumberSet.TheVariants.{A, B, C}
 
 -- the number whose bits are these, at most eight of them
 abbrev pub number_of : List Bool → ℕ
 number_of bits = fold (λ number bit. 2 * (number % 128) + from_bool bit) 0 bits
-
--- the number of a number set in the table of digits
-abbrev pub kind_of : NumberSet → ℕ
-kind_of A = 1
-kind_of B = 2
-kind_of C = 3
-
--- the digit that a number of the table of digits stands for in a number set
-abbrev pub digit_listed : NumberSet → ℕ → Option ℕ
-digit_listed set listed = if listed / 16 == kind_of set then Some (48 + listed % 16) else None
 
 -- what reads a group may be called at each group of a width
 abbrev pub TakesGroups : {F Y : Type 0} → Shared F (Bor (List Bool) × Unit {0}) (Option Y) → F → ℕ → Type 0
