@@ -1,7 +1,6 @@
 -- The data of a symbol is that of its blocks.
-use Rattle.std.proofs.Common.{◌≡◌, ◌≢◌, ◌*◌, ℕ, List, Bool, true, false, length, replicate, take, drop, refl, inl, inr}
+use Rattle.std.proofs.Common.{◌≡◌, ◌*◌, ℕ, List, Bool, true, false, length, replicate, take, drop, refl}
 use Rattle.std.proofs.Common.{eq-eqb}
-use Rattle.std.proofs.lemmas.Bool.Decides.{eqb_tells}
 use Rattle.std.specs.Bool.{then_some}
 use Rattle.std.specs.List.{concat, list_all, zip}
 use Rattle.std.specs.Prelude.{None, Option, if◌then◌else◌}
@@ -31,11 +30,3 @@ module _ (version : ℕ) (level : Level) (codewords : List ℕ) where
       rw (eq-eqb (length codewords) (total_codewords version) all) (if_sound (list_all (has_roots k)
       (zip blocks (deinterleaving (replicate (length lengths) k) (drop size codewords)))) (concat blocks)
       (λ (message : List ℕ). segments_at version (8 * size) (byte_bits message)))
-
-  -- other codewords hold nothing
-  pub data_in-other : length codewords ≢ total_codewords version → data_in version level codewords ≡ None
-  unfolding data_in
-  data_in-other not_all = elim (eqb_tells (length codewords) (total_codewords version)) [
-    | inl is ↦ absurd (not_all is.1)
-    | inr is_not ↦ rw (is_not.0) refl
-  ]

@@ -1,12 +1,13 @@
 -- Blocks are taken back out of interleaved codewords one after another, and each is tested by its remainder.
-use Rattle.std.proofs.Common.{◌≡◌, ℕ, suc, ◌+◌, ◌-◌, ◌<◌, ◌≤◌, List, [], ◌∷◌, ◌++◌, map, drop, All}
+use Rattle.std.proofs.Common.{◌≡◌, ℕ, suc, ◌+◌, ◌-◌, ◌<◌, ◌≤◌, List, [], ◌∷◌, ◌++◌, map, drop, All, min}
 use Rattle.std.proofs.Common.{length, refl, sym, ap, ◌∙◌, append_assoc, length-append, arith, Bool, true, false}
 use Rattle.std.specs.Bool.{then_some}
 use Rattle.std.specs.Prelude.{Option, bytes_eq, slice_index}
-use Rattle.std.specs.List.{concat, list_all, range_with_len, zip}
+use Rattle.std.specs.List.{sum_by, concat, list_all, range_with_len, zip}
 use Rattle.std.proofs.lemmas.Bool.Decides.{nat_tests}
 use Rattle.std.proofs.lemmas.List.Elements.{All-append}
 use Rattle.std.proofs.lemmas.List.FromFn.{length-map-range_with_len}
+use Rattle.std.proofs.lemmas.List.Sums.{sum_by-le}
 use Rattle.std.proofs.lemmas.Slice.Eq.{bytes_eq-Decides}
 use Rattle.gf256.specs.Field.{IsElement}
 use Rattle.gf256.specs.ErrorCorrection.{AreEcCodewords, wrong_codewords}
@@ -16,6 +17,10 @@ use Rattle.qrdata.specs.Reading.{deinterleaving, has_roots}
 use Rattle.qrdata.proofs.BitStringLaws.{drop_front}
 use Rattle.qrdata.proofs.DamageLaws.{HasRoots-has_roots}
 use Rattle.qrdata.proofs.DataReadingLaws.{roots_pass}
+
+-- at most as many codewords as the places, for each block
+pub few_below : (place : ℕ) (lengths : List ℕ) → place ≤ 255 → length lengths ≤ 8 → sum_by (min place) lengths ≤ 2040
+few_below place lengths low few = omega (arith, few, sum_by-le (min place) 255 lengths (λ k d inside. omega (arith, low)))
 
 -- the places that are left are the next one and those after it
 pub place_next : {A : Type 0} (f : ℕ → A) (place n : ℕ) → place < n

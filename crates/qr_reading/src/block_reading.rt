@@ -1,34 +1,26 @@
 //! Blocks taken back out of interleaved codewords, and the test of each (ISO/IEC 18004, 7.5, 7.6 and 12).
 ghost use Rattle.arrayvec.specs.ArrayVec.{array_vec_len};
 ghost use Rattle.gf256.specs.ErrorCorrection.{IsEcCodewordCount};
-ghost use Rattle.qrdata.specs.Reading.{has_roots};
+ghost use Rattle.qrdata.specs.Reading.{has_roots, interleaving_place};
 ghost use Rattle.qr_reading.specs.Private.Blocks.{block_at, sound_blocks};
-ghost use Rattle.std.specs.List.{count_by, sum_by};
-ghost use Rattle.std.specs.Prelude.{◌≡◌, ◌+◌, ◌<◌, ◌≤◌, All, IfSome, length, min, nat_lt, option_map};
+ghost use Rattle.std.specs.Prelude.{◌≡◌, ◌+◌, ◌<◌, ◌≤◌, All, IfSome, length, option_map};
 ghost use Rattle.std.specs.Prelude.{replicate, slice_index, sum};
 
 use gf256::Generator;
 use qrdata::{Codewords, MAX_CODEWORDS, are_bytes, push_codewords};
 
-/// Returns how many codewords of blocks have places below one.
-fn count_below(lengths: &[usize], place: usize) -> usize
-    requires { (place ≤ 255) × (length lengths.now ≤ 8) }
-    ensures value { result ≡ sum_by (min place) lengths.now }
-    ensures few { result ≤ 2040 }
+/// Returns where the codeword at a place of a block is among those of all blocks.
+fn interleaving_place(lengths: &[usize], block: usize, place: usize) -> usize
+    requires place { place ≤ 255 }
+    requires block { (block ≤ length lengths.now) × (length lengths.now ≤ 8) }
+    ensures { result ≡ interleaving_place lengths.now block place }
 {
-    let mut count = 0;
-    for size in lengths {
-        count += place.min(*size);
-    }
-    count
-}
-
-/// Returns how many blocks have a codeword at a place.
-fn count_at(lengths: &[usize], place: usize) -> usize
-    ensures value { result ≡ count_by (nat_lt place) lengths.now }
-    ensures few { result ≤ length lengths.now }
-{
-    lengths.iter().filter(|size| place < **size).count()
+    let before: usize = lengths.iter().map(|size| place.min(*size)).sum();
+    let here = lengths[..block]
+        .iter()
+        .filter(|size| place < **size)
+        .count();
+    before + here
 }
 
 /// Returns the codeword at a place, or 0 where there is none.
@@ -47,8 +39,7 @@ fn block_at(lengths: &[usize], codewords: &[u8], block: usize) -> Codewords
 {
     let mut out = Codewords::new();
     for place in 0..lengths[block] {
-        let earlier = count_below(lengths, place) + count_at(&lengths[..block], place);
-        out.push(codeword_at(codewords, earlier));
+        out.push(codeword_at(codewords, interleaving_place(lengths, block, place)));
     }
     out
 }

@@ -29,6 +29,7 @@ fn message_in(version: Version, level: Level, codewords: &[u8]) -> Option<Codewo
 /// Reads the data that the codewords of a symbol hold, with no correction (ISO/IEC 18004, 12). They are in the order in
 /// which they are placed. `None`: they are not as many as the version has, a block is no multiple of its generator, or
 /// what the blocks hold are no segments in the numeric, the alphanumeric and the byte mode.
+#[tactic(auto, unfolding(qrdata::specs::Reading::data_in, crate::specs::Private::Blocks::message_in, crate::specs::Private::Blocks::sound_blocks))]
 pub(crate) fn read_data(version: Version, level: Level, codewords: &[u8]) -> Option<SymbolData>
     ensures { option_map (λ bytes. bytes.items) result ≡ data_in version level codewords.now }
 {

@@ -44,6 +44,7 @@ fn push_if(is_free: bool, dark: bool, bits: &mut Bits)
 }
 
 /// Returns the free modules of a symbol with a mask taken off, in the order of the walk.
+#[tactic(auto, unfolding(crate::specs::Private::Walking::walk_bits))]
 pub(crate) fn read_walk(version: Version, free: &Square, rows: &[u64], mask: Mask) -> Bits
     requires side { length rows.now ≡ side_of version }
     requires room { length (walk_bits (side_of version) (value_at free.now) (unmasked rows.now mask)) ≤ MAX_BITS }

@@ -14,8 +14,7 @@ loop-place-preserved c =
       all = rw (
         c.push.ensures.items,
         c.codeword_at.ensures,
-        c.count_below.ensures.value,
-        c.count_at.ensures.value,
+        c.interleaving_place.ensures,
         append_assoc c.loop-place.out.items,
       ) (rw next at c.loop-place.invariant.all);
       count = omega (arith, c.push.ensures.len, c.loop-place.invariant.count);

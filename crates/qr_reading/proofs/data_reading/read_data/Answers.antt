@@ -1,25 +1,11 @@
-use Rattle.std.proofs.Common.{ap, arith, length, refl, sym, ◌*◌, ◌≡◌, ◌∙◌}
+use Rattle.std.proofs.Common.{ap, arith, length, ◌*◌, ◌≡◌, ◌∙◌}
 use Rattle.qrdata.specs.Reading.{segments_at}
 use Rattle.qrdata.specs.Segments.{byte_bits}
 use Rattle.qrdata.specs.Versions.{data_codewords}
-use Rattle.qr_reading.proofs.BlockDataLaws.{data_in-message, data_in-other}
+use Rattle.qr_reading.proofs.BlockDataLaws.{data_in-message}
 use Rattle.qrdata.proofs.PaddingLaws.{length-byte_bits}
 use Rattle.qrdata.proofs.VersionLaws.{data_codewords-few}
 use Rattle.qr_reading.proofs.data_reading.read_data.Goals as goal
-
-pub returns-then-codewords-total_codewords : goal.returns-then-codewords-total_codewords
-returns-then-codewords-total_codewords c =
-    sym (data_in-other c.args.version c.args.level c.args.codewords.now
-    (λ same. c.if-codewords-total_codewords.true (same ∙ sym c.total_codewords.ensures)))
-
-pub returns-in_err-message : goal.returns-in_err-message
-returns-in_err-message c =
-    rw (
-      c.from_residual.ensures,
-      ← data_in-message c.args.version c.args.level c.args.codewords.now
-          (c.if-codewords-total_codewords.false ∙ c.total_codewords.ensures),
-      ← c.in_err-message.ensures.value,
-    ) refl
 
 pub bits_of_codewords-requires : goal.bits_of_codewords-requires
 bits_of_codewords-requires c =

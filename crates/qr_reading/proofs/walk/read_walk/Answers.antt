@@ -1,16 +1,9 @@
-use Rattle.std.proofs.Common.{◌≡◌, ◌-◌, ◌*◌, ◌/◌, refl, arith}
 use Rattle.qrdata.specs.Private.BitsInCodewords.{bits_in}
 use Rattle.qrdata.specs.Versions.{side_of}
 use Rattle.qrmatrix.specs.Square.{value_at}
-use Rattle.qr_reading.specs.Private.Walking.{unmasked, walk_bits, walked_bit}
+use Rattle.qr_reading.specs.Private.Walking.{unmasked, walked_bit}
 use Rattle.qr_reading.proofs.WalkedBitLaws.{has_room, next_walked}
 use Rattle.qr_reading.proofs.walk.read_walk.Goals as goal
-
-pub loop-k-init : goal.loop-k-init
-unfolding walk_bits
-loop-k-init c =
-    let n = side_of c.args.version in
-    let whole : (n - 1) / 2 * (2 * n) - 0 ≡ (n - 1) / 2 * (2 * n) = omega arith in rw (whole, c.new-bits.ensures) refl
 
 pub push_if-requires : goal.push_if-requires
 push_if-requires c =
