@@ -1,6 +1,6 @@
 //! Reading of Code 128 symbols (ISO/IEC 15417).
-ghost use Rattle.std.specs.Prelude.{◌≡◌, List, ℕ, ◌∷◌, ◌+◌, ◌*◌, ◌≤◌, ◌<◌, ◌&&◌, ◌==◌, IfSome, length, option_map};
-ghost use Rattle.std.specs.Prelude.{◌++◌, [], nat_le, false, option_and_then, drop, if◌then◌else◌};
+ghost use Rattle.std.specs.Prelude.{◌≡◌, ◌∷◌, ◌+◌, ◌*◌, ◌≤◌, ◌&&◌, ◌==◌, length, option_map, ◌++◌, [], nat_le, false};
+ghost use Rattle.std.specs.Prelude.{drop, if◌then◌else◌};
 ghost use Rattle.std.specs.Str.{bytes_eq};
 ghost use Rattle.linear.specs.declared.limits.TheConstants.{MAX_VALUES, MAX_MODULES};
 ghost use Rattle.linear_reading.specs.declared.full_data.TheConstants.{MAX_FULL_DATA};

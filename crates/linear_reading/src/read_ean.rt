@@ -1,7 +1,6 @@
 //! Reading of EAN and UPC symbols (ISO/IEC 15420).
-ghost use Rattle.std.specs.Prelude.{◌≡◌, ◌∷◌, ◌++◌, ◌+◌, ◌*◌, ◌≤◌, ◌<◌, Bool, IfSome, List, Option, length, map};
-ghost use Rattle.std.specs.Prelude.{codes, drop, option_map, position, take, true};
-ghost use Rattle.std.specs.Bool.{then_some};
+ghost use Rattle.std.specs.Prelude.{◌≡◌, ◌+◌, ◌*◌, ◌≤◌, ◌<◌, Bool, IfSome, List, Option, length};
+ghost use Rattle.std.specs.Prelude.{option_map, position, true};
 ghost use Rattle.std.specs.Result.{result_ok};
 ghost use Rattle.std.specs.Str.{bytes_eq};
 ghost use Rattle.linear.specs.Digits.{with_check_digit};
@@ -9,7 +8,6 @@ ghost use Rattle.linear.specs.EanReading.{digit_in, digit_in_a_or_b, has_guards,
 ghost use Rattle.linear.specs.EanReading.{with_first_digit, read_ean13, read_ean8, read_upca};
 ghost use Rattle.linear.specs.Private.Data.{AreDigits};
 ghost use Rattle.linear.specs.Tables.{left_half_sets};
-ghost use Rattle.linear_reading.specs.declared.full_data.TheConstants.{MAX_FULL_DATA};
 ghost use Rattle.linear_reading.specs.Private.Groups.{Finds, TakesGroups};
 
 use crate::full_data::{FullData, full_data};

@@ -2,11 +2,10 @@
 use Rattle.std.proofs.Common.{◌≡◌, ℕ, suc, ◌+◌, ◌-◌, ◌<◌, ◌≤◌, List, [], ◌∷◌, ◌++◌, map, drop, All, min}
 use Rattle.std.proofs.Common.{length, refl, sym, ap, ◌∙◌, append_assoc, length-append, arith, Bool, true, false}
 use Rattle.std.specs.Bool.{then_some}
-use Rattle.std.specs.Prelude.{Option, bytes_eq, slice_index}
+use Rattle.std.specs.Prelude.{Option, bytes_eq}
 use Rattle.std.specs.List.{sum_by, concat, list_all, range_with_len, zip}
 use Rattle.std.proofs.lemmas.Bool.Decides.{nat_tests}
 use Rattle.std.proofs.lemmas.List.Elements.{All-append}
-use Rattle.std.proofs.lemmas.List.FromFn.{length-map-range_with_len}
 use Rattle.std.proofs.lemmas.List.Sums.{sum_by-le}
 use Rattle.std.proofs.lemmas.Slice.Eq.{bytes_eq-Decides}
 use Rattle.gf256.specs.Field.{IsElement}
@@ -26,10 +25,6 @@ few_below place lengths low few = omega (arith, few, sum_by-le (min place) 255 l
 pub place_next : {A : Type 0} (f : ℕ → A) (place n : ℕ) → place < n
     → map f (range_with_len place (n - place)) ≡ f place ∷ map f (range_with_len (place + 1) (n - (place + 1)))
 place_next f place n h = let more : n - place ≡ suc (n - (place + 1)) = omega arith in rw more refl
-
-pub length-block_at : (lengths codewords : List ℕ) (b : ℕ)
-    → length (block_at lengths codewords b) ≡ slice_index lengths b
-length-block_at lengths codewords b = length-map-range_with_len _ 0 (slice_index lengths b)
 
 -- ---- the test of a block
 

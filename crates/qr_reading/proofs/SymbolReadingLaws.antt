@@ -22,7 +22,7 @@ use Rattle.qrmatrix.specs.Placement.{remainder_bits}
 use Rattle.qrmatrix.specs.Square.{value_at}
 use Rattle.qrmatrix.specs.Private.Drawing.{MarksFree}
 use Rattle.qrmatrix.specs.Reading.{read_bits, read_format, read_matrix, read_with, shows_functions, shows_version, walk}
-use Rattle.qr_reading.specs.Private.Walking.{DrawsPatterns, format_named, place_at, shows_row, walk_bits, walked_bit}
+use Rattle.qr_reading.specs.Private.Walking.{DrawsPatterns, format_named, place_at, shows_row, walked_bit}
 use Rattle.qr_reading.proofs.PatternReadingLaws.{patterns_shown}
 use Rattle.qrmatrix.proofs.ComputedLaws.{by_version, same_at}
 use Rattle.qrmatrix.proofs.FoundLaws.{IsFormat-of, find_in_range, format_of, reading_of}
@@ -60,8 +60,9 @@ kept n free modules (k ∷ ks) = at (free (place_at n k).0 (place_at n k).1) ref
 module _ (v : ℕ) (least : 1 ≤ v) (most : v ≤ 10) where
   -- the walk reads the free modules with the mask taken off
   pub walk_read : (mask : ℕ) (free : List (List Bool)) (m : ℕ → ℕ → Bool) → MarksFree v free
-      → walk_bits (side_of v) (value_at free) (λ x y. xor (is_flipped mask x y) (m x y)) ≡ read_bits v mask m
-  unfolding walk_bits read_bits
+      → flat_map (walked_bit (side_of v) (value_at free) (λ x y. xor (is_flipped mask x y) (m x y)))
+      (range_with_len 0 ((side_of v - 1) / 2 * (2 * side_of v))) ≡ read_bits v mask m
+  unfolding read_bits
   walk_read mask free m marks =
       let n = side_of v in
       let is_left = λ (p : ℕ × ℕ). value_at free p.0 p.1 in
@@ -69,7 +70,8 @@ module _ (v : ℕ) (least : 1 ≤ v) (most : v ≤ 10) where
       let same = same_filter is_left chosen (is_walked n)
       (λ p i. marks.inside p.0 p.1 (grind (arith, nat_tests)) (grind (arith, nat_tests))) (walk n) (walked v least most) in
       let module_at = λ (p : ℕ × ℕ). xor (is_flipped mask p.0 p.1) (m p.0 p.1) in
-      sym (kept n (value_at free) (λ x y. xor (is_flipped mask x y) (m x y)) (range_with_len 0 ((n - 1) / 2 * (2 * n))))
+      sym (kept n (value_at free) (λ x y. xor (is_flipped mask x y) (m x y))
+      (range_with_len 0 ((n - 1) / 2 * (2 * n))))
       ∙ ap (λ places. map module_at (filter is_left places)) (sym (walk_is v least most)) ∙ ap (map module_at) same
 
   few_bits : (nat_le (room v) 2775 && nat_lt (remainder_bits v) 8) ≡ true

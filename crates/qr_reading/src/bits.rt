@@ -3,7 +3,7 @@ ghost use Rattle.arrayvec.specs.ArrayVec.{array_vec_len};
 ghost use Rattle.qrdata.specs.Bits.{bits_of, number_of};
 ghost use Rattle.qrdata.specs.Reading.{is_end, number_at};
 ghost use Rattle.qrdata.specs.Segments.{byte_bits};
-ghost use Rattle.std.specs.Prelude.{◌≡◌, ◌+◌, ◌*◌, ◌^◌, ◌≤◌, ◌<◌, ◌++◌, IfSome, if◌then◌else◌, length, option_map};
+ghost use Rattle.std.specs.Prelude.{◌≡◌, ◌+◌, ◌*◌, ◌≤◌, ◌<◌, ◌++◌, IfSome, length, option_map};
 
 use arrayvec::ArrayVec;
 

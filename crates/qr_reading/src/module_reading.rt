@@ -11,7 +11,7 @@ ghost use Rattle.qr_reading.specs.Private.Walking.{DrawsPatterns, format_named, 
 
 use crate::data_reading::read_data;
 use crate::segment_reading::SymbolData;
-use crate::walk::read_walk;
+use crate::walk::read_codewords;
 use qrdata::{Codewords, Level, Mask, Version, are_bytes};
 use qrmatrix::{SIDE, Square, draw_format, draw_functions};
 
@@ -82,19 +82,6 @@ fn are_shown(free: &Square, dark: &Square, rows: &[u64]) -> bool
     (0..rows.len()).all(|y| is_row_shown(free, dark, rows, y))
 }
 
-/// Returns the codewords that the free modules of a symbol are under a mask.
-fn read_codewords(rows: &[u64], version: Version, mask: Mask, free: &Square) -> Codewords
-    requires side { length rows.now ≡ side_of version }
-    requires free { MarksFree version free.now }
-    ensures { result.items ≡ codewords_of (total_codewords version)
-        (read_bits version mask (λ x y. bit (slice_index rows.now y) x)) }
-{
-    version.prove_range();
-    let bits = read_walk(version, free, rows, mask);
-    are_bytes(&bits.codewords);
-    bits.codewords
-}
-
 /// Reads a square of modules as a symbol, with no correction (ISO/IEC 18004, 12): the data of its codewords. Both copies
 /// of the format and version information and every module of the other patterns have to be right. There are as many
 /// rows as modules on a side, and bit x of number y is the module at column x and row y, dark where set; the bits from
@@ -109,5 +96,5 @@ pub fn read(rows: &[u64]) -> Option<SymbolData>
     if !are_shown(&free, &dark, rows) {
         return None;
     }
-    read_data(version, level, &read_codewords(rows, version, mask, &free))
+    read_data(version, level, &read_codewords(version, &free, rows, mask))
 }

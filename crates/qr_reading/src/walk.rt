@@ -1,11 +1,14 @@
 //! The bits of a symbol, read in the order of the walk over its modules (ISO/IEC 18004, 7.7.3 and 12).
-ghost use Rattle.std.specs.Prelude.{◌≡◌, ◌≤◌, ◌<◌, ◌+◌, ◌-◌, ◌*◌, ◌/◌, ◌++◌, length};
+ghost use Rattle.std.specs.Prelude.{◌≡◌, ◌≤◌, ◌<◌, ◌+◌, ◌-◌, ◌*◌, ◌/◌, ◌++◌, length, slice_index};
 ghost use Rattle.qrdata.specs.Private.BitsInCodewords.{bits_in};
-ghost use Rattle.qrdata.specs.Versions.{side_of};
-ghost use Rattle.qrmatrix.specs.Square.{value_at};
-ghost use Rattle.qr_reading.specs.Private.Walking.{bit_if, place_at, unmasked, walk_bits};
+ghost use Rattle.qrdata.specs.Bits.{codewords_of};
+ghost use Rattle.qrdata.specs.Versions.{side_of, total_codewords};
+ghost use Rattle.qrmatrix.specs.Bits.{bit};
+ghost use Rattle.qrmatrix.specs.Private.Drawing.{MarksFree};
+ghost use Rattle.qrmatrix.specs.Reading.{read_bits};
+ghost use Rattle.qr_reading.specs.Private.Walking.{bit_if, place_at, unmasked};
 
-use qrdata::{Bits, MAX_BITS, Mask, Version};
+use qrdata::{Bits, Codewords, MAX_BITS, Mask, Version, are_bytes};
 use qrmatrix::{SIDE, Square, Strip, mask_row_bits};
 
 /// Returns the column and the row that the walk reaches after `k` modules: it goes along the strips, in each row the
@@ -43,12 +46,12 @@ fn push_if(is_free: bool, dark: bool, bits: &mut Bits)
     }
 }
 
-/// Returns the free modules of a symbol with a mask taken off, in the order of the walk.
-#[tactic(auto, unfolding(crate::specs::Private::Walking::walk_bits))]
-pub(crate) fn read_walk(version: Version, free: &Square, rows: &[u64], mask: Mask) -> Bits
+/// Returns the codewords that the free modules of a symbol are, with a mask taken off, in the order of the walk.
+pub(crate) fn read_codewords(version: Version, free: &Square, rows: &[u64], mask: Mask) -> Codewords
     requires side { length rows.now ≡ side_of version }
-    requires room { length (walk_bits (side_of version) (value_at free.now) (unmasked rows.now mask)) ≤ MAX_BITS }
-    ensures { bits_in result ≡ walk_bits (side_of version) (value_at free.now) (unmasked rows.now mask) }
+    requires free { MarksFree version free.now }
+    ensures { result.items ≡ codewords_of (total_codewords version)
+        (read_bits version mask (λ x y. bit (slice_index rows.now y) x)) }
 {
     let side = version.side();
     let mut bits = Bits::new();
@@ -56,5 +59,6 @@ pub(crate) fn read_walk(version: Version, free: &Square, rows: &[u64], mask: Mas
         let (x, y) = place_at(version, k);
         push_if(free.get(x, y), unmasked(rows, mask, x, y), &mut bits);
     }
-    bits
+    are_bytes(&bits.codewords);
+    bits.codewords
 }

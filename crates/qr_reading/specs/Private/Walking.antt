@@ -2,7 +2,7 @@
 use Rattle.std.specs.Prelude.{◌≡◌, ◌<◌, ℕ, ◌+◌, ◌-◌, ◌*◌, ◌/◌, ◌%◌, Bool, false, List, [], ◌∷◌, if◌then◌else◌}
 use Rattle.std.specs.Prelude.{not, ◌||◌, Some, slice_index}
 use Rattle.std.specs.Bool.{beq, xor}
-use Rattle.std.specs.List.{flat_map, list_all, range_with_len}
+use Rattle.std.specs.List.{list_all, range_with_len}
 use Rattle.qrdata.specs.declared.level.Level.{Level}
 use Rattle.qrdata.specs.declared.level.Level.TheVariants.{L, M, Q, H}
 use Rattle.qrdata.specs.Versions.{side_of}
@@ -31,10 +31,6 @@ bit_if is_free dark = if is_free then dark ∷ [] else []
 abbrev pub walked_bit : ℕ → (free modules : ℕ → ℕ → Bool) → ℕ → List Bool
 walked_bit n free modules k =
     let place = place_at n k in bit_if (free place.0 place.1) (modules place.0 place.1)
-
--- the free modules of the walk
-unfoldable pub walk_bits : ℕ → (free modules : ℕ → ℕ → Bool) → List Bool
-walk_bits n free modules = flat_map (walked_bit n free modules) (range_with_len 0 ((n - 1) / 2 * (2 * n)))
 
 -- the level and the mask that the five highest bits of the format information name, the highest at place 0
 abbrev pub format_named : (ℕ → Bool) → Level × ℕ

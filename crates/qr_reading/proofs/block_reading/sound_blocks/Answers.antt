@@ -1,4 +1,4 @@
-use Rattle.std.proofs.Common.{ap, arith, get_or, length, length-append, sym, ◌≡◌, ◌-◌, ◌++◌, ◌∙◌}
+use Rattle.std.proofs.Common.{rules, ap, arith, get_or, length, length-append, sym, ◌≡◌, ◌-◌, ◌++◌, ◌∙◌}
 use Rattle.std.proofs.lemmas.List.{get_or-replicate, length-replicate}
 use Rattle.std.proofs.lemmas.List.Sums.{sum_by-drop_more}
 use Rattle.qr_reading.proofs.DeinterleavingLaws.{all_blocks, one_block}
@@ -33,7 +33,7 @@ loop-block-preserved c =
           c.args.ec_codewords.now message _ _ c.loop-block.block _ c.loop-block-test.true
           (c.deref.ensures.0 ∙ c.block_at-data.ensures.block)
           (c.deref-in-loop-block.ensures.0 ∙ c.block_at-remainder.ensures.block)
-          (sym c.is_multiple.ensures ∙ c.if-not-is_multiple.false)) ∙ c.loop-block.invariant.all;
+          (search rules)) ∙ c.loop-block.invariant.all;
       room = omega (
         arith,
         ap length pushed,
