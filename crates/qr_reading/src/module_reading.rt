@@ -1,18 +1,16 @@
 //! The reading of a symbol's modules, with no correction (ISO/IEC 18004, 12).
 ghost use Rattle.std.specs.Prelude.{◌≡◌, ◌≤◌, ◌<◌, ◌==◌, length, option_map, slice_index};
 ghost use Rattle.std.specs.List.{find, list_all, range_with_len};
-ghost use Rattle.qrdata.specs.Bits.{codewords_of};
-ghost use Rattle.qrdata.specs.Versions.{side_of, total_codewords};
+ghost use Rattle.qrdata.specs.Versions.{side_of};
 ghost use Rattle.qrmatrix.specs.Bits.{bit};
-ghost use Rattle.qrmatrix.specs.Reading.{read_bits, read_square};
+ghost use Rattle.qrmatrix.specs.Reading.{read_square};
 ghost use Rattle.qrmatrix.specs.Square.{value_at};
-ghost use Rattle.qrmatrix.specs.Private.Drawing.{MarksFree};
 ghost use Rattle.qr_reading.specs.Private.Walking.{DrawsPatterns, format_named, shows_row};
 
 use crate::data_reading::read_data;
 use crate::segment_reading::SymbolData;
 use crate::walk::read_codewords;
-use qrdata::{Codewords, Level, Mask, Version, are_bytes};
+use qrdata::{Level, Mask, Version};
 use qrmatrix::{SIDE, Square, draw_format, draw_functions};
 
 /// Returns the version whose symbols have this many modules on a side.
