@@ -170,15 +170,23 @@ pub patterns_in : (set : NumberSet) (bytes : List ℕ)
 patterns_in set [] = refl
 patterns_in set (byte ∷ bytes) = ap (λ l. pattern set (digit_value byte) ++ l) (patterns_in set bytes)
 
+-- the digits of an EAN-8 symbol
+pub ean8_digits : (row : List Bool) (h : List ℕ × List ℕ) → read_halves 4 (digit_in A) row ≡ Some h
+    → AreDigits 8 (h.0 ++ h.1)
+ean8_digits row h halves =
+    let are = halves_drawn (digit_in A) (λ byte. pattern A (digit_value byte)) IsAsciiDigit (digit_drawn A) 4 row h
+    halves in
+    record {
+      long = omega (arith, length-append h.0 h.1, are.left.count_is, are.right.count_is);
+      digits = All-append IsAsciiDigit h.0 h.1 (All-from_recursion IsAsciiDigit h.0 are.left.known)
+          (All-from_recursion IsAsciiDigit h.1 are.right.known);
+    }
+
 pub ean8_drawn : (row : List Bool) (full : List ℕ) → read_ean8 row ≡ Some full → (row ≡ ean8_row full) × IsFull 7 full
 ean8_drawn row full e = option_and_then_some _ (read_halves 4 (digit_in A) row) full e (λ h halves right.
     let are = halves_drawn (digit_in A) (λ byte. pattern A (digit_value byte)) IsAsciiDigit (digit_drawn A) 4 row h
     halves in
-    let checked = IsFull-checked 7 (h.0 ++ h.1) full (record {
-      long = omega (arith, length-append h.0 h.1, are.left.count_is, are.right.count_is);
-      digits = All-append IsAsciiDigit h.0 h.1 (All-from_recursion IsAsciiDigit h.0 are.left.known)
-          (All-from_recursion IsAsciiDigit h.1 are.right.known);
-    }) right in
+    let checked = IsFull-checked 7 (h.0 ++ h.1) full (ean8_digits row h halves) right in
     let left = patterns_in A h.0 ∙ ap (λ n. patterns (replicate n A) h.0) are.left.count_is in
     let cut : ean8_row (h.0 ++ h.1) ≡ symbol (replicate 4 A) h.0 h.1 =
     rw (take-append 4 h.0 h.1 are.left.count_is, drop-append 4 h.0 h.1 are.left.count_is) refl in (
@@ -222,6 +230,23 @@ ten_rows : length left_half_sets ≡ 10
 unfolding left_half_sets
 ten_rows = refl
 
+-- the digits of an EAN-13 symbol
+pub ean13_digits : (row : List Bool) (h : List (ℕ × ℕ) × List ℕ) (digits : List ℕ)
+    → read_halves 6 digit_in_a_or_b row ≡ Some h → with_first_digit h ≡ Some digits → AreDigits 13 digits
+ean13_digits row h digits halves with_first =
+    let letters = map (λ (y : ℕ × ℕ). y.0) h.0 in
+    let left = map (λ (y : ℕ × ℕ). y.1) h.0 in
+    option_map_some _ (position (bytes_eq letters) left_half_sets) digits with_first (λ first at same.
+    let are = halves_drawn digit_in_a_or_b left_pattern (λ y. IsAsciiDigit y.1) left_drawn 6 row h halves in
+    let table = position-Some (bytes_eq letters) left_half_sets first [] at in
+    let long : length left ≡ 6 = length-map h.0 (λ (y : ℕ × ℕ). y.1) ∙ are.left.count_is in
+    subst (AreDigits 13) same (record {
+      long = omega (arith, length-append left h.1, long, are.right.count_is);
+      digits = All-cons IsAsciiDigit (48 + first) (left ++ h.1) (omega arith, omega (arith, table.0, ten_rows))
+          (All-append IsAsciiDigit left h.1 (All-from_recursion IsAsciiDigit left (digits_of_left h.0 are.left.known))
+          (All-from_recursion IsAsciiDigit h.1 are.right.known));
+    }))
+
 pub ean13_drawn : (row : List Bool) (full : List ℕ) → read_ean13 row ≡ Some full
     → (row ≡ ean13_row full) × IsFull 12 full
 ean13_drawn row full e =
@@ -235,19 +260,14 @@ ean13_drawn row full e =
     let table = position-Some (bytes_eq letters) left_half_sets first [] at in
     let long : length left ≡ 6 = length-map h.0 (λ (y : ℕ × ℕ). y.1) ∙ are.left.count_is in
     let value : digit_value (48 + first) ≡ first = omega arith in
-    let checked = IsFull-checked 12 ((48 + first) ∷ (left ++ h.1)) full (record {
-      long = omega (arith, length-append left h.1, long, are.right.count_is);
-      digits = All-cons IsAsciiDigit (48 + first) (left ++ h.1) (omega arith, omega (arith, table.0, ten_rows))
-          (All-append IsAsciiDigit left h.1 (All-from_recursion IsAsciiDigit left (digits_of_left h.0 are.left.known))
-          (All-from_recursion IsAsciiDigit h.1 are.right.known));
-    }) (ap (λ l. result_ok (with_check_digit 12 l)) same ∙ right) in
+    let checked = IsFull-checked 12 digits full (ean13_digits row h digits halves with_first) right in
     let sets : map set_of letters ≡ left_sets (digit_value (48 + first)) =
     ap (map set_of) ((bytes_eq-Decides letters (get_or left_half_sets first [])).0 table.1)
     ∙ ap left_sets (sym value) in
     let cut : ean13_row ((48 + first) ∷ (left ++ h.1)) ≡ symbol (left_sets (digit_value (48 + first))) left h.1 =
     rw (take-append 6 left h.1 long, drop-append 6 left h.1 long) refl in (
       are.row_is ∙ ap (λ l. normal_guard ++ (l ++ (centre_guard ++ (right_half h.1 ++ normal_guard))))
-          (patterns_of_letters h.0) ∙ ap (λ s. symbol s left h.1) sets ∙ sym cut ∙ ap ean13_row checked.0,
+          (patterns_of_letters h.0) ∙ ap (λ s. symbol s left h.1) sets ∙ sym cut ∙ ap ean13_row (same ∙ checked.0),
       checked.1,
     ))))
 

@@ -22,4 +22,4 @@ pub use linear::{Linear, QuietZones};
 pub use refusal::Refusal;
 pub use row::Row;
 pub use switching::{CodeSet, start_value};
-pub use tables::{CENTRE_GUARD, NORMAL_GUARD, STOP};
+pub use tables::{CENTRE_GUARD, CHARACTERS, NORMAL_GUARD, STOP};

@@ -1,63 +1,57 @@
 -- The values of a Code 128 symbol are read one after another (ISO/IEC 15417, code sets).
-use Rattle.std.proofs.Common.{◌≡◌, ℕ, Bool, true, false, Option, Some, None, List, [], ◌∷◌, ◌++◌, refl, sym, ap, ◌∙◌, append_assoc}
-use Rattle.std.proofs.lemmas.List.{append-nil}
-use Rattle.std.specs.Prelude.{option_map, if◌then◌else◌}
+use Rattle.std.proofs.Common.{◌≡◌, ◌<◌, ℕ, ◌+◌, Bool, true, false, drop, get_or, length, Option, Some, None, List, [], ◌++◌, refl, sym, ap, append_assoc}
+use Rattle.std.proofs.lemmas.List.{append-nil, drop_more}
+use Rattle.std.specs.Bool.{then_some}
+use Rattle.std.specs.Prelude.{option_and_then, option_map, if◌then◌else◌, not}
 use Rattle.linear.specs.declared.switching.CodeSet.{CodeSet}
 use Rattle.linear.specs.Code128Reading.{Meaning, meaning, other_set, read_values, text, change, shift, none}
 use Rattle.linear.proofs.ValueReadingLaws.{read_next}
-use Rattle.linear_reading.specs.Private.Meanings.{with_values}
+use Rattle.linear_reading.specs.Private.Meanings.{step}
 
--- what is read in all: before a value with this meaning, of it, and of those to come
-abbrev pub all_read : List ℕ → CodeSet → Bool → List ℕ → Meaning → Option (List ℕ)
-all_read before set is_shifted rest m =
-    elim m [
-      | text bytes ↦ with_values (before ++ bytes) set false rest
-      | change next ↦ if is_shifted then None else with_values before next false rest
-      | shift ↦ if is_shifted then None else with_values before set true rest
-      | none ↦ None
-    ]
+-- what was read before, and the bytes of values that are still to be read
+unfoldable pub with_values : List ℕ → CodeSet → Bool → List ℕ → Option (List ℕ)
+with_values before set is_shifted values =
+    option_map (λ rest. before ++ rest) (read_values set is_shifted values)
 
-with_next : (before : List ℕ) (set : CodeSet) (is_shifted : Bool) (rest : List ℕ) (m : Meaning)
-    → option_map (λ more. before ++ more) (read_next set is_shifted rest m) ≡ all_read before set is_shifted rest m
+-- the values after one of this meaning
+then_values : (before : List ℕ) (set : CodeSet) (is_shifted : Bool) (rest : List ℕ) (m : Meaning)
+    → option_and_then (λ next. with_values next.0 next.1.0 next.1.1 rest) (step before set is_shifted m)
+    ≡ option_map (λ more. before ++ more) (read_next set is_shifted rest m)
 unfolding with_values read_next
-with_next before set is_shifted rest (text bytes) = joined (read_values set false rest)
+then_values before set is_shifted rest (text bytes) = joined (read_values set false rest)
   where
-    joined : (more : Option (List ℕ))
-        → option_map (λ more. before ++ more) (option_map (λ more. bytes ++ more) more)
-        ≡ option_map (λ more. (before ++ bytes) ++ more) more
+    joined : (more : Option (List ℕ)) → option_map (λ more. (before ++ bytes) ++ more) more
+        ≡ option_map (λ more. before ++ more) (option_map (λ more. bytes ++ more) more)
     joined None = refl
-    joined (Some more) = ap Some (sym (append_assoc before bytes more))
-with_next before set true rest (change next) = refl
-with_next before set false rest (change next) = refl
-with_next before set true rest shift = refl
-with_next before set false rest shift = refl
-with_next before set is_shifted rest none = refl
+    joined (Some more) = ap Some (append_assoc before bytes more)
+then_values before set true rest (change next) = refl
+then_values before set false rest (change next) = refl
+then_values before set true rest shift = refl
+then_values before set false rest shift = refl
+then_values before set is_shifted rest none = refl
 
-pub value_read : (before : List ℕ) (set at : CodeSet) (is_shifted : Bool) (value : ℕ) (rest : List ℕ) (m : Meaning)
-    → at ≡ (if is_shifted then other_set set else set) → m ≡ meaning at value
-    → with_values before set is_shifted (value ∷ rest) ≡ all_read before set is_shifted rest m
+pub value_read : (before : List ℕ) (set : CodeSet) (is_shifted : Bool) (values : List ℕ) (i : ℕ)
+    (read : Option (List ℕ × (CodeSet × Bool))) → i < length values
+    → read ≡ step before set is_shifted (meaning (if is_shifted then other_set set else set) (get_or values i 0))
+    → option_and_then (λ next. with_values next.0 next.1.0 next.1.1 (drop (i + 1) values)) read
+    ≡ with_values before set is_shifted (drop i values)
 unfolding with_values read_next
-value_read before set at is_shifted value rest m holds is =
-    ap (λ m. option_map (λ more. before ++ more) (read_next set is_shifted rest m))
-    (ap (λ s. meaning s value) (sym holds) ∙ sym is)
-    ∙ with_next before set is_shifted rest m
+value_read before set is_shifted values i read inside is =
+    let at = if is_shifted then other_set set else set in
+    rw (is, drop_more values i 0 inside)
+    (then_values before set is_shifted (drop (i + 1) values) (meaning at (get_or values i 0)))
 
-pub nothing_before : (before : List ℕ) (set : CodeSet) (values : List ℕ) → before ≡ []
-    → with_values before set false values ≡ read_values set false values
+pub nothing_before : (set : CodeSet) (values : List ℕ) → with_values [] set false values ≡ read_values set false values
 unfolding with_values
-nothing_before before set values empty = rw empty (same (read_values set false values))
+nothing_before set values = same (read_values set false values)
   where
     same : (rest : Option (List ℕ)) → option_map (λ more. [] ++ more) rest ≡ rest
     same None = refl
     same (Some rest) = refl
 
 -- at the end a shift has shifted nothing
-pub shifted_end : (before : List ℕ) (set : CodeSet) (is_shifted : Bool) (values : List ℕ) → values ≡ []
-    → is_shifted ≡ true → with_values before set is_shifted values ≡ None
+pub no_value : {A : Type 0} (bytes : A → List ℕ) (full : A) (set : CodeSet) (is_shifted : Bool)
+    → option_map bytes (then_some (not is_shifted) full) ≡ with_values (bytes full) set is_shifted []
 unfolding with_values
-shifted_end before set is_shifted values end is = rw (end, is) refl
-
-pub plain_end : (before : List ℕ) (set : CodeSet) (is_shifted : Bool) (values : List ℕ) → values ≡ []
-    → is_shifted ≡ false → with_values before set is_shifted values ≡ Some before
-unfolding with_values
-plain_end before set is_shifted values end is = rw (end, is) (ap Some (append-nil before))
+no_value bytes full set true = refl
+no_value bytes full set false = ap Some (sym (append-nil (bytes full)))

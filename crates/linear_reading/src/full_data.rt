@@ -1,5 +1,6 @@
 //! The data that rows are read as.
 ghost use Rattle.std.specs.Prelude.{◌≡◌, ◌≤◌, length};
+ghost use Rattle.linear_reading.specs.declared.full_data.TheConstants.{MAX_FULL_DATA};
 
 use arrayvec::ArrayVec;
 use linear::MAX_VALUES;
@@ -12,7 +13,7 @@ pub type FullData = ArrayVec<u8, MAX_FULL_DATA>;
 
 /// Returns digits as full data.
 pub fn full_data(digits: &[u8]) -> FullData
-    requires { length digits.now ≤ 13 }
+    requires { length digits.now ≤ MAX_FULL_DATA }
     ensures { result.items ≡ digits.now }
 {
     let mut full = FullData::new();

@@ -1,29 +1,22 @@
 //! Reading of Code 128 symbols (ISO/IEC 15417).
-ghost use Rattle.std.specs.Prelude.{◌≡◌, ℕ, List, ◌∷◌, ◌+◌, ◌*◌, ◌≤◌, ◌<◌, ◌&&◌, ◌==◌, IfSome, length, option_map};
-ghost use Rattle.std.specs.Prelude.{◌++◌, [], nat_le, false, option_and_then, drop, if◌then◌else◌};
+ghost use Rattle.std.specs.Prelude.{◌≡◌, ◌∷◌, ◌+◌, ◌*◌, ◌≤◌, ◌&&◌, ◌==◌, length, option_map, ◌++◌, [], nat_le, false};
+ghost use Rattle.std.specs.Prelude.{drop, if◌then◌else◌};
 ghost use Rattle.std.specs.Str.{bytes_eq};
 ghost use Rattle.linear.specs.declared.limits.TheConstants.{MAX_VALUES, MAX_MODULES};
 ghost use Rattle.linear_reading.specs.declared.full_data.TheConstants.{MAX_FULL_DATA};
 ghost use Rattle.arrayvec.specs.ArrayVec.{array_vec_len};
 ghost use Rattle.linear.specs.Code128.{character_modules, with_check};
 ghost use Rattle.linear.specs.Code128Reading.{meaning, other_set, read_values, symbol_data, read_code128};
-ghost use Rattle.linear.specs.Modules.{each_group, same_modules};
-ghost use Rattle.linear_reading.specs.Private.Meanings.{group_value, meant, set_in, with_values};
+ghost use Rattle.linear.specs.Modules.{same_modules};
+ghost use Rattle.linear_reading.specs.Private.Meanings.{group_value, meant, set_in, step};
 
 use crate::full_data::FullData;
-use crate::groups::{number_of, same_modules};
-use crate::tables::{NUMBERS, VALUES};
-use arrayvec::ArrayVec;
-use linear::{CodeSet, MAX_VALUES, STOP, check_value, start_value};
+use crate::groups::{each_group, number_of, same_modules};
+use crate::tables::VALUES;
+use linear::{CHARACTERS, CodeSet, MAX_VALUES, STOP, check_value, start_value};
 
-/// The fewest values of a symbol before the stop character.
-const MIN_SYMBOL_VALUES: usize = 3;
-
-/// The most values of a symbol before the stop character.
-const MAX_SYMBOL_VALUES: usize = MAX_VALUES + 2;
-
-/// The values of a symbol before the stop character.
-type SymbolValues = ArrayVec<u8, MAX_SYMBOL_VALUES>;
+/// The most values of a symbol before the stop character: with the start and the check value.
+const MOST: usize = MAX_VALUES + 2;
 
 /// What a value means between the start and the check value.
 #[derive(Clone, Copy)]
@@ -39,47 +32,27 @@ pub enum Meaning {
 fn meaning_of(set: CodeSet, value: u8) -> Meaning
     ensures { meant result ≡ meaning set value }
 {
-    match set {
-        CodeSet::A => match value {
-            0..64 => Meaning::Character(value + 32),
-            64..96 => Meaning::Character(value - 64),
-            98 => Meaning::Shift,
-            99 => Meaning::Change(CodeSet::C),
-            100 => Meaning::Change(CodeSet::B),
-            _ => Meaning::Nothing,
-        },
-        CodeSet::B => match value {
-            0..96 => Meaning::Character(value + 32),
-            98 => Meaning::Shift,
-            99 => Meaning::Change(CodeSet::C),
-            101 => Meaning::Change(CodeSet::A),
-            _ => Meaning::Nothing,
-        },
-        CodeSet::C => match value {
-            0..100 => Meaning::Pair(b'0' + value / 10, b'0' + value % 10),
-            100 => Meaning::Change(CodeSet::B),
-            101 => Meaning::Change(CodeSet::A),
-            _ => Meaning::Nothing,
-        },
+    match (set, value) {
+        (CodeSet::A, 0..96) => Meaning::Character((value + 32) % 96),
+        (CodeSet::B, 0..96) => Meaning::Character(value + 32),
+        (CodeSet::C, 0..100) => Meaning::Pair(b'0' + value / 10, b'0' + value % 10),
+        (CodeSet::A | CodeSet::B, 98) => Meaning::Shift,
+        (CodeSet::A | CodeSet::B, 99) => Meaning::Change(CodeSet::C),
+        (CodeSet::A | CodeSet::C, 100) => Meaning::Change(CodeSet::B),
+        (CodeSet::B | CodeSet::C, 101) => Meaning::Change(CodeSet::A),
+        _ => Meaning::Nothing,
     }
 }
 
-/// Returns the set of the one character after a shift.
-fn other_set(set: CodeSet) -> CodeSet
-    ensures { result ≡ other_set set }
-{
-    match set {
-        CodeSet::A => CodeSet::B,
-        CodeSet::B => CodeSet::A,
-        CodeSet::C => CodeSet::C,
-    }
-}
-
-/// Returns the set in which the next value is read.
+/// Returns the set in which the next value is read: the other one of A and B after a shift.
 fn set_at(set: CodeSet, is_shifted: bool) -> CodeSet
     ensures { result ≡ (if is_shifted then other_set set else set) }
 {
-    if is_shifted { other_set(set) } else { set }
+    match (set, is_shifted) {
+        (CodeSet::A, true) => CodeSet::B,
+        (CodeSet::B, true) => CodeSet::A,
+        _ => set,
+    }
 }
 
 /// Reads a value, appends its text, and returns the set that holds after it and whether the next one is shifted.
@@ -90,8 +63,8 @@ fn read_value(
     value: u8,
 ) -> Option<(CodeSet, bool)>
     requires { array_vec_len full.old + 2 ≤ MAX_FULL_DATA }
-    ensures read { (rest : List ℕ) → with_values full.old.items set is_shifted (value ∷ rest)
-        ≡ option_and_then (λ next. with_values full.new.items next.0 next.1 rest) result }
+    ensures read { option_map (λ next. (full.new.items, next)) result
+        ≡ step full.old.items set is_shifted (meaning (if is_shifted then other_set set else set) value) }
     ensures len { array_vec_len full.new ≤ array_vec_len full.old + 2 }
 {
     match meaning_of(set_at(set, is_shifted), value) {
@@ -123,7 +96,7 @@ fn read_values(start: CodeSet, values: &[u8]) -> Option<FullData>
         set = next.0;
         is_shifted = next.1;
     }
-    if is_shifted { None } else { Some(full) }
+    (!is_shifted).then_some(full)
 }
 
 /// Returns whether the values of a symbol before the stop character begin and end as they do in this set: with its start
@@ -141,15 +114,10 @@ fn set_of(start: u8, inner: &[u8], check: u8) -> Option<CodeSet>
     requires { length inner.now ≤ MAX_VALUES }
     ensures { result ≡ set_in inner.now (start ∷ (inner.now ++ check ∷ [])) }
 {
-    if is_in(CodeSet::A, start, inner, check) {
-        Some(CodeSet::A)
-    } else if is_in(CodeSet::B, start, inner, check) {
-        Some(CodeSet::B)
-    } else if is_in(CodeSet::C, start, inner, check) {
-        Some(CodeSet::C)
-    } else {
-        None
-    }
+    [CodeSet::A, CodeSet::B, CodeSet::C]
+        .iter()
+        .copied()
+        .find(|set| is_in(*set, start, inner, check))
 }
 
 /// Returns the bytes of the values before the stop character: a start value, those of the data, and the check value.
@@ -165,34 +133,17 @@ fn symbol_data(values: &[u8]) -> Option<FullData>
 
 /// Returns the value whose character is the group of eleven modules.
 #[inline(always)]
+#[tactic(auto, using(crate::proofs::FoundLaws::values_low, crate::proofs::FoundLaws::value_found))]
 fn value_of(group: &[bool]) -> Option<u8>
     requires { length group.now ≡ 11 }
-    ensures found { result ≡ group_value group.now }
-    ensures low { IfSome result (λ value. value < 106) }
+    ensures { result ≡ group_value group.now }
 {
-    let number = number_of(group);
-    let value = VALUES[number / 2 % 256];
-    if value < 106 && NUMBERS[usize::from(value)] == number {
-        Some(value)
-    } else {
-        None
-    }
-}
-
-/// Returns the values of the first groups of modules, if each of them is the character of one.
-fn values_in(count: usize, modules: &[bool]) -> Option<SymbolValues>
-    requires few { count ≤ MAX_VALUES + 2 }
-    requires groups { 11 * count ≤ length modules.now }
-    ensures { option_map (λ values. values.items) result ≡ each_group group_value 11 count modules.now }
-{
-    let mut values = SymbolValues::new();
-    for i in 0..count {
-        values.push(value_of(&modules[11 * i..11 * i + 11])?);
-    }
-    Some(values)
+    let value = VALUES[usize::from(number_of(&group[2..10]))];
+    same_modules(group, &CHARACTERS[usize::from(value)]).then_some(value)
 }
 
 /// Returns whether modules are the stop character.
+#[tactic(auto, using(linear::proofs::TableLaws::stop_character))]
 fn is_stop(modules: &[bool]) -> bool
     ensures { result ≡ same_modules modules.now (character_modules 106) }
 {
@@ -206,7 +157,7 @@ fn is_stopped(count: usize, row: &[bool]) -> bool
     ensures { result ≡ ((nat_le 3 count && length row.now == 11 * count + 13)
         && same_modules (drop (11 * count) row.now) (character_modules 106)) }
 {
-    count >= MIN_SYMBOL_VALUES && row.len() == 11 * count + 13 && is_stop(&row[11 * count..])
+    count >= 3 && row.len() == 11 * count + 13 && is_stop(&row[11 * count..])
 }
 
 /// Reads a row as a Code 128 symbol.
@@ -218,5 +169,5 @@ pub fn read_code128(row: &[bool]) -> Option<FullData>
     if !is_stopped(count, row) {
         return None;
     }
-    symbol_data(&values_in(count, row)?)
+    symbol_data(&each_group::<u8, _, MOST>(value_of, 11, count, row)?)
 }

@@ -2,7 +2,7 @@
 ghost use Rattle.std.specs.Prelude.{◌≡◌, option_map};
 ghost use Rattle.linear_reading.specs.Reading.{read_row};
 
-use crate::full_data::{FullData, full_data};
+use crate::full_data::FullData;
 use crate::read_code128::read_code128;
 use crate::read_ean::{read_ean8, read_ean13, read_upca};
 use linear::{Code128, Ean8, Ean13, Linear, MAX_MODULES, UpcA};
@@ -20,7 +20,7 @@ impl LinearReading for Ean13 {
         if row.len() > MAX_MODULES {
             return None;
         }
-        Some(full_data(&read_ean13(row)?))
+        read_ean13(row)
     }
 }
 
@@ -29,7 +29,7 @@ impl LinearReading for Ean8 {
         if row.len() > MAX_MODULES {
             return None;
         }
-        Some(full_data(&read_ean8(row)?))
+        read_ean8(row)
     }
 }
 
@@ -38,7 +38,7 @@ impl LinearReading for UpcA {
         if row.len() > MAX_MODULES {
             return None;
         }
-        Some(full_data(&read_upca(row)?))
+        read_upca(row)
     }
 }
 

@@ -6,7 +6,7 @@ ghost use Rattle.linear.specs.Code128Reading.{read_code128};
 ghost use Rattle.linear.specs.EanReading.{read_ean13, read_ean8};
 ghost use Rattle.linear.specs.Scanning.{readings};
 
-use crate::full_data::{FullData, full_data};
+use crate::full_data::FullData;
 use crate::read_code128::read_code128;
 use crate::read_ean::{read_ean8, read_ean13};
 use linear::{MAX_MODULES, Row};
@@ -29,13 +29,9 @@ fn read_forwards(row: &[bool]) -> Option<FullData>
     ensures { option_map (λ full. full.items) result
         ≡ option_or (option_or (read_ean13 row.now) (read_ean8 row.now)) (read_code128 row.now) }
 {
-    if let Some(digits) = read_ean13(row) {
-        return Some(full_data(&digits));
-    }
-    if let Some(digits) = read_ean8(row) {
-        return Some(full_data(&digits));
-    }
-    read_code128(row)
+    read_ean13(row)
+        .or_else(|| read_ean8(row))
+        .or_else(|| read_code128(row))
 }
 
 /// Reads a row by the rules of EAN-13, EAN-8 and Code 128, from left to right and from right to left: its one reading,

@@ -1,40 +1,41 @@
 -- Lists of bits, and the numbers that they represent.
-use Rattle.std.proofs.Common.{◌≡◌, ℕ, suc, ◌+◌, ◌-◌, ◌/◌, ◌%◌, ◌^◌, ◌<◌, ◌≤◌, List, [], ◌∷◌, ◌++◌, Bool, false}
-use Rattle.std.proofs.Common.{length, drop, refl, append_assoc, append-nil, arith, get_or}
+use Rattle.std.proofs.Common.{◌≡◌, ℕ, suc, ◌+◌, ◌*◌, ◌%◌, ◌^◌, ◌<◌, ◌≤◌, List, [], ◌∷◌, ◌++◌, Bool, true, false}
+use Rattle.std.proofs.Common.{length, drop, refl, append_assoc, append-nil, arith, get_or, ◌∙◌, ap}
+use Rattle.std.proofs.Math.Nat.{add-mul, mul_assoc, pow-suc}
 use Rattle.std.proofs.Math.Pow.{pow_mono}
-use Rattle.std.proofs.lemmas.List.{drop_all, drop_more, length-drop}
-use Rattle.std.specs.Prelude.{if◌then◌else◌, ◌==◌}
+use Rattle.std.proofs.lemmas.List.{drop_all, drop_more}
+use Rattle.std.specs.Int.{from_bool}
+use Rattle.std.specs.List.{fold}
 use Rattle.qrdata.specs.Bits.{bits_of, number_of}
 use Rattle.qrdata.specs.Segments.{byte_bits}
-use Rattle.qrdata.proofs.BitStringLaws.{number_of-lt}
 
--- a bit more of a number
-pub number_next : (bits : List Bool) (i number : ℕ) → i < length bits
-    → number + number_of (drop i bits) ≡ number_of bits
-    → number + (if get_or bits i false then 2 ^ (length bits - 1 - i) else 0) + number_of (drop (i + 1) bits)
-    ≡ number_of bits
+-- the number of bits before these, and theirs
+abbrev pub folded : ℕ → List Bool → ℕ
+folded n bits = fold (λ number bit. 2 * (number % 32768) + from_bool bit) n bits
+
+whole : (n k length_after : ℕ) → n < 2 ^ k → k + suc length_after ≤ 16 → n % 32768 ≡ n
+whole n k length_after low few =
+    let fits : k ≤ 15 = omega (arith, few) in omega (arith, low, pow_mono fits)
+
+-- twice a number and a bit, before more bits
+twice : (n bit l : ℕ) → (2 * n + bit) * 2 ^ l ≡ n * 2 ^ suc l + bit * 2 ^ l
+twice n bit l =
+    omega (arith, add-mul (2 * n) bit (2 ^ l), mul_assoc 2 n (2 ^ l), ap (λ p. n * p) (pow-suc 2 l), mul_assoc n (2 ^ l) 2)
+
+fold_more : (bits : List Bool) (n k : ℕ) → n < 2 ^ k → k + length bits ≤ 16
+    → folded n bits ≡ n * 2 ^ length bits + number_of bits
 unfolding number_of
-number_next bits i number inside is =
-    let size : length (drop (i + 1) bits) ≡ length bits - 1 - i = omega (arith, length-drop (i + 1) bits) in
-    omega (arith, rw (drop_more bits i false inside, size) at is)
+fold_more [] n k low few = omega arith
+fold_more (true ∷ bits) n k low few =
+    rw (whole n k (length bits) low few, fold_more bits (2 * n + 1) (suc k) (omega (arith, low)) (omega (arith, few)))
+    (omega (arith, twice n 1 (length bits)))
+fold_more (false ∷ bits) n k low few =
+    rw (whole n k (length bits) low few, fold_more bits (2 * n + 0) (suc k) (omega (arith, low)) (omega (arith, few)))
+    (omega (arith, twice n 0 (length bits)))
 
-pub number_all : (bits : List Bool) (i number : ℕ) → length bits ≤ i
-    → number + number_of (drop i bits) ≡ number_of bits → number ≡ number_of bits
-unfolding number_of
-number_all bits i number none is = omega (arith, rw (drop_all i bits none) at is)
-
-pub number-small : (bits : List Bool) → length bits ≤ 16 → number_of bits < 2 ^ 16
-number-small bits few = omega (arith, number_of-lt bits, pow_mono few)
-
--- a bit more of a codeword
-pub bit_next : (bits : List Bool) (n m codeword : ℕ) → n ≡ suc m
-    → (bits ++ (codeword / 2 ^ m % 2 == 1) ∷ []) ++ bits_of m codeword ≡ bits ++ bits_of n codeword
-unfolding bits_of
-bit_next bits n m codeword more = rw (more, append_assoc bits) refl
-
-pub bits_all : (bits : List Bool) (n codeword : ℕ) → n ≡ 0 → bits ≡ bits ++ bits_of n codeword
-unfolding bits_of
-bits_all bits n codeword none = rw (none, append-nil) refl
+pub fold_bits : (bits : List Bool) → length bits ≤ 16
+    → folded 0 bits ≡ number_of bits
+fold_bits bits few = fold_more bits 0 0 (omega arith) (omega (arith, few)) ∙ omega arith
 
 -- the bits of a codeword more
 pub codeword_bits_next : (bits : List Bool) (codewords : List ℕ) (i : ℕ) → i < length codewords

@@ -1,56 +1,30 @@
 -- Blocks are taken back out of interleaved codewords one after another, and each is tested by its remainder.
-use Rattle.std.proofs.Common.{◌≡◌, ℕ, zero, suc, ◌+◌, ◌-◌, ◌<◌, ◌≤◌, List, [], ◌∷◌, ◌++◌, map, take, drop, get_or, All}
-use Rattle.std.proofs.Common.{length, refl, sym, ap, ◌∙◌, append_assoc, length-append, arith, Bool, true, false, min}
-use Rattle.std.proofs.Common.{sum}
-use Rattle.std.proofs.Common.{cond, inl, inr}
+use Rattle.std.proofs.Common.{◌≡◌, ℕ, suc, ◌+◌, ◌-◌, ◌<◌, ◌≤◌, List, [], ◌∷◌, ◌++◌, map, drop, All, min}
+use Rattle.std.proofs.Common.{length, refl, sym, ap, ◌∙◌, append_assoc, length-append, arith, Bool, true, false}
 use Rattle.std.specs.Bool.{then_some}
-use Rattle.std.specs.Prelude.{None, Option, bytes_eq, nat_lt, slice_index}
-use Rattle.std.specs.List.{concat, list_all, range_with_len, sum_by, zip}
-use Rattle.std.proofs.lemmas.Bool.{cases_lt, le-ltb, lt-ltb}
+use Rattle.std.specs.Prelude.{Option, bytes_eq}
+use Rattle.std.specs.List.{sum_by, concat, list_all, range_with_len, zip}
 use Rattle.std.proofs.lemmas.Bool.Decides.{nat_tests}
 use Rattle.std.proofs.lemmas.List.Elements.{All-append}
-use Rattle.std.proofs.lemmas.List.FromFn.{length-map-range_with_len}
-use Rattle.std.proofs.lemmas.List.Sums.{sum_by-cons}
+use Rattle.std.proofs.lemmas.List.Sums.{sum_by-le}
 use Rattle.std.proofs.lemmas.Slice.Eq.{bytes_eq-Decides}
 use Rattle.gf256.specs.Field.{IsElement}
 use Rattle.gf256.specs.ErrorCorrection.{AreEcCodewords, wrong_codewords}
 use Rattle.gf256.proofs.DistanceLaws.{close_codewords}
 use Rattle.qr_reading.specs.Private.Blocks.{block_at, sound_blocks}
-use Rattle.qrdata.specs.Reading.{deinterleaving, has_roots, interleaving_place}
+use Rattle.qrdata.specs.Reading.{deinterleaving, has_roots}
 use Rattle.qrdata.proofs.BitStringLaws.{drop_front}
 use Rattle.qrdata.proofs.DamageLaws.{HasRoots-has_roots}
 use Rattle.qrdata.proofs.DataReadingLaws.{roots_pass}
 
--- ---- the place of a codeword
-
-min_below : (i : ℕ) (lengths : List ℕ) → sum_by (min i) lengths ≤ sum lengths
-min_below i [] = omega arith
-min_below i (n ∷ lengths) =
-    omega (arith, sum_by-cons (min i) n lengths, sum_by-cons (λ x. x) n lengths, min_below i lengths)
-
-pub place_below : (lengths : List ℕ) (b i : ℕ) → b < length lengths → i < get_or lengths b 0
-    → interleaving_place lengths b i < sum lengths
-place_below [] b i inside h = absurd (omega arith)
-place_below (n ∷ lengths) zero i inside h =
-    omega (arith, sum_by-cons (min i) n lengths, sum_by-cons (λ x. x) n lengths, min_below i lengths)
-place_below (n ∷ lengths) (suc b) i inside h =
-    let rest = place_below lengths b i (omega arith) h in
-    let one = sum_by-cons (λ n. cond (nat_lt i n) 1 0) n (take b lengths) in
-    let below = sum_by-cons (min i) n lengths in
-    let all = sum_by-cons (λ x. x) n lengths in
-    elim (cases_lt i n) [
-      | inl has ↦ omega (arith, rest, rw (lt-ltb i n has) at one, below, all)
-      | inr lacks ↦ omega (arith, rest, rw (le-ltb i n lacks) at one, below, all)
-    ]
+-- at most as many codewords as the places, for each block
+pub few_below : (place : ℕ) (lengths : List ℕ) → place ≤ 255 → length lengths ≤ 8 → sum_by (min place) lengths ≤ 2040
+few_below place lengths low few = omega (arith, few, sum_by-le (min place) 255 lengths (λ k d inside. omega (arith, low)))
 
 -- the places that are left are the next one and those after it
 pub place_next : {A : Type 0} (f : ℕ → A) (place n : ℕ) → place < n
     → map f (range_with_len place (n - place)) ≡ f place ∷ map f (range_with_len (place + 1) (n - (place + 1)))
 place_next f place n h = let more : n - place ≡ suc (n - (place + 1)) = omega arith in rw more refl
-
-pub length-block_at : (lengths codewords : List ℕ) (b : ℕ)
-    → length (block_at lengths codewords b) ≡ slice_index lengths b
-length-block_at lengths codewords b = length-map-range_with_len _ 0 (slice_index lengths b)
 
 -- ---- the test of a block
 
@@ -123,16 +97,9 @@ module _ (k : ℕ) (lengths ec_lengths codewords ec_codewords : List ℕ) where
   all_blocks message n empty count ec_count = rw (empty, ← count, ← ec_count) refl
 
   -- a block that passes, and those after it
-  pub one_block : (message : List ℕ) (b n : ℕ) → b < n
-      → has_roots k (block_at lengths codewords b, block_at ec_lengths ec_codewords b) ≡ true
-      → with_blocks (message ++ block_at lengths codewords b) (b + 1) (n - (b + 1)) ≡ with_blocks message b (n - b)
-  one_block message b n inside passes =
+  pub one_block : (message block ec_block : List ℕ) (b n : ℕ) → b < n → block ≡ block_at lengths codewords b
+      → ec_block ≡ block_at ec_lengths ec_codewords b → has_roots k (block, ec_block) ≡ true
+      → with_blocks (message ++ block) (b + 1) (n - (b + 1)) ≡ with_blocks message b (n - b)
+  one_block message block ec_block b n inside is ec_is passes =
       let more : n - b ≡ suc (n - (b + 1)) = omega arith in
-      rw (more, passes, append_assoc message) refl
-
-  -- where a block fails
-  pub no_block : (message : List ℕ) (b n : ℕ) → b < n
-      → has_roots k (block_at lengths codewords b, block_at ec_lengths ec_codewords b) ≡ false
-      → None ≡ with_blocks message b (n - b)
-  no_block message b n inside fails =
-      let more : n - b ≡ suc (n - (b + 1)) = omega arith in rw (more, fails) refl
+      rw (more, is, rw (is, ec_is) at passes, append_assoc message) refl

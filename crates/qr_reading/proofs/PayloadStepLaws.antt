@@ -1,13 +1,22 @@
 -- Payloads are read group by group: what one group gives, and what is read after it.
-use Rattle.std.proofs.Common.{◌≡◌, ℕ, zero, suc, ◌-◌, ◌<◌, List, ◌++◌, Bool, refl, sym, ap, append_assoc, arith, le-ltb}
+use Rattle.std.proofs.Common.{◌≡◌, ℕ, zero, suc, ◌+◌, ◌-◌, ◌<◌, List, ◌++◌, Bool, refl, sym, ap, append_assoc, arith, le-ltb}
 use Rattle.std.proofs.lemmas.List.{append-nil}
 use Rattle.std.specs.Prelude.{None, Option, Some}
+use Rattle.std.proofs.lemmas.Bool.{eqb-true}
+use Rattle.std.specs.Prelude.{◌==◌}
+use Rattle.qrmatrix.proofs.ComputedLaws.{passes}
+use Rattle.qrdata.specs.Segments.{alphanumeric_characters}
 use Rattle.qrdata.specs.declared.mode.Mode.{Mode}
 use Rattle.qrdata.specs.declared.mode.Mode.TheVariants.{Numeric, Alphanumeric, Byte}
 use Rattle.qr_reading.specs.Private.Groups.{group_bytes, next_group}
 use Rattle.qr_reading.specs.Private.ReadSoFar.{after}
-use Rattle.qrdata.specs.Reading.{bytes_at, characters_at, digits_at, number_at, payload_at}
+use Rattle.qrdata.specs.Reading.{alphanumeric_character, bytes_at, characters_at, digits_at, number_at, payload_at}
 use Rattle.qrdata.specs.Steps.{◌>>=◌}
+
+-- the first ten characters are the digits
+pub digit_character : (value : ℕ) → value < 10 → alphanumeric_character value ≡ 48 + value
+unfolding alphanumeric_characters
+digit_character value low = eqb-true _ _ (passes (λ d. alphanumeric_character d == 48 + d) 10 value refl low)
 
 -- a payload is its first group and the others
 in_groups : (mode : Mode) (left : ℕ) (bits : List Bool) → 0 < left

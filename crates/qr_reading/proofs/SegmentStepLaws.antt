@@ -1,15 +1,12 @@
 -- Segments are read one after another: what one gives, and what is read after it.
-use Rattle.std.proofs.Common.{◌≡◌, ℕ, zero, suc, ◌-◌, ◌^◌, ◌<◌, List, [], ◌++◌, Bool, true, false, refl, sym, ap}
+use Rattle.std.proofs.Common.{◌≡◌, ℕ, zero, suc, ◌-◌, ◌<◌, List, [], ◌++◌, Bool, true, false, refl, sym, ap}
 use Rattle.std.proofs.Common.{append_assoc, ◌∙◌}
 use Rattle.std.proofs.Common.{arith}
 use Rattle.std.proofs.lemmas.List.{append-nil}
 use Rattle.std.proofs.lemmas.Option.{none-some, same_Some}
-use Rattle.std.specs.Prelude.{None, Option, Some, ◌==◌}
-use Rattle.std.specs.List.{find}
-use Rattle.qrdata.specs.declared.mode.Mode.{Mode}
+use Rattle.std.specs.Prelude.{None, Option, Some}
 use Rattle.qr_reading.specs.Private.ReadSoFar.{after, with_rest}
-use Rattle.qrdata.specs.Reading.{is_end, number_at, payload_at, segment_at, segments_at}
-use Rattle.qrdata.specs.Segments.{count_width, mode_indicator, modes}
+use Rattle.qrdata.specs.Reading.{is_end, segment_at, segments_at}
 use Rattle.qrdata.specs.Steps.{◌>>=◌}
 
 none_after : (before : List ℕ) (found : Option (List ℕ × List Bool)) → None ≡ after before found → found ≡ None
@@ -35,30 +32,6 @@ joined before bytes rest later (Some first) is =
     ∙ others_after before first.0 (later first.1)
 
 module _ (version : ℕ) (before : List ℕ) (bits : List Bool) where
-  pub no_indicator : None ≡ number_at 16 4 bits → None ≡ after before (segment_at version bits)
-  unfolding segment_at after
-  no_indicator found = rw (← found) refl
-
-  pub no_mode : (indicator : ℕ) (rest : List Bool) → Some (indicator, rest) ≡ number_at 16 4 bits
-      → None ≡ find (λ mode. mode_indicator mode == indicator) modes → None ≡ after before (segment_at version bits)
-  unfolding segment_at after
-  no_mode indicator rest found named = rw (← found, ← named) refl
-
-  pub no_count : (indicator : ℕ) (rest : List Bool) (mode : Mode) → Some (indicator, rest) ≡ number_at 16 4 bits
-      → Some mode ≡ find (λ mode. mode_indicator mode == indicator) modes
-      → None ≡ number_at (2 ^ count_width version mode) (count_width version mode) rest
-      → None ≡ after before (segment_at version bits)
-  unfolding segment_at after
-  no_count indicator rest mode found named counted = rw (← found, ← named, ← counted) refl
-
-  pub one_payload : (indicator : ℕ) (rest : List Bool) (mode : Mode) (count : ℕ) (payload : List Bool)
-      → Some (indicator, rest) ≡ number_at 16 4 bits
-      → Some mode ≡ find (λ mode. mode_indicator mode == indicator) modes
-      → Some (count, payload) ≡ number_at (2 ^ count_width version mode) (count_width version mode) rest
-      → after before (payload_at mode count payload) ≡ after before (segment_at version bits)
-  unfolding segment_at
-  one_payload indicator rest mode count payload found named counted = rw (← found, ← named, ← counted) refl
-
   -- where a segment is wrong, nothing is read
   pub no_segment : (most : ℕ) → is_end bits ≡ false → None ≡ after before (segment_at version bits)
       → None ≡ with_rest before (segments_at version most bits)

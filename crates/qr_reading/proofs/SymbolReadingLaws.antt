@@ -1,13 +1,13 @@
 -- What a symbol is read as, by its side, the first modules of row 8, its patterns and the walk.
-use Rattle.std.proofs.Common.{◌≡◌, ℕ, ◌-◌, ◌/◌, ◌<◌, ◌≤◌, refl, sym, ap, subst, ◌∙◌, arith, Bool, true, false}
+use Rattle.std.proofs.Common.{◌≡◌, ℕ, ◌-◌, ◌*◌, ◌/◌, ◌<◌, ◌≤◌, refl, sym, ap, subst, ◌∙◌, arith, Bool, true, false}
 use Rattle.std.proofs.Common.{List, [], ◌∷◌, length, map, Option, Some, None, ◌&&◌, ◌==◌}
 use Rattle.std.specs.Prelude.{All, find, if◌then◌else◌, nat_le, nat_lt, option_and_then, slice_index_or}
 use mathlib.Core.Bool.{xor}
-use Rattle.std.specs.List.{filter, flat_map, range_with_len}
+use Rattle.std.specs.List.{filter, flat_map, list_all, range_with_len}
 use Rattle.std.proofs.lemmas.Bool.{and_parts, eqb-true, leb-true, ltb-true}
 use Rattle.std.proofs.lemmas.Bool.Decides.{nat_tests}
-use Rattle.std.proofs.lemmas.List.{length-map, map-append}
-use Rattle.std.proofs.lemmas.List.Elements.{filter-append, recursion_from_All}
+use Rattle.std.proofs.lemmas.List.{length-map}
+use Rattle.std.proofs.lemmas.List.Elements.{recursion_from_All}
 use Rattle.qrdata.specs.declared.level.Level.{Level}
 use Rattle.gf256.specs.BinaryPolynomial.{binary_remainder}
 use Rattle.qrdata.specs.declared.bits.Bits.{Bits}
@@ -22,8 +22,8 @@ use Rattle.qrmatrix.specs.Placement.{remainder_bits}
 use Rattle.qrmatrix.specs.Square.{value_at}
 use Rattle.qrmatrix.specs.Private.Drawing.{MarksFree}
 use Rattle.qrmatrix.specs.Reading.{read_bits, read_format, read_matrix, read_with, shows_functions, shows_version, walk}
-use Rattle.qrmatrix.specs.Private.Placing.{right_column, row_of}
-use Rattle.qr_reading.specs.Private.Walking.{format_named, row_bits, strip_bits, walk_bits}
+use Rattle.qr_reading.specs.Private.Walking.{DrawsPatterns, format_named, place_at, shows_row, walked_bit}
+use Rattle.qr_reading.proofs.PatternReadingLaws.{patterns_shown}
 use Rattle.qrmatrix.proofs.ComputedLaws.{by_version, same_at}
 use Rattle.qrmatrix.proofs.FoundLaws.{IsFormat-of, find_in_range, format_of, reading_of}
 use Rattle.qrmatrix.proofs.ReadingLaws.{format_shown, version_is_shown}
@@ -32,67 +32,47 @@ use Rattle.qrmatrix.proofs.WordDistanceLaws.{format_word}
 
 -- ---- the walk
 
--- the places of a row that a strip reaches after t others
-pair_at : ℕ → ℕ → ℕ → List (ℕ × ℕ)
-pair_at n strip t =
-    (right_column n strip, row_of n strip t) ∷ (right_column n strip - 1, row_of n strip t) ∷ []
-
-strip_at : ℕ → ℕ → List (ℕ × ℕ)
-strip_at n strip = flat_map (pair_at n strip) (range_with_len 0 n)
-
 walk_is : (v : ℕ) → 1 ≤ v → v ≤ 10
-    → walk (side_of v) ≡ flat_map (strip_at (side_of v)) (range_with_len 0 ((side_of v - 1) / 2))
-unfolding walk strip_at pair_at
+    → walk (side_of v) ≡ map (place_at (side_of v)) (range_with_len 0 ((side_of v - 1) / 2 * (2 * side_of v)))
+unfolding walk
 walk_is = by_version (λ v. walk (side_of v))
-    (λ v. flat_map (strip_at (side_of v)) (range_with_len 0 ((side_of v - 1) / 2))) refl
+    (λ v. map (place_at (side_of v)) (range_with_len 0 ((side_of v - 1) / 2 * (2 * side_of v)))) refl
 
-module _ (free modules : ℕ → ℕ → Bool) where
-  -- the free modules at a list of places
-  kept : List (ℕ × ℕ) → List Bool
-  kept places = map (λ (p : ℕ × ℕ). modules p.0 p.1) (filter (λ (p : ℕ × ℕ). free p.0 p.1) places)
+-- the free modules at places of the walk
+kept : (n : ℕ) (free modules : ℕ → ℕ → Bool) (ks : List ℕ)
+    → map (λ (p : ℕ × ℕ). modules p.0 p.1) (filter (λ (p : ℕ × ℕ). free p.0 p.1) (map (place_at n) ks))
+    ≡ flat_map (walked_bit n free modules) ks
+kept n free modules [] = refl
+kept n free modules (k ∷ ks) = at (free (place_at n k).0 (place_at n k).1) refl (kept n free modules ks)
+  where
+    module_at : ℕ × ℕ → Bool
+    module_at p = modules p.0 p.1
 
-  kept-flat_map : (f : ℕ → List (ℕ × ℕ)) (g : ℕ → List Bool) → ((k : ℕ) → kept (f k) ≡ g k) → (xs : List ℕ)
-      → kept (flat_map f xs) ≡ flat_map g xs
-  unfolding kept
-  kept-flat_map f g same [] = refl
-  kept-flat_map f g same (x ∷ xs) =
-      rw (filter-append, map-append, ← same x, ← kept-flat_map f g same xs) refl
+    is_free_at : ℕ × ℕ → Bool
+    is_free_at p = free p.0 p.1
 
-  pair_kept : (n strip t : ℕ) → kept (pair_at n strip t) ≡ row_bits n free modules strip t
-  unfolding kept pair_at
-  pair_kept n strip t =
-      at (free (right_column n strip) (row_of n strip t)) (free (right_column n strip - 1) (row_of n strip t)) refl refl
-    where
-      at : (a b : Bool) → free (right_column n strip) (row_of n strip t) ≡ a
-          → free (right_column n strip - 1) (row_of n strip t) ≡ b
-          → kept (pair_at n strip t) ≡ row_bits n free modules strip t
-      at true true first second = rw (first, second) refl
-      at true false first second = rw (first, second) refl
-      at false true first second = rw (first, second) refl
-      at false false first second = rw (first, second) refl
-
-  walk_kept : (v : ℕ) → 1 ≤ v → v ≤ 10 → kept (walk (side_of v)) ≡ walk_bits (side_of v) free modules
-  unfolding walk_bits strip_bits strip_at
-  walk_kept v least most =
-      let n = side_of v in
-      ap kept (walk_is v least most)
-      ∙ kept-flat_map (strip_at n) (strip_bits n free modules)
-      (λ strip. kept-flat_map (pair_at n strip) (row_bits n free modules strip) (pair_kept n strip) (range_with_len 0 n))
-      (range_with_len 0 ((n - 1) / 2))
+    at : (b : Bool) → is_free_at (place_at n k) ≡ b
+        → map module_at (filter is_free_at (map (place_at n) ks)) ≡ flat_map (walked_bit n free modules) ks
+        → map module_at (filter is_free_at (map (place_at n) (k ∷ ks))) ≡ flat_map (walked_bit n free modules) (k ∷ ks)
+    at true is rest = rw is (ap (λ l. module_at (place_at n k) ∷ l) rest)
+    at false is rest = rw is rest
 
 module _ (v : ℕ) (least : 1 ≤ v) (most : v ≤ 10) where
   -- the walk reads the free modules with the mask taken off
   pub walk_read : (mask : ℕ) (free : List (List Bool)) (m : ℕ → ℕ → Bool) → MarksFree v free
-      → walk_bits (side_of v) (value_at free) (λ x y. xor (is_flipped mask x y) (m x y)) ≡ read_bits v mask m
-  unfolding kept read_bits
+      → flat_map (walked_bit (side_of v) (value_at free) (λ x y. xor (is_flipped mask x y) (m x y)))
+      (range_with_len 0 ((side_of v - 1) / 2 * (2 * side_of v))) ≡ read_bits v mask m
+  unfolding read_bits
   walk_read mask free m marks =
       let n = side_of v in
       let is_left = λ (p : ℕ × ℕ). value_at free p.0 p.1 in
       let chosen = λ (p : ℕ × ℕ). is_free v p.0 p.1 in
       let same = same_filter is_left chosen (is_walked n)
       (λ p i. marks.inside p.0 p.1 (grind (arith, nat_tests)) (grind (arith, nat_tests))) (walk n) (walked v least most) in
-      sym (walk_kept (value_at free) (λ x y. xor (is_flipped mask x y) (m x y)) v least most)
-      ∙ ap (map (λ (p : ℕ × ℕ). xor (is_flipped mask p.0 p.1) (m p.0 p.1))) same
+      let module_at = λ (p : ℕ × ℕ). xor (is_flipped mask p.0 p.1) (m p.0 p.1) in
+      sym (kept n (value_at free) (λ x y. xor (is_flipped mask x y) (m x y))
+      (range_with_len 0 ((n - 1) / 2 * (2 * n))))
+      ∙ ap (λ places. map module_at (filter is_left places)) (sym (walk_is v least most)) ∙ ap (map module_at) same
 
   few_bits : (nat_le (room v) 2775 && nat_lt (remainder_bits v) 8) ≡ true
   unfolding total_codewords remainder_bits
@@ -118,11 +98,11 @@ module _ (v : ℕ) (least : 1 ≤ v) (most : v ≤ 10) where
 
 -- the level and the mask that five modules name are those of the format information
 named_by_word : (message : ℕ) → message < 32 → format_of (format_word message)
-    ≡ (let word = format_word message in format_named (bit word 14) (bit word 13) (bit word 12) (bit word 11) (bit word 10))
+    ≡ (let word = format_word message in format_named (λ x. bit word (14 - x)))
 unfolding format_word binary_remainder
 named_by_word message low =
     same_at 0 32 (λ message. format_of (format_word message)) (λ message. let word = format_word message in
-    format_named (bit word 14) (bit word 13) (bit word 12) (bit word 11) (bit word 10)) refl message (omega arith) low
+    format_named (λ x. bit word (14 - x))) refl message (omega arith) low
 
 no_reading : {A : Type 0} (a : Bool) (x : A) → (if a && false then Some x else None) ≡ None
 no_reading true x = refl
@@ -131,18 +111,13 @@ no_reading false x = refl
 module _ (n : ℕ) (m : ℕ → ℕ → Bool) where
   -- the level and the mask that the first five modules of row 8 name
   abbrev named : Level × ℕ
-  named = format_named (m 0 8) (m 1 8) (m 2 8) (m 3 8) (m 4 8)
+  named = format_named (λ x. m x 8)
 
   named_is : (format : Level × ℕ) → read_format n m ≡ Some format → format ≡ named
   named_is format e =
       let is = IsFormat-of n m format e in
-      let at : ℕ → List Bool → Bool = λ i l. slice_index_or l i false in
-      let fourteen : m 0 8 ≡ bit (format_word is.message) 14 = ap (at 14) is.first in
-      let thirteen : m 1 8 ≡ bit (format_word is.message) 13 = ap (at 13) is.first in
-      let twelve : m 2 8 ≡ bit (format_word is.message) 12 = ap (at 12) is.first in
-      let eleven : m 3 8 ≡ bit (format_word is.message) 11 = ap (at 11) is.first in
-      let ten : m 4 8 ≡ bit (format_word is.message) 10 = ap (at 10) is.first in
-      is.value ∙ named_by_word is.message is.low ∙ rw (fourteen, thirteen, twelve, eleven, ten) refl
+      is.value ∙ named_by_word is.message is.low
+      ∙ sym (ap (λ (l : List Bool). format_named (λ x. slice_index_or l (14 - x) false)) is.first)
 
   named_low : named.1 < 8
   named_low = grind arith
@@ -166,7 +141,7 @@ module _ (n : ℕ) (m : ℕ → ℕ → Bool) where
     pub is_side : n ≡ side_of v
     is_side = sym (eqb-true (side_of v) n (find_in_range (λ v. side_of v == n) 1 10 v found).0)
 
-    pub unread : shows_functions v named.0 named.1 m ≡ false → read_matrix n m ≡ None
+    unread : shows_functions v named.0 named.1 m ≡ false → read_matrix n m ≡ None
     unfolding read_matrix
     unread wrong = rw found (at (read_format n m) refl)
       where
@@ -177,7 +152,7 @@ module _ (n : ℕ) (m : ℕ → ℕ → Bool) where
             rw (e, named_is format e, wrong)
             (no_reading (shows_version v (side_of v) m) _)
 
-    pub is_read : shows_functions v named.0 named.1 m ≡ true → read_matrix n m ≡ Some (reading_of v named m)
+    is_read : shows_functions v named.0 named.1 m ≡ true → read_matrix n m ≡ Some (reading_of v named m)
     unfolding read_matrix
     is_read shown =
         let range = find_in_range (λ v. side_of v == n) 1 10 v found in
@@ -186,3 +161,17 @@ module _ (n : ℕ) (m : ℕ → ℕ → Bool) where
         let format = subst (λ k. read_format k m ≡ Some named) side
         (format_shown v named.0 named.1 m shown range.1 most named_low) in
         rw (found, format, version_is_shown v named.0 named.1 m shown range.1 most named_low, shown) refl
+
+    -- the reading, by whether the patterns that are named and drawn are shown
+    pub read_if_shown : (format : Level × ℕ) (free dark : List (List Bool)) (shown : Bool) → format ≡ named
+        → DrawsPatterns v format.0 format.1 free dark
+        → shown ≡ list_all (λ y. shows_row n (λ x. m x y) (λ x. value_at free x y) (λ x. value_at dark x y))
+        (range_with_len 0 n) → read_matrix n m ≡ (if shown then Some (reading_of v format m) else None)
+    read_if_shown format free dark shown is draws e =
+        by_case shown (sym (ap (λ (f : Level × ℕ). shows_functions v f.0 f.1 m) is)
+        ∙ sym (e ∙ patterns_shown n v format.0 format.1 free dark m is_side draws))
+      where
+        by_case : (b : Bool) → shows_functions v named.0 named.1 m ≡ b
+            → read_matrix n m ≡ (if b then Some (reading_of v format m) else None)
+        by_case true shows = is_read shows ∙ ap (λ f. Some (reading_of v f m)) (sym is)
+        by_case false shows = unread shows

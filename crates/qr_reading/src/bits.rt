@@ -3,10 +3,9 @@ ghost use Rattle.arrayvec.specs.ArrayVec.{array_vec_len};
 ghost use Rattle.qrdata.specs.Bits.{bits_of, number_of};
 ghost use Rattle.qrdata.specs.Reading.{is_end, number_at};
 ghost use Rattle.qrdata.specs.Segments.{byte_bits};
-ghost use Rattle.std.specs.Prelude.{◌≡◌, ◌+◌, ◌*◌, ◌^◌, ◌≤◌, ◌<◌, ◌++◌, IfSome, if◌then◌else◌, length, option_map};
+ghost use Rattle.std.specs.Prelude.{◌≡◌, ◌+◌, ◌*◌, ◌≤◌, ◌<◌, ◌++◌, IfSome, length, option_map};
 
 use arrayvec::ArrayVec;
-use qrdata::power_of_two;
 
 /// The most data bits of a symbol, those of version 10 at level L.
 pub(crate) const MAX_DATA_BITS: usize = 2192;
@@ -14,30 +13,21 @@ pub(crate) const MAX_DATA_BITS: usize = 2192;
 /// Bits in the order of reading.
 pub(crate) type BitList = ArrayVec<bool, MAX_DATA_BITS>;
 
-/// Returns what a bit is worth that has `place` others after it.
-#[inline(always)]
-fn worth(bit: bool, place: usize) -> u32
-    requires { place < 16 }
-    ensures { result ≡ (if bit then 2 ^ place else 0) }
-{
-    if bit { power_of_two(place) } else { 0 }
-}
-
 /// Returns the number that bits represent.
 #[inline(always)]
 fn number_of(bits: &[bool]) -> u32
     requires { length bits.now ≤ 16 }
     ensures { result ≡ number_of bits.now }
 {
-    let mut number = 0;
-    for place in 0..bits.len() {
-        number += worth(bits[place], bits.len() - 1 - place);
-    }
-    number
+    bits.iter().fold(
+        0,
+        |number: u32, bit| 2 * (number % 0x8000) + u32::from(*bit),
+    )
 }
 
 /// Reads a number of `width` bits, and returns it and the bits after it. `None`: there are fewer bits, or the number is
 /// not below a limit.
+#[tactic(auto, unfolding(qrdata::specs::Reading::number_at))]
 pub(crate) fn number_at(limit: u32, width: usize, bits: &[bool]) -> Option<(u32, &[bool])>
     requires { width ≤ 16 }
     ensures read { option_map (λ found. (found.0, found.1.now)) result ≡ number_at limit width bits.now }
@@ -64,13 +54,23 @@ pub(crate) fn is_end(bits: &[bool]) -> bool
 
 /// Appends the bits of a codeword.
 #[inline(always)]
+#[tactic(auto, unfolding(qrdata::specs::Bits::bits_of))]
 fn push_codeword(codeword: u8, bits: &mut BitList)
     requires { array_vec_len bits.old + 8 ≤ MAX_DATA_BITS }
     ensures { bits.new.items ≡ bits.old.items ++ bits_of 8 codeword }
 {
-    for place in 0..8_u8 {
-        bits.push((codeword >> (7 - place)) % 2 == 1);
-    }
+    let bit = |place: u8| (codeword >> place) % 2 == 1;
+    // There is space for them, so that it cannot fail.
+    let _ = bits.try_extend_from_slice(&[
+        bit(7),
+        bit(6),
+        bit(5),
+        bit(4),
+        bit(3),
+        bit(2),
+        bit(1),
+        bit(0),
+    ]);
 }
 
 /// Returns the bits of codewords.

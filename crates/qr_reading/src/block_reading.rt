@@ -1,52 +1,45 @@
 //! Blocks taken back out of interleaved codewords, and the test of each (ISO/IEC 18004, 7.5, 7.6 and 12).
 ghost use Rattle.arrayvec.specs.ArrayVec.{array_vec_len};
 ghost use Rattle.gf256.specs.ErrorCorrection.{IsEcCodewordCount};
-ghost use Rattle.qrdata.specs.Reading.{has_roots};
+ghost use Rattle.qrdata.specs.Reading.{has_roots, interleaving_place};
 ghost use Rattle.qr_reading.specs.Private.Blocks.{block_at, sound_blocks};
-ghost use Rattle.std.specs.List.{count_by, sum_by};
-ghost use Rattle.std.specs.Prelude.{◌≡◌, ◌+◌, ◌<◌, ◌≤◌, All, IfSome, length, min, nat_lt, option_map};
+ghost use Rattle.std.specs.Prelude.{◌≡◌, ◌+◌, ◌<◌, ◌≤◌, All, IfSome, length, option_map};
 ghost use Rattle.std.specs.Prelude.{replicate, slice_index, sum};
 
 use gf256::Generator;
 use qrdata::{Codewords, MAX_CODEWORDS, are_bytes, push_codewords};
 
-/// Returns how many codewords of blocks have places below one.
-fn count_below(lengths: &[usize], place: usize) -> usize
-    requires { sum lengths.now ≤ MAX_CODEWORDS }
-    ensures { result ≡ sum_by (min place) lengths.now }
+/// Returns where the codeword at a place of a block is among those of all blocks.
+fn interleaving_place(lengths: &[usize], block: usize, place: usize) -> usize
+    requires place { place ≤ 255 }
+    requires block { (block ≤ length lengths.now) × (length lengths.now ≤ 8) }
+    ensures { result ≡ interleaving_place lengths.now block place }
 {
-    let mut count = 0;
-    for size in lengths {
-        count += place.min(*size);
-    }
-    count
+    let before: usize = lengths.iter().map(|size| place.min(*size)).sum();
+    let here = lengths[..block]
+        .iter()
+        .filter(|size| place < **size)
+        .count();
+    before + here
 }
 
-/// Returns how many blocks have a codeword at a place.
-fn count_at(lengths: &[usize], place: usize) -> usize
-    ensures { result ≡ count_by (nat_lt place) lengths.now }
+/// Returns the codeword at a place, or 0 where there is none.
+fn codeword_at(codewords: &[u8], place: usize) -> u8
+    ensures { result ≡ slice_index codewords.now place }
 {
-    let mut count = 0;
-    for size in lengths {
-        if place < *size {
-            count += 1;
-        }
-    }
-    count
+    codewords.get(place).copied().unwrap_or(0)
 }
 
 /// Returns a block of interleaved codewords.
 fn block_at(lengths: &[usize], codewords: &[u8], block: usize) -> Codewords
-    requires whole { sum lengths.now ≡ length codewords.now }
-    requires block { block < length lengths.now }
+    requires block { (block < length lengths.now) × (length lengths.now ≤ 8) }
     requires short { slice_index lengths.now block ≤ 255 }
-    requires few { length codewords.now ≤ MAX_CODEWORDS }
-    ensures { result.items ≡ block_at lengths.now codewords.now block }
+    ensures block { result.items ≡ block_at lengths.now codewords.now block }
+    ensures len { array_vec_len result ≡ slice_index lengths.now block }
 {
     let mut out = Codewords::new();
     for place in 0..lengths[block] {
-        let earlier = count_below(lengths, place) + count_at(&lengths[..block], place);
-        out.push(codewords[earlier]);
+        out.push(codeword_at(codewords, interleaving_place(lengths, block, place)));
     }
     out
 }
@@ -77,12 +70,11 @@ pub(crate) fn sound_blocks(
 ) -> Option<Codewords>
     requires count { IsEcCodewordCount count }
     requires equal { ec_lengths.now ≡ replicate (length lengths.now) count }
-    requires whole { (sum lengths.now ≡ length codewords.now) × (sum ec_lengths.now ≡ length ec_codewords.now) }
     requires short { All (λ n. n + count ≤ 255) lengths.now }
-    requires few { length codewords.now + length ec_codewords.now ≤ MAX_CODEWORDS }
+    requires few { (length lengths.now ≤ 8) × (sum lengths.now ≤ MAX_CODEWORDS) }
     ensures value { option_map (λ message. message.items) result
         ≡ sound_blocks count lengths.now ec_lengths.now codewords.now ec_codewords.now }
-    ensures len { IfSome result (λ message. array_vec_len message ≡ length codewords.now) }
+    ensures len { IfSome result (λ message. array_vec_len message ≡ sum lengths.now) }
 {
     let generator = Generator::new(count);
     let mut message = Codewords::new();

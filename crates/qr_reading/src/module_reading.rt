@@ -1,44 +1,17 @@
 //! The reading of a symbol's modules, with no correction (ISO/IEC 18004, 12).
 ghost use Rattle.std.specs.Prelude.{◌≡◌, ◌≤◌, ◌<◌, ◌==◌, length, option_map, slice_index};
 ghost use Rattle.std.specs.List.{find, list_all, range_with_len};
-ghost use Rattle.qrdata.specs.Bits.{codewords_of};
-ghost use Rattle.qrdata.specs.Versions.{side_of, total_codewords};
+ghost use Rattle.qrdata.specs.Versions.{side_of};
 ghost use Rattle.qrmatrix.specs.Bits.{bit};
-ghost use Rattle.qrmatrix.specs.Reading;
-ghost use Rattle.qrmatrix.specs.Reading.{read_bits, read_matrix, read_square};
+ghost use Rattle.qrmatrix.specs.Reading.{read_square};
 ghost use Rattle.qrmatrix.specs.Square.{value_at};
-ghost use Rattle.qrmatrix.specs.Private.Drawing.{MarksFree};
 ghost use Rattle.qr_reading.specs.Private.Walking.{DrawsPatterns, format_named, shows_row};
 
 use crate::data_reading::read_data;
 use crate::segment_reading::SymbolData;
-use crate::walk::read_strips;
-use qrdata::{Codewords, Level, Mask, Version, are_bytes};
+use crate::walk::read_codewords;
+use qrdata::{Level, Mask, Version};
 use qrmatrix::{SIDE, Square, draw_format, draw_functions};
-use std::marker::Model;
-
-/// What the modules of a symbol are read as.
-#[derive(Drop)]
-struct ReadSymbol {
-    version: Version,
-    level: Level,
-    codewords: Codewords,
-}
-
-impl Model for ReadSymbol {
-    ghost Value = { Reading.Reading };
-
-    ghost view = { λ s. record { version = s.version; level = s.level; codewords = s.codewords.items } };
-}
-
-/// The modules of a symbol that the codewords do not choose.
-#[derive(Drop)]
-struct Patterns {
-    /// The modules that the codewords choose.
-    free: Square,
-    /// Those of the others that are dark.
-    dark: Square,
-}
 
 /// Returns the version whose symbols have this many modules on a side.
 fn version_of_side(side: usize) -> Option<Version>
@@ -50,30 +23,6 @@ fn version_of_side(side: usize) -> Option<Version>
     Some(Version::of((side / 4 - 4) as u8))
 }
 
-/// Returns the level and the mask that the five highest bits of the format information name. They are the first five
-/// modules of row 8 (ISO/IEC 18004, 7.9).
-fn format_in(row: u64) -> (Level, Mask)
-    ensures { result ≡ format_named (bit row 0) (bit row 1) (bit row 2) (bit row 3) (bit row 4) }
-{
-    let level = match row % 4 {
-        0 => Level::H,
-        1 => Level::M,
-        2 => Level::Q,
-        _ => Level::L,
-    };
-    let mask = match row / 4 % 8 {
-        0 => 5,
-        1 => 1,
-        2 => 7,
-        3 => 3,
-        4 => 4,
-        5 => 0,
-        6 => 6,
-        _ => 2,
-    };
-    (level, Mask::of(mask))
-}
-
 /// Returns whether the module at a place is dark.
 #[inline(always)]
 fn is_dark(rows: &[u64], x: usize, y: usize) -> bool
@@ -83,65 +32,52 @@ fn is_dark(rows: &[u64], x: usize, y: usize) -> bool
     (rows[y] >> x) % 2 == 1
 }
 
-impl Patterns {
-    /// Draws the patterns of a symbol with its format information.
-    fn draw(version: Version, level: Level, mask: Mask) -> Patterns
-        ensures { DrawsPatterns version level mask result.free result.dark }
-    {
-        let mut free = Square::new();
-        let mut dark = Square::new();
-        draw_functions(version, &mut free, &mut dark);
-        draw_format(version, level, mask, &mut dark);
-        Patterns { free, dark }
-    }
-
-    /// Returns whether a row has the patterns.
-    fn is_row_shown(&self, rows: &[u64], y: usize) -> bool
-        requires { (y < length rows.now) × (length rows.now ≤ SIDE) }
-        ensures { result ≡ shows_row (length rows.now) (bit (slice_index rows.now y))
-            (λ x. value_at self.now.free x y) (λ x. value_at self.now.dark x y) }
-    {
-        (0..rows.len()).all(|x| self.free.get(x, y) || self.dark.get(x, y) == is_dark(rows, x, y))
-    }
-
-    /// Returns whether rows have the patterns.
-    fn are_shown(&self, rows: &[u64]) -> bool
-        requires { length rows.now ≤ SIDE }
-        ensures { result ≡ list_all (λ y. shows_row (length rows.now) (bit (slice_index rows.now y))
-            (λ x. value_at self.now.free x y) (λ x. value_at self.now.dark x y)) (range_with_len 0 (length rows.now)) }
-    {
-        (0..rows.len()).all(|y| self.is_row_shown(rows, y))
-    }
+/// Returns the level and the mask that the five highest bits of the format information name. They are the first five
+/// modules of row 8 (ISO/IEC 18004, 7.9).
+fn format_in(rows: &[u64]) -> (Level, Mask)
+    requires { 8 < length rows.now }
+    ensures { result ≡ format_named (λ x. bit (slice_index rows.now 8) x) }
+{
+    let level = match (is_dark(rows, 0, 8), is_dark(rows, 1, 8)) {
+        (true, true) => Level::L,
+        (true, false) => Level::M,
+        (false, true) => Level::Q,
+        (false, false) => Level::H,
+    };
+    let high = 4 * u8::from(!is_dark(rows, 2, 8));
+    let low = 2 * u8::from(is_dark(rows, 3, 8)) + u8::from(!is_dark(rows, 4, 8));
+    (level, Mask::of(high + low))
 }
 
-/// Returns the codewords that the free modules of a symbol are under a mask.
-fn read_codewords(rows: &[u64], version: Version, mask: Mask, free: &Square) -> Codewords
-    requires side { length rows.now ≡ side_of version }
-    requires free { MarksFree version free.now }
-    ensures { result.items ≡ codewords_of (total_codewords version)
-        (read_bits version mask (λ x y. bit (slice_index rows.now y) x)) }
+/// Draws the patterns of a symbol with its format information: returns the modules that the codewords choose, and those
+/// of the others that are dark.
+#[tactic(auto, using(crate::proofs::PatternReadingLaws::role_drawn), unfolding(qrmatrix::specs::Functions::fixed_module, qrmatrix::specs::Functions::is_free))]
+fn patterns(version: Version, level: Level, mask: Mask) -> (Square, Square)
+    ensures { DrawsPatterns version level mask result.0 result.1 }
 {
-    version.prove_range();
-    let bits = read_strips(version, free, rows, mask);
-    are_bytes(&bits.codewords);
-    bits.codewords
+    let mut free = Square::new();
+    let mut dark = Square::new();
+    draw_functions(version, &mut free, &mut dark);
+    draw_format(version, level, mask, &mut dark);
+    (free, dark)
 }
 
-/// Reads a square of modules as a symbol.
-fn read_symbol(rows: &[u64]) -> Option<ReadSymbol>
-    ensures { result ≡ read_matrix (length rows.now) (λ x y. bit (slice_index rows.now y) x) }
+/// Returns whether a row has the patterns.
+fn is_row_shown(free: &Square, dark: &Square, rows: &[u64], y: usize) -> bool
+    requires { (y < length rows.now) × (length rows.now ≤ SIDE) }
+    ensures { result ≡ shows_row (length rows.now) (bit (slice_index rows.now y)) (λ x. value_at free.now x y)
+        (λ x. value_at dark.now x y) }
 {
-    let version = version_of_side(rows.len())?;
-    let (level, mask) = format_in(rows[8]);
-    let patterns = Patterns::draw(version, level, mask);
-    if !patterns.are_shown(rows) {
-        return None;
-    }
-    Some(ReadSymbol {
-        version,
-        level,
-        codewords: read_codewords(rows, version, mask, &patterns.free),
-    })
+    (0..rows.len()).all(|x| free.get(x, y) || dark.get(x, y) == is_dark(rows, x, y))
+}
+
+/// Returns whether rows have the patterns.
+fn are_shown(free: &Square, dark: &Square, rows: &[u64]) -> bool
+    requires { length rows.now ≤ SIDE }
+    ensures { result ≡ list_all (λ y. shows_row (length rows.now) (bit (slice_index rows.now y))
+        (λ x. value_at free.now x y) (λ x. value_at dark.now x y)) (range_with_len 0 (length rows.now)) }
+{
+    (0..rows.len()).all(|y| is_row_shown(free, dark, rows, y))
 }
 
 /// Reads a square of modules as a symbol, with no correction (ISO/IEC 18004, 12): the data of its codewords. Both copies
@@ -152,6 +88,11 @@ pub fn read(rows: &[u64]) -> Option<SymbolData>
     ensures { option_map (λ bytes. bytes.items) result
         ≡ read_square (length rows.now) (λ x y. bit (slice_index rows.now y) x) }
 {
-    let symbol = read_symbol(rows)?;
-    read_data(symbol.version, symbol.level, &symbol.codewords)
+    let version = version_of_side(rows.len())?;
+    let (level, mask) = format_in(rows);
+    let (free, dark) = patterns(version, level, mask);
+    if !are_shown(&free, &dark, rows) {
+        return None;
+    }
+    read_data(version, level, &read_codewords(version, &free, rows, mask))
 }

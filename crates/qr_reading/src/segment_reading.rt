@@ -20,31 +20,14 @@ pub type SymbolData = ArrayVec<u8, MAX_DATA>;
 /// The 45 characters of the alphanumeric mode, in the order of their values.
 const CHARACTERS: [u8; 45] = *b"0123456789ABCDEFGHIJKLMNOPQRSTUVWXYZ $%*+-./:";
 
-/// Returns the character of an alphanumeric value.
-#[tactic(auto, unfolding(qrdata::specs::Segments::alphanumeric_characters))]
+/// Returns the character of a value. The first ten are the digits.
+#[tactic(auto, using(crate::proofs::PayloadStepLaws::digit_character), unfolding(qrdata::specs::Segments::alphanumeric_characters))]
 fn character_of(value: u32) -> u8
     requires { value < 45 }
-    ensures { result ≡ alphanumeric_character value }
+    ensures character { result ≡ alphanumeric_character value }
+    ensures digit { value < 10 → result ≡ 48 + value }
 {
     CHARACTERS[value as usize]
-}
-
-/// Returns the digit of a value.
-fn digit_of(value: u32) -> u8
-    requires { value < 10 }
-    ensures { result ≡ 48 + value }
-{
-    b'0' + value as u8
-}
-
-/// Appends bytes to the data.
-#[inline(always)]
-fn append(out: &mut SymbolData, bytes: &[u8])
-    requires { array_vec_len out.old + length bytes.now ≤ MAX_DATA }
-    ensures { out.new.items ≡ out.old.items ++ bytes.now }
-{
-    // There is space for them, so that it cannot fail.
-    let _ = out.try_extend_from_slice(bytes);
 }
 
 /// Characters of a payload that one number stands for.
@@ -66,16 +49,13 @@ fn next_group(mode: Mode, left: usize) -> Group
     ensures room { 10 * result.size ≤ 3 * result.width }
     ensures narrow { result.width ≤ 16 }
 {
-    let (size, limit, width) = match mode {
-        Mode::Numeric => if left < 2 {
-            (1, 10, 4)
-        } else if left < 3 {
-            (2, 100, 7)
-        } else {
-            (3, 1000, 10)
-        },
-        Mode::Alphanumeric => if left < 2 { (1, 45, 6) } else { (2, 2025, 11) },
-        Mode::Byte => (1, 256, 8),
+    let (size, limit, width) = match (mode, left) {
+        (Mode::Numeric, 1) => (1, 10, 4),
+        (Mode::Numeric, 2) => (2, 100, 7),
+        (Mode::Numeric, _) => (3, 1000, 10),
+        (Mode::Alphanumeric, 1) => (1, 45, 6),
+        (Mode::Alphanumeric, _) => (2, 2025, 11),
+        (Mode::Byte, _) => (1, 256, 8),
     };
     Group { size, limit, width }
 }
@@ -84,31 +64,26 @@ fn next_group(mode: Mode, left: usize) -> Group
 fn append_group(mode: Mode, left: usize, number: u32, out: &mut SymbolData)
     requires below { number < (next_group mode left).limit }
     requires room { array_vec_len out.old + (next_group mode left).size ≤ MAX_DATA }
+    requires some { 0 < left }
     ensures bytes { out.new.items ≡ out.old.items ++ group_bytes mode left number }
     ensures len { array_vec_len out.new ≡ array_vec_len out.old + (next_group mode left).size }
 {
-    match mode {
-        Mode::Numeric => if left < 2 {
-            out.push(digit_of(number));
-        } else if left < 3 {
-            append(out, &[digit_of(number / 10), digit_of(number % 10)]);
-        } else {
-            let tens = number / 10;
-            append(
-                out,
-                &[
-                    digit_of(tens / 10),
-                    digit_of(tens % 10),
-                    digit_of(number % 10),
-                ],
-            );
-        },
-        Mode::Alphanumeric => if left < 2 {
-            out.push(character_of(number));
-        } else {
-            append(out, &[character_of(number / 45), character_of(number % 45)]);
-        },
-        Mode::Byte => out.push(number as u8),
+    match (mode, left) {
+        (Mode::Byte, _) => out.push(number as u8),
+        (_, 1) => out.push(character_of(number)),
+        (Mode::Numeric, 2) => {
+            out.push(character_of(number / 10));
+            out.push(character_of(number % 10));
+        }
+        (Mode::Numeric, _) => {
+            out.push(character_of(number / 100));
+            out.push(character_of(number / 10 % 10));
+            out.push(character_of(number % 10));
+        }
+        (Mode::Alphanumeric, _) => {
+            out.push(character_of(number / 45));
+            out.push(character_of(number % 45));
+        }
     }
 }
 
@@ -149,6 +124,7 @@ fn mode_of(indicator: u32) -> Option<Mode>
 }
 
 /// Reads a segment, appends its bytes to the data, and returns the bits after it.
+#[tactic(auto, unfolding(qrdata::specs::Reading::segment_at, crate::specs::Private::ReadSoFar::after))]
 fn read_segment<'a>(version: Version, bits: &'a [bool], out: &mut SymbolData) -> Option<&'a [bool]>
     requires { HasRoom out.old.items bits.now }
     ensures read { option_map (λ end. (out.new.items, end.now)) result

@@ -1,26 +1,27 @@
-//! The bits of a symbol, read strip by strip (ISO/IEC 18004, 7.7.3 and 12).
-ghost use Rattle.std.specs.Prelude.{◌≡◌, ◌≤◌, ◌<◌, ◌+◌, ◌++◌, length};
+//! The bits of a symbol, read in the order of the walk over its modules (ISO/IEC 18004, 7.7.3 and 12).
+ghost use Rattle.std.specs.Prelude.{◌≡◌, ◌≤◌, ◌<◌, ◌+◌, ◌-◌, ◌*◌, ◌/◌, ◌++◌, length, slice_index};
 ghost use Rattle.qrdata.specs.Private.BitsInCodewords.{bits_in};
-ghost use Rattle.qrdata.specs.Versions.{side_of};
-ghost use Rattle.qrmatrix.specs.Square.{value_at};
-ghost use Rattle.qrmatrix.specs.Private.Placing.{right_column};
-ghost use Rattle.qr_reading.specs.Private.Walking.{pair_bits, strip_bits, unmasked, walk_bits};
+ghost use Rattle.qrdata.specs.Bits.{codewords_of};
+ghost use Rattle.qrdata.specs.Versions.{side_of, total_codewords};
+ghost use Rattle.qrmatrix.specs.Bits.{bit};
+ghost use Rattle.qrmatrix.specs.Private.Drawing.{MarksFree};
+ghost use Rattle.qrmatrix.specs.Reading.{read_bits};
+ghost use Rattle.qr_reading.specs.Private.Walking.{bit_if, place_at, unmasked};
 
-use qrdata::{Bits, MAX_BITS, Mask, Version};
+use qrdata::{Bits, Codewords, MAX_BITS, Mask, Version, are_bytes};
 use qrmatrix::{SIDE, Square, Strip, mask_row_bits};
 
-/// Appends the free ones of two modules, the right one first.
+/// Returns the column and the row that the walk reaches after `k` modules: it goes along the strips, in each row the
+/// right module first.
 #[inline(always)]
-fn push_pair(right_free: bool, left_free: bool, right: bool, left: bool, bits: &mut Bits)
-    requires { length (bits_in bits.old) + length (pair_bits right_free left_free right left) ≤ MAX_BITS }
-    ensures { bits_in bits.new ≡ bits_in bits.old ++ pair_bits right_free left_free right left }
+fn place_at(version: Version, k: usize) -> (usize, usize)
+    requires { k < (side_of version - 1) / 2 * (2 * side_of version) }
+    ensures place { result ≡ place_at (side_of version) k }
+    ensures inside { (result.0 < side_of version) × (result.1 < side_of version) }
 {
-    match (right_free, left_free) {
-        (true, true) => bits.push_number(2 * u32::from(right) + u32::from(left), 2),
-        (true, false) => bits.push_number(u32::from(right), 1),
-        (false, true) => bits.push_number(u32::from(left), 1),
-        (false, false) => {}
-    }
+    let side = version.side();
+    let strip = Strip::new(side, k / (2 * side));
+    (strip.x + 1 - k % 2, strip.row(k % (2 * side) / 2))
 }
 
 /// Returns the module at a place, with a mask taken off.
@@ -33,38 +34,31 @@ fn unmasked(rows: &[u64], mask: Mask, x: usize, y: usize) -> bool
     ((mask_row_bits(mask, y % 12) ^ rows[y]) >> x) % 2 == 1
 }
 
-/// Appends the free modules of a strip, row after row.
-fn read_strip(strip: Strip, free: &Square, rows: &[u64], mask: Mask, bits: &mut Bits)
-    requires side { (strip.side ≡ length rows.now) × (length rows.now ≤ SIDE) }
-    requires column { strip.x + 1 < SIDE }
-    requires strip { strip.x + 1 ≡ right_column strip.side strip.number }
-    requires room { length (bits_in bits.old) + length
-        (strip_bits strip.side (value_at free.now) (unmasked rows.now mask) strip.number) ≤ MAX_BITS }
-    ensures { bits_in bits.new ≡ bits_in bits.old
-        ++ strip_bits strip.side (value_at free.now) (unmasked rows.now mask) strip.number }
+/// Appends a module, if it is free.
+#[inline(always)]
+#[tactic(auto, using(crate::proofs::WalkedBitLaws::one_bit))]
+fn push_if(is_free: bool, dark: bool, bits: &mut Bits)
+    requires { length (bits_in bits.old) + length (bit_if is_free dark) ≤ MAX_BITS }
+    ensures { bits_in bits.new ≡ bits_in bits.old ++ bit_if is_free dark }
 {
-    for t in 0..strip.side {
-        let y = strip.row(t);
-        push_pair(
-            free.get(strip.x + 1, y),
-            free.get(strip.x, y),
-            unmasked(rows, mask, strip.x + 1, y),
-            unmasked(rows, mask, strip.x, y),
-            bits,
-        );
+    if is_free {
+        bits.push_number(u32::from(dark), 1);
     }
 }
 
-/// Returns the free modules of a symbol with a mask taken off, strip after strip.
-pub(crate) fn read_strips(version: Version, free: &Square, rows: &[u64], mask: Mask) -> Bits
+/// Returns the codewords that the free modules of a symbol are, with a mask taken off, in the order of the walk.
+pub(crate) fn read_codewords(version: Version, free: &Square, rows: &[u64], mask: Mask) -> Codewords
     requires side { length rows.now ≡ side_of version }
-    requires room { length (walk_bits (side_of version) (value_at free.now) (unmasked rows.now mask)) ≤ MAX_BITS }
-    ensures { bits_in result ≡ walk_bits (side_of version) (value_at free.now) (unmasked rows.now mask) }
+    requires free { MarksFree version free.now }
+    ensures { result.items ≡ codewords_of (total_codewords version)
+        (read_bits version mask (λ x y. bit (slice_index rows.now y) x)) }
 {
     let side = version.side();
     let mut bits = Bits::new();
-    for number in 0..(side - 1) / 2 {
-        read_strip(Strip::new(side, number), free, rows, mask, &mut bits);
+    for k in 0..(side - 1) / 2 * (2 * side) {
+        let (x, y) = place_at(version, k);
+        push_if(free.get(x, y), unmasked(rows, mask, x, y), &mut bits);
     }
-    bits
+    are_bytes(&bits.codewords);
+    bits.codewords
 }

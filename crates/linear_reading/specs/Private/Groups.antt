@@ -1,20 +1,20 @@
--- Groups of modules as numbers, as contracts inside this crate see them.
-use Rattle.std.specs.Prelude.{ℕ, ◌+◌, ◌*◌, Bool, List, [], ◌∷◌}
+-- Groups of modules, as contracts inside this crate see them.
+use Rattle.std.specs.Prelude.{◌≡◌, ℕ, ◌+◌, ◌*◌, ◌%◌, Bool, List, Option, length}
+use Rattle.std.specs.List.{fold}
 use Rattle.std.specs.Int.{from_bool}
-use Rattle.linear.specs.declared.ean.NumberSet.{NumberSet}
-use Rattle.linear.specs.declared.ean.NumberSet.TheVariants.{A, B, C}
+use Rattle.std.specs.Fn.{FnReturnsAt, Shared}
+use denote.Ref.{Bor}
 
--- the number whose bits are those of another number and these after them
-unfoldable pub number_after : ℕ → List Bool → ℕ
-number_after before [] = before
-number_after before (bit ∷ bits) = number_after (2 * before + from_bool bit) bits
-
--- the number whose bits are these
+-- the number whose bits are these, at most eight of them
 abbrev pub number_of : List Bool → ℕ
-number_of bits = number_after 0 bits
+number_of bits = fold (λ number bit. 2 * (number % 128) + from_bool bit) 0 bits
 
--- the number of a number set in the table of digits
-abbrev pub kind_of : NumberSet → ℕ
-kind_of A = 1
-kind_of B = 2
-kind_of C = 3
+-- what reads a group may be called at each group of a width
+abbrev pub TakesGroups : {F Y : Type 0} → Shared F (Bor (List Bool) × Unit {0}) (Option Y) → F → ℕ → Type 0
+TakesGroups g f width = (group : Bor (List Bool)) → length group.now ≡ width → g.pre f (group, tt)
+
+-- what it finds in each is what a rule finds
+abbrev pub Finds : {F Y : Type 0} → Shared F (Bor (List Bool) × Unit {0}) (Option Y) → F → ℕ
+    → (List Bool → Option Y) → Type 0
+Finds {Y = Y} g f width rule =
+    (group : List Bool) (y : Option Y) → length group ≡ width → FnReturnsAt g f group y → y ≡ rule group

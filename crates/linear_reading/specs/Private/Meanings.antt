@@ -1,5 +1,5 @@
 -- The meanings of Code 128 values in the code, as contracts inside this crate see them.
-use Rattle.std.specs.Prelude.{ℕ, Bool, Option, List, [], ◌∷◌, ◌++◌, find, option_map, position}
+use Rattle.std.specs.Prelude.{ℕ, Bool, true, false, Option, Some, None, List, [], ◌∷◌, ◌++◌, find, position, if◌then◌else◌}
 use Rattle.std.specs.Str.{bytes_eq}
 use Rattle.linear.specs.Code128.{characters, with_check}
 use Rattle.linear.specs.Modules.{same_modules}
@@ -7,7 +7,7 @@ use Rattle.linear.specs.declared.switching.CodeSet.{CodeSet}
 use Rattle.linear.specs.declared.switching.CodeSet.TheVariants.{A, B, C}
 use Rattle.linear_reading.specs.declared.read_code128.Meaning.{Meaning as Coded}
 use Rattle.linear_reading.specs.declared.read_code128.Meaning.TheVariants.{Character, Pair, Change, Shift, Nothing}
-use Rattle.linear.specs.Code128Reading.{Meaning, text, change, shift, none, read_values}
+use Rattle.linear.specs.Code128Reading.{Meaning, text, change, shift, none}
 
 -- what the code's meaning stands for
 abbrev pub meant : Coded → Meaning
@@ -17,10 +17,12 @@ meant (Change set) = change set
 meant Shift = shift
 meant Nothing = none
 
--- what was read before, and the bytes of values that are still to be read
-unfoldable pub with_values : List ℕ → CodeSet → Bool → List ℕ → Option (List ℕ)
-with_values before set is_shifted values =
-    option_map (λ rest. before ++ rest) (read_values set is_shifted values)
+-- what is read with a value of this meaning, after what was read before; the set after it, and whether it shifts
+abbrev pub step : List ℕ → CodeSet → Bool → Meaning → Option (List ℕ × (CodeSet × Bool))
+step before set is_shifted (text bytes) = Some (before ++ bytes, (set, false))
+step before set is_shifted (change next) = if is_shifted then None else Some (before, (next, false))
+step before set is_shifted shift = if is_shifted then None else Some (before, (set, true))
+step before set is_shifted none = None
 
 -- the value whose character is a group
 abbrev pub group_value : List Bool → Option ℕ

@@ -1,8 +1,8 @@
 -- The walk over the modules, row by row of a strip (ISO/IEC 18004, 7.7.3).
-use Rattle.std.specs.Prelude.{◌≡◌, ◌<◌, ℕ, ◌+◌, ◌-◌, ◌*◌, ◌/◌, Bool, false, List, [], ◌∷◌, ◌++◌, if◌then◌else◌}
+use Rattle.std.specs.Prelude.{◌≡◌, ◌<◌, ℕ, ◌+◌, ◌-◌, ◌*◌, ◌/◌, ◌%◌, Bool, false, List, [], ◌∷◌, if◌then◌else◌}
 use Rattle.std.specs.Prelude.{not, ◌||◌, Some, slice_index}
 use Rattle.std.specs.Bool.{beq, xor}
-use Rattle.std.specs.List.{flat_map, list_all, range_with_len}
+use Rattle.std.specs.List.{list_all, range_with_len}
 use Rattle.qrdata.specs.declared.level.Level.{Level}
 use Rattle.qrdata.specs.declared.level.Level.TheVariants.{L, M, Q, H}
 use Rattle.qrdata.specs.Versions.{side_of}
@@ -18,31 +18,25 @@ use Rattle.qrmatrix.specs.Square.{value_at}
 abbrev pub unmasked : List ℕ → ℕ → ℕ → ℕ → Bool
 unmasked rows mask x y = xor (is_flipped mask x y) (bit (slice_index rows y) x)
 
--- the free ones of two modules: the right one, then the left one
-abbrev pub pair_bits : (right_free left_free right left : Bool) → List Bool
-pair_bits right_free left_free right left =
-    (if right_free then right ∷ [] else []) ++ (if left_free then left ∷ [] else [])
+-- the place that the walk reaches after k others: it goes along strips, in each row the right module first
+abbrev pub place_at : ℕ → ℕ → ℕ × ℕ
+place_at n k =
+    (right_column n (k / (2 * n)) - k % 2, row_of n (k / (2 * n)) (k % (2 * n) / 2))
 
--- the free modules of a row that a strip reaches after t others
-abbrev pub row_bits : ℕ → (free modules : ℕ → ℕ → Bool) → ℕ → ℕ → List Bool
-row_bits n free modules strip t =
-    let x = right_column n strip in
-    let y = row_of n strip t in
-    pair_bits (free x y) (free (x - 1) y) (modules x y) (modules (x - 1) y)
+-- a module, if it is free
+abbrev pub bit_if : (is_free dark : Bool) → List Bool
+bit_if is_free dark = if is_free then dark ∷ [] else []
 
--- the free modules of a strip
-unfoldable pub strip_bits : ℕ → (free modules : ℕ → ℕ → Bool) → ℕ → List Bool
-strip_bits n free modules strip = flat_map (row_bits n free modules strip) (range_with_len 0 n)
+-- the module of the walk after k others, if it is free
+abbrev pub walked_bit : ℕ → (free modules : ℕ → ℕ → Bool) → ℕ → List Bool
+walked_bit n free modules k =
+    let place = place_at n k in bit_if (free place.0 place.1) (modules place.0 place.1)
 
--- the free modules of all strips
-unfoldable pub walk_bits : ℕ → (free modules : ℕ → ℕ → Bool) → List Bool
-walk_bits n free modules = flat_map (strip_bits n free modules) (range_with_len 0 ((n - 1) / 2))
-
--- the level and the mask that the five highest bits of the format information name, the highest first
-abbrev pub format_named : (fourteen thirteen twelve eleven ten : Bool) → Level × ℕ
-format_named fourteen thirteen twelve eleven ten =
-    let level = if fourteen then (if thirteen then L else M) else (if thirteen then Q else H) in
-    (level, 4 * one_if (not twelve) + (2 * one_if eleven + one_if (not ten)))
+-- the level and the mask that the five highest bits of the format information name, the highest at place 0
+abbrev pub format_named : (ℕ → Bool) → Level × ℕ
+format_named at =
+    let level = if at 0 then (if at 1 then L else M) else (if at 1 then Q else H) in
+    (level, 4 * one_if (not (at 2)) + (2 * one_if (at 3) + one_if (not (at 4))))
 
 -- whether each module of a row that is not free is as it should be
 abbrev pub shows_row : ℕ → (row free dark : ℕ → Bool) → Bool

@@ -1,6 +1,6 @@
 use Rattle.std.proofs.Common.{◌≡◌, ◌≤◌, ◌*◌, false, drop, length}
 use Rattle.linear.specs.Code128Reading.{read_values}
-use Rattle.linear_reading.specs.Private.Meanings.{with_values}
+use Rattle.linear_reading.proofs.ValueStepLaws.{with_values}
 use Rattle.linear_reading.proofs.read_code128.read_values.Given as goal
 
 -- the bytes so far and those of the values to come

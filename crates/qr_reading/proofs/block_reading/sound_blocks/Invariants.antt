@@ -7,5 +7,5 @@ abbrev pub invariant-loop-block : goal.invariant-loop-block
 invariant-loop-block l = record {
   all : with_blocks l.count l.lengths l.ec_lengths l.codewords l.ec_codewords l.message.items l.block
       (length l.lengths - l.block) ≡ sound_blocks l.count l.lengths l.ec_lengths l.codewords l.ec_codewords;
-  room : length l.message.items + sum (drop l.block l.lengths) ≡ length l.codewords;
+  room : length l.message.items + sum (drop l.block l.lengths) ≡ sum l.lengths;
 }

@@ -1,0 +1,16 @@
+use Rattle.std.proofs.Common.{◌≡◌, ◌-◌, ◌*◌, ◌/◌, ◌++◌, slice_index}
+use Rattle.std.specs.List.{flat_map, range_with_len}
+use Rattle.qrdata.specs.Private.BitsInCodewords.{bits_in}
+use Rattle.qrdata.specs.Versions.{side_of}
+use Rattle.qrmatrix.specs.Bits.{bit}
+use Rattle.qrmatrix.specs.Reading.{read_bits}
+use Rattle.qrmatrix.specs.Square.{value_at}
+use Rattle.qr_reading.specs.Private.Walking.{unmasked, walked_bit}
+use Rattle.qr_reading.proofs.walk.read_codewords.Given as goal
+
+-- what is written and what is to come are all the bits
+abbrev pub invariant-loop-k : goal.invariant-loop-k
+invariant-loop-k l =
+    let n = side_of l.version in
+    bits_in l.bits ++ flat_map (walked_bit n (value_at l.free) (unmasked l.rows l.mask))
+    (range_with_len l.k ((n - 1) / 2 * (2 * n) - l.k)) ≡ read_bits l.version l.mask (λ x y. bit (slice_index l.rows y) x)
