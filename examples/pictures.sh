@@ -1,0 +1,38 @@
+#!/bin/sh
+# Makes the files of docs/pictures, but for window.png, in the folder in which it runs. The files that it needs are
+# those that the commands of docs/RECIPES.md leave there.
+set -e
+
+draw() {
+    echo "$3" | labels --scale "$2" | pnmpad -white -top "$4" -bottom "$4" | pnmtopng -quiet -compression 9 > "$1.png"
+}
+draw ean13 3 'ean13 400638133393' 15
+draw ean8 3 'ean8 7351353' 15
+draw upca 3 'upca 03600029145' 15
+draw code128 3 'code128 PJJ123C' 15
+draw qr 8 'qr,level=Q HELLO WORLD' 0
+label-print --stock 'Avery L7160' --to png --dpi 150 --only 2-5,7-8,10-12 shop.lines > sheet.png
+label-print --paper 60x40 --to png --dpi 203 --only 2 --each 'one/%d.png' shop.lines
+mv one/1.png thermal.png
+tools/tests/layouts.py .
+mv rack/1.png design-rack.png
+mv pallet/1.png design-pallet.png
+mv named/1.png design-named.png
+mv own/1.png design-shelf.png
+label-print --design designs/ticket-210x148.svg --to png --dpi 203 --only 2 seats.lines > design-ticket.png
+cat > jar.lines <<'LINES'
+#{"title":"Bärlauchpesto mit Walnüssen","text":{"Filled":"3.11.2026","Text":"Hofladen Huber, kühl lagern"}}
+qr HONEY-7
+LINES
+cat > receipt.lines <<'LINES'
+#{"title":"Zoë","price":"48,00 €","text":{"Seat":"4"}}
+qr T-00000003
+LINES
+cat > address.lines <<'LINES'
+#{"title":"Dr. Ángela Müller","text":["Hauptstraße 12a","12345 Köln"]}
+qr C-1
+LINES
+for one in jar-38x21 receipt-72x60 address-88x25; do
+    name=${one%-*}
+    label-print --design "designs/$one.svg" --to png --dpi 203 "$name.lines" > "design-$name.png"
+done
