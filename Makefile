@@ -20,7 +20,7 @@ COMPLETED := $(filter-out label-window,$(TOOLS))
 MODULES := $(shell cd tools && find labeltools -name '*.py' -o -name '*.ui')
 LANGUAGES := $(patsubst tools/po/%.po,%,$(wildcard tools/po/*.po))
 WINDOW = org.labels.Window
-DOCUMENTS := README.md $(wildcard docs/*.md docs/pictures/* designs/* examples/*)
+DOCUMENTS := README.md $(wildcard docs/*.md docs/pictures/* designs/*)
 PYTHON = /usr/bin/python3
 library = $(MAKE) -C lib OUT=$(CURDIR)/out/lib PROVED=$(abspath $(PROVED)) $(1)
 link = ln -sfn $(1) $(DESTDIR)$(2)

@@ -127,7 +127,7 @@ def counts_of_text() -> Iterator[tuple[str, object]]:
     links = sum(len([*pages.links_of(text)]) for text in texts.values())
     yield "pages", joined([(len(texts), "pages"), (links, "links"), (len(glob.glob("man/*.[13]")), "manuals")])
     yield "blocks", joined((languages[language], language) for language in sorted(pages.LANGUAGES))
-    yield "names in pages", sum(len([*pages.names_in(texts[page])]) for page in pages.NAMING)
+    yield "terms of the glossary", len([*pages.terms_of(texts[pages.GLOSSARY])])
     labels = compare_symbols.all_labels()
     heads, with_zint = {label.head for label in labels}, [label for label in labels if label.zint]
     yield "labels to compare", f"{len(labels)} with {len(heads)} heads, {len(with_zint)} for zint"

@@ -8,13 +8,12 @@ draw nothing and take no seconds; some 75 seconds of a processor. built: what ne
 crates/labels/out/labels, and the proved library, crates/labels_c/out/liblabels_c.a; it has all tests of the tools.
 STEP: these steps alone, each a script of scripts/ with its arguments.
 
-Of a step that fails all is printed that it wrote, of another one its last line, and of each how long it took. Nothing
-is skipped: a test that is skipped, a step that ends with 77, a program or a folder that is missing is a failure, and
-so is a last line of a counted step, or a number of tests that ran, that is not the one in scripts/counts.txt. A step
-counts as one, but one whose last line is `N passed, M failed` as these. The last line is the sum of them.
+Of a step that fails all is printed that it wrote, of another one its last line. Nothing is skipped: a test that is
+skipped, a step that ends with 77, a program or a folder that is missing is a failure, and so is a last line of a
+counted step, or a number of tests that ran, that is not the one in scripts/counts.txt. A step counts as one, but one
+whose last line is `N passed, M failed` as these. The last line is the sum of them.
 """
 
-import os
 import re
 import sys
 import time
@@ -110,12 +109,6 @@ def passed_and_failed(step: str, is_forked: bool) -> tuple[int, int, str]:
     return good, bad, f"{said}status {status}" if bad else last
 
 
-def processor_seconds() -> float:
-    """The processor time of this process and of those that it waited for, user and system together."""
-    times = os.times()
-    return times.user + times.system + times.children_user + times.children_system
-
-
 def main() -> int:
     asked = tuple(sys.argv[1:])
     parts: dict[tuple[str, ...], tuple[str, ...]] = {("quick",): QUICK, ("built",): BUILT}
@@ -128,12 +121,10 @@ def main() -> int:
     passed = failed = 0
     for step in steps:
         start = time.monotonic()
-        used = processor_seconds()
         good, bad, said = passed_and_failed(step, step in forked)
         passed, failed = passed + good, failed + bad
         print(said)
-        taken = f"{time.monotonic() - start:.1f} s, {processor_seconds() - used:.1f} of processor"
-        print(f"{'FAILED' if bad else 'ok'}: {step}, {taken}", flush=True)
+        print(f"{'FAILED' if bad else 'ok'}: {step}, {time.monotonic() - start:.1f} s", flush=True)
     print(f"{passed} passed, {failed} failed")
     return 1 if failed else 0
 

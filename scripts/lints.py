@@ -20,7 +20,7 @@ from typing import Iterator, Mapping, Sequence
 
 import sources
 
-FOLDERS = (".ci", "scripts", "tools", "lib", "debian", "man", "completions", "examples")
+FOLDERS = (".ci", "scripts", "tools", "lib", "debian", "man", "completions")
 # The first lines that a file may have, and what reads it.
 INTERPRETERS = {
     "#!/usr/bin/python3": "python",

@@ -1,20 +1,17 @@
 #!/usr/bin/python3
 """Checks the pages against the files that they speak of: *.md, docs/*.md and crates/*/README.md.
 
-- Each block of code is closed, and its language is one that a script reads: text, one of those below, and sh, sh kit
-  and console on the pages alone that run_recipes.py runs.
+- Each block of code is closed, and its language is one that a script reads: text, one of those below, and sh and sh
+  kit on the pages alone that run_recipes.py runs.
 - Code is quoted as it is: each block of a program's language in docs/LIBRARY.md and docs/PROOF.md, and each block of
   text that begins with a clause (`ensures`), is in a file crates/*.rt or lib/* that the page names before it, line by
   line, but for the spaces in front. A block below a line `Not checked:` is left out.
 - Each link from one file of the repository to another leads to a file and a heading.
-- Each name between backticks in the pages of NAMING, such as `Filter::feed`, is of words that the code has.
+- Each name in the tables of docs/GLOSSARY.md is in the file beside it, as a whole word.
 - Each crate has a page of at most 40 lines. Each line of a block of Rust in it, but for imports and comments, is a
   line of the function page_of_NAME in crates/tests/src/pages.rt, in the same order, white space apart.
-- README.md has at most MOST_OF_README lines, and it and docs/*.md have at most MOST_BY_HAND lines by hand. All lines
-  count, blank ones too, but what scripts make or compare name by name: tables of MADE, and what is between marks.
 
-The last line is `N pages, B blocks, K names, H lines by hand, F faults`. A fault is a line before it, and makes
-the status 1.
+The last line is `N pages, B blocks, T terms, F faults`. The status is 1 where there is a fault, a line for each.
 """
 
 import functools
@@ -23,40 +20,23 @@ import os
 import re
 import sys
 from dataclasses import dataclass
-from typing import Iterable, Iterator, Mapping
+from typing import Iterable, Iterator, Mapping, Sequence
 
 from markdown_it import MarkdownIt
 from markdown_it.token import Token
 
-import believed
-import instructions
 import sources
 
 # The pages whose commands run_recipes.py runs.
-README = "README.md"
-RUN = (README, "docs/INPUT.md", "docs/PRINTING.md", "docs/RECIPES.md")
-QUOTED = {"rust", "python"}
-COMMANDS = {"sh", "sh kit", "console"}
-LANGUAGES = {"text", *COMMANDS, *QUOTED}
-# What a command of a session is behind.
-PROMPT = "$ "
+RUN = ("README.md", "docs/INPUT.md", "docs/PRINTING.md", "docs/RECIPES.md")
+QUOTED = {"rust", "c", "cpp", "python", "go", "lua"}
+LANGUAGES = {"sh", "sh kit", "text", *QUOTED}
 QUOTING = ("docs/LIBRARY.md", "docs/PROOF.md")
-# The pages that name the code, and the files that have its words.
-NAMING = tuple(f"docs/{name}.md" for name in ("ARCHITECTURE", "DEFINITIONS", "LIBRARY", "PROOF", "SPECIFICATION"))
-CODE = (
-    *("crates/*/src/**/*.rt", "crates/*/specs/*.antt", "crates/*/proofs/**/*.antt"),
-    *("lib/**/*.*", "lib/Makefile", "scripts/*.py"),
-)
-# What believed.py writes, and the first two cells of the heads of tables that it and instructions.py make or compare.
-MARKED = re.compile(f"^{believed.BEGIN}$.*?^{believed.END}\n", re.MULTILINE | re.DOTALL)
-MADE = (["Name", "What it means"], *instructions.HEADS)
-MOST_BY_HAND = 1700
-MOST_OF_README = 110
+GLOSSARY = "docs/GLOSSARY.md"
+COLUMNS = ("Term", "Meaning", "Clause", "Name", "File")
 WITHOUT_EXAMPLE = {"labels", "labels_c", "examples", "tests"}
 LONGEST = 40
 FILE = re.compile(r"\b(?:crates/[\w/]+\.rt|lib/[\w/]+\.\w+)\b")
-# A name of the code: words that are joined by colons or points, as in `Filter::feed`, `answer.length`.
-NAME = re.compile(r"[^\W\d]\w*(?:(?:::|\.)[^\W\d]\w*)*(?:\(\))?")
 EXAMPLE = re.compile(r"^fn page_of_(\w+)\(.*?\{\n(.*?)^\}", re.MULTILINE | re.DOTALL)
 NOT_CHECKED = "Not checked:"
 MARKDOWN = MarkdownIt().enable("table")
@@ -80,7 +60,7 @@ def texts() -> dict[str, str]:
     """The text of each page, by its path."""
     crates = [f"crates/{name}/README.md" for name in sources.crates_of(sources.TOP)]
     paths = [*sorted(glob.glob("*.md")), *sorted(glob.glob("docs/*.md")), *crates]
-    missing = [path for path in dict.fromkeys((*paths, *RUN, *QUOTING, *NAMING)) if not os.path.isfile(path)]
+    missing = [path for path in dict.fromkeys((*paths, *RUN, *QUOTING, GLOSSARY)) if not os.path.isfile(path)]
     if missing:
         sys.exit("\n".join(f"there is no {path}" for path in missing))
     return {path: sources.read(path) for path in paths}
@@ -113,10 +93,8 @@ def faults_of_blocks(page: str, blocks: Iterable[Block]) -> Iterator[tuple[int, 
             yield block.line, "this block is not closed"
         elif block.language not in LANGUAGES:
             yield block.line, f"no script reads blocks of {block.language or 'no language'}"
-        elif block.language in COMMANDS and page not in RUN:
+        elif block.language.startswith("sh") and page not in RUN:
             yield block.line, "nothing runs the commands of this page: write them as text"
-        elif block.language == "console" and not block.code.startswith(PROMPT):
-            yield block.line, "this session does not begin with a prompt"
         elif page in QUOTING and is_quoted and not block.above.rstrip().endswith(NOT_CHECKED):
             if not is_in_files(block.code, block.above):
                 yield block.line, "this code is in no file that the page names above it"
@@ -164,55 +142,43 @@ def cells_of(line: str) -> list[str]:
     return [cell.strip() for cell in re.split(r"(?<!\\)\|", line.strip())[1:-1]]
 
 
-def made_lines(page: str) -> int:
-    """How many lines of a page scripts make: what is between believed.py's marks, and the tables of MADE."""
-    marked = [part[0] for part in MARKED.finditer(page)]
-    count, is_made, is_in_table = sum(part.count("\n") for part in marked), False, False
-    for line in MARKED.sub("", page).split("\n"):
-        if line.startswith("|") and not is_in_table:
-            is_made = cells_of(line)[:2] in MADE
-        is_in_table = line.startswith("|")
-        count += is_in_table and is_made
-    return count
+def terms_of(page: str) -> Iterator[tuple[int, list[str]]]:
+    """The rows of a page's tables below a head of the glossary's columns: the number of the line, and its cells."""
+    in_table = False
+    for number, line in enumerate(page.split("\n"), 1):
+        if not line.startswith("|"):
+            in_table = False
+        elif tuple(cells_of(line)) == COLUMNS:
+            in_table = True
+        elif in_table and not re.fullmatch(r"[|\s:-]+", line):
+            yield number, cells_of(line)
 
 
-def lines_by_hand(pages: Mapping[str, str]) -> int:
-    """How many lines of README.md and docs/*.md no script makes."""
-    counted = [text for path, text in pages.items() if path == README or path.startswith("docs/")]
-    return sum(text.count("\n") - made_lines(text) for text in counted)
+def fault_of_term(cells: Sequence[str]) -> str | None:
+    """What is wrong with a row of the glossary, or nothing."""
+    if len(cells) != len(COLUMNS) or not all(cells):
+        return f"a row without the {len(COLUMNS)} cells"
+    name, file = (re.fullmatch(r"`([^`]+)`", cell) for cell in cells[3:])
+    if not name or not file:
+        return "the name and the file are each one word between backticks"
+    if not os.path.isfile(file[1]):
+        return f"{cells[0]}: no file {file[1]}"
+    if not re.search(rf"(?<![\w']){re.escape(name[1])}(?![\w'])", sources.read(file[1])):
+        return f"{cells[0]}: no `{name[1]}` in {file[1]}"
+    return None
 
 
-def faults_of_length(pages: Mapping[str, str]) -> Iterator[str]:
-    """Which limits of lines the pages pass."""
-    for what, count, most in (
-        (README, pages[README].count("\n"), MOST_OF_README),
-        ("pages by hand", lines_by_hand(pages), MOST_BY_HAND),
-    ):
-        if count > most:
-            yield f"{what}: {count} lines, and at most {most} are wanted"
-
-
-def names_in(text: str) -> Iterator[tuple[int, str]]:
-    """The names between backticks in a page's prose and tables, each with the number of its line."""
-    for token in parsed(text):
-        start, _ = token.map or (0, 0)
-        for part in token.children or []:
-            if part.type == "code_inline" and NAME.fullmatch(part.content):
-                yield start + 1, part.content
-
-
-@functools.cache
-def words_of_code() -> frozenset[str]:
-    """The words of the code: of the crates, the library and the scripts."""
-    paths = [path for pattern in CODE for path in glob.glob(pattern, recursive=True) if os.path.isfile(path)]
-    return frozenset(word for path in paths for word in re.findall(r"\w+", sources.read(path)))
-
-
-def faults_of_names(text: str) -> Iterator[tuple[int, str]]:
-    """The names of a page that the code does not have."""
-    for line, name in names_in(text):
-        if any(word not in words_of_code() for word in re.findall(r"\w+", name)):
-            yield line, f"no `{name}` in the code"
+def faults_of_glossary(terms: Sequence[tuple[int, list[str]]]) -> Iterator[tuple[int, str]]:
+    seen: dict[str, int] = {}
+    for number, cells in terms:
+        fault = fault_of_term(cells)
+        if not fault and cells[0] in seen:
+            fault = f"{cells[0]}: also in line {seen[cells[0]]}"
+        seen.setdefault(cells[0], number)
+        if fault:
+            yield number, fault
+    if not terms:
+        yield 1, "no term"
 
 
 def words_of(code: str) -> str:
@@ -246,21 +212,20 @@ def main() -> int:
     os.chdir(sources.TOP)
     pages = texts()
     tests = dict(EXAMPLE.findall(sources.read("crates/tests/src/pages.rt")))
-    faults = [*faults_of_length(pages)]
+    faults: list[str] = []
     count = 0
-    names = sum(len([*names_in(pages[page])]) for page in NAMING)
+    terms = [*terms_of(pages[GLOSSARY])]
     for page, text in pages.items():
         blocks = [*blocks_of(text)]
         count += len(blocks)
         found = [*faults_of_blocks(page, blocks)]
         found += [(line, fault) for line, link in links_of(text) if (fault := fault_of_link(page, link))]
-        if page in NAMING:
-            found += faults_of_names(text)
+        if page == GLOSSARY:
+            found += faults_of_glossary(terms)
         if page.startswith("crates/"):
             found += faults_of_example(page.split("/")[1], text, blocks, tests)
         faults += [f"{page}:{number}: {fault}" for number, fault in found]
-    counts = f"{len(pages)} pages, {count} blocks, {names} names, {lines_by_hand(pages)} lines by hand"
-    print(*faults, f"{counts}, {len(faults)} faults", sep="\n")
+    print(*faults, f"{len(pages)} pages, {count} blocks, {len(terms)} terms, {len(faults)} faults", sep="\n")
     return 1 if faults else 0
 
 

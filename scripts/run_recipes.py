@@ -4,14 +4,12 @@
 The pages are README.md, docs/INPUT.md, docs/PRINTING.md, docs/RECIPES.md and the examples of the man pages. PROGRAM is
 crates/labels/out/labels where none is given. A block ```sh holds commands, and the block ```text right after it, if
 there is one, what they print on standard output and standard error together; where there is none, they print nothing.
-A block ```console is a session: each command is behind a prompt `$ `, its other lines behind `> `, and what it prints
-is below it; `$ cat FILE` of a file that is not there makes the file. A block ```sh, and each command of a session, has
-to end with status 0. The blocks of a page run in their order, each by its own `sh`, at the top of a new copy of the
-repository's files, with `labels` and the tools on the path, and with a home of their own.
+A block has to end with status 0. The blocks of a page run in their order, each by its own `sh`, at the top of a new
+copy of the repository's files, with `labels` and the tools on the path, and with a home of their own.
 
-In a man page an example with prompts is a session, too: there each command may end with any status. An example without
-a prompt has to end with status 0 and may print anything; it runs in labels.1 alone, since those of the other man pages
-name files of the reader.
+In a man page an example with prompts `$ ` is a session: each command may end with any status, and what it prints is
+below it; `$ cat FILE` of a file that is not there makes the file. An example without a prompt has to end with status 0
+and may print anything; it runs in labels.1 alone, since those of the other man pages name files of the reader.
 
 A block ```sh kit calls the kit, which proves for minutes, and may print anything. It runs with --kit alone, in a fresh
 clone of what is committed, README.md first, and the other pages with the program that it builds.
@@ -42,25 +40,28 @@ PICTURES = TOP / "docs/pictures"
 # A picture of the window: themes and fonts of a desktop make it another one, so it is drawn by hand.
 OF_A_SCREEN = "window.png"
 PROGRAM = "crates/labels/out/labels"
-FOLDERS = ("man", "completions", "tools", "lib", "docs", "scripts", "designs", "examples")
+FOLDERS = ("man", "completions", "tools", "lib", "docs", "scripts", "designs")
 SECONDS = 3600
-CONTINUED = "> "
+PROMPT, CONTINUED = "$ ", "> "
 EXAMPLE = re.compile(r"(?:^ {14}.*\n)+", re.MULTILINE)
 SHOWN_FILE = re.compile(r"cat ([\w.]+)\n")
-END = "END OF FILE"
 # zbar's warnings of its reader of another symbology, which are printed in some runs and not in others
-DATABAR = re.compile(r"WARNING: decoder/databar.*\n(?:\t.*\n)?")
+DATABAR = re.compile(r"^WARNING: decoder/databar.*\n(?:\t.*\n)?", re.MULTILINE)
 
 
 @dataclass(frozen=True)
 class Commands:
-    """Commands, and what they print (None where that is not compared)."""
+    """Commands, what they print (None where that is not compared), and whether they may fail."""
 
     text: str
     printed: str | None = ""
+    may_fail: bool = False
 
     def fault(self, folder: Path, environment: Mapping[str, str]) -> str:
         """Runs them, and returns what is wrong with what they print, or nothing."""
+        shown = SHOWN_FILE.fullmatch(self.text) if self.may_fail else None
+        if shown and not (folder / shown[1]).exists():
+            (folder / shown[1]).write_text(self.printed or "", encoding="utf-8")
         ran = subprocess.run(
             ["sh", "-c", self.text],
             cwd=folder,
@@ -71,7 +72,7 @@ class Commands:
             timeout=SECONDS,
         )
         printed = DATABAR.sub("", ran.stdout.decode("utf-8", "backslashreplace"))
-        is_good = ran.returncode == 0 and self.printed in (None, printed)
+        is_good = (ran.returncode == 0 or self.may_fail) and self.printed in (None, printed)
         return "" if is_good else f"status {ran.returncode} of:\n{self.text}it printed:\n{printed}"
 
 
@@ -81,33 +82,8 @@ def commands_of(page: str, with_kit: bool) -> Iterator[Commands]:
     for block, after in zip(blocks, [*blocks[1:], None]):
         if block.language == "sh":
             yield Commands(block.code, after.code if after and after.is_next and after.language == "text" else "")
-        elif block.language == "console":
-            yield session_of(block.code.splitlines(keepends=True))
         elif block.language == "sh kit" and with_kit:
             yield Commands(block.code, None)
-
-
-def session_of(lines: Iterable[str], may_fail: bool = False) -> Commands:
-    """The commands of a session, which begins with a prompt, and what one `sh` prints of them. After each command it
-    prints a mark with the status of that command, or an empty mark where any status will do.
-    """
-    typed: list[tuple[str, str]] = []
-    for line in lines:
-        if line.startswith(pages.PROMPT):
-            typed.append((line.removeprefix(pages.PROMPT), ""))
-        elif line.startswith(CONTINUED):
-            typed[-1] = (typed[-1][0] + line.removeprefix(CONTINUED), typed[-1][1])
-        else:
-            typed[-1] = (typed[-1][0], typed[-1][1] + line)
-    asked, wanted = ("", "") if may_fail else ('"$?"', "0")
-    text = [f"{with_file(command, printed)}printf '\\001%s\\001' {asked}\n" for command, printed in typed]
-    return Commands("".join(text), "".join(f"{printed}\1{wanted}\1" for _, printed in typed))
-
-
-def with_file(command: str, printed: str) -> str:
-    """A command of a session. One that shows a file makes it before, where it is not there."""
-    shown = SHOWN_FILE.fullmatch(command)
-    return f"[ -e {shown[1]} ] || cat > {shown[1]} <<'{END}'\n{printed}{END}\n{command}" if shown else command
 
 
 def examples_of(page: Path) -> list[Commands]:
@@ -118,10 +94,16 @@ def examples_of(page: Path) -> list[Commands]:
     found: list[Commands] = []
     for example in EXAMPLE.findall(section.group(1) if section else ""):
         lines = [f"{line[14:]}\n" for line in example.splitlines()]
-        if lines[0].startswith(pages.PROMPT):
-            found.append(session_of(lines, may_fail=True))
-        elif page.name == "labels.1":
-            found.append(Commands("".join(lines), None))
+        if not lines[0].startswith(PROMPT):
+            found += [Commands("".join(lines), None)] if page.name == "labels.1" else []
+            continue
+        for line in lines:
+            if line.startswith(PROMPT):
+                found.append(Commands(line.removeprefix(PROMPT), may_fail=True))
+            elif line.startswith(CONTINUED):
+                found[-1] = replace(found[-1], text=found[-1].text + line.removeprefix(CONTINUED))
+            else:
+                found[-1] = replace(found[-1], printed=(found[-1].printed or "") + line)
     return found
 
 
@@ -206,8 +188,6 @@ def unseen() -> Iterator[str]:
             "another last letter": replace(right, printed="righs\n").fault(folder, {}),
             "no output": replace(right, text="true\n").fault(folder, {}),
             "a failure": replace(right, text="echo right; false").fault(folder, {}),
-            "a failure in a session": session_of(["$ echo right; false\n", "right\n", "$ true\n"]).fault(folder, {}),
-            "output of another command": session_of(["$ true\n", "right\n", "$ echo right\n"]).fault(folder, {}),
             "another picture": fault_of_picture(one, another),
             "another pixel": fault_of_picture(one, with_turned_pixel(one, folder)),
             "no picture": fault_of_picture(one, folder / one.name),

@@ -51,7 +51,7 @@ class Three(unittest.TestCase):
         pass
 """
 BODIES = "crates/device/wrong-bodies"
-BODY = "buffered-failed_send_passed_over.edit"
+BODY = "buffered-failed_send_passed_over_in_a_flush.edit"
 DIFFER = "crates.txt and the folders crates/*/src differ in: "
 # What is moved away for each step, and what that step says.
 MOVED = {
@@ -81,7 +81,7 @@ MOVED = {
     "run_tests.py tools/tests": (("tools/tests", "tools/t", "there is no folder tools/tests"),),
 }
 END, HANDLES = "\n## ", "Handles allowed: none."
-MANY = "\n" * 10
+ROW = "| device | a source or a sink | own | `device` | `crates.txt` |\n"
 # What is written in the place of a text of the scripts themselves, and what counts.py says.
 CHANGED_SCRIPTS = (
     ("scripts/gate.py", '    "instructions.py --check",\n', "", "steps of built: believed"),
@@ -121,11 +121,11 @@ CHANGED = {
         ("docs/PROOF.md", END, f"\n```sh\nlabels\n```\n{END}", "nothing runs the commands"),
         ("docs/PROOF.md", "ensures whole {", "ensures half {", "this code is in no file"),
         ("docs/PROOF.md", "src/streams.rt", "src/stream.rt", "this code is in no file"),
-        ("docs/INPUT.md", "```console\n$ ", "```console\n", "this session does not begin with a prompt"),
-        ("docs/PROOF.md", "`script`", "`scrip`", "no `scrip` in the code"),
-        ("docs/PROOF.md", "`Buffered::prove_reached`", "`Buffered::nought`", "no `Buffered::nought` in the code"),
-        ("README.md", END, f"{2 * MANY}{END}", "README.md: 1"),
-        ("docs/DECISIONS.md", END, f"{MANY * 99}{END}", "pages by hand: "),
+        ("docs/GLOSSARY.md", ROW, ROW.replace("`device`", "`devic`"), "device: no `devic` in crates.txt"),
+        ("docs/GLOSSARY.md", ROW, ROW.replace("crates.txt", "crate.txt"), "device: no file crate.txt"),
+        ("docs/GLOSSARY.md", ROW, ROW.replace("own", ""), "a row without the 5 cells"),
+        ("docs/GLOSSARY.md", ROW, ROW + ROW, "device: also in line"),
+        ("docs/GLOSSARY.md", "| Term | Meaning |", "| Term | Sense |", "no term"),
         ("README.md", "](docs/PROOF.md", "](docs/PROOFS.md", "a link to no file: docs/PROOFS.md"),
         (
             "README.md",
@@ -373,7 +373,7 @@ class KeptLints(InFolder):
 # Stands in for a part of the gate. Of gate.py `quick` runs one step, `built` two.
 PART = """import sys
 steps = dict(quick=["one"], built={built!r}).get(sys.argv[-1], [])
-print(*(f"ok: {{step}}, 1.5 s, 1.4 of processor" for step in steps), sep="\\n")
+print(*(f"ok: {{step}}, 1.5 s" for step in steps), sep="\\n")
 print("{name}", *sys.argv[1:], "ran")
 print({more!r}, end="")
 print({last!r})

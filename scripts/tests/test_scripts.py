@@ -22,8 +22,6 @@ compare_symbols = module("compare_symbols")
 read_foreign = module("read_foreign")
 edits = module("edits")
 instructions = module("instructions")
-believed = module("believed")
-pages = module("pages")
 run_recipes = module("run_recipes")
 pictures = module("pictures")
 wrong_bodies = module("wrong_bodies")
@@ -516,22 +514,13 @@ class Judges(unittest.TestCase):
         labels = [pictures.Label(head, b"", b"", 1) for head in heads]
         self.assertEqual(pictures.kinds_of(labels), "2 ean13, 2 level L, 1 mask 3, 2 qr, 1 version 2")
 
-    def test_lines_by_hand(self) -> None:
-        """Each line counts, but of the tables that scripts make, and only of README.md and docs/*.md."""
-        made = (
-            f"| Name | What it means |\n|---|---|\n| `Bool` | yes |\n\n{believed.BEGIN}\n\n| One |\n\n{believed.END}\n"
-        )
-        text = f"# A page\n\n{made}\n| Name | Use |\n|---|---|\n| `Bool` | a test |\n"
-        for path, count in (("README.md", 7), ("docs/A.md", 7), ("CONTRIBUTING.md", 0), ("crates/a/README.md", 0)):
-            self.assertEqual((path, pages.lines_by_hand({path: text})), (path, count))
-
     def test_recipes(self) -> None:
         self.assertEqual([*run_recipes.unseen()], [])
         for where, name, bent, count in (
-            (run_recipes.Commands, "fault", lambda *given: "", 6),
+            (run_recipes.Commands, "fault", lambda *given: "", 4),
             (run_recipes, "fault_of_picture", lambda *given: "", 3),
-            (run_recipes, "judged", lambda *given: (1, 1), 9),
-            (run_recipes, "judged", lambda *given: (1, 0), 9),
+            (run_recipes, "judged", lambda *given: (1, 1), 7),
+            (run_recipes, "judged", lambda *given: (1, 0), 7),
         ):
             with mock.patch.object(where, name, bent):
                 self.assertEqual(len([*run_recipes.unseen()]), count)

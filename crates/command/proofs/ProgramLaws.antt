@@ -15,7 +15,7 @@ use Rattle.filter.specs.declared.status.RunFault.TheVariants.{WriteOut}
 use Rattle.filter.specs.declared.status.Status.{Status}
 use Rattle.filter.proofs.ShownLaws.{Shows-from}
 use Rattle.command.specs.CommandLine.{Invocation, bad, help, run}
-use Rattle.command.specs.Program.{Ends, EndsShown, EndsSo, Helps, RunsOver, Surroundings, bytes_known, of_input_or_file}
+use Rattle.command.specs.Program.{Ends, EndsShown, EndsSo, Helps, RunsOver, bytes_known, of_input_or_file}
 use Rattle.command.specs.declared.end.End.{End}
 use Rattle.command.specs.declared.end.End.TheVariants.{BadArguments, Helped, NoFile as NotOpened, NoMemory, Ran}
 use Rattle.command.specs.declared.file.OpenFault.{OpenFault}
@@ -85,20 +85,19 @@ Ends-weaker out ran ran' refuses o o' e e' weaker (Ran (Err WriteOut)) help h = 
 Ends-weaker out ran ran' refuses o o' e e' weaker BadArguments bad h = h
 Ends-weaker out ran ran' refuses o o' e e' weaker other asked h = absurd h
 
-pub EndsShown-from : {S T O E : Type 0} (around : Surroundings S T O E) (o o' : O) (e e' : E) (end : End)
-    (asked : Invocation) → EndsSo around o o' e e' end asked → EndsShown around o o' e e' end asked
-EndsShown-from around o o' e e' end asked h =
-    Ends-weaker around.out _ _ around.refuses o o' e e' over end asked h
+pub EndsShown-from : {S T O E : Type 0} (input : SourceGhosts S) (file : SourceGhosts T) (out : SinkGhosts O)
+    (err : SinkGhosts E) (left_in : S → Option (List ℕ)) (left_file : T → Option (List ℕ))
+    (wrote : O → O → List ℕ → Type 0) (known : Option (List ℕ)) (bytes_of : Text → Option (List ℕ))
+    (refuses : Text → OpenFault → Type 0) (o o' : O) (e e' : E) (end : End) (asked : Invocation)
+    → EndsSo input file out err left_in left_file wrote known bytes_of refuses o o' e e' end asked
+    → EndsShown out err wrote known bytes_of refuses o o' e e' end asked
+EndsShown-from input file out err left_in left_file wrote known bytes_of refuses o o' e e' end asked h =
+    Ends-weaker out _ _ refuses o o' e e' over end asked h
   where
     over : (name : Option Text) (options : Options) (r : Result Status RunFault)
-        → of_input_or_file
-        (λ options r. RunsOver around.input around.out around.err around.left_in around.wrote around.known
-        options o o' e e' r)
-        (λ name options r. RunsOver around.file around.out around.err around.left_file around.wrote (around.bytes_of name)
-        options o o' e e' r) name options r
-        → IfOk r (Shows options (λ text. IfSome (bytes_known around.known around.bytes_of name) (λ bytes. text ≡ bytes))
-        (taken (around.wrote o o') (around.err.took e e')))
-    over None options r h =
-        shows_over around.input around.out around.err around.left_in around.wrote around.known options o o' e e' r h
-    over (Some name) options r h =
-        shows_over around.file around.out around.err around.left_file around.wrote (around.bytes_of name) options o o' e e' r h
+        → of_input_or_file (λ options r. RunsOver input out err left_in wrote known options o o' e e' r)
+        (λ name options r. RunsOver file out err left_file wrote (bytes_of name) options o o' e e' r) name options r
+        → IfOk r (Shows options (λ text. IfSome (bytes_known known bytes_of name) (λ bytes. text ≡ bytes))
+        (taken (wrote o o') (err.took e e')))
+    over None options r h = shows_over input out err left_in wrote known options o o' e e' r h
+    over (Some name) options r h = shows_over file out err left_file wrote (bytes_of name) options o o' e e' r h

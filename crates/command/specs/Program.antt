@@ -75,30 +75,14 @@ abbrev pub of_input_or_file : (Options → Result Status RunFault → Type 0)
 of_input_or_file input file None options r = input options r
 of_input_or_file input file (Some name) options r = file name options r
 
--- What a program meets: the input and the files as sources, with the bytes that are left in them, where they are known;
--- the images' sink, with what the writer below it took from one state to another, and the messages' sink; the bytes of
--- the input and of each file, where they are known, and how files are refused.
-pub record Surroundings (S T O E : Type 0) : Type 1 where
-  pub input : SourceGhosts S
-  pub left_in : S → Option (List ℕ)
-  pub file : SourceGhosts T
-  pub left_file : T → Option (List ℕ)
-  pub out : SinkGhosts O
-  pub wrote : O → O → List ℕ → Type 0
-  pub err : SinkGhosts E
-  pub known : Option (List ℕ)
-  pub bytes_of : Text → Option (List ℕ)
-  pub refuses : Text → OpenFault → Type 0
-
 -- the runs that the program makes, whole
-abbrev pub EndsSo : {S T O E : Type 0} (around : Surroundings S T O E) (o o' : O) (e e' : E) → End → Invocation
-    → Type 0
-EndsSo around o o' e e' =
-    Ends around.out (of_input_or_file
-    (λ options r. RunsOver around.input around.out around.err around.left_in around.wrote around.known
-    options o o' e e' r)
-    (λ name options r. RunsOver around.file around.out around.err around.left_file around.wrote (around.bytes_of name)
-    options o o' e e' r)) around.refuses o o' e e'
+abbrev pub EndsSo : {S T O E : Type 0} (input : SourceGhosts S) (file : SourceGhosts T) (out : SinkGhosts O)
+    (err : SinkGhosts E) (left_in : S → Option (List ℕ)) (left_file : T → Option (List ℕ))
+    (wrote : O → O → List ℕ → Type 0) (known : Option (List ℕ)) (bytes_of : Text → Option (List ℕ))
+    (refuses : Text → OpenFault → Type 0) (o o' : O) (e e' : E) → End → Invocation → Type 0
+EndsSo input file out err left_in left_file wrote known bytes_of refuses o o' e e' =
+    Ends out (of_input_or_file (λ options r. RunsOver input out err left_in wrote known options o o' e e' r)
+    (λ name options r. RunsOver file out err left_file wrote (bytes_of name) options o o' e e' r)) refuses o o' e e'
 
 -- the bytes of the input, or of the file that is named, where they are known
 abbrev pub bytes_known : Option (List ℕ) → (Text → Option (List ℕ)) → Option Text → Option (List ℕ)
@@ -106,12 +90,13 @@ bytes_known known bytes_of None = known
 bytes_known known bytes_of (Some name) = bytes_of name
 
 -- the same program, by what its images are read as
-abbrev pub EndsShown : {S T O E : Type 0} (around : Surroundings S T O E) (o o' : O) (e e' : E) → End → Invocation
-    → Type 0
-EndsShown around o o' e e' =
-    Ends around.out (λ name options r. IfOk r (Shows options (λ text.
-    IfSome (bytes_known around.known around.bytes_of name) (λ bytes. text ≡ bytes))
-    (taken (around.wrote o o') (around.err.took e e')))) around.refuses o o' e e'
+abbrev pub EndsShown : {O E : Type 0} (out : SinkGhosts O) (err : SinkGhosts E) (wrote : O → O → List ℕ → Type 0)
+    (known : Option (List ℕ)) (bytes_of : Text → Option (List ℕ)) (refuses : Text → OpenFault → Type 0)
+    (o o' : O) (e e' : E) → End → Invocation → Type 0
+EndsShown out err wrote known bytes_of refuses o o' e e' =
+    Ends out (λ name options r. IfOk r (Shows options (λ text.
+    IfSome (bytes_known known bytes_of name) (λ bytes. text ≡ bytes)) (taken (wrote o o') (err.took e e'))))
+    refuses o o' e e'
 
 -- After all else the line of the end is written to the messages' sink, `e'`, and the status is that of the end.
 pub record Finishes {E : Type 0} (err : SinkGhosts E) (ends : E → End → Type 0) (e' : E) (status : ℕ) : Type 0 where

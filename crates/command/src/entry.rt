@@ -49,33 +49,15 @@ pub fn program<F: NamedFiles, R: Read + Drop, W: Write, E: Sink>(
     errors: &mut E,
 ) -> u8
     ensures runs { Finishes E.Sink (λ told end. MatchResult arguments
-        (λ known. EndsSo (record {
-          input = ⟦<StdSource<R> as Source>⟧;
-          left_in = λ s. R.remaining (reader_of s);
-          file = ⟦<StdSource<F::Reader> as Source>⟧;
-          left_file = λ s. F.Reader.remaining (reader_of s);
-          out = ⟦<Buffered<StdSink<W>> as Sink>⟧;
-          wrote = WriterTook W.contents;
-          err = E.Sink;
-          known = R.remaining input;
-          bytes_of = F.bytes_of files.now;
-          refuses = F.refuses files.now;
-        }) output.old output.new errors.old told end
+        (λ known. EndsSo (⟦<StdSource<R> as Source>⟧) (⟦<StdSource<F::Reader> as Source>⟧)
+        (⟦<Buffered<StdSink<W>> as Sink>⟧) E.Sink (λ s. R.remaining (reader_of s))
+        (λ s. F.Reader.remaining (reader_of s)) (WriterTook W.contents) (R.remaining input)
+        (F.bytes_of files.now) (F.refuses files.now) output.old output.new errors.old told end
         (invocation_of (map string_bytes known.items)))
         (λ early. (end ≡ early) × (output.new ≡ output.old) × (told ≡ errors.old))) errors.new result }
     ensures shows { Finishes E.Sink (λ told end. MatchResult arguments
-        (λ known. EndsShown (record {
-          input = ⟦<StdSource<R> as Source>⟧;
-          left_in = λ s. R.remaining (reader_of s);
-          file = ⟦<StdSource<F::Reader> as Source>⟧;
-          left_file = λ s. F.Reader.remaining (reader_of s);
-          out = ⟦<Buffered<StdSink<W>> as Sink>⟧;
-          wrote = WriterTook W.contents;
-          err = E.Sink;
-          known = R.remaining input;
-          bytes_of = F.bytes_of files.now;
-          refuses = F.refuses files.now;
-        }) output.old output.new errors.old told end
+        (λ known. EndsShown (⟦<Buffered<StdSink<W>> as Sink>⟧) E.Sink (WriterTook W.contents) (R.remaining input)
+        (F.bytes_of files.now) (F.refuses files.now) output.old output.new errors.old told end
         (invocation_of (map string_bytes known.items)))
         (λ early. (end ≡ early) × (output.new ≡ output.old) × (told ≡ errors.old))) errors.new result }
 {
@@ -97,18 +79,10 @@ fn end_of<F: NamedFiles, R: Read + Drop, W: Write, E: Sink>(
     output: &mut Buffered<StdSink<W>>,
     errors: &mut E,
 ) -> End
-    ensures { EndsSo (record {
-      input = ⟦<StdSource<R> as Source>⟧;
-      left_in = λ s. R.remaining (reader_of s);
-      file = ⟦<StdSource<F::Reader> as Source>⟧;
-      left_file = λ s. F.Reader.remaining (reader_of s);
-      out = ⟦<Buffered<StdSink<W>> as Sink>⟧;
-      wrote = WriterTook W.contents;
-      err = E.Sink;
-      known = R.remaining input;
-      bytes_of = F.bytes_of files.now;
-      refuses = F.refuses files.now;
-    }) output.old output.new errors.old errors.new result
+    ensures { EndsSo (⟦<StdSource<R> as Source>⟧) (⟦<StdSource<F::Reader> as Source>⟧)
+        (⟦<Buffered<StdSink<W>> as Sink>⟧) E.Sink (λ s. R.remaining (reader_of s))
+        (λ s. F.Reader.remaining (reader_of s)) (WriterTook W.contents) (R.remaining input)
+        (F.bytes_of files.now) (F.refuses files.now) output.old output.new errors.old errors.new result
         (invocation_of (map string_bytes arguments.now)) }
 {
     match options_of(alloc, arguments) {
@@ -138,18 +112,10 @@ fn run_choice<F: NamedFiles, R: Read + Drop, W: Write, E: Sink>(
     output: &mut Buffered<StdSink<W>>,
     errors: &mut E,
 ) -> End
-    ensures { EndsSo (record {
-      input = ⟦<StdSource<R> as Source>⟧;
-      left_in = λ s. R.remaining (reader_of s);
-      file = ⟦<StdSource<F::Reader> as Source>⟧;
-      left_file = λ s. F.Reader.remaining (reader_of s);
-      out = ⟦<Buffered<StdSink<W>> as Sink>⟧;
-      wrote = WriterTook W.contents;
-      err = E.Sink;
-      known = R.remaining input;
-      bytes_of = F.bytes_of files.now;
-      refuses = F.refuses files.now;
-    }) output.old output.new errors.old errors.new result
+    ensures { EndsSo (⟦<StdSource<R> as Source>⟧) (⟦<StdSource<F::Reader> as Source>⟧)
+        (⟦<Buffered<StdSink<W>> as Sink>⟧) E.Sink (λ s. R.remaining (reader_of s))
+        (λ s. F.Reader.remaining (reader_of s)) (WriterTook W.contents) (R.remaining input)
+        (F.bytes_of files.now) (F.refuses files.now) output.old output.new errors.old errors.new result
         (run choice.now.options (option_map string_bytes choice.now.file)) }
 {
     match &choice.file {

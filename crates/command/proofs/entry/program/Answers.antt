@@ -24,18 +24,7 @@ returns g c =
         told = c.match-arguments.errors;
         ends_so = elim c.match-arguments.branch [
           | in-Ok w ↦ rw (w.in-Ok.is, w.end-is, w.errors-is, w.output-is, sym w.as_slice.ensures.value)
-              (EndsShown-from (record {
-                input = _;
-                left_in = _;
-                file = _;
-                left_file = _;
-                out = _;
-                wrote = _;
-                err = _;
-                known = _;
-                bytes_of = _;
-                refuses = g.F.NamedFiles.refuses c.args.files.now;
-              }) _ _ _ _ _
+              (EndsShown-from _ _ _ _ _ _ _ _ _ (g.F.NamedFiles.refuses c.args.files.now) _ _ _ _ _
               (invocation_of (map string_bytes w.as_slice.result.now)) w.end_of-end.ensures)
           | in-Err w ↦ rw w.in-Err.is (w.end-is, w.output-is, w.errors-is)
         ];
