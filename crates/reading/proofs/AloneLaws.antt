@@ -8,9 +8,8 @@ use Rattle.labelcore.specs.declared.symbology.Symbology.TheVariants.{Ean13, Ean8
 use Rattle.picture.specs.Picture.{Picture}
 use Rattle.picture.specs.Reading.{raster}
 use Rattle.picture.specs.Text.{below}
-use Rattle.reading.specs.Found.{Found, ReadingIsAlone, first_some, reading_as, reading_at, upright_reading}
+use Rattle.reading.specs.Found.{Found, ReadingIsAlone, first_some, reading_as, reading_at, upright_reading, symbologies}
 use Rattle.reading.specs.Labels.{read_dots}
-use Rattle.reading.specs.declared.found.TheConstants.{SYMBOLOGIES}
 use Rattle.reading.proofs.ScaleLaws.{one_reading, scale_within}
 
 -- questions that have no answer but one
@@ -38,7 +37,7 @@ place UpcA = 2
 place Code128 = 3
 place Qr = 4
 
-at_place : (symbology : Symbology) → (place symbology < length SYMBOLOGIES) × (get_or SYMBOLOGIES (place symbology) Ean13 ≡ symbology)
+at_place : (symbology : Symbology) → (place symbology < length symbologies) × (get_or symbologies (place symbology) Ean13 ≡ symbology)
 unfolding place
 at_place Ean13 = (omega arith, refl)
 at_place Ean8 = (omega arith, refl)
@@ -64,14 +63,14 @@ module _ (p : Picture) (symbology : Symbology) (scale : ℕ) (full : List ℕ) (
           inr (rw e (λ i. Some (record { symbology = same.0 i; scale = same.1 i; turns = 0; full = said i })))
 
   at_each : (k : ℕ) → (reading_at 0 p (k + 1) ≡ None) ⊎ (reading_at 0 p (k + 1) ≡ Some it)
-  at_each k = no_other (reading_as 0 p (k + 1)) it (by_each k) SYMBOLOGIES
+  at_each k = no_other (reading_as 0 p (k + 1)) it (by_each k) symbologies
 
   here : reading_at 0 p (scale - 1 + 1) ≡ Some it
   unfolding it
   here =
       let whole : scale - 1 + 1 ≡ scale = omega (arith, some) in
       let found = at_place symbology in
-      first_is (reading_as 0 p (scale - 1 + 1)) it (by_each (scale - 1)) SYMBOLOGIES (place symbology) Ean13 found.0
+      first_is (reading_as 0 p (scale - 1 + 1)) it (by_each (scale - 1)) symbologies (place symbology) Ean13 found.0
       (ap (reading_as 0 p (scale - 1 + 1)) found.1 ∙ rw (whole, read) refl)
 
   upright : upright_reading 0 p ≡ Some it

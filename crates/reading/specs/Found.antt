@@ -1,16 +1,16 @@
 -- What a picture is read as where neither symbology nor scale nor direction is told.
--- Why: `Found`, `found_of`, `first_some`, `quarter`, `turned`, `reading_as`, `reading_at`, `upright_reading`, `any_reading`: each rule of `read_dots`
--- is tried at each scale, and the picture is turned.
+-- Why: `Found`, `found_of`, `first_some`, `quarter`, `turned`, `symbologies`, `reading_as`, `reading_at`,
+-- `upright_reading`, `any_reading`: each rule of `read_dots` is tried at each scale, and the picture is turned.
 -- Why: `ReadingIsAlone`: what is read upright is read so by one symbology and at one scale alone.
 use Rattle.std.specs.Prelude.{◌≡◌, ◌<◌, ℕ, zero, suc, ◌+◌, ◌-◌, List, [], ◌∷◌, Option, None, Some, min, option_map}
 use Rattle.std.specs.Option.{option_or}
 use Rattle.labelcore.specs.declared.symbology.Symbology.{Symbology}
+use Rattle.labelcore.specs.declared.symbology.Symbology.TheVariants.{Ean13, Ean8, UpcA, Code128, Qr}
 use Rattle.picture.specs.Picture.{Picture}
 use Rattle.picture.specs.Reading.{raster}
 use Rattle.picture.specs.Text.{below}
 use Rattle.reading.specs.Labels.{read_dots}
 use Rattle.reading.specs.declared.found.Reading.{Reading}
-use Rattle.reading.specs.declared.found.TheConstants.{SYMBOLOGIES}
 
 -- what was read: the symbology, how wide a module is, how many quarter turns clockwise the picture was turned before, and
 -- the full data
@@ -43,6 +43,10 @@ abbrev pub turned : ℕ → Picture → Picture
 turned zero p = p
 turned (suc n) p = quarter (turned n p)
 
+-- the symbologies, in the order in which they are tried
+abbrev pub symbologies : List Symbology
+symbologies = Ean13 ∷ Ean8 ∷ UpcA ∷ Code128 ∷ Qr ∷ []
+
 -- what a picture is read as at a scale by the rule of a symbology
 abbrev pub reading_as : ℕ → Picture → ℕ → Symbology → Option Found
 reading_as turns p scale symbology =
@@ -51,7 +55,7 @@ reading_as turns p scale symbology =
 
 -- by the first of the symbologies that reads it
 abbrev pub reading_at : ℕ → Picture → ℕ → Option Found
-reading_at turns p scale = first_some (reading_as turns p scale) SYMBOLOGIES
+reading_at turns p scale = first_some (reading_as turns p scale) symbologies
 
 -- at the first scale at which it is read
 abbrev pub upright_reading : ℕ → Picture → Option Found
