@@ -206,16 +206,49 @@ int labels_bitmap_line(const labels_options *options, const void *text, size_t s
     return finish(answer);
 }
 
+/* The bytes of so many dots or modules, a byte each; more than any memory has where that is too much. */
+static size_t bytes_of(uint32_t width, uint32_t height) {
+    uint64_t count = (uint64_t)width * height;
+    return count > PTRDIFF_MAX ? SIZE_MAX : (size_t)count;
+}
+
 int labels_read(int symbology, uint32_t scale, const void *dots, uint32_t width, uint32_t height, char *out,
                 size_t room, labels_answer *answer) {
     labels_answer own;
-    uint64_t count = (uint64_t)width * height;
-    size_t size = count > PTRDIFF_MAX ? SIZE_MAX : (size_t)count;
+    size_t size = bytes_of(width, height);
     answer = answer ? answer : &own;
     dots = read_from(dots, size);
     out = write_to(out, room);
     if (are_bad(dots, size, out, room))
         return refuse(answer);
     labels_proved_read((uint32_t)symbology, scale, width, height, dots, size, out, room, answer);
+    return finish(answer);
+}
+
+int labels_read_modules(int symbology, const void *modules, uint32_t width, uint32_t rows, char *out, size_t room,
+                        labels_answer *answer) {
+    labels_answer own;
+    size_t size = bytes_of(width, rows);
+    answer = answer ? answer : &own;
+    modules = read_from(modules, size);
+    out = write_to(out, room);
+    if (are_bad(modules, size, out, room))
+        return refuse(answer);
+    labels_proved_read_modules((uint32_t)symbology, width, rows, modules, size, out, room, answer);
+    return finish(answer);
+}
+
+int labels_read_bits(const labels_region *region, const void *bits, size_t size, labels_found *found, char *out,
+                     size_t room, labels_answer *answer) {
+    labels_answer own;
+    labels_found own_found;
+    answer = answer ? answer : &own;
+    found = found ? found : &own_found;
+    *found = (labels_found){0};
+    bits = read_from(bits, size);
+    out = write_to(out, room);
+    if (!region || are_bad(bits, size, out, room))
+        return refuse(answer);
+    labels_proved_read_bits(region, bits, size, out, room, found, answer);
     return finish(answer);
 }

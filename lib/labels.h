@@ -113,6 +113,23 @@ typedef struct labels_dots {
     uint32_t reserved[2];
 } labels_dots;
 
+/* The dots that are read of a picture of bits, and how its bits lie. The first dot of a row is the highest bit of its first
+ * byte, as in binary PBM, in PNG of one bit a dot, and as labels_bitmap() puts them. */
+typedef struct labels_region {
+    size_t stride;                     /* bytes from one row to the next, at least those up to the end of the region */
+    uint32_t left, top, width, height; /* of the dots that are read */
+    uint32_t dark;                     /* the bit that is dark: 1 or 0 */
+    uint32_t reserved[3];              /* 0 */
+} labels_region;
+
+/* What a symbol was read as. */
+typedef struct labels_found {
+    uint32_t symbology; /* enum labels_symbology */
+    uint32_t scale;     /* dots of a module; 0 where nothing is read */
+    uint32_t turns;     /* quarter turns clockwise after which the symbol is upright, 0 to 3 */
+    uint32_t reserved[5];
+} labels_found;
+
 /* Returns the version of the library that runs, as "1.1.0". */
 LABELS_API const char *labels_version(void);
 
@@ -122,9 +139,9 @@ LABELS_API const char *labels_code_text(int code);
 /* Sets the options to their defaults: those of LABELS_DEFAULTS. With NULL it does nothing. */
 LABELS_API void labels_defaults(labels_options *options);
 
-/* All calls below return a code, which is in the answer too. `options` may be NULL for the defaults, `info`, `dots` and
- * `answer` where they are not wanted; `data` and `text` where their size is 0, and `out`, `modules` and `bits` where their
- * room is 0. */
+/* All calls below return a code, which is in the answer too. `options` may be NULL for the defaults, `info`, `dots`,
+ * `found` and `answer` where they are not wanted; what is read where its size is 0, and what is written where its room
+ * is 0. */
 
 /* Draws one symbol as a picture. Puts its bytes into `out`, as many as there is room for, and nothing after them; the
  * picture has no NUL at its end. `answer->length` is that of the whole picture: a call without room asks for it. */
@@ -178,6 +195,22 @@ LABELS_API int labels_bitmap_line(const labels_options *options, const void *tex
  * LABELS_BAD_ARGUMENT. `dots` may be NULL where width or height is 0. */
 LABELS_API int labels_read(int symbology, uint32_t scale, const void *dots, uint32_t width, uint32_t height, char *out,
                            size_t room, labels_answer *answer);
+
+/* Reads a region of bits as labels_read() reads dots, and is told neither the symbology nor the scale: they are found, and
+ * `found` has them; its numbers are 0 where nothing is read. Where the region is read by no symbology at any scale it is
+ * turned, by as few quarter turns as it is read after. No two symbologies, and no two scales, read the same upright dots.
+ *
+ * `bits` has `size` bytes; those from the end of the last row of the region on may be left out. The bits around the region
+ * do not matter. The codes are those of labels_read(), LABELS_BAD_OPTION where the region is not within the bits, its rows
+ * overlap, `dark` is neither 0 nor 1, or a reserved word is not 0. */
+LABELS_API int labels_read_bits(const labels_region *region, const void *bits, size_t size, labels_found *found,
+                                char *out, size_t room, labels_answer *answer);
+
+/* Reads the modules of one symbol, as labels_symbol() puts them, as labels_read() reads its dots. `modules` has `width` times
+ * `rows` bytes, row by row from the top, 1 where dark, else 0, without quiet zones; a linear symbol has one row, or more
+ * that are equal. */
+LABELS_API int labels_read_modules(int symbology, const void *modules, uint32_t width, uint32_t rows, char *out,
+                                   size_t room, labels_answer *answer);
 
 #ifdef __cplusplus
 }

@@ -24,5 +24,9 @@ void labels_proved_bitmap_line(const labels_options *options, const void *text, 
                                uint32_t *height, labels_answer *answer);
 void labels_proved_read(uint32_t symbology, uint32_t scale, uint32_t width, uint32_t height, const void *dots,
                         size_t size, char *out, size_t room, labels_answer *answer);
+void labels_proved_read_modules(uint32_t symbology, uint32_t width, uint32_t rows, const void *modules, size_t size,
+                                char *out, size_t room, labels_answer *answer);
+void labels_proved_read_bits(const labels_region *region, const void *bits, size_t size, char *out, size_t room,
+                             labels_found *found, labels_answer *answer);
 
 #endif

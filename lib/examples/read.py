@@ -1,18 +1,16 @@
-"""Prints what the symbol of each PBM file says: read.py SYMBOLOGY FILE.. The status is 1 where one is not read."""
+"""Prints what the symbol of each PBM file says: read.py FILE.. The status is 1 where one is not read."""
 
 import sys
 from pathlib import Path
 
 import liblabels
 
-symbology, *names = sys.argv[1:]
-unread = []
-for name in names:
-    data = liblabels.read(symbology, Path(name).read_bytes())
-    if data is None:
-        unread.append(name)
+status = 0
+for name in sys.argv[1:]:
+    reading = liblabels.read(Path(name).read_bytes())
+    if reading is None:
+        print(f"{name} is not read", file=sys.stderr)
+        status = 1
     else:
-        print(data.decode())
-for name in unread:
-    print(f"{name} is not read", file=sys.stderr)
-sys.exit(bool(unread))
+        print(reading.data.decode())
+sys.exit(status)

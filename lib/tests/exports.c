@@ -150,11 +150,74 @@ static void dots_are_read_back(void) {
     SEE(answer.code == LABELS_NOT_READ && out[0] == UNTOUCHED);
 }
 
+static void modules_are_read_back(void) {
+    begin();
+    labels_proved_symbol(&options, LABELS_QR, "HELLO WORLD", 11, modules, sizeof modules, message, sizeof message,
+                         full, sizeof full, &info, &answer);
+    labels_proved_read_modules(LABELS_QR, 21, 21, modules, 441, out, sizeof out, &answer);
+    SEE(answer.code == LABELS_OK && answer.length == 11 && memcmp(out, "HELLO WORLD", 11) == 0 && out[11] == UNTOUCHED);
+    labels_proved_read_modules(LABELS_QR, 441, 1, modules, 441, out, sizeof out, &answer);
+    SEE(answer.code == LABELS_NOT_READ && answer.length == 0);
+    labels_proved_read_modules(LABELS_QR, 21, 21, modules, 440, out, sizeof out, &answer);
+    SEE(answer.code == LABELS_NOT_READ);
+    labels_proved_read_modules(LABELS_QR + 1, 21, 21, modules, 441, out, sizeof out, &answer);
+    SEE(answer.code == LABELS_BAD_SYMBOLOGY);
+    modules[0] = 2;
+    labels_proved_read_modules(LABELS_QR, 21, 21, modules, 441, out, sizeof out, &answer);
+    SEE(answer.code == LABELS_NOT_READ);
+}
+
+/* EAN-8 at a scale of 2, in the third row of a picture, four dots from its left edge; all around it is dark. */
+static void a_region_of_bits_is_read(void) {
+    unsigned char bits[4 * 22], from[2 * 21];
+    uint32_t width, height;
+    labels_region region = {22, 4, 2, 162, 2, 1, {0, 0, 0}};
+    labels_found found;
+    begin();
+    options.scale = 2;
+    labels_proved_bitmap(&options, LABELS_EAN8, "7351353", 7, from, sizeof from, 21, message, sizeof message, &width,
+                         &height, &answer);
+    SEE(answer.code == LABELS_OK && width == 162 && height == 2);
+    memset(bits, 0xff, sizeof bits);
+    for (size_t at = 0; at < 2 * 162; at++) {
+        size_t x = at % 162, y = at / 162, to = 4 + x;
+        if (!(from[21 * y + x / 8] >> (7 - x % 8) & 1))
+            bits[22 * (2 + y) + to / 8] &= (unsigned char)~(128 >> to % 8);
+    }
+    labels_proved_read_bits(&region, bits, sizeof bits, out, sizeof out, &found, &answer);
+    SEE(answer.code == LABELS_OK && answer.length == 8 && memcmp(out, "73513537", 8) == 0 && out[8] == UNTOUCHED);
+    SEE(found.symbology == LABELS_EAN8 && found.scale == 2 && found.turns == 0 && found.reserved[0] == 0);
+    labels_proved_read_bits(&region, bits, 3 * 22 + 21, out, sizeof out, &found, &answer);
+    SEE(answer.code == LABELS_OK);
+    labels_proved_read_bits(&region, bits, 3 * 22 + 20, out, sizeof out, &found, &answer);
+    SEE(answer.code == LABELS_BAD_OPTION && answer.length == 0 && found.scale == 0);
+    for (size_t i = 0; i < sizeof bits; i++)
+        bits[i] = (unsigned char)~bits[i];
+    labels_proved_read_bits(&region, bits, sizeof bits, out, sizeof out, &found, &answer);
+    SEE(answer.code == LABELS_NOT_READ && answer.length == 0 && found.scale == 0);
+    region.dark = 0;
+    labels_proved_read_bits(&region, bits, sizeof bits, out, 3, &found, &answer);
+    SEE(answer.code == LABELS_NO_ROOM && answer.length == 8 && found.scale == 2);
+    region.stride = 20;
+    labels_proved_read_bits(&region, bits, sizeof bits, out, sizeof out, &found, &answer);
+    SEE(answer.code == LABELS_BAD_OPTION);
+    region.stride = 22;
+    region.dark = 2;
+    labels_proved_read_bits(&region, bits, sizeof bits, out, sizeof out, &found, &answer);
+    SEE(answer.code == LABELS_BAD_OPTION);
+    region.dark = 0;
+    region.reserved[2] = 1;
+    labels_proved_read_bits(&region, bits, sizeof bits, out, sizeof out, &found, &answer);
+    SEE(answer.code == LABELS_BAD_OPTION);
+}
+
 int main(void) {
     a_picture_is_put_and_its_length_answered();
     modules_are_put_row_by_row();
     a_line_is_put_skipped_or_refused();
     dots_are_put_in_rows();
     dots_are_read_back();
+    modules_are_read_back();
+    a_region_of_bits_is_read();
     return 0;
 }

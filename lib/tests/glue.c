@@ -6,7 +6,7 @@
 #include <stdio.h>
 
 enum { MESSAGE = LABELS_MESSAGE_ROOM - 1, FULL = sizeof(((labels_symbol_info *)0)->data) - 1, FEW = 37, MARK = 0x5a };
-enum { CALLS = 7, SYMBOLOGIES = LABELS_QR + 1, MANY = 5000 };
+enum { CALLS = 9, READ_BITS = CALLS - 1, SYMBOLOGIES = LABELS_QR + 1, MANY = 5000 };
 
 #define SEE(fact) see(fact, #fact, __LINE__)
 
@@ -17,6 +17,7 @@ static struct {
     const char *data;
     size_t size, room, stride, most;
     unsigned char *to;
+    const labels_region *region;
 } given;
 
 static volatile unsigned char sum;
@@ -122,6 +123,21 @@ void labels_proved_read(uint32_t symbology, uint32_t scale, uint32_t width, uint
     put_message(answer->message, MESSAGE, answer);
 }
 
+void labels_proved_read_modules(uint32_t symbology, uint32_t width, uint32_t rows, const void *modules, size_t size,
+                                char *out, size_t room, labels_answer *answer) {
+    labels_proved_read(symbology, (uint32_t)given.stride, width, rows, modules, size, out, room, answer);
+}
+
+void labels_proved_read_bits(const labels_region *region, const void *bits, size_t size, char *out, size_t room,
+                             labels_found *found, labels_answer *answer) {
+    SEE(region == given.region && region->stride == given.stride);
+    see_data(given.options, bits, size);
+    see_room(out, room);
+    memset(out, MARK, room);
+    put_message(answer->message, MESSAGE, answer);
+    found->turns = 3;
+}
+
 /* The modules of the first QR version from one on that has room for so many bytes at level H, whose data codewords have
  * two bytes less: the mode and the count take 12 bits (ISO/IEC 18004, tables 2, 3 and 7). */
 static size_t most_of_qr(size_t version, size_t size) {
@@ -147,7 +163,7 @@ static uint32_t side_of(size_t size) { return size > MANY ? UINT32_MAX : (uint32
 
 /* The call of a number, as the caller makes it. */
 static int made(int call, const labels_options *options, labels_symbol_info *info, labels_dots *dots,
-                labels_answer *answer) {
+                labels_found *found, labels_answer *answer) {
     const char *data = given.data;
     size_t size = given.size, room = given.room;
     given.most = call == 0 ? most_of(given.symbology, size) : LABELS_MAX_MODULES;
@@ -164,30 +180,40 @@ static int made(int call, const labels_options *options, labels_symbol_info *inf
         return labels_bitmap(options, given.symbology, data, size, given.to, given.stride, room, dots, answer);
     case 5:
         return labels_bitmap_line(options, data, size, given.to, given.stride, room, dots, answer);
+    case 6:
+        return labels_read_modules(given.symbology, data, side_of(size), size > MANY ? UINT32_MAX : 1,
+                                   (char *)given.to, room, answer);
+    case READ_BITS:
+        return labels_read_bits(given.region, data, size, found, (char *)given.to, room, answer);
     default:
         return labels_read(given.symbology, (uint32_t)given.stride, data, side_of(size), size > MANY ? UINT32_MAX : 1,
                            (char *)given.to, room, answer);
     }
 }
 
-static void see_told(int call, const labels_symbol_info *info, const labels_dots *dots) {
+static void see_told(int call, const labels_symbol_info *info, const labels_dots *dots, const labels_found *found) {
     if (call <= 1) {
         SEE(info->data_length == FULL + 1000 && info->data[FULL - 1] == 'd' && info->data[FULL] == 0);
         SEE(info->mask == 0x01010101);
     }
     if (call == 4 || call == 5)
         SEE(dots->width == 7 && dots->height == 8 && dots->reserved[0] == 0 && dots->reserved[1] == 0);
+    if (call == READ_BITS)
+        SEE(found->turns == 3 && found->symbology == 0 && found->scale == 0 && found->reserved[4] == 0);
 }
 
 static void one_call(int call, int symbology, size_t size, size_t room, int is_last, int wants_all) {
-    static char *memory[6];
+    static char *memory[7];
     static const labels_options plain = LABELS_DEFAULTS;
-    for (int i = 0; i < 6; i++)
+    static const labels_region region = {3, 0, 0, 0, 0, 0, {0, 0, 0}};
+    for (int i = 0; i < 7; i++)
         memory[i] = memory[i] ? memory[i] : guarded();
     labels_options *options = guard_at(memory[0], sizeof *options, is_last, MARK);
     labels_symbol_info *info = guard_at(memory[3], sizeof *info, is_last, MARK);
     labels_answer *answer = guard_at(memory[4], sizeof *answer, is_last, MARK);
     labels_dots *dots = guard_at(memory[5], sizeof *dots, is_last, MARK);
+    labels_found *found = guard_at(memory[6], sizeof *found, is_last, MARK);
+    given.region = &region;
     given.options = wants_all ? options : &plain;
     given.symbology = symbology;
     given.data = guard_at(memory[1], size, is_last, '1');
@@ -197,13 +223,13 @@ static void one_call(int call, int symbology, size_t size, size_t room, int is_l
     given.stride = 3;
     given.calls = 0;
     int code = made(call, wants_all ? options : NULL, wants_all ? info : NULL, wants_all ? dots : NULL,
-                    wants_all ? answer : NULL);
+                    wants_all ? found : NULL, wants_all ? answer : NULL);
     SEE(given.calls == 1 && code == LABELS_NOT_A_DIGIT);
     if (!wants_all)
         return;
     SEE(answer->code == LABELS_NOT_A_DIGIT && answer->length == 3 && answer->at == 2);
     SEE(answer->message_length == MESSAGE && strlen(answer->message) == MESSAGE);
-    see_told(call, info, dots);
+    see_told(call, info, dots, found);
 }
 
 /* Data and its room may touch, and share no byte. */
@@ -212,6 +238,7 @@ static void see_overlap(int call) {
     static unsigned char memory[3 * FEW];
     labels_symbol_info info;
     labels_dots dots;
+    labels_found found;
     labels_answer answer;
     for (size_t at = 0; at <= 2 * FEW; at++) {
         int is_apart = at == 0 || at == 2 * FEW;
@@ -223,12 +250,14 @@ static void see_overlap(int call) {
         given.calls = 0;
         memset(&info, MARK, sizeof info);
         memset(&dots, MARK, sizeof dots);
-        int code = made(call, NULL, &info, &dots, &answer);
+        memset(&found, MARK, sizeof found);
+        int code = made(call, NULL, &info, &dots, &found, &answer);
         SEE(given.calls == is_apart && code == (is_apart ? LABELS_NOT_A_DIGIT : LABELS_BAD_ARGUMENT));
         SEE(is_apart || strcmp(answer.message, labels_code_text(LABELS_BAD_ARGUMENT)) == 0);
         SEE(is_apart || (answer.length == 0 && answer.at == 0 && answer.reserved == 0));
         SEE(is_apart || call > 1 || (info.width == 0 && info.data_length == 0 && info.data[0] == 0));
         SEE(is_apart || call < 4 || call > 5 || (dots.width == 0 && dots.height == 0));
+        SEE(is_apart || call != READ_BITS || (found.scale == 0 && found.turns == 0));
     }
 }
 
@@ -248,8 +277,13 @@ static void see_bad(int call) {
         given.to = (unsigned char *)bad[i].to;
         given.room = bad[i].room;
         given.calls = 0;
-        SEE(made(call, NULL, NULL, NULL, &answer) == LABELS_BAD_ARGUMENT && given.calls == 0);
+        SEE(made(call, NULL, NULL, NULL, NULL, &answer) == LABELS_BAD_ARGUMENT && given.calls == 0);
     }
+}
+
+static void see_no_region(void) {
+    given.calls = 0;
+    SEE(labels_read_bits(NULL, NULL, 0, NULL, NULL, 0, NULL) == LABELS_BAD_ARGUMENT && given.calls == 0);
 }
 
 int main(void) {
@@ -264,6 +298,7 @@ int main(void) {
         see_overlap(call);
         see_bad(call);
     }
+    see_no_region();
     printf("%d calls were passed on as they were made\n", done);
     return 0;
 }

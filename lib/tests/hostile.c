@@ -245,6 +245,90 @@ static void read_back(void) {
         stop("labels_read", "another length");
 }
 
+/* Sees what was read of a symbol: its data, where it is whole. */
+static void see_data(const char *call, int code, const char *out, size_t room, const labels_symbol_info *info,
+                     const labels_answer *answer) {
+    see_picture(call, code, out, room, answer);
+    if (code != (info->data_length == 0 ? LABELS_NOT_READ : info->data_length <= room ? LABELS_OK : LABELS_NO_ROOM))
+        stop(call, "another code");
+    if (memcmp(out, info->data, room < info->data_length ? room : info->data_length) != 0)
+        stop(call, "other data");
+    if (answer && answer->length != info->data_length)
+        stop(call, "another length");
+}
+
+/* The modules of a symbol are read as what it says. */
+static void read_modules_back(void) {
+    static unsigned char modules[LABELS_MAX_MODULES];
+    int symbology = (int)(next() % SYMBOLOGIES);
+    const char *text = data_of_labels[next() % LABELS_OF_TEST];
+    labels_answer *answer = some_answer();
+    labels_symbol_info info;
+    labels_symbol(NULL, symbology, text, strlen(text), modules, sizeof modules, &info, NULL);
+    size_t size = (size_t)info.width * info.rows, room = some_room(info.data_length);
+    char *read = memcpy(memory(MODULES, size, 0), modules, size), *out = memory(OUT, room, MARK);
+    see_data("labels_read_modules", labels_read_modules(symbology, read, info.width, info.rows, out, room, answer), out,
+             room, &info, answer);
+}
+
+/* Puts a dot into a picture of bits, in which `dark` is the bit that is dark. */
+static void put_dot(char *bits, const labels_region *region, size_t x, size_t y, int is_dark) {
+    char *byte = bits + (region->top + y) * region->stride + (region->left + x) / 8;
+    char bit = (char)(128 >> (region->left + x) % 8);
+    *byte = (char)(is_dark == (int)region->dark ? *byte | bit : *byte & ~bit);
+}
+
+/* A symbol anywhere in a picture of any other bits is found as what it is, and read as what it says. */
+static void find_back(void) {
+    static unsigned char bits[256 * STRIDE];
+    labels_options options = LABELS_DEFAULTS;
+    labels_answer *answer = some_answer();
+    labels_symbol_info info;
+    labels_dots dots;
+    labels_found found;
+    int symbology = (int)(next() % SYMBOLOGIES);
+    const char *text = data_of_labels[next() % LABELS_OF_TEST];
+    options.scale = 1 + next() % 3;
+    options.height = 1 + next() % 3;
+    labels_bitmap(&options, symbology, text, strlen(text), bits, STRIDE, sizeof bits, &dots, NULL);
+    labels_symbol(&options, symbology, text, strlen(text), NULL, 0, &info, NULL);
+    labels_region region = {0, next() % 20, next() % 4, dots.width, dots.height, next() % 2, {0}};
+    size_t end = (region.left + region.width + 7) / 8;
+    region.stride = end + next() % 3;
+    size_t size = (region.top + region.height ? region.top + region.height - 1 : 0) * region.stride + end;
+    char *read = memory(DATA, size, 0);
+    for (size_t i = 0; i < size; i++)
+        read[i] = (char)next();
+    for (size_t y = 0; y < dots.height; y++)
+        for (size_t x = 0; x < dots.width; x++)
+            put_dot(read, &region, x, y, bits[y * STRIDE + x / 8] >> (7 - x % 8) & 1);
+    size_t room = some_room(info.data_length);
+    char *out = memory(OUT, room, MARK);
+    int code = labels_read_bits(&region, read, size, one_in(9) ? NULL : &found, out, room, answer);
+    see_data("labels_read_bits", code, out, room, &info, answer);
+    labels_read_bits(&region, read, size, &found, out, room, NULL);
+    if (code <= LABELS_NO_ROOM && (found.symbology != (uint32_t)symbology || found.scale != options.scale || found.turns))
+        stop("labels_read_bits", "found as another");
+    if (code > LABELS_NO_ROOM && (found.symbology || found.scale || found.turns || found.reserved[4]))
+        stop("labels_read_bits", "found where nothing is read");
+}
+
+/* Any region of any bits. */
+static void find_any(void) {
+    labels_answer *answer = some_answer();
+    labels_region region = {next() % 40, number() - 1, number() - 1, number() * 9, number(), flag(), {0}};
+    if (one_in(30))
+        region.reserved[next() % 3] = number();
+    size_t size = one_in(9) ? 0 : next() % 900, room = some_room(0);
+    char *bits = memory(DATA, size, 0), *out = memory(OUT, room, MARK);
+    for (size_t i = 0; i < size; i++)
+        bits[i] = (char)next();
+    int code = labels_read_bits(one_in(50) ? NULL : &region, bits, size, NULL, out, room, answer);
+    see_picture("labels_read_bits", code, out, room, answer);
+    if (code <= LABELS_NO_ROOM)
+        stop("labels_read_bits", "data of any bits");
+}
+
 /* Dots of any digits, sides, scale and symbology. */
 static void read_any(void) {
     labels_answer *answer = some_answer();
@@ -273,6 +357,9 @@ int main(int count, char **words) {
         }
         read_back();
         read_any();
+        read_modules_back();
+        find_back();
+        find_any();
     }
     for (int code = 0; code < CODES; code++)
         printf("%ld of %d%s", codes[code], code, code + 1 < CODES ? ", " : "\n");

@@ -85,7 +85,12 @@ static uint64_t with_reading(int symbology, const char *data, size_t size, uint6
     labels_bitmap(&options, symbology, data, size, bits, STRIDE, sizeof bits, &dots, &answer);
     put_digits(bits, STRIDE, &dots, digits);
     int code = labels_read(symbology, 1, digits, dots.width, dots.height, out, ROOM, &answer);
-    return hash_of(out, put(&answer, ROOM), with_answer(code, &answer, sum));
+    sum = hash_of(out, put(&answer, ROOM), with_answer(code, &answer, sum));
+    labels_region region = {STRIDE, 0, 0, dots.width, dots.height, 1, {0}};
+    labels_found found;
+    code = labels_read_bits(&region, bits, sizeof bits, &found, out, ROOM, &answer);
+    sum = hash_of(&found, sizeof found, with_answer(code, &answer, sum));
+    return hash_of(out, put(&answer, ROOM), sum);
 }
 
 /* The symbology that a line begins with, QR where it begins with none. */

@@ -19,13 +19,18 @@ struct job {
     uint32_t format, level;
 };
 
-/* Reads what is drawn of data. */
+/* Reads what is drawn of data, by all calls that read. */
 static void read_back(const labels_options *options, int symbology, const char *data, size_t size) {
     labels_dots dots;
     labels_answer answer;
     labels_bitmap(options, symbology, data, size, bits, STRIDE, sizeof bits, &dots, NULL);
     put_digits(bits, STRIDE, &dots, digits);
-    if (labels_read(symbology, 1, digits, dots.width, dots.height, out, sizeof out, &answer) != LABELS_OK)
+    labels_region region = {STRIDE, 0, 0, dots.width, dots.height, 1, {0}};
+    labels_symbol_info info;
+    labels_symbol(options, symbology, data, size, modules, sizeof modules, &info, NULL);
+    if (labels_read(symbology, 1, digits, dots.width, dots.height, out, sizeof out, &answer) != LABELS_OK ||
+        labels_read_bits(&region, bits, sizeof bits, NULL, out, sizeof out, &answer) != LABELS_OK ||
+        labels_read_modules(symbology, modules, info.width, info.rows, out, sizeof out, &answer) != LABELS_OK)
         abort();
 }
 

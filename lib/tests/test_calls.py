@@ -20,6 +20,9 @@ MUTANTS = {
     "line of labels_line": ("or_defaults(options), text, size, modules, room,", "size", ONE_MORE),
     "room of the modules": ("    return used;", "used", "used + (room > 0)"),
     "room of the bits": ("data, size, bits, room, stride,", "room", "room + (room > 0)"),
+    "dots that are read": ("width, height, dots, size, out", "size", ONE_MORE),
+    "modules that are read": ("width, rows, modules, size, out", "size", ONE_MORE),
+    "bits that are read": ("region, bits, size, out", "size", ONE_MORE),
     "room of the message": ("MESSAGE_ROOM = sizeof(((labels_answer *)0)->message) - 1", "- 1", "+ 1"),
 }
 # Other wrong texts, and what takes their place.
@@ -28,6 +31,8 @@ WRONG = (
     ("    memset(modules, 0, used);\n", "    (void)modules;\n"),
     ("size, out, room, answer->message,", "size, out, room + (room > 0), answer->message,"),
     ("    *dots = (labels_dots){0};\n", ""),
+    ("    *found = (labels_found){0};\n", ""),
+    ("    if (!region || are_bad", "    if (are_bad"),
     ("    answer->message[end] = 0;\n", ""),
     ("DATA_ROOM = sizeof(((labels_symbol_info *)0)->data) - 1", "DATA_ROOM = sizeof(((labels_symbol_info *)0)->data)"),
     ("    info->data[info->data_length < DATA_ROOM ? info->data_length : DATA_ROOM] = 0;\n", "    (void)info;\n"),
@@ -72,7 +77,7 @@ class Calls(WithLibrary):
 
     def test_one_byte_too_many_is_seen(self) -> None:
         """The test of labels.c sees each mutant; that with the proved code each but one: no message is as long."""
-        self.assertEqual(len(MUTANTS), 7)
+        self.assertEqual(len(MUTANTS), 10)
         for name, (place, old, new) in MUTANTS.items():
             with self.subTest(name):
                 source = self.library.changed(("labels.c", place, place.replace(old, new)))

@@ -68,12 +68,13 @@ class Examples(WithLibrary):
         self.assert_reads(self.run_ok(PYTHON, EXAMPLES / "draw.py"), "4006381333931")
 
     def test_python_reads(self) -> None:
-        """A file is read as its data; one of another symbology is named, and the files after it are read."""
+        """A file is read as its data; one with a dark dot too many is named, and the files after it are read."""
         files = [Path(tempfile.mkdtemp(dir=self.library.folder)) / name for name in ("a.pbm", "b.pbm", "c.pbm")]
-        for file, line in zip(files, (LABEL, b"qr x\n", LABEL), strict=True):
-            file.write_bytes(drawn(line, "--scale", "2"))
-        self.assertEqual(self.run_ok(PYTHON, EXAMPLES / "read.py", "ean13", files[0]), b"4006381333931\n")
-        done = run(PYTHON, EXAMPLES / "read.py", "ean13", *files, environment=self.library.environment)
+        picture = drawn(LABEL, "--scale", "2")
+        for file, text in zip(files, (picture, picture.removesuffix(b"0\n") + b"1\n", picture), strict=True):
+            file.write_bytes(text)
+        self.assertEqual(self.run_ok(PYTHON, EXAMPLES / "read.py", files[0]), b"4006381333931\n")
+        done = run(PYTHON, EXAMPLES / "read.py", *files, environment=self.library.environment)
         self.assertEqual((done.returncode, done.stdout), (1, 2 * b"4006381333931\n"))
         self.assertEqual(done.stderr.decode(), f"{files[1]} is not read\n")
 

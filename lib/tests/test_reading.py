@@ -34,12 +34,13 @@ for (symbology, data), full in DRAWN.items():
             found = {other: liblabels.read(other, picture) for other in liblabels.SYMBOLOGIES}
             assert found.pop(symbology) == full, (symbology, data, scale)
             assert set(found.values()) == {None}, (symbology, data, scale, found)
+            assert liblabels.read(picture) == liblabels.Reading(symbology, scale, 0, full), (symbology, data, scale)
             assert liblabels.read(symbology, picture, scale) == full
             assert liblabels.read(symbology, picture, scale + 1) is None
             _, count = turned(picture, 0)
             for place in range(0, count, 1 if scale == height == 1 else 997):
                 changed, _ = turned(picture, place)
-                assert liblabels.read(symbology, changed) is None, (symbology, scale, place)
+                assert liblabels.read(changed) is None, (symbology, scale, place)
                 assert liblabels.read(symbology, changed, scale) is None, (symbology, scale, place)
 # Version 3 has seven remainder modules, the last of the walk; ISO/IEC 18004, table 1.
 picture = liblabels.draw("qr", "https://example.com/article/000123")
@@ -70,13 +71,21 @@ for ((symbology, data), full), scale in itertools.product(DRAWN.items(), (3, 8))
     plain = liblabels.draw(symbology, data, scale=scale, height=9)
     by_column = numpy.asfortranarray(~light)
     arrays = (~light, grey, by_column, (~light)[::-1][::-1])
-    images = (picture, picture.convert("L"), picture.convert("RGB"))
+    images = (picture, picture.convert("L"), picture.convert("RGB"), Image.fromarray(grey))
     for image in (*arrays, *images, binary, file.getvalue(), plain, bytearray(plain)):
+        assert liblabels.read(image) == liblabels.Reading(symbology, scale, 0, full), (symbology, type(image))
         assert liblabels.read(symbology, image) == full, (symbology, type(image))
         assert liblabels.read(symbology, image, scale) == full, (symbology, type(image))
         assert liblabels.read(symbology, image, numpy.int64(scale)) == full, (symbology, type(image))
     for image in (light, 255 - grey, numpy.pad(~light, 3), (~light)[:, 1:], (~light)[:, :0], (~light)[:0]):
-        assert liblabels.read(symbology, image) is None, (symbology, type(image))
+        assert liblabels.read(image) is None, (symbology, type(image))
+    # Turned against the clock, and read after as many turns with it. A mirror turns bars by half a turn.
+    for turns in (1, 2, 3):
+        turned = numpy.rot90(~light, turns)
+        assert liblabels.read(turned) == liblabels.Reading(symbology, scale, turns, full), (symbology, turns)
+        assert liblabels.read(symbology, turned) is None
+    mirrored = liblabels.read((~light)[:, ::-1])
+    assert mirrored == (None if symbology == "qr" else liblabels.Reading(symbology, scale, 2, full)), symbology
 """
 )
 WRONG = """
@@ -108,12 +117,16 @@ for error, said, symbology, image, scale in (
 """
 # Wrong texts of the module, and what takes their place.
 MUTANTS = (
-    (READ, "math.gcd(*runs)", "max(runs)"),
     (READ, "out.raw[: answer.length]", "out.value"),
-    (READ, "scale is None else _binding", "True else _binding"),
+    (READ, "not in (None, found.scale)", "is None"),
+    (READ, "found.symbology != symbology", "found.symbology is None"),
+    (IMAGES, "found.turns or found", "found"),
+    (IMAGES, "found.turns, out", "0, out"),
+    (IMAGES, "grey >= _FIRST_LIGHT", "grey > _FIRST_LIGHT"),
+    (IMAGES, ', "1").tobytes(), dark=0)', ', "1").tobytes())'),
     (IMAGES, "_FIRST_LIGHT = 128", "_FIRST_LIGHT = 127"),
     (IMAGES, "height, width = array.shape", "width, height = array.shape"),
-    (IMAGES, "(width + 7) // 8", "(width + 8) // 8"),
+    (IMAGES, "return (width + 7) // 8", "return (width + 8) // 8"),
     (WRONG, "digits.strip", "digits[:3].strip"),
 )
 

@@ -70,6 +70,30 @@ pub struct SymbolInfo {
     pub data_length: usize,
 }
 
+/// A region of a picture of bits: `labels_region`. The spare words are 0.
+#[repr(C)]
+#[derive(Clone, Copy, Drop)]
+pub struct CallRegion {
+    pub stride: usize,
+    pub left: u32,
+    pub top: u32,
+    pub width: u32,
+    pub height: u32,
+    pub dark: u32,
+    pub reserved: [u32; 3],
+}
+
+/// What bits are read as: the symbology, how many dots wide a module is, and after how many quarter turns clockwise. It
+/// is `labels_found`. The spare words are 0.
+#[repr(C)]
+#[derive(Clone, Copy, Drop)]
+pub struct FoundInfo {
+    pub symbology: u32,
+    pub scale: u32,
+    pub turns: u32,
+    pub reserved: [u32; 5],
+}
+
 /// What a call for modules answers, and what it tells of the symbol: nothing where none is drawn.
 #[derive(Clone, Copy, Drop)]
 pub struct Told {
@@ -155,14 +179,14 @@ fn are_in_range(numbers: &CallOptions) -> bool
 }
 
 /// Returns whether the spare words are 0.
-fn are_unused(words: &[u32; 5]) -> bool
+pub fn are_unused(words: &[u32]) -> bool
     ensures { result ≡ are_unused words.now }
 {
     words.iter().all(|word| *word == 0)
 }
 
 /// Returns the truth value of this number.
-fn flag_of(number: u32) -> Option<bool>
+pub fn flag_of(number: u32) -> Option<bool>
     ensures { result ≡ flag_numbered number }
 {
     match number {

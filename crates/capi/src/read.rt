@@ -1,9 +1,11 @@
 //! The full data of a symbol that is read back from its dots, into a caller's room.
-ghost use Rattle.std.specs.Prelude.{◌≡◌, ◌<◌, option_and_then, option_map};
+ghost use Rattle.std.specs.Prelude.{◌≡◌, ◌<◌, Ok, option_and_then, option_map};
 ghost use Rattle.capi.specs.Calls.{PutsWhole};
-ghost use Rattle.capi.specs.Read.{AnswersRead, read_asked, room_alone};
-ghost use Rattle.picture.specs.Reading.{raster_of};
-ghost use Rattle.reading.specs.Labels.{read_dots};
+ghost use Rattle.capi.specs.Read.{AnswersRead, modules_asked, read_asked, room_alone};
+ghost use Rattle.filter.specs.Reading.{read_modules};
+ghost use Rattle.picture.specs.Reading.{raster, raster_of};
+ghost use Rattle.reading.specs.Dots.{bytes_read};
+ghost use Rattle.reading.specs.Labels.{read_dots, read_short};
 
 use crate::draw::declined;
 use crate::numbers::{Answer, BAD_OPTION, BAD_SYMBOLOGY, DONE, NO_ROOM, symbology_of};
@@ -13,10 +15,10 @@ use qr_reading::SymbolData;
 use reading::Dots;
 
 /// The dots are no symbol of the symbology.
-const NOT_READ: u32 = 17;
+pub const NOT_READ: u32 = 17;
 
 /// Puts bytes into a room, as many as there is room for, and answers with the length of the whole.
-fn offer(bytes: &[u8], room: &mut [u8]) -> Answer
+pub fn offer(bytes: &[u8], room: &mut [u8]) -> Answer
     ensures { PutsWhole (room_alone room.old room.new) result bytes.now }
 {
     let code = if bytes.len() <= room.len() {
@@ -46,9 +48,52 @@ fn read_picture(
     ensures { option_map (λ bytes. bytes.items) result
         ≡ option_and_then (read_dots symbology scale) (raster_of width height digits.now) }
 {
-    match Dots::new(width, height, digits) {
-        Some(dots) => reading::read(symbology, dots, scale),
-        None => None,
+    let dots = Dots::new(width, height, digits)?;
+    reading::read(symbology, &dots, scale)
+}
+
+/// Reads modules, a byte 0 or 1 each, as a symbol of a symbology.
+fn read_module_bytes(
+    symbology: Symbology,
+    width: usize,
+    rows: usize,
+    bytes: &[u8],
+) -> Option<SymbolData>
+    ensures { option_map (λ bytes. bytes.items) result ≡ option_and_then
+        (λ p. read_short (read_modules symbology) (raster p).rows) (bytes_read 0 1 width rows bytes.now) }
+{
+    let modules = Dots::of_modules(width, rows, bytes)?;
+    reading::read_modules(symbology, &modules)
+}
+
+/// Puts the full data of what was read into a room; nothing where that is nothing.
+fn answered(read: Option<SymbolData>, room: &mut [u8]) -> Answer
+    ensures { AnswersRead room.old room.new result (Ok (option_map (λ bytes. bytes.items) read)) }
+{
+    match read {
+        Some(bytes) => offer(bytes.as_slice(), room),
+        None => declined(NOT_READ),
+    }
+}
+
+/// Reads modules, without quiet zones, as a symbol of a symbology, and puts its full data into `out`, as [`read_into`]
+/// does. `modules` has `width` times `rows` bytes, row by row, 1 where dark, else 0.
+#[tactic(auto, unfolding(crate::specs::Read::modules_asked))]
+pub fn read_modules_into(
+    symbology: u32,
+    width: u32,
+    rows: u32,
+    modules: &[u8],
+    out: &mut [u8],
+) -> Answer
+    ensures { AnswersRead out.old out.new result (modules_asked symbology width rows modules.now) }
+{
+    match symbology_of(symbology) {
+        Some(symbology) => {
+            let read = read_module_bytes(symbology, width as usize, rows as usize, modules);
+            answered(read, out)
+        }
+        None => declined(BAD_SYMBOLOGY),
     }
 }
 
@@ -72,14 +117,12 @@ pub fn read_into(
     let Some(symbology) = symbology_of(symbology) else {
         return declined(BAD_SYMBOLOGY);
     };
-    match read_picture(
+    let read = read_picture(
         symbology,
         scale as usize,
         width as usize,
         height as usize,
         dots,
-    ) {
-        Some(bytes) => offer(bytes.as_slice(), out),
-        None => declined(NOT_READ),
-    }
+    );
+    answered(read, out)
 }

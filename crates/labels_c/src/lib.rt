@@ -10,9 +10,9 @@ ghost use Rattle.capi.specs.Full.{PutsFullAsked, PutsFullLine};
 ghost use Rattle.capi.specs.Line.{AnswersDrawnLine, AnswersLine, NumbersLine, ReadsDrawnLine, ReadsLine, line_asked};
 ghost use Rattle.capi.specs.Modules.{AnswersAsked, NumbersAsked, ReadsModules, ToldAsked};
 ghost use Rattle.capi.specs.Numbers.{code_of};
-ghost use Rattle.capi.specs.Read.{AnswersRead, read_asked};
+ghost use Rattle.capi.specs.Read.{AnswersFound, AnswersRead, bits_asked, modules_asked, read_asked};
 
-use capi::{Answer, CallOptions, SymbolInfo};
+use capi::{Answer, CallOptions, CallRegion, FoundInfo, SymbolInfo};
 
 /// Draws one symbol into `out`, or puts the reason why there is none into `message`.
 #[unsafe(no_mangle)]
@@ -179,4 +179,35 @@ pub extern "C" fn labels_proved_read(
     ensures { AnswersRead out.old out.new answer.new (read_asked symbology scale width height dots.now) }
 {
     *answer = capi::read_into(symbology, scale, width, height, dots, out);
+}
+
+/// Reads the modules of a symbol, a byte 0 or 1 each, and puts its full data into `out`.
+#[unsafe(no_mangle)]
+pub extern "C" fn labels_proved_read_modules(
+    symbology: u32,
+    width: u32,
+    rows: u32,
+    modules: &[u8],
+    out: &mut [u8],
+    answer: &mut Answer,
+)
+    ensures { AnswersRead out.old out.new answer.new (modules_asked symbology width rows modules.now) }
+{
+    *answer = capi::read_modules_into(symbology, width, rows, modules, out);
+}
+
+/// Reads a region of bits as a symbol of which nothing is told, puts its full data into `out`, and tells what it is.
+#[unsafe(no_mangle)]
+pub extern "C" fn labels_proved_read_bits(
+    region: &CallRegion,
+    bits: &[u8],
+    out: &mut [u8],
+    found: &mut FoundInfo,
+    answer: &mut Answer,
+)
+    ensures { AnswersFound out.old out.new answer.new found.new (bits_asked region.now bits.now) }
+{
+    let told = capi::read_bits_into(region, bits, out);
+    *found = told.info;
+    *answer = told.answer;
 }

@@ -1,31 +1,71 @@
 -- Dots that are read as pixels.
-use Rattle.std.proofs.Common.{◌≡◌, ℕ, ◌+◌, ◌*◌, ◌<◌, ◌≤◌, ◌==◌, Bool, true, false, suc, zero, List, [], map, take, drop, get_or, refl, ap, sym}
-use Rattle.std.proofs.Common.{◌∙◌, eqb, arith}
+use Rattle.std.proofs.Common.{◌≡◌, ℕ, ◌+◌, ◌*◌, ◌<◌, ◌≤◌, ◌==◌, Bool, true, false, suc, zero, List, map, take, drop, get_or, refl, ap, sym}
+use Rattle.std.proofs.Common.{◌∙◌, ◌&&◌, ◌||◌, Option, None, Some, arith, length}
 use Rattle.std.specs.List.{list_all, range_with_len}
-use Rattle.std.proofs.Math.ListN.{get_or-map}
-use Rattle.std.proofs.lemmas.List.{get_or-take, get_or-drop}
-use Rattle.std.proofs.lemmas.List.FromFn.{get_or-map-range_with_len}
+use Rattle.std.specs.Option.{option_map}
+use Rattle.std.proofs.lemmas.Bool.{and_parts, eqb-true}
+use Rattle.std.proofs.lemmas.List.{get_or-map, get_or-take, get_or-drop, length-drop, length-map, length-take-le}
+use Rattle.std.proofs.lemmas.List.FromFn.{fill_by_all}
+use Rattle.std.proofs.lemmas.Nat.{mul-le}
 use Rattle.std.specs.Bool.{beq, then_some}
 use Rattle.std.specs.Cmp.Lexicographic.{pointwise}
 use Rattle.std.proofs.lemmas.List.Folds.{list_all-map}
 use Rattle.picture.specs.Picture.{AreEqualRows, Picture}
 use Rattle.picture.proofs.SampleLaws.{map-range, pointwise-same}
-use Rattle.picture.specs.Reading.{common_row, raster}
-use Rattle.picture.specs.Text.{pixel_row}
-use Rattle.qrmatrix.specs.Square.{value_at}
-use Rattle.reading.specs.Dots.{rows_of}
+use Rattle.picture.specs.Reading.{common_row, raster, raster_of}
+use Rattle.picture.specs.Text.{below, pixel_row}
+use Rattle.reading.specs.Dots.{bytes_picture, bytes_read}
 
-pub dot_at : (width height : ℕ) (digits : List ℕ) (x y : ℕ) → x < width → y < height
-    → eqb (get_or digits (y * width + x) 0) 49 ≡ value_at (rows_of width height digits) x y
-dot_at width height digits x y wide high =
-    let row = take width (drop (width * y) digits) in
+-- ---- digits
+
+rows_of : ℕ → ℕ → List ℕ → List (List Bool)
+rows_of width height digits = map (λ y. map (λ b. b == 49) (take width (drop (width * y) digits))) (below height)
+
+row_is : (width height : ℕ) (digits : List ℕ) (y : ℕ) → length digits ≡ width * height → y < height
+    → map (λ b. b == 49) (take width (drop (width * y) digits)) ≡ pixel_row (bytes_picture width height 49 digits) y
+row_is width height digits y long high =
+    let rest = drop (width * y) digits in
+    let enough : width ≤ length rest = omega (arith, long, length-drop (width * y) digits, room) in
+    fill_by_all (λ x. get_or digits (y * width + x) 0 == 49) (map (λ b. b == 49) (take width rest)) width false
+    (length-map (take width rest) (λ b. b == 49) ∙ length-take-le width rest enough) (λ x wide.
     let place : width * y + x ≡ y * width + x = omega arith in
-    let digit : get_or row x 0 ≡ get_or digits (y * width + x) 0 =
-    get_or-take width (drop (width * y) digits) x 0 wide ∙ get_or-drop (width * y) digits x 0
-    ∙ ap (λ n. get_or digits n 0) place in
-    ap (λ b. eqb b 49) (sym digit) ∙ sym (get_or-map (λ b. b == 49) row x 0)
-    ∙ ap (λ (row : List Bool). get_or row x false) (sym (get_or-map-range_with_len
-    (λ y. map (λ b. b == 49) (take width (drop (width * y) digits))) 0 height y y [] high (omega arith)))
+    get_or-map (λ b. b == 49) (take width rest) x 0 false
+    (omega (arith, wide, length-take-le width rest enough))
+    ∙ ap (λ b. b == 49) (get_or-take width rest x 0 wide ∙ get_or-drop (width * y) digits x 0
+    ∙ ap (λ n. get_or digits n 0) place))
+  where
+    room : width * y + width ≤ width * height
+    room = omega (arith, mul-le (suc y) width height width (omega (arith, high)) (omega arith))
+
+rows_are : (width height : ℕ) (digits : List ℕ) → length digits ≡ width * height
+    → rows_of width height digits ≡ (raster (bytes_picture width height 49 digits)).rows
+unfolding rows_of
+rows_are width height digits long =
+    map-range _ (pixel_row (bytes_picture width height 49 digits)) 0 height (λ y _ high.
+    row_is width height digits y long (omega (arith, high)))
+
+same_raster : (width height : ℕ) (digits : List ℕ)
+    → option_map raster (bytes_read 48 49 width height digits) ≡ raster_of width height digits
+unfolding rows_of
+same_raster width height digits = at (list_all (λ b. b == 48 || b == 49) digits && length digits == width * height) refl
+  where
+    at : (b : Bool) → (list_all (λ b. b == 48 || b == 49) digits && length digits == width * height) ≡ b
+        → option_map raster (then_some b (bytes_picture width height 49 digits))
+        ≡ then_some b (record { width = width; height = height; rows = rows_of width height digits })
+    at false is = refl
+    at true is =
+        let long = eqb-true (length digits) (width * height)
+        (and_parts (list_all (λ b. b == 48 || b == 49) digits) (length digits == width * height) is).1 in
+        ap (λ rows. Some (record { width = width; height = height; rows = rows })) (sym (rows_are width height digits long))
+
+-- digits that are read as a picture are read as its raster
+pub digits_read : {D : Type 0} (picture : D → Picture) (found : Option D) (width height : ℕ) (digits : List ℕ)
+    → option_map picture found ≡ bytes_read 48 49 width height digits
+    → option_map (λ d. raster (picture d)) found ≡ raster_of width height digits
+digits_read picture None width height digits e = ap (option_map raster) e ∙ same_raster width height digits
+digits_read picture (Some d) width height digits e = ap (option_map raster) e ∙ same_raster width height digits
+
+-- ---- rows that are equal
 
 -- the row that all rows are equal to is the first
 pub first_row : (p : Picture) (m : ℕ) (row : List Bool) → p.height ≡ suc m → row ≡ pixel_row p 0

@@ -1,7 +1,11 @@
 pub mod DotLaws
-pub mod EqualDotLaws
+pub mod CellLaws
+mod BitLaws
+mod TurnLaws
+mod FoundLaws
+mod ScaleLaws
+mod AloneLaws
 mod Examples
 mod WidthLaws
 mod SquareLaws
 mod LabelLaws
-mod ScaleLaws

@@ -1,20 +1,24 @@
--- No dots are read at two scales: the first module is dark, and left of it is the quiet zone.
-use Rattle.std.proofs.Common.{◌≡◌, ℕ, ◌+◌, ◌*◌, ◌/◌, ◌<◌, ◌≤◌, refl, sym, ap, subst, ◌∙◌, arith, Bool, true, false}
-use Rattle.std.proofs.Common.{List, [], ◌∷◌, Option, Some, None, get_or, length, inl, inr}
+-- No dots are read by two symbologies, nor at two scales. The first module is dark, and left of it and above it is the quiet
+-- zone: so its place is the same for both. The second module of EAN and UPC is light: so theirs is as wide as the first of
+-- the other, or a whole number of times as wide, which no two quiet zones allow.
+use Rattle.std.proofs.Common.{◌≡◌, ◌≢◌, ℕ, ◌+◌, ◌-◌, ◌*◌, ◌/◌, ◌%◌, ◌<◌, ◌≤◌, refl, sym, ap, subst, ◌∙◌, arith, Bool, true, false}
+use Rattle.std.proofs.Common.{List, [], ◌∷◌, Option, Some, get_or, length, inl, inr, ◌&&◌}
 use Rattle.std.specs.Prelude.{nat_le, option_and_then, slice_index_or}
 use Rattle.std.specs.Bool.{then_some}
 use Rattle.std.specs.Cmp.{booleans_Decides}
-use Rattle.std.specs.Option.{is_some, option_map}
 use Rattle.std.proofs.lemmas.Bool.{and_parts, both_ways, cases_eq, cases_lt, false≢true}
 use Rattle.std.proofs.lemmas.Bool.Decides.{nat_tests}
 use Rattle.std.proofs.lemmas.Option.{none-some, option_and_then_some}
-use Rattle.std.proofs.Math.Nat.{div-eq_of_lt, div-lt_iff_lt-mul, div-mul-le_self, mul-div_cancel, mul-lt-mul_of_pos_left}
+use Rattle.std.proofs.lemmas.Nat.{div-add-mod', div-mul-add}
+use Rattle.std.proofs.Math.Nat.{div-eq_of_lt, div-lt_iff_lt-mul, div-mul-le_self, mul-add-mod_self_right, mul-div_cancel}
 use Rattle.labelcore.specs.declared.symbology.Symbology.{Symbology}
 use Rattle.labelcore.specs.declared.symbology.Symbology.TheVariants.{Ean13, Ean8, UpcA, Code128, Qr}
 use Rattle.linear.specs.Code128Reading.{read_code128}
+use Rattle.linear.specs.Ean.{ean13_row}
 use Rattle.linear.specs.EanReading.{read_ean13, read_ean8, read_upca}
 use Rattle.linear.specs.declared.limits.TheConstants.{MAX_MODULES}
 use Rattle.linear.proofs.OneReadingLaws.{IsBounded, code128_bounded, ean13_bounded, ean8_bounded, upca_bounded}
+use Rattle.linear.proofs.ReadRowLaws.{ean13_drawn, ean8_drawn, upca_drawn}
 use Rattle.qrdata.specs.Reading.{data_in}
 use Rattle.qrdata.specs.Versions.{side_of}
 use Rattle.qrmatrix.specs.Functions.{finder, fixed_module, role}
@@ -23,13 +27,14 @@ use Rattle.qrmatrix.specs.Square.{value_at}
 use Rattle.qrmatrix.proofs.FoundLaws.{IsReading-of}
 use Rattle.qrmatrix.proofs.ReadingLaws.{fixed_at, inside_from}
 use Rattle.qrmatrix.proofs.ComputedLaws.{passes}
-use Rattle.picture.specs.Reading.{Raster, are_cells, common_row, sample}
+use Rattle.picture.specs.Reading.{Raster, are_cells, cell, common_row, is_module, sample}
 use Rattle.picture.specs.declared.quiet_zone.QuietZone.{QuietZone}
 use Rattle.picture.proofs.PixelLaws.{IsSampled-of, columns_of, outside, rows_of}
 use Rattle.filter.specs.Reading.{read_modules}
 use Rattle.filter.specs.Symbol.{quiet_zone}
 use Rattle.filter.proofs.FoundLaws.{common_rows}
 use Rattle.reading.specs.Labels.{read_dots, read_short}
+use Rattle.reading.proofs.CellLaws.{begins, same_cell}
 
 -- ---- the first module
 
@@ -61,21 +66,69 @@ corner_dark Qr rows full read =
     option_and_then_some (λ n. read_square n (value_at rows)) (then_some _ (length rows)) full read (λ n is after.
     square_dark n (value_at rows) full after)
 
--- ---- the quiet zone
+-- ---- the second module
+
+is_ean : Symbology → Bool
+is_ean Code128 = false
+is_ean Qr = false
+is_ean other = true
+
+row_light : (reading : List Bool → Option (List ℕ))
+    → ((row : List Bool) (full : List ℕ) → reading row ≡ Some full → get_or row 1 false ≡ false) → (rows : List (List Bool))
+    (full : List ℕ) → option_and_then reading (common_row rows) ≡ Some full → value_at rows 1 0 ≡ false
+row_light reading light rows full read =
+    option_and_then_some reading (common_row rows) full read (λ row is after.
+    let lines = common_rows rows row is in
+    ap (λ (l : List Bool). get_or l 1 false) (lines.1 0 lines.0) ∙ light row full after)
+
+ean13_light : (full : List ℕ) → get_or (ean13_row full) 1 false ≡ false
+ean13_light [] = refl
+ean13_light (first ∷ rest) = refl
+
+second_light : (symbology : Symbology) → is_ean symbology ≡ true → (rows : List (List Bool)) (full : List ℕ)
+    → read_modules symbology rows ≡ Some full → value_at rows 1 0 ≡ false
+unfolding is_ean
+second_light Ean13 is rows full read = row_light read_ean13 (λ row full read.
+    ap (λ (l : List Bool). get_or l 1 false) (ean13_drawn row full read).0 ∙ ean13_light full) rows full read
+second_light Ean8 is rows full read = row_light read_ean8 (λ row full read.
+    ap (λ (l : List Bool). get_or l 1 false) (ean8_drawn row full read).0) rows full read
+second_light UpcA is rows full read = row_light read_upca (λ row full read.
+    ap (λ (l : List Bool). get_or l 1 false) (upca_drawn row full read).0) rows full read
+second_light Code128 is rows full read = absurd (false≢true is)
+second_light Qr is rows full read = absurd (false≢true is)
+
+-- ---- cells
 
 then_true : {A : Type 0} (b : Bool) (x y : A) → then_some b x ≡ Some y → b ≡ true
 then_true true x y e = refl
 then_true false x y e = absurd (none-some y e)
 
-zone_light : (r : Raster) (scale : ℕ) (zone : QuietZone) (rows : List (List Bool)) → 0 < scale
-    → sample r scale zone ≡ Some rows → (x y : ℕ) → x < r.width → y < r.height → x < zone.left * scale
-    → value_at r.rows x y ≡ false
-unfolding sample
-zone_light r scale zone rows some is x y wide high left =
-    let cells = (and_parts _ (are_cells r scale zone (r.width / scale) (r.height / scale)) (then_true _ _ rows is)).1 in
-    let test = passes _ r.width x (passes _ r.height y cells high) wide in
-    let column : x / scale < zone.left = (div-lt_iff_lt-mul some).1 left in
-    (booleans_Decides _ _).0 test ∙ grind (arith, nat_tests)
+module _ (r : Raster) (scale : ℕ) (zone : QuietZone) (rows : List (List Bool)) (some : 0 < scale)
+    (is : sample r scale zone ≡ Some rows) where
+  -- the colour of a pixel, by its cell
+  colour : ℕ → ℕ → Bool
+  colour column row =
+      is_module zone (r.width / scale) (r.height / scale) column row && cell r scale column row
+
+  colour_is : (x y : ℕ) → x < r.width → y < r.height → value_at r.rows x y ≡ colour (x / scale) (y / scale)
+  unfolding sample colour
+  colour_is x y wide high =
+      let cells = (and_parts _ (are_cells r scale zone (r.width / scale) (r.height / scale)) (then_true _ _ rows is)).1 in
+      (booleans_Decides _ _).0 (passes _ r.width x (passes _ r.height y cells high) wide)
+
+  outside_light : (x y : ℕ) → x < r.width → y < r.height
+      → is_module zone (r.width / scale) (r.height / scale) (x / scale) (y / scale) ≡ false
+      → value_at r.rows x y ≡ false
+  unfolding colour
+  outside_light x y wide high out = colour_is x y wide high ∙ rw out refl
+
+  left_light : (x y : ℕ) → x < r.width → y < r.height → x < zone.left * scale → value_at r.rows x y ≡ false
+  left_light x y wide high left = outside_light x y wide high (
+      let column : x / scale < zone.left = (div-lt_iff_lt-mul some).1 left in grind (arith, nat_tests))
+
+  top_light : (x y : ℕ) → x < r.width → y < r.height → y < zone.top * scale → value_at r.rows x y ≡ false
+  top_light x y wide high above = outside_light x y wide high (
+      let row : y / scale < zone.top = (div-lt_iff_lt-mul some).1 above in grind (arith, nat_tests))
 
 -- where the first module is
 record IsCorner (r : Raster) (scale : ℕ) (zone : QuietZone) : Type 0 where
@@ -84,6 +137,8 @@ record IsCorner (r : Raster) (scale : ℕ) (zone : QuietZone) : Type 0 where
   dark : value_at r.rows (zone.left * scale) (zone.top * scale) ≡ true
   broad : scale ≤ r.width
   tall : scale ≤ r.height
+  columns : 0 < columns_of r scale zone
+  lines : 0 < rows_of r scale zone
 
 some_cells : (size scale : ℕ) → 0 < size / scale → scale ≤ size
 some_cells size scale some = elim (cases_lt size scale) [
@@ -123,82 +178,172 @@ corner_at r scale zone rows some is dark =
           (above ∙ omega arith)) ∙ dark;
       broad = some_cells r.width scale (omega (arith, left));
       tall = some_cells r.height scale (omega (arith, top));
+      columns = columns;
+      lines = lines;
     }
   where
     no_rows : (rows : List (List Bool)) → length rows ≡ 0 → value_at rows 0 0 ≡ false
     no_rows [] e = refl
     no_rows (row ∷ rows) e = absurd (omega (arith, e))
 
--- ---- the scale
+some_right : (symbology : Symbology) → is_ean symbology ≡ true → 0 < (quiet_zone symbology).right
+unfolding is_ean
+some_right Ean13 is = omega arith
+some_right Ean8 is = omega arith
+some_right UpcA is = omega arith
+some_right Code128 is = absurd (false≢true is)
+some_right Qr is = absurd (false≢true is)
 
-some_zone : (symbology : Symbology) → 0 < (quiet_zone symbology).left
-some_zone Ean13 = omega arith
-some_zone Ean8 = omega arith
-some_zone UpcA = omega arith
-some_zone Code128 = omega arith
-some_zone Qr = omega arith
+-- ---- what is read
 
-module _ (symbology : Symbology) (r : Raster) where
-  -- what dots are read as at a scale: their modules, which are read
-  sampled_at : {P : Type 0} (scale : ℕ) (full : List ℕ) → read_dots symbology scale r ≡ Some full
-      → ((rows : List (List Bool)) → sample r scale (quiet_zone symbology) ≡ Some rows → value_at rows 0 0 ≡ true → P) → P
-  sampled_at scale full read use_it =
-      option_and_then_some (read_short (read_modules symbology)) (sample r scale (quiet_zone symbology)) full read (λ rows is after.
-      use_it rows is (at rows (nat_le (length (slice_index_or rows 0 [])) MAX_MODULES) refl after))
-    where
-      at : (rows : List (List Bool)) (b : Bool) → nat_le (length (slice_index_or rows 0 [])) MAX_MODULES ≡ b
-          → read_short (read_modules symbology) rows ≡ Some full → value_at rows 0 0 ≡ true
-      at rows true e after = corner_dark symbology rows full (rw e at after)
-      at rows false e after = absurd (none-some full (rw e at after))
+record IsRead (symbology : Symbology) (r : Raster) (scale : ℕ) : Type 0 where
+  rows : List (List Bool)
+  is : sample r scale (quiet_zone symbology) ≡ Some rows
+  dark : value_at rows 0 0 ≡ true
+  light : is_ean symbology ≡ true → value_at rows 1 0 ≡ false
 
-  corner : (scale : ℕ) (full : List ℕ) → 0 < scale → read_dots symbology scale r ≡ Some full
+is_read : (symbology : Symbology) (r : Raster) (scale : ℕ) (full : List ℕ) → read_dots symbology scale r ≡ Some full
+    → IsRead symbology r scale
+is_read symbology r scale full read =
+    option_and_then_some (read_short (read_modules symbology)) (sample r scale (quiet_zone symbology)) full read (λ rows is after.
+    at rows is (nat_le (length (slice_index_or rows 0 [])) MAX_MODULES) refl after)
+  where
+    at : (rows : List (List Bool)) → sample r scale (quiet_zone symbology) ≡ Some rows → (b : Bool)
+        → nat_le (length (slice_index_or rows 0 [])) MAX_MODULES ≡ b
+        → read_short (read_modules symbology) rows ≡ Some full → IsRead symbology r scale
+    at rows is true e after =
+        let read : read_modules symbology rows ≡ Some full = rw e at after in
+        record {
+          rows = rows;
+          is = is;
+          dark = corner_dark symbology rows full read;
+          light = λ ean. second_light symbology ean rows full read;
+        }
+    at rows is false e after = absurd (none-some full (rw e at after))
+
+module _ (r : Raster) where
+  corner : (symbology : Symbology) (scale : ℕ) → 0 < scale → IsRead symbology r scale
       → IsCorner r scale (quiet_zone symbology)
-  corner scale full some read = sampled_at scale full read (λ rows is dark.
-      corner_at r scale (quiet_zone symbology) rows some is dark)
+  corner symbology scale some is = corner_at r scale (quiet_zone symbology) is.rows some is.is is.dark
 
-  -- a scale is not above another at which the dots are read too
-  not_above : (scale other : ℕ) (full more : List ℕ) → 0 < scale → 0 < other
-      → read_dots symbology scale r ≡ Some full → read_dots symbology other r ≡ Some more → other ≤ scale
-  not_above scale other full more some also read read_too = elim (cases_lt scale other) [
-    | inr not_less ↦ not_less
-    | inl less ↦
-        let is = corner scale full some read in
-        let left = mul-lt-mul_of_pos_left less (some_zone symbology) in
-        sampled_at other more read_too (λ rows sampled dark.
-        absurd (both_ways _ (zone_light r other (quiet_zone symbology) rows also sampled
-        ((quiet_zone symbology).left * scale) ((quiet_zone symbology).top * scale) is.wide is.high left) is.dark))
-  ]
+  pub scale_within : (symbology : Symbology) (scale : ℕ) (full : List ℕ) → 0 < scale
+      → read_dots symbology scale r ≡ Some full → (scale ≤ r.width) × (scale ≤ r.height)
+  scale_within symbology scale full some read =
+      let is = corner symbology scale some (is_read symbology r scale full read) in (is.broad, is.tall)
 
-  pub one_scale : (scale other : ℕ) (full more : List ℕ) → 0 < scale → 0 < other
-      → read_dots symbology scale r ≡ Some full → read_dots symbology other r ≡ Some more → scale ≡ other
-  one_scale scale other full more some also read read_too =
-      omega (
-        arith,
-        not_above scale other full more some also read read_too,
-        not_above other scale more full also some
-            read_too read,
+  -- the first module of one is not in the quiet zone of the other
+  not_before : (a b : Symbology) (s u : ℕ) → 0 < s → 0 < u → IsRead a r s → IsRead b r u
+      → ((quiet_zone b).left * u ≤ (quiet_zone a).left * s) × ((quiet_zone b).top * u ≤ (quiet_zone a).top * s)
+  not_before a b s u some also is too =
+      let first = corner a s some is in
+      let x = (quiet_zone a).left * s in
+      let y = (quiet_zone a).top * s in (
+        elim (cases_lt x ((quiet_zone b).left * u)) [
+          | inr not_less ↦ not_less
+          | inl less ↦ absurd (both_ways _ (left_light r u (quiet_zone b) too.rows also too.is x y first.wide first.high less)
+              first.dark)
+        ],
+        elim (cases_lt y ((quiet_zone b).top * u)) [
+          | inr not_less ↦ not_less
+          | inl less ↦ absurd (both_ways _ (top_light r u (quiet_zone b) too.rows also too.is x y first.wide first.high less)
+              first.dark)
+        ],
       )
 
-  pub scale_within : (scale : ℕ) (full : List ℕ) → 0 < scale → read_dots symbology scale r ≡ Some full
-      → (scale ≤ r.width) × (scale ≤ r.height)
-  scale_within scale full some read = let is = corner scale full some read in (is.broad, is.tall)
+  same_left : (a b : Symbology) (s u : ℕ) → 0 < s → 0 < u → IsRead a r s → IsRead b r u
+      → (quiet_zone a).left * s ≡ (quiet_zone b).left * u
+  same_left a b s u some also is too =
+      omega (arith, (not_before a b s u some also is too).0, (not_before b a u s also some too is).0)
 
-  module _ {D : Type 0} (items : D → List ℕ) where
-    -- what is read at the first scale that reads
-    pub first_found : (o : Option D) (at : ℕ) → 0 < at → is_some o ≡ true
-        → option_map items o ≡ read_dots symbology at r → (scale : ℕ) (full : List ℕ) → 0 < scale
-        → read_dots symbology scale r ≡ Some full → option_map items o ≡ Some full
-    first_found None at some is e scale full also read = absurd (false≢true is)
-    first_found (Some d) at some is e scale full also read =
-        e ∙ ap (λ k. read_dots symbology k r) (one_scale at scale (items d) full some also (sym e) read) ∙ read
+  same_top : (a b : Symbology) (s u : ℕ) → 0 < s → 0 < u → IsRead a r s → IsRead b r u
+      → (quiet_zone a).top * s ≡ (quiet_zone b).top * u
+  same_top a b s u some also is too =
+      omega (arith, (not_before a b s u some also is too).1, (not_before b a u s also some too is).1)
 
-    -- one scale more at which nothing is read
-    pub none_found : (o : Option D) (before : ℕ) → is_some o ≡ false
-        → option_map items o ≡ read_dots symbology (before + 1) r
-        → ((scale : ℕ) → 0 < scale → scale ≤ before → read_dots symbology scale r ≡ None)
-        → (scale : ℕ) → 0 < scale → scale ≤ before + 1 → read_dots symbology scale r ≡ None
-    none_found (Some d) before is e earlier scale some within = absurd (false≢true (sym is))
-    none_found None before is e earlier scale some within = elim (cases_eq scale (before + 1)) [
-      | inl same ↦ ap (λ k. read_dots symbology k r) same ∙ sym e
-      | inr other ↦ earlier scale some (omega (arith, within, other))
-    ]
+  -- the module right of the first one
+  second_at : (a : Symbology) (s : ℕ) → 0 < s → is_ean a ≡ true → IsRead a r s
+      → (((quiet_zone a).left + 1) * s < r.width)
+      × (value_at r.rows (((quiet_zone a).left + 1) * s) ((quiet_zone a).top * s) ≡ false)
+  second_at a s some ean is =
+      let zone = quiet_zone a in
+      let first = corner a s some is in
+      let x = (zone.left + 1) * s in
+      let y = zone.top * s in
+      let column : x / s ≡ zone.left + 1 = mul-div_cancel (zone.left + 1) some in
+      let wide : x < r.width = begins r.width s (zone.left + 1) some (omega (arith, first.columns, some_right a ean)) in (
+        wide,
+        elim (cases_lt 1 (columns_of r s zone)) [
+          | inl more ↦ sym ((IsSampled-of r s zone some is.rows is.is).shows 1 0 x y more first.lines column
+              (mul-div_cancel zone.top some ∙ omega arith)) ∙ is.light ean
+          | inr none ↦ outside_light r s zone is.rows some is.is x y wide first.high (rw column (grind (arith, nat_tests)))
+        ],
+      )
+
+  -- a symbol of EAN or UPC, and any other whose quiet zone is no multiple of its: not of the same dots
+  apart : (a b : Symbology) (s u : ℕ) → 0 < s → 0 < u → is_ean a ≡ true
+      → ((m : ℕ) → (quiet_zone a).left * m ≢ (quiet_zone b).left) → IsRead a r s → IsRead b r u → ⊥
+  apart a b s u some also ean other is too = elim (cases_eq (s % u) 0) [
+    | inl whole ↦
+        let m = s / u in
+        let size : m * u ≡ s = omega (arith, whole, div-add-mod' s u) in
+        let left : (quiet_zone a).left * m * u ≡ (quiet_zone b).left * u =
+        omega arith ∙ ap (λ n. (quiet_zone a).left * n) size ∙ same_left a b s u some also is too in
+        other m (sym (mul-div_cancel ((quiet_zone a).left * m) also) ∙ ap (λ n. n / u) left
+        ∙ mul-div_cancel (quiet_zone b).left also)
+    | inr inner ↦
+        let first = corner a s some is in
+        let second = second_at a s some ean is in
+        let y = (quiet_zone a).top * s in
+        let start = (quiet_zone a).left * s in
+        let x = ((quiet_zone a).left + 1) * s in
+        let from : x ≡ (quiet_zone b).left * u + s = omega (arith, same_left a b s u some also is too) in
+        let not_first : x % u ≢ 0 = λ e. inner (sym (ap (λ n. n % u) from
+        ∙ mul-add-mod_self_right (quiet_zone b).left u s) ∙ e) in
+        let before : x - 1 < r.width = omega (arith, second.0) in
+        let last : x - 1 ≡ (quiet_zone a).left * s + (s - 1) = omega (arith, some) in
+        let module_is : (x - 1) / s ≡ start / s =
+        ap (λ n. n / s) last ∙ div-mul-add (quiet_zone a).left s (s - 1) (omega (arith, some))
+        ∙ sym (mul-div_cancel (quiet_zone a).left some) in
+        let dark : value_at r.rows (x - 1) y ≡ true =
+        colour_is r s (quiet_zone a) is.rows some is.is (x - 1) y before first.high
+        ∙ ap (λ column. colour r s (quiet_zone a) is.rows some is.is column (y / s)) module_is
+        ∙ sym (colour_is r s (quiet_zone a) is.rows some is.is start y first.wide first.high) ∙ first.dark in
+        let same : value_at r.rows x y ≡ value_at r.rows (x - 1) y =
+        colour_is r u (quiet_zone b) too.rows also too.is x y second.0 first.high
+        ∙ ap (λ column. colour r u (quiet_zone b) too.rows also too.is column (y / u)) (same_cell u x also not_first)
+        ∙ sym (colour_is r u (quiet_zone b) too.rows also too.is (x - 1) y before first.high) in
+        both_ways _ second.1 (same ∙ dark)
+  ]
+
+  module _ (s u : ℕ) (some : 0 < s) (also : 0 < u) where
+    one : (a b : Symbology) → IsRead a r s → IsRead b r u → (a ≡ b) × (s ≡ u)
+    unfolding is_ean
+    one Ean13 Ean13 f g = (refl, omega (arith, same_left Ean13 Ean13 s u some also f g))
+    one Ean13 Ean8 f g = absurd (apart Ean13 Ean8 s u some also refl (λ m e. omega (arith, e)) f g)
+    one Ean13 UpcA f g = absurd (apart Ean13 UpcA s u some also refl (λ m e. omega (arith, e)) f g)
+    one Ean13 Code128 f g = absurd (apart Ean13 Code128 s u some also refl (λ m e. omega (arith, e)) f g)
+    one Ean13 Qr f g = absurd (omega (arith, also, same_top Ean13 Qr s u some also f g))
+    one Ean8 Ean8 f g = (refl, omega (arith, same_left Ean8 Ean8 s u some also f g))
+    one Ean8 Ean13 f g = absurd (apart Ean8 Ean13 s u some also refl (λ m e. omega (arith, e)) f g)
+    one Ean8 UpcA f g = absurd (apart Ean8 UpcA s u some also refl (λ m e. omega (arith, e)) f g)
+    one Ean8 Code128 f g = absurd (apart Ean8 Code128 s u some also refl (λ m e. omega (arith, e)) f g)
+    one Ean8 Qr f g = absurd (omega (arith, also, same_top Ean8 Qr s u some also f g))
+    one UpcA UpcA f g = (refl, omega (arith, same_left UpcA UpcA s u some also f g))
+    one UpcA Ean13 f g = absurd (apart UpcA Ean13 s u some also refl (λ m e. omega (arith, e)) f g)
+    one UpcA Ean8 f g = absurd (apart UpcA Ean8 s u some also refl (λ m e. omega (arith, e)) f g)
+    one UpcA Code128 f g = absurd (apart UpcA Code128 s u some also refl (λ m e. omega (arith, e)) f g)
+    one UpcA Qr f g = absurd (omega (arith, also, same_top UpcA Qr s u some also f g))
+    one Code128 Code128 f g = (refl, omega (arith, same_left Code128 Code128 s u some also f g))
+    one Code128 Ean13 f g = absurd (apart Ean13 Code128 u s also some refl (λ m e. omega (arith, e)) g f)
+    one Code128 Ean8 f g = absurd (apart Ean8 Code128 u s also some refl (λ m e. omega (arith, e)) g f)
+    one Code128 UpcA f g = absurd (apart UpcA Code128 u s also some refl (λ m e. omega (arith, e)) g f)
+    one Code128 Qr f g = absurd (omega (arith, also, same_top Code128 Qr s u some also f g))
+    one Qr Qr f g = (refl, omega (arith, same_left Qr Qr s u some also f g))
+    one Qr Ean13 f g = absurd (omega (arith, some, same_top Qr Ean13 s u some also f g))
+    one Qr Ean8 f g = absurd (omega (arith, some, same_top Qr Ean8 s u some also f g))
+    one Qr UpcA f g = absurd (omega (arith, some, same_top Qr UpcA s u some also f g))
+    one Qr Code128 f g = absurd (omega (arith, some, same_top Qr Code128 s u some also f g))
+
+  pub one_reading : (a b : Symbology) (s u : ℕ) (full more : List ℕ) → 0 < s → 0 < u
+      → read_dots a s r ≡ Some full → read_dots b u r ≡ Some more → (a ≡ b) × (s ≡ u)
+  one_reading a b s u full more some also read too = one s u some also a b (is_read a r s full read) (is_read b r u more too)

@@ -11,19 +11,15 @@ use Rattle.std.proofs.lemmas.List.FromFn.{get_or-map-range_with_len, length-map-
 use Rattle.qrdata.specs.Reading.{data_in}
 use Rattle.qrmatrix.specs.Bits.{bit}
 use Rattle.qrmatrix.specs.Reading.{Reading, read_matrix, read_square}
-use Rattle.qrmatrix.specs.Symbol.{is_dark}
-use Rattle.qrmatrix.proofs.ReadingLaws.{module_outside}
 use Rattle.qrmatrix.proofs.RowBitsLaws.{above_bit, or_bit, two_bits}
 use Rattle.qrmatrix.specs.Square.{value_at}
 use Rattle.qr_reading.proofs.SymbolReadingLaws.{wide_side}
-use Rattle.picture.specs.Picture.{Picture, symbol_picture}
+use Rattle.picture.specs.Picture.{Picture}
 use Rattle.picture.specs.Reading.{raster}
 use Rattle.picture.specs.Text.{pixel_row}
-use Rattle.picture.proofs.SampleLaws.{sample-raster, value_at-raster}
+use Rattle.picture.proofs.SampleLaws.{value_at-raster}
 use Rattle.labelcore.specs.declared.symbology.Symbology.TheVariants.{Qr}
 use Rattle.filter.specs.Reading.{read_modules}
-use Rattle.filter.specs.Symbol.{quiet_zone}
-use Rattle.reading.specs.Squares.{SymbolsAreRead}
 
 -- the data of what modules were read as
 abbrev pub symbol_data : Option Reading → Option (List ℕ)
@@ -121,21 +117,3 @@ square_of_words p rows n wide high long is =
           ap (λ w. bit w x) (get_or_past (take n rows) y 0 (omega (arith, past, length-take-le n rows long)))
           ∙ above_bit 0 0 x (omega arith) (omega arith) ∙ sym (pixel_at p x y ∙ grind (arith, nat_tests))
     ]
-
--- ---- symbols that are drawn
-
-pub are_read : SymbolsAreRead
-unfolding are_long
-are_read v level asked codewords s scale is some =
-    ap (option_and_then (read_modules Qr)) (sample-raster (symbol_picture s) (quiet_zone Qr) scale some)
-    ∙ rw (long (symbol_picture s), wide_rows (symbol_picture s) s.side 0 s.side refl)
-    (ap (read_square s.side) (fun_ext (λ x. fun_ext (λ y. pixel x y)))
-    ∙ ap (option_and_then (λ symbol. data_in symbol.version symbol.level symbol.codewords)) is.reads)
-  where
-    pixel : (x y : ℕ) → value_at (raster (symbol_picture s)).rows x y ≡ is_dark s x y
-    pixel x y = pixel_at (symbol_picture s) x y ∙ at (nat_lt x s.side && nat_lt y s.side) refl
-      where
-        at : (b : Bool) → (nat_lt x s.side && nat_lt y s.side) ≡ b → (b && is_dark s x y) ≡ is_dark s x y
-        at true inside = refl
-        at false outside = sym (is.modules x y ∙ module_outside v level s.mask codewords x y
-            (rw is.side at outside))

@@ -1,10 +1,11 @@
 -- What dots are read as by the rules of a label's symbology.
--- Why: `read_short`, `read_dots`, `IsReadAtSomeScale`: the same sampling and the same rules as of an image that was drawn.
-use Rattle.std.specs.Prelude.{◌≡◌, ◌<◌, ℕ, Bool, List, [], None, Some, Option, if◌then◌else◌, length, nat_le, slice_index_or}
+-- Why: `read_short`, `read_dots`, `ModulesAreRead`: the same sampling and the same rules as of an image that was drawn.
+use Rattle.std.specs.Prelude.{◌≡◌, ◌<◌, ◌≤◌, ℕ, Bool, List, [], None, Option, if◌then◌else◌, length, nat_le, slice_index_or}
 use Rattle.labelcore.specs.declared.symbology.Symbology.{Symbology}
 use Rattle.linear.specs.declared.limits.TheConstants.{MAX_MODULES}
 use Rattle.qrdata.specs.Steps.{◌>>=◌}
-use Rattle.picture.specs.Reading.{Raster, sample}
+use Rattle.picture.specs.Picture.{Picture, enlargement, with_quiet_zone}
+use Rattle.picture.specs.Reading.{Raster, raster, sample}
 use Rattle.filter.specs.Reading.{read_modules}
 use Rattle.filter.specs.Symbol.{quiet_zone}
 
@@ -17,8 +18,9 @@ read_short reading rows = if nat_le (length (slice_index_or rows 0 [])) MAX_MODU
 abbrev pub read_dots : Symbology → ℕ → Raster → Option (List ℕ)
 read_dots symbology scale r = sample r scale (quiet_zone symbology) >>= read_short (read_modules symbology)
 
--- a raster is read as a symbol of a symbology at some scale
-pub record IsReadAtSomeScale (symbology : Symbology) (r : Raster) (full : List ℕ) : Type 0 where
-  pub scale : ℕ
-  pub some : 0 < scale
-  pub read : read_dots symbology scale r ≡ Some full
+-- modules in the quiet zone of a symbology, drawn at any scale, are read as these modules
+abbrev pub ModulesAreRead : Type 0
+ModulesAreRead =
+    (symbology : Symbology) (p : Picture) (scale : ℕ) → 0 < p.height → p.width ≤ MAX_MODULES → 0 < scale
+    → read_dots symbology scale (raster (enlargement (with_quiet_zone p (quiet_zone symbology)) scale))
+    ≡ read_modules symbology (raster p).rows

@@ -1,5 +1,4 @@
-pub mod Bars
 pub mod Dots
-pub mod Squares
 pub mod Labels
+pub mod Found
 pub mod Private

@@ -1,68 +1,86 @@
-//! Dots that are read as pixels.
-ghost use Rattle.std.specs.Prelude.{◌≡◌, ◌*◌, ◌<◌, Some, None, MatchOption, length, ◌==◌, ◌||◌};
+//! Dots that are bytes.
+ghost use Rattle.std.specs.Prelude.{◌≡◌, ◌*◌, ◌==◌, ◌||◌, length, option_map};
 ghost use Rattle.std.specs.List.{list_all};
-ghost use Rattle.qrmatrix.specs.Square.{value_at};
-ghost use Rattle.picture.specs.Reading.{raster_of};
-ghost use Rattle.reading.specs.Dots.{raster_in, rows_of};
+ghost use Rattle.picture.specs.Reading.{raster, raster_of};
+ghost use Rattle.reading.specs.Dots.{bytes_picture, bytes_read};
 
-/// A picture as dots, row by row: the digit `1` where dark, and `0` where light.
+use crate::equal_rows::equal_rows;
+use picture::Grid;
+
+/// A picture of a byte for each dot, row by row.
 #[derive(Clone, Copy)]
 pub struct Dots<'a> {
-    pub(crate) width: usize,
-    pub(crate) height: usize,
-    pub(crate) digits: &'a [u8],
-    ghost whole: { length digits.now ≡ width * height },
+    width: usize,
+    height: usize,
+    dark: u8,
+    bytes: &'a [u8],
+    ghost whole: { length bytes.now ≡ width * height },
 }
 
-/// Returns whether each of these is a digit 0 or 1. It looks at all of them: a loop that can end early is not turned
+/// Returns whether each of these is one of two bytes. It looks at all of them: a loop that can end early is not turned
 /// into vector code.
-fn are_dots(digits: &[u8]) -> bool
-    ensures { result ≡ list_all (λ b. b == 48 || b == 49) digits.now }
+fn are_dots(light: u8, dark: u8, bytes: &[u8]) -> bool
+    ensures { result ≡ list_all (λ b. b == light || b == dark) bytes.now }
 {
     let mut are = true;
-    for i in 0..digits.len() {
-        are &= digits[i] == b'0' || digits[i] == b'1';
+    for i in 0..bytes.len() {
+        are &= bytes[i] == light || bytes[i] == dark;
     }
     are
 }
 
 impl<'a> Dots<'a> {
-    /// Returns a picture of `width` by `height` dots, or `None` where that is not what the digits are.
+    /// Returns a picture of `width` by `height` digits, `1` where dark and `0` where light, or `None` where that is not
+    /// what the digits are.
+    #[tactic(auto, using(crate::proofs::DotLaws::digits_read))]
     pub fn new(width: usize, height: usize, digits: &'a [u8]) -> Option<Self>
-        ensures { MatchOption result (raster_of width height digits.now ≡ None)
-            (λ dots. raster_of width height digits.now
-            ≡ Some (raster_in dots.width dots.height dots.digits.now)) }
+        ensures { option_map (λ dots. raster (⟦<Dots<'a> as Grid>⟧.picture dots)) result
+            ≡ raster_of width height digits.now }
     {
-        if width.checked_mul(height) != Some(digits.len()) || !are_dots(digits) {
+        Dots::of_bytes(b'0', b'1', width, height, digits)
+    }
+
+    /// Returns a picture of `width` by `height` modules, 1 where dark and 0 where light, or `None` where that is not what
+    /// the bytes are.
+    pub fn of_modules(width: usize, height: usize, modules: &'a [u8]) -> Option<Self>
+        ensures { option_map ⟦<Dots<'a> as Grid>⟧.picture result ≡ bytes_read 0 1 width height modules.now }
+    {
+        Dots::of_bytes(0, 1, width, height, modules)
+    }
+
+    /// Returns a picture of two bytes.
+    fn of_bytes(light: u8, dark: u8, width: usize, height: usize, bytes: &'a [u8]) -> Option<Self>
+        ensures { option_map ⟦<Dots<'a> as Grid>⟧.picture result ≡ bytes_read light dark width height bytes.now }
+    {
+        if width.checked_mul(height) != Some(bytes.len()) || !are_dots(light, dark, bytes) {
             return None;
         }
         Some(Dots {
             width,
             height,
-            digits,
+            dark,
+            bytes,
         })
     }
+}
 
-    /// Returns the number of columns.
-    pub fn width(&self) -> usize
-        ensures { result ≡ self.now.width }
-    {
+impl<'a> Grid for Dots<'a> {
+    ghost picture = { λ s. bytes_picture s.width s.height s.dark s.bytes.now };
+
+    fn width(&self) -> usize {
         self.width
     }
 
-    /// Returns the number of rows.
-    pub fn height(&self) -> usize
-        ensures { result ≡ self.now.height }
-    {
+    fn height(&self) -> usize {
         self.height
     }
 
-    /// Returns whether the dot in column `x` and row `y` is dark.
-    pub fn is_dark(&self, x: usize, y: usize) -> bool
-        requires wide { x < self.now.width }
-        requires high { y < self.now.height }
-        ensures { result ≡ value_at (rows_of self.now.width self.now.height self.now.digits.now) x y }
-    {
-        self.digits[y * self.width + x] == b'1'
+    fn dark(&self, x: usize, y: usize) -> bool {
+        self.bytes[y * self.width + x] == self.dark
+    }
+
+    fn equal_rows(&self, y: usize) -> usize {
+        let place = y * self.width;
+        equal_rows(self.bytes, place, self.width, self.width, self.height - y)
     }
 }

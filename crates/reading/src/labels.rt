@@ -1,19 +1,22 @@
-//! Labels read from dots, by their symbology.
-ghost use Rattle.std.specs.Prelude.{◌≡◌, ◌≢◌, ◌<◌, ◌≤◌, ℕ, List, [], IfOk, IfSome, Some, length, option_map};
+//! Labels read from modules and from dots, by their symbology.
+ghost use Rattle.std.specs.Prelude.{◌≡◌, ◌≢◌, ◌<◌, ◌≤◌, ℕ, [], IfOk, Some, length, option_and_then, option_map};
+ghost use Rattle.filter.specs.Private.{beside};
+ghost use Rattle.filter.specs.Reading.{read_modules};
 ghost use Rattle.filter.specs.Symbol.{quiet_zone, symbol_of};
-ghost use Rattle.reading.specs.Dots.{raster_in};
+ghost use Rattle.linear_reading.specs.Reading.{read_row};
 ghost use Rattle.picture.specs.Picture.{enlargement, with_quiet_zone};
-ghost use Rattle.picture.specs.Reading.{raster};
-ghost use Rattle.reading.specs.Bars;
-ghost use Rattle.reading.specs.Labels.{IsReadAtSomeScale, read_dots};
+ghost use Rattle.picture.specs.Reading.{common_row, raster};
+ghost use Rattle.reading.specs.Labels.{ModulesAreRead, read_dots, read_short};
 
 use crate::bars::read_bars;
-use crate::dots::Dots;
-use crate::squares::read_qr;
+use crate::sampled::Sampled;
+use crate::squares::read_square;
 use labelcore::{Options, Symbology};
-use linear::{Code128, Ean8, Ean13, UpcA};
+use linear::{Code128, Ean8, Ean13, Linear, UpcA};
 use linear_reading::LinearReading;
+use picture::{Grid, QuietZone};
 use qr_reading::SymbolData;
+use qrmatrix::QUIET_ZONE;
 
 /// Returns the same data with more room after it.
 fn data_of(full: &[u8]) -> SymbolData
@@ -26,48 +29,75 @@ fn data_of(full: &[u8]) -> SymbolData
     data
 }
 
-/// Reads dots as a linear symbol.
-fn read_linear<L: LinearReading>(dots: Dots, scale: usize) -> Option<SymbolData>
-    requires { 0 < scale }
-    ensures { option_map (λ bytes. bytes.items) result ≡ Bars.read_bars L.reading L.QUIET_ZONES scale
-        (raster_in dots.entry.width dots.entry.height dots.entry.digits.now) }
+/// Reads modules as a linear symbol.
+fn read_linear<L: LinearReading, G: Grid>(modules: &G) -> Option<SymbolData>
+    ensures { option_map (λ bytes. bytes.items) result
+        ≡ option_and_then (read_row L.reading) (common_row (raster (G.picture modules.now)).rows) }
 {
-    let full = read_bars::<L>(dots, scale)?;
+    let full = read_bars::<L, G>(modules)?;
     Some(data_of(&full))
+}
+
+/// Reads modules, without quiet zones, as a symbol of a symbology: its full data. There is no correction: each module has
+/// to have its colour.
+pub fn read_modules<G: Grid>(symbology: Symbology, modules: &G) -> Option<SymbolData>
+    ensures { option_map (λ bytes. bytes.items) result
+        ≡ read_short (read_modules symbology) (raster (G.picture modules.now)).rows }
+{
+    match symbology {
+        Symbology::Ean13 => read_linear::<Ean13, G>(modules),
+        Symbology::Ean8 => read_linear::<Ean8, G>(modules),
+        Symbology::UpcA => read_linear::<UpcA, G>(modules),
+        Symbology::Code128 => read_linear::<Code128, G>(modules),
+        Symbology::Qr => read_square(modules),
+    }
+}
+
+/// Returns the quiet zone of the bars of a symbology.
+fn beside<L: Linear>() -> QuietZone
+    ensures { result ≡ beside L.QUIET_ZONES }
+{
+    let zones = L::QUIET_ZONES;
+    QuietZone {
+        left: zones.left,
+        right: zones.right,
+        top: 0,
+        bottom: 0,
+    }
+}
+
+/// Returns the quiet zone of a symbology.
+fn quiet_zone(symbology: Symbology) -> QuietZone
+    ensures { result ≡ quiet_zone symbology }
+{
+    match symbology {
+        Symbology::Ean13 => beside::<Ean13>(),
+        Symbology::Ean8 => beside::<Ean8>(),
+        Symbology::UpcA => beside::<UpcA>(),
+        Symbology::Code128 => beside::<Code128>(),
+        Symbology::Qr => QuietZone {
+            left: QUIET_ZONE,
+            right: QUIET_ZONE,
+            top: QUIET_ZONE,
+            bottom: QUIET_ZONE,
+        },
+    }
 }
 
 /// Reads dots as a symbol of a symbology, in its quiet zone, each module `scale` dots wide: its full data. There is no
 /// correction: each dot has to have the colour of its module, and the quiet zone has to be light.
-pub fn read(symbology: Symbology, dots: Dots, scale: usize) -> Option<SymbolData>
+pub fn read<G: Grid>(symbology: Symbology, dots: &G, scale: usize) -> Option<SymbolData>
     requires { 0 < scale }
-    ensures { option_map (λ bytes. bytes.items) result ≡ read_dots symbology scale
-        (raster_in dots.entry.width dots.entry.height dots.entry.digits.now) }
+    ensures { option_map (λ bytes. bytes.items) result ≡ read_dots symbology scale (raster (G.picture dots.now)) }
 {
-    match symbology {
-        Symbology::Ean13 => read_linear::<Ean13>(dots, scale),
-        Symbology::Ean8 => read_linear::<Ean8>(dots, scale),
-        Symbology::UpcA => read_linear::<UpcA>(dots, scale),
-        Symbology::Code128 => read_linear::<Code128>(dots, scale),
-        Symbology::Qr => read_qr(dots, scale),
-    }
+    let modules = Sampled::new(dots, scale, quiet_zone(symbology))?;
+    read_modules(symbology, &modules)
 }
 
-/// Reads dots as a symbol of a symbology, at whatever scale. No dots are read at two scales.
-pub fn read_at_any_scale(symbology: Symbology, dots: Dots) -> Option<SymbolData>
-    ensures found { (scale : ℕ) (full : List ℕ) → 0 < scale → read_dots symbology scale
-        (raster_in dots.entry.width dots.entry.height dots.entry.digits.now) ≡ Some full
-        → option_map (λ bytes. bytes.items) result ≡ Some full }
-    ensures read { IfSome result (λ bytes. IsReadAtSomeScale symbology
-        (raster_in dots.entry.width dots.entry.height dots.entry.digits.now) bytes.items) }
-{
-    for before in 0..dots.width().min(dots.height()) {
-        let data = read(symbology, dots, before + 1);
-        if data.is_some() {
-            return data;
-        }
-    }
-    None
-}
+/// Modules in their quiet zone, at any scale, are read as the modules are. It does nothing when it runs.
+pub fn modules_are_read()
+    ensures { ModulesAreRead }
+{}
 
 /// What is drawn is read: the picture of each symbol that is drawn, in its quiet zone and at any scale, is read as the
 /// symbol's full data. The data is not empty, as that of a line. It does nothing when it runs.

@@ -1,17 +1,21 @@
 //! Labels read back from their dots, by the rules that drawing is proved against, with no correction.
 //!
-//! [`read`] reads a symbol by its symbology: [`read_bars`] a linear one, [`read_qr`] a QR symbol. The README of this
-//! crate has an example. Nothing here takes memory from the heap.
+//! [`read`] reads the dots of a symbol by its symbology, and [`read_modules`] its modules: [`Dots`], [`Bits`], or any other
+//! `picture::Grid`. The README of this crate has an example. Nothing here takes memory from the heap.
 #![tactic(auto)]
 
 mod bars;
+mod bits;
 mod dots;
+mod equal_rows;
+mod found;
 mod labels;
 mod one_row;
 mod sampled;
 mod squares;
+mod turned;
 
-pub use bars::{bars_are_read, read_bars};
+pub use bits::{BitRegion, Bits};
 pub use dots::Dots;
-pub use labels::{labels_are_read, read, read_at_any_scale};
-pub use squares::{read_qr, symbols_are_read};
+pub use found::{Reading, read_any, readings_are_alone};
+pub use labels::{labels_are_read, modules_are_read, read, read_modules};

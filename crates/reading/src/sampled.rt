@@ -1,144 +1,143 @@
 //! Modules that dots show.
-ghost use Rattle.std.specs.Prelude.{◌≡◌, ℕ, ◌+◌, ◌*◌, ◌/◌, ◌<◌, ◌≤◌, slice_index, true, Some, None, MatchOption};
+ghost use Rattle.std.specs.Prelude.{◌≡◌, ℕ, ◌+◌, ◌-◌, ◌*◌, ◌/◌, ◌%◌, ◌^◌, ◌<◌, ◌≤◌, ◌&&◌, nat_le, nat_lt, true, Some, None, MatchOption};
 ghost use Rattle.std.specs.List.{list_all};
-ghost use Rattle.picture.specs.Reading.{are_cells, is_module, raster, sample};
-ghost use Rattle.reading.specs.Dots.{raster_in, rows_of};
-ghost use Rattle.reading.specs.Private.{AreEqualDots, IsToldByFirst, are_modules, is_of_cell, modules_in};
+ghost use Rattle.picture.specs.Reading.{raster, sample};
 ghost use Rattle.picture.specs.Text.{below};
+ghost use Rattle.reading.specs.Private.{AreEqualTo, IsRowAgain, are_whole_cells, is_of_cell, is_row_of_cells};
+ghost use Rattle.reading.specs.Private.{modules_in};
 
-use crate::dots::Dots;
 use picture::{Grid, QuietZone};
 
 /// The modules that dots show inside a quiet zone, each a square of dots.
-#[derive(Clone, Copy)]
-pub struct Sampled<'a> {
-    dots: Dots<'a>,
+#[derive(Drop)]
+pub struct Sampled<'a, G: Grid> {
+    dots: &'a G,
     scale: usize,
     zone: QuietZone,
     are_equal: bool,
     ghost some: { 0 < scale },
-    ghost wide: { zone.left + zone.right ≤ dots.width / scale },
-    ghost high: { zone.top + zone.bottom ≤ dots.height / scale },
-    ghost equal: { are_equal ≡ true
-        → AreEqualDots (rows_of dots.width dots.height dots.digits.now) dots.width dots.height },
+    ghost equal: { are_equal ≡ true → AreEqualTo (G.picture dots.now) (G.picture dots.now).height },
+    ghost wide: { zone.left + zone.right ≤ (G.picture dots.now).width / scale },
+    ghost high: { zone.top + zone.bottom ≤ (G.picture dots.now).height / scale },
 }
 
-/// Returns whether the cell in a column and a row is a module, and not of the quiet zone.
-fn is_module(zone: &QuietZone, columns: usize, rows: usize, column: usize, row: usize) -> bool
-    ensures { result ≡ is_module zone.now columns rows column row }
+/// Returns whether a cell is between the quiet zones before and after.
+fn is_between(before: usize, after: usize, cells: usize, cell: usize) -> bool
+    ensures { result ≡ (nat_le before cell && nat_lt (cell + after) cells) }
 {
-    zone.left <= column
-        && columns > zone.right
-        && column < columns - zone.right
-        && zone.top <= row
-        && rows > zone.bottom
-        && row < rows - zone.bottom
+    before <= cell && cells > after && cell < cells - after
 }
 
 /// Returns whether the dot at `x` and `y` has the colour of its cell, a square of dots: light in the quiet zone, and
-/// else that of the cell's first dot.
-fn is_of_cell(dots: &Dots, scale: usize, zone: &QuietZone, x: usize, y: usize) -> bool
+/// else that of the cell's first dot. `is_inner`: no cell of the row is of the zone above or below.
+#[inline(always)]
+fn is_of_cell<G: Grid>(
+    dots: &G,
+    scale: usize,
+    zone: &QuietZone,
+    columns: usize,
+    is_inner: bool,
+    x: usize,
+    y: usize,
+) -> bool
     requires some { 0 < scale }
-    requires wide { x < dots.now.width }
-    requires high { y < dots.now.height }
-    ensures { result ≡ is_of_cell (raster_in dots.now.width dots.now.height dots.now.digits.now) scale zone.now
-        (dots.now.width / scale) (dots.now.height / scale) x y }
+    requires columns { columns ≡ (G.picture dots.now).width / scale }
+    requires inner { is_inner ≡ (nat_le zone.now.top (y / scale)
+        && nat_lt (y / scale + zone.now.bottom) ((G.picture dots.now).height / scale)) }
+    requires wide { x < (G.picture dots.now).width }
+    requires high { y < (G.picture dots.now).height }
+    ensures { result ≡ is_of_cell (G.picture dots.now) scale zone.now x y }
 {
     let column = x / scale;
-    let row = y / scale;
-    let wanted = is_module(zone, dots.width / scale, dots.height / scale, column, row)
-        && dots.is_dark(column * scale, row * scale);
-    dots.is_dark(x, y) == wanted
+    let wanted = is_inner
+        && is_between(zone.left, zone.right, columns, column)
+        && dots.dark(column * scale, y / scale * scale);
+    dots.dark(x, y) == wanted
 }
 
 /// Returns whether each dot of the row `y` has the colour of its cell.
-fn is_row_of_cells(dots: &Dots, scale: usize, zone: &QuietZone, y: usize) -> bool
+fn is_row_of_cells<G: Grid>(dots: &G, scale: usize, zone: &QuietZone, y: usize) -> bool
     requires some { 0 < scale }
-    requires high { y < dots.now.height }
-    ensures { result ≡ list_all (λ x. is_of_cell (raster_in dots.now.width dots.now.height dots.now.digits.now) scale
-        zone.now (dots.now.width / scale) (dots.now.height / scale) x y) (below dots.now.width) }
+    requires high { y < (G.picture dots.now).height }
+    ensures { result ≡ is_row_of_cells (G.picture dots.now) scale zone.now y }
 {
-    for x in 0..dots.width {
-        if !is_of_cell(dots, scale, zone, x, y) {
+    let columns = dots.width() / scale;
+    let is_inner = is_between(zone.top, zone.bottom, dots.height() / scale, y / scale);
+    for x in 0..dots.width() {
+        if !is_of_cell(dots, scale, zone, columns, is_inner, x, y) {
             return false;
         }
     }
     true
 }
 
-/// Returns whether all rows of dots are equal; no `false` has to be right.
-fn are_rows_equal(dots: &Dots) -> bool
-    requires { 0 < dots.now.height }
-    ensures { result ≡ true → AreEqualDots (rows_of dots.now.width dots.now.height dots.now.digits.now)
-        dots.now.width dots.now.height }
-{
-    for y in 1..dots.height {
-        if !is_row_again(dots, y, 0) {
-            return false;
-        }
-    }
-    true
-}
-
-/// Returns whether the row `y` of dots has the digits of the row `before`.
-fn is_row_again(dots: &Dots, y: usize, before: usize) -> bool
-    requires high { y < dots.now.height }
-    requires earlier { before < y }
-    ensures { result ≡ true → (x : ℕ) → x < dots.now.width
-        → slice_index dots.now.digits.now (y * dots.now.width + x)
-        ≡ slice_index dots.now.digits.now (before * dots.now.width + x) }
-{
-    let width = dots.width;
-    let row = &dots.digits[y * width..y * width + width];
-    row == &dots.digits[before * width..before * width + width]
-}
-
-/// Returns whether the first row tells whether all dots have the colours of their cells.
-fn is_told_by_first(dots: &Dots, scale: usize, zone: &QuietZone) -> bool
-    requires { 0 < scale }
-    ensures { result ≡ true → IsToldByFirst dots.now.width dots.now.height dots.now.digits.now scale zone.now }
-{
-    zone.top == 0
-        && zone.bottom == 0
-        && dots.height > 0
-        && dots.height % scale == 0
-        && are_rows_equal(dots)
-}
-
-/// Returns whether each dot has the colour of its cell. With `is_told` the first row tells.
-fn are_cells(dots: &Dots, scale: usize, zone: &QuietZone, is_told: bool) -> bool
+/// Returns whether each dot of the row `y` has the colour of its cell, as those of the row before have; before `equal` it
+/// has the pixels of that row. It is not looked at then where both are of the same cells, nor where no quiet zone is above
+/// and below.
+#[inline(always)]
+fn is_next_row_of_cells<G: Grid>(
+    dots: &G,
+    scale: usize,
+    zone: &QuietZone,
+    equal: usize,
+    y: usize,
+) -> bool
     requires some { 0 < scale }
-    requires told { is_told ≡ true → IsToldByFirst dots.now.width dots.now.height dots.now.digits.now scale zone.now }
-    ensures { result ≡ are_cells (raster_in dots.now.width dots.now.height dots.now.digits.now) scale zone.now
-        (dots.now.width / scale) (dots.now.height / scale) }
+    requires whole { (G.picture dots.now).height % scale ≡ 0 }
+    requires high { y < (G.picture dots.now).height }
+    requires same { 0 < y → y < equal → IsRowAgain (G.picture dots.now) y }
+    requires before { 0 < y → is_row_of_cells (G.picture dots.now) scale zone.now (y - 1) ≡ true }
+    ensures { result ≡ is_row_of_cells (G.picture dots.now) scale zone.now y }
 {
-    if is_told {
-        return is_row_of_cells(dots, scale, zone, 0);
-    }
-    for y in 0..dots.height {
-        if !is_next_row_of_cells(dots, scale, zone, y) {
-            return false;
-        }
-    }
-    true
-}
-
-/// Returns whether each dot of the row `y` has the colour of its cell, as those of the rows before it have. With the
-/// digits of the first row of its cells it has.
-fn is_next_row_of_cells(dots: &Dots, scale: usize, zone: &QuietZone, y: usize) -> bool
-    requires some { 0 < scale }
-    requires high { y < dots.now.height }
-    requires before { (k : ℕ) → k < y
-        → list_all (λ x. is_of_cell (raster_in dots.now.width dots.now.height dots.now.digits.now) scale zone.now
-        (dots.now.width / scale) (dots.now.height / scale) x k) (below dots.now.width) ≡ true }
-    ensures { result ≡ list_all (λ x. is_of_cell (raster_in dots.now.width dots.now.height dots.now.digits.now) scale
-        zone.now (dots.now.width / scale) (dots.now.height / scale) x y) (below dots.now.width) }
-{
-    let first = y - y % scale;
-    if first < y && is_row_again(dots, y, first) {
+    let are_bars = zone.top == 0 && zone.bottom == 0;
+    if y > 0 && y < equal && (are_bars || y % scale != 0) {
         return true;
     }
     is_row_of_cells(dots, scale, zone, y)
+}
+
+/// Returns the row up to which the rows after `y` are known to have the pixels of the row before them; they are before
+/// `equal`.
+#[inline(always)]
+fn equal_until<G: Grid>(dots: &G, equal: usize, y: usize) -> usize
+    requires fits { (G.picture dots.now).height < 2 ^ 64 }
+    requires high { y < (G.picture dots.now).height }
+    requires same { (k : ℕ) → y < k → k < equal → IsRowAgain (G.picture dots.now) k }
+    ensures { (k : ℕ) → y < k → k < result → IsRowAgain (G.picture dots.now) k }
+{
+    if y < equal {
+        equal
+    } else {
+        y + dots.equal_rows(y)
+    }
+}
+
+/// Returns how many rows are known to equal the first, itself among them.
+fn equal_to_first<G: Grid>(dots: &G) -> usize
+    ensures { AreEqualTo (G.picture dots.now) result }
+{
+    if dots.height() == 0 {
+        0
+    } else {
+        dots.equal_rows(0)
+    }
+}
+
+/// Returns whether each dot has the colour of its cell. The rows before `equal` are equal.
+fn are_cells<G: Grid>(dots: &G, scale: usize, zone: &QuietZone, equal: usize) -> bool
+    requires some { 0 < scale }
+    requires whole { (G.picture dots.now).height % scale ≡ 0 }
+    requires same { AreEqualTo (G.picture dots.now) equal }
+    ensures { result ≡ list_all (is_row_of_cells (G.picture dots.now) scale zone.now) (below (G.picture dots.now).height) }
+{
+    let mut equal = equal;
+    for y in 0..dots.height() {
+        if !is_next_row_of_cells(dots, scale, zone, equal, y) {
+            return false;
+        }
+        equal = equal_until(dots, equal, y);
+    }
+    true
 }
 
 /// Returns the first dot of the cell that comes `place` cells after the first `before`.
@@ -151,60 +150,61 @@ fn first_dot(length: usize, scale: usize, before: usize, place: usize) -> usize
     (before + place) * scale
 }
 
-/// Returns whether dots show modules inside a quiet zone: cells of one colour each, light in the zone. With `is_told`
-/// the first row tells.
-fn are_modules(dots: &Dots, scale: usize, zone: &QuietZone, is_told: bool) -> bool
-    requires some { 0 < scale }
-    requires told { is_told ≡ true → IsToldByFirst dots.now.width dots.now.height dots.now.digits.now scale zone.now }
-    ensures { result ≡ are_modules (raster_in dots.now.width dots.now.height dots.now.digits.now) scale zone.now }
+/// Returns whether dots are a whole number of cells, as many as a quiet zone has at least.
+fn are_whole_cells<G: Grid>(dots: &G, scale: usize, zone: &QuietZone) -> bool
+    requires { 0 < scale }
+    ensures { result ≡ are_whole_cells (G.picture dots.now) scale zone.now }
 {
-    dots.width % scale == 0
-        && dots.height % scale == 0
-        && zone.left <= dots.width / scale
-        && zone.right <= dots.width / scale - zone.left
-        && zone.top <= dots.height / scale
-        && zone.bottom <= dots.height / scale - zone.top
-        && are_cells(dots, scale, zone, is_told)
+    let columns = dots.width() / scale;
+    let rows = dots.height() / scale;
+    dots.width() % scale == 0
+        && dots.height() % scale == 0
+        && zone.left <= columns
+        && zone.right <= columns - zone.left
+        && zone.top <= rows
+        && zone.bottom <= rows - zone.top
 }
 
-impl<'a> Sampled<'a> {
+impl<'a, G: Grid> Sampled<'a, G> {
     /// Returns the modules that dots show inside a quiet zone, each a square of `scale` by `scale` dots; `None` where
     /// that is not what they show.
-    pub fn new(dots: Dots<'a>, scale: usize, zone: QuietZone) -> Option<Self>
+    pub fn new(dots: &'a G, scale: usize, zone: QuietZone) -> Option<Self>
         requires { 0 < scale }
-        ensures { MatchOption result
-            (sample (raster_in dots.entry.width dots.entry.height dots.entry.digits.now) scale zone ≡ None)
-            (λ modules. sample (raster_in dots.entry.width dots.entry.height dots.entry.digits.now) scale zone
-            ≡ Some (raster (⟦<Sampled<'a> as Grid>⟧.picture modules)).rows) }
+        ensures { MatchOption result (sample (raster (G.picture dots.now)) scale zone ≡ None)
+            (λ modules. sample (raster (G.picture dots.now)) scale zone
+            ≡ Some (raster (⟦<Sampled<'a, G> as Grid>⟧.picture modules)).rows) }
     {
-        let are_equal = is_told_by_first(&dots, scale, &zone);
-        if !are_modules(&dots, scale, &zone, are_equal) {
+        if !are_whole_cells(dots, scale, &zone) {
+            return None;
+        }
+        let equal = equal_to_first(dots);
+        if !are_cells(dots, scale, &zone, equal) {
             return None;
         }
         Some(Sampled {
             dots,
             scale,
             zone,
-            are_equal,
+            are_equal: equal == dots.height(),
         })
     }
 }
 
-impl<'a> Grid for Sampled<'a> {
-    ghost picture = { λ s. modules_in (raster_in s.dots.width s.dots.height s.dots.digits.now) s.scale s.zone };
+impl<'a, G: Grid> Grid for Sampled<'a, G> {
+    ghost picture = { λ s. modules_in (G.picture s.dots.now) s.scale s.zone };
 
     fn width(&self) -> usize {
-        self.dots.width / self.scale - self.zone.left - self.zone.right
+        self.dots.width() / self.scale - self.zone.left - self.zone.right
     }
 
     fn height(&self) -> usize {
-        self.dots.height / self.scale - self.zone.top - self.zone.bottom
+        self.dots.height() / self.scale - self.zone.top - self.zone.bottom
     }
 
     fn dark(&self, x: usize, y: usize) -> bool {
-        let column = first_dot(self.dots.width, self.scale, self.zone.left, x);
-        let row = first_dot(self.dots.height, self.scale, self.zone.top, y);
-        self.dots.is_dark(column, row)
+        let column = first_dot(self.dots.width(), self.scale, self.zone.left, x);
+        let row = first_dot(self.dots.height(), self.scale, self.zone.top, y);
+        self.dots.dark(column, row)
     }
 
     fn equal_rows(&self, y: usize) -> usize {

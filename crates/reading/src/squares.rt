@@ -1,17 +1,13 @@
-//! QR symbols read from dots.
+//! Modules read as QR symbols.
 ghost use Rattle.std.specs.Prelude.{◌≡◌, ◌<◌, ◌≤◌, ◌&&◌, ℕ, nat_lt, option_map};
 ghost use Rattle.qrmatrix.specs.Bits.{bit};
 ghost use Rattle.filter.specs.Reading.{read_modules};
 ghost use Rattle.labelcore.specs.declared.symbology.Symbology.TheVariants.{Qr};
-ghost use Rattle.reading.specs.Dots.{raster_in};
 ghost use Rattle.picture.specs.Reading.{raster};
-ghost use Rattle.reading.specs.Squares.{SymbolsAreRead, read_qr};
 
-use crate::dots::Dots;
-use crate::sampled::Sampled;
-use picture::{Grid, QuietZone};
+use picture::Grid;
 use qr_reading::{SymbolData, read};
-use qrmatrix::{QUIET_ZONE, SIDE};
+use qrmatrix::SIDE;
 
 /// Returns the modules of a row as the bits of a number, column 0 the lowest.
 fn row_word<G: Grid>(modules: &G, y: usize) -> u64
@@ -30,7 +26,7 @@ fn row_word<G: Grid>(modules: &G, y: usize) -> u64
 }
 
 /// Reads modules as a QR symbol, which is a square: its data.
-fn read_square<G: Grid>(modules: &G) -> Option<SymbolData>
+pub fn read_square<G: Grid>(modules: &G) -> Option<SymbolData>
     ensures { option_map (λ bytes. bytes.items) result ≡ read_modules Qr (raster (G.picture modules.now)).rows }
 {
     let side = modules.width();
@@ -43,24 +39,3 @@ fn read_square<G: Grid>(modules: &G) -> Option<SymbolData>
     }
     read(&rows[..side])
 }
-
-/// Reads dots as a QR symbol in its quiet zone, each module `scale` dots wide: its full data.
-pub fn read_qr(dots: Dots, scale: usize) -> Option<SymbolData>
-    requires { 0 < scale }
-    ensures { option_map (λ bytes. bytes.items) result
-        ≡ read_qr scale (raster_in dots.entry.width dots.entry.height dots.entry.digits.now) }
-{
-    let zone = QuietZone {
-        left: QUIET_ZONE,
-        right: QUIET_ZONE,
-        top: QUIET_ZONE,
-        bottom: QUIET_ZONE,
-    };
-    let modules = Sampled::new(dots, scale, zone)?;
-    read_square(&modules)
-}
-
-/// What is drawn is read: a symbol in its quiet zone, at any scale, is read as the data of its codewords.
-pub fn symbols_are_read()
-    ensures { SymbolsAreRead }
-{}

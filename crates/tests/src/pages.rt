@@ -1,5 +1,5 @@
 //! The examples of the crates' pages (`crates/*/README.md`). `scripts/pages.py` compares them with the pages.
-use capi::{CallOptions, draw_into, read_into};
+use capi::{CallOptions, CallRegion, draw_into, read_bits_into, read_into, read_modules_into};
 use command::{ArgumentsFault, options_of};
 use device::{Buffered, Sink, write_whole};
 use filter::{Status, run};
@@ -11,7 +11,8 @@ use picture::{Bars, Framed, QuietZone, Scaled, write_pbm};
 use qrdata::{Codewords, Level, Version, choose, codewords};
 use qrmatrix::Matrix;
 use reading::{
-    Dots, bars_are_read, labels_are_read, read, read_at_any_scale, read_bars, symbols_are_read,
+    BitRegion, Bits, Dots, labels_are_read, modules_are_read, read, read_modules,
+    readings_are_alone,
 };
 use std::test::Fail;
 use testing::{FailAt, MemSink, MemSource};
@@ -53,15 +54,33 @@ fn page_of_linear_reading(rt: HostRuntime) {
 
 #[test]
 fn page_of_reading(rt: HostRuntime) {
-    let digits = [b'0'; 81];
-    assert!(rt; Dots::new(81, 1, &digits).is_some_and(|dots| read_bars::<Ean8>(dots, 1).is_none()));
-    let Some(dots) = Dots::new(9, 9, &digits) else {
-        panic!(rt; "they are digits");
+    let region = BitRegion {
+        stride: 11,
+        left: 0,
+        top: 0,
+        width: 81,
+        height: 1,
+        dark: true,
     };
-    assert!(rt; read(Symbology::Qr, dots, 1).is_none());
-    assert!(rt; read_at_any_scale(Symbology::Qr, dots).is_none());
-    bars_are_read();
-    symbols_are_read();
+    let Some(dots) = Bits::new(region, &[1, 93, 189, 98, 101, 80, 167, 66, 137, 64, 0]) else {
+        panic!(rt; "the region is within them");
+    };
+    assert!(rt; read(Symbology::Qr, &dots, 1).is_none());
+    assert!(rt;
+        reading::read_any(&dots).is_some_and(|reading| reading.data.as_slice()
+            == b"73513537".as_slice())
+    );
+    assert!(rt;
+        Dots::new(9, 9, &[b'0'; 81]).is_some_and(|dots| reading::read_any(&dots).is_none())
+    );
+    assert!(rt;
+        Dots::of_modules(9, 9, &[0; 81]).is_some_and(|modules| read_modules(
+            Symbology::Qr,
+            &modules
+        ).is_none())
+    );
+    readings_are_alone();
+    modules_are_read();
     labels_are_read(&Options::default(), Symbology::Qr, b"1");
 }
 
@@ -191,4 +210,15 @@ fn page_of_capi(rt: HostRuntime) {
     let answer = draw_into(&options, 1, b"7351353", &mut out, &mut message);
     assert!(rt; answer.code == 0 && answer.length == 164 && out[163] == b'\n' && out[164] == 7);
     assert!(rt; read_into(1, 1, 81, 1, &[b'0'; 81], &mut out).code == 17);
+    assert!(rt; read_modules_into(4, 9, 9, &[0; 81], &mut out).code == 17);
+    let region = CallRegion {
+        stride: 11,
+        left: 0,
+        top: 0,
+        width: 81,
+        height: 1,
+        dark: 1,
+        reserved: [0; 3],
+    };
+    assert!(rt; read_bits_into(&region, &[0; 11], &mut out).answer.code == 17);
 }

@@ -7,8 +7,8 @@
 (b'PNG', '<svg xmlns="http://www.w3.org/2000/svg" width="14.5mm" heigh')
 >>> draw("ean8", "7351353", format="ascii", height=1)[:20]  # a picture as labels(1) prints it
 b'              ##  ##'
->>> read("ean8", draw("ean8", "7351353", scale=2))  # what the dots of a picture say
-b'73513537'
+>>> read(draw("ean8", "7351353", scale=2))  # what a picture says
+Reading(symbology='ean8', scale=2, turns=0, data=b'73513537')
 
 The modules as an array of numpy, without quiet zones, and a picture as an image of Pillow:
 
@@ -29,13 +29,14 @@ from dataclasses import dataclass, field
 
 from . import _binding, _pictures
 from ._binding import FORMATS, LEVELS, LIBRARY, SYMBOLOGIES, Data
-from ._reading import read
+from ._reading import Reading, read
 
 __all__ = [
     "FORMATS",
     "LEVELS",
     "SYMBOLOGIES",
     "Bitmap",
+    "Reading",
     "Refused",
     "Symbol",
     "bitmap",

@@ -95,6 +95,35 @@ class Dots(ctypes.Structure):
     ]
 
 
+class Region(ctypes.Structure):
+    """labels_region: a whole picture."""
+
+    _fields_ = [
+        ("stride", ctypes.c_size_t),
+        ("left", ctypes.c_uint32),
+        ("top", ctypes.c_uint32),
+        ("width", ctypes.c_uint32),
+        ("height", ctypes.c_uint32),
+        ("dark", ctypes.c_uint32),
+        ("reserved", ctypes.c_uint32 * 3),
+    ]
+
+
+class Found(ctypes.Structure):
+    """labels_found."""
+
+    symbology: int
+    scale: int
+    turns: int
+
+    _fields_ = [
+        ("symbology", ctypes.c_uint32),
+        ("scale", ctypes.c_uint32),
+        ("turns", ctypes.c_uint32),
+        ("reserved", ctypes.c_uint32 * 5),
+    ]
+
+
 def _load() -> ctypes.CDLL:
     library = ctypes.CDLL(os.environ.get("LABELS_LIBRARY", "liblabels.so.1"))
     size = ctypes.c_size_t
@@ -103,14 +132,13 @@ def _load() -> ctypes.CDLL:
     bits = [ctypes.c_void_p, size, size]
     answer = [ctypes.c_void_p]
     options = [ctypes.POINTER(Options)]
-    sides = [ctypes.c_uint32, ctypes.c_uint32]
     library.labels_draw.argtypes = [*options, ctypes.c_int, *data, *room, *answer]
     library.labels_draw_line.argtypes = [*options, *data, *room, *answer]
     library.labels_symbol.argtypes = [*options, ctypes.c_int, *data, *room, *answer, *answer]
     library.labels_line.argtypes = [*options, *data, *room, *answer, *answer]
     library.labels_bitmap.argtypes = [*options, ctypes.c_int, *data, *bits, *answer, *answer]
     library.labels_bitmap_line.argtypes = [*options, *data, *bits, *answer, *answer]
-    library.labels_read.argtypes = [ctypes.c_int, ctypes.c_uint32, ctypes.c_char_p, *sides, *room, *answer]
+    library.labels_read_bits.argtypes = [ctypes.POINTER(Region), *data, *answer, *room, *answer]
     library.labels_version.restype = ctypes.c_char_p
     return library
 

@@ -1,11 +1,10 @@
-"""Dots read back as the data of a symbol: those of numpy, of Pillow and of PBM files."""
+"""Pictures read back as the data of their symbols: those of numpy, of Pillow and of PBM files."""
 
 import ctypes
-import itertools
-import math
 import re
+from collections.abc import Sequence
 from dataclasses import dataclass
-from typing import Protocol, runtime_checkable
+from typing import Protocol, overload, runtime_checkable
 
 from . import _binding
 from ._binding import LIBRARY, SYMBOLOGIES
@@ -14,6 +13,7 @@ _MOST = 2**32 - 1  # the largest number of a call
 _FIRST_LIGHT = 128
 _DIGITS_OF_TRUTHS = b"0" + b"1" * 255
 _DIGITS_OF_GREY = b"1" * _FIRST_LIGHT + b"0" * (256 - _FIRST_LIGHT)
+_IS_LIGHT = [grey >= _FIRST_LIGHT for grey in range(256)]
 _MODES = ("1", "L", "RGB")
 _BETWEEN = rb"(?:\s|#[^\n]*\n)+"  # white space and comments, as pbm(5) has them
 _HEAD = re.compile(rb"(P[14])" + _BETWEEN + rb"(\d{1,9})" + _BETWEEN + rb"(\d{1,9})\s")
@@ -50,30 +50,54 @@ class Image(Protocol):
     def convert(self, mode: str) -> "Image":
         ...
 
+    def point(self, lut: Sequence[int], mode: str) -> "Image":
+        ...
+
     def tobytes(self) -> bytes:
         ...
 
 
 @dataclass(frozen=True)
-class _Dots:
-    """Rows of dots: a digit for each, row by row from the top, 1 where dark, else 0."""
+class Reading:
+    """What a picture is read as.
+
+    Attributes:
+        symbology: one of SYMBOLOGIES.
+        scale: how many dots wide a module is.
+        turns: how many quarter turns clockwise make the symbol upright, 0 to 3.
+        data: what the symbol says: of EAN and UPC with the check digit.
+    """
+
+    symbology: str
+    scale: int
+    turns: int
+    data: bytes
+
+
+@dataclass(frozen=True)
+class _Bits:
+    """Rows of bits, each of whole bytes, of which `dark` are dark: 1 or 0."""
 
     width: int
     height: int
-    digits: bytes
-
-    def scale(self) -> int:
-        """The greatest common divisor of all runs of equal dots, in rows and in columns: 0 where there are none."""
-        rows = [self.digits[start : start + self.width] for start in range(0, len(self.digits), self.width or 1)]
-        # Each end of a run in a column is where a row differs from the one above it.
-        runs = [len(list(equal)) for _, equal in itertools.groupby(rows)]
-        for row in set(rows):
-            runs += [len(run) for run in re.findall(b"0+|1+", row)]
-        return math.gcd(*runs)
+    bits: bytes
+    dark: int = 1
 
 
-def _dots_of_pbm(text: bytes) -> _Dots:
-    """The dots of plain or binary PBM of one picture, pbm(5)."""
+def _size_of_row(width: int) -> int:
+    return (width + 7) // 8
+
+
+def _packed(width: int, height: int, digits: bytes) -> _Bits:
+    """The bits of rows of digits, 1 where dark, else 0."""
+    size = _size_of_row(width)
+    rows = (digits[start : start + width].ljust(8 * size, b"0") for start in range(0, len(digits), width or 1))
+    bits = int(b"".join(rows) or b"0", 2).to_bytes(size * height, "big")
+    return _Bits(width, height, bits)
+
+
+def _bits_of_pbm(text: bytes) -> _Bits:
+    """The bits of plain or binary PBM of one picture, pbm(5)."""
     head = _HEAD.match(text)
     if not head:
         raise ValueError("bytes have to be PBM: P1 or P4, the width and the height, and the dots")
@@ -83,76 +107,104 @@ def _dots_of_pbm(text: bytes) -> _Dots:
         digits = b"".join(rest.split())
         if digits.strip(b"01") or len(digits) != width * height:
             raise ValueError(f"PBM of {width} by {height} dots has to have as many digits 0 and 1")
-        return _Dots(width, height, digits)
-    size = (width + 7) // 8
-    if len(rest) != size * height:
-        raise ValueError(f"PBM of {width} by {height} dots has to have {size * height} bytes of them, not {len(rest)}")
-    rows = (int.from_bytes(rest[start : start + size], "big") for start in range(0, len(rest), size or 1))
-    return _Dots(width, height, "".join(f"{row:0{size * 8}b}"[:width] for row in rows).encode())
+        return _packed(width, height, digits)
+    size = _size_of_row(width) * height
+    if len(rest) != size:
+        raise ValueError(f"PBM of {width} by {height} dots has to have {size} bytes of them, not {len(rest)}")
+    return _Bits(width, height, rest)
 
 
-def _dots_of_array(array: Array) -> _Dots:
+def _bits_of_array(array: Array) -> _Bits:
     digits_of = {"bool": _DIGITS_OF_TRUTHS, "uint8": _DIGITS_OF_GREY}.get(str(array.dtype))
     if digits_of is None or len(array.shape) != 2:
         raise ValueError(f"an array has to be bool or uint8 of 2 axes, not {array.dtype} of {len(array.shape)}")
     height, width = array.shape
-    return _Dots(width, height, array.tobytes().translate(digits_of))
+    return _packed(width, height, array.tobytes().translate(digits_of))
 
 
-def _dots_of_image(image: Image) -> _Dots:
+def _bits_of_image(image: Image) -> _Bits:
     if image.mode not in _MODES:
         raise ValueError(f"mode of an image is {image.mode}, and has to be one of {', '.join(_MODES)}: convert it")
     width, height = image.size
-    return _Dots(width, height, image.convert("L").tobytes().translate(_DIGITS_OF_GREY))
+    return _Bits(width, height, image.convert("L").point(_IS_LIGHT, "1").tobytes(), dark=0)
 
 
-def _dots_of(image: object) -> _Dots:
-    if isinstance(image, (bytes, bytearray)):
-        return _dots_of_pbm(_binding.encoded(image))
-    if isinstance(image, Image):
-        return _dots_of_image(image)
-    if isinstance(image, Array):
-        return _dots_of_array(image)
-    raise TypeError(f"an image is an array of numpy, an image of Pillow or bytes of PBM, not {type(image).__name__}")
+def _bits_of(picture: object) -> _Bits:
+    if isinstance(picture, (bytes, bytearray)):
+        return _bits_of_pbm(_binding.encoded(picture))
+    if isinstance(picture, Image):
+        return _bits_of_image(picture)
+    if isinstance(picture, Array):
+        return _bits_of_array(picture)
+    raise TypeError(f"a picture is of numpy or of Pillow, or bytes of PBM, not {type(picture).__name__}")
 
 
+def _found(picture: object) -> Reading | None:
+    bits = _bits_of(picture)
+    width = _binding.within("width", bits.width, 0, _MOST)
+    height = _binding.within("height", bits.height, 0, _MOST)
+    if not bits.bits:
+        return None
+    region = _binding.Region(_size_of_row(width), 0, 0, width, height, bits.dark)
+    found = _binding.Found()
+    answer = _binding.Answer()
+    out = ctypes.create_string_buffer(_binding.MAX_DATA)
+    code = LIBRARY.labels_read_bits(
+        region, bits.bits, len(bits.bits), ctypes.byref(found), out, len(out), ctypes.byref(answer)
+    )
+    if code == _binding.NOT_READ:
+        return None
+    assert code == _binding.OK, answer.message
+    return Reading(SYMBOLOGIES[found.symbology], found.scale, found.turns, out.raw[: answer.length])
+
+
+@overload
+def read(picture: Array | Image | bytes | bytearray, /) -> Reading | None:
+    ...
+
+
+@overload
 def read(symbology: str, image: Array | Image | bytes | bytearray, scale: int | None = None) -> bytes | None:
-    """Returns what the symbol of an image says, or None where the image is no such symbol, to a dot.
+    ...
 
-    `symbology` is one of SYMBOLOGIES. `image` is
+
+def read(symbology: object, image: object = None, scale: int | None = None) -> Reading | bytes | None:
+    """Returns what the symbol of a picture says, or None where the picture is no symbol, to a dot.
+
+    A picture is
 
     - an array of numpy of two axes: of bool, True where dark, or of uint8, grey, dark below 128;
     - an image of Pillow of mode 1, L or RGB, dark where its grey is below 128;
     - bytes of plain or binary PBM (P1, P4) of one picture.
 
-    It is the symbol in its quiet zone, and nothing else: each module `scale` dots wide, the zone as wide as
-    `Symbol.quiet_zones` says, above and below bars none, and the height of bars a multiple of `scale`. Without `scale`
-    it is the greatest common divisor of the runs of equal dots.
+    It is the symbol in its quiet zone, and nothing else: each module a square of dots, the zone as wide as
+    `Symbol.quiet_zones` says, above and below bars none, and the height of bars a whole number of modules. The
+    symbology and the scale are found, and a picture that is not read upright is turned. No upright picture is read
+    by two symbologies, nor at two scales.
+
+    Where a symbology is told, one of SYMBOLOGIES, the data alone is returned, and only that of an upright symbol of
+    it, at this scale if one is told.
 
     Nothing is corrected or guessed: with one dot of the wrong colour it is not read. Only the colour of the seven
     remainder modules of QR versions 2 to 6, which hold no data, does not matter (ISO/IEC 18004, table 1). The check
     digit of EAN and UPC is part of what is returned. The bars of a UPC-A symbol are those of the EAN-13 symbol of a 0
     and its digits; their quiet zones differ, and so each is read as itself alone.
 
-    Raises ValueError for an unknown symbology, a scale that is not 1 or more, an image of other axes, types or modes,
-    and bytes that are no PBM; TypeError for another image.
+    Raises ValueError for an unknown symbology, a scale below 1, a picture of other axes, types or modes,
+    and bytes that are no PBM; TypeError for another picture.
 
     >>> from liblabels import draw
     >>> picture = draw("ean13", "400638133393", scale=3)
-    >>> read("ean13", picture)
-    b'4006381333931'
-    >>> read("ean13", picture, scale=1), read("qr", picture)
-    (None, None)
+    >>> read(picture)
+    Reading(symbology='ean13', scale=3, turns=0, data=b'4006381333931')
+    >>> read("ean13", picture), read("ean13", picture, scale=1), read("qr", picture)
+    (b'4006381333931', None, None)
     """
-    number = _binding.index_of(SYMBOLOGIES, "symbology", symbology)
-    dots = _dots_of(image)
-    wide = dots.scale() or 1 if scale is None else _binding.within("scale", scale, 1, _MOST)
-    width = _binding.within("width", dots.width, 0, _MOST)
-    height = _binding.within("height", dots.height, 0, _MOST)
-    answer = _binding.Answer()
-    out = ctypes.create_string_buffer(_binding.MAX_DATA)
-    code = LIBRARY.labels_read(number, wide, dots.digits, width, height, out, len(out), ctypes.byref(answer))
-    if code == _binding.NOT_READ:
+    if not isinstance(symbology, str):
+        return _found(symbology)
+    _binding.index_of(SYMBOLOGIES, "symbology", symbology)
+    wanted = None if scale is None else _binding.within("scale", scale, 1, _MOST)
+    found = _found(image)
+    if found is None or found.turns or found.symbology != symbology or wanted not in (None, found.scale):
         return None
-    assert code == _binding.OK, answer.message
-    return out.raw[: answer.length]
+    return found.data

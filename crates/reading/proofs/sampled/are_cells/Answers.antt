@@ -1,38 +1,30 @@
-use Rattle.std.proofs.Common.{below_more, ◌+◌, ◌-◌, ◌/◌, ℕ, refl, sym, ◌∙◌, arith}
-use Rattle.std.specs.List.{list_all}
-use Rattle.reading.specs.Dots.{raster_in}
-use Rattle.reading.specs.Private.{is_of_cell}
-use Rattle.picture.specs.Text.{below}
+use Rattle.std.proofs.Common.{◌≡◌, ◌+◌, ◌-◌, refl, sym, ◌∙◌, ap, arith}
+use Rattle.reading.specs.Private.{is_row_of_cells}
 use Rattle.qrmatrix.proofs.ComputedLaws.{fails_at, passes_on}
-use Rattle.reading.proofs.EqualDotLaws.{first_tells}
 use Rattle.reading.proofs.sampled.are_cells.Goals as goal
 
 pub returns-then-not-is_next_row_of_cells : goal.returns-then-not-is_next_row_of_cells
-returns-then-not-is_next_row_of_cells c =
-    let dots = c.args.dots.now in
+returns-then-not-is_next_row_of_cells g c =
+    let p = g.G.Grid.picture c.args.dots.now in
     let y = c.loop-y.y in
-    let test = λ (y : ℕ). list_all (λ x. is_of_cell (raster_in dots.width dots.height dots.digits.now) c.args.scale
-    c.args.zone.now (dots.width / c.args.scale) (dots.height / c.args.scale) x y) (below dots.width) in
-    sym (c.loop-y.invariant.decide ∙ fails_at test y (dots.height - y) (dots.height - (y + 1)) (omega arith)
+    sym (c.loop-y.invariant.decide
+    ∙ fails_at (is_row_of_cells p c.args.scale c.args.zone.now) y (p.height - y) (p.height - (y + 1)) (omega arith)
     (sym c.if-not-is_next_row_of_cells.true ∙ c.is_next_row_of_cells.ensures))
 
 pub loop-y-preserved : goal.loop-y-preserved
-loop-y-preserved c =
-    let dots = c.args.dots.now in
+loop-y-preserved g c =
+    let p = g.G.Grid.picture c.args.dots.now in
     let y = c.loop-y.y in
-    let test = λ (y : ℕ). list_all (λ x. is_of_cell (raster_in dots.width dots.height dots.digits.now) c.args.scale
-    c.args.zone.now (dots.width / c.args.scale) (dots.height / c.args.scale) x y) (below dots.width) in
-    let passed = sym c.is_next_row_of_cells.ensures ∙ c.if-not-is_next_row_of_cells.false in
+    let test = is_row_of_cells p c.args.scale c.args.zone.now in
+    let passed = sym c.if-not-is_next_row_of_cells.false ∙ c.is_next_row_of_cells.ensures in
+    let last : y + 1 - 1 ≡ y = omega arith in
     record {
-      decide = c.loop-y.invariant.decide ∙ passes_on test y (y + 1) (dots.height - y) (dots.height - (y + 1)) (omega arith)
-          refl (sym passed);
-      before = below_more _ _ c.loop-y.invariant.before passed;
+      decide = c.loop-y.invariant.decide ∙ passes_on test y (y + 1) (p.height - y) (p.height - (y + 1)) (omega arith) refl
+          passed;
+      before = λ later. ap test last ∙ sym passed;
+      same = λ k later after early. c.equal_until-equal.ensures k (omega (arith, after)) early;
     }
 
-pub returns-then-is_told : goal.returns-then-is_told
-returns-then-is_told c =
-    let dots = c.args.dots.now in
-    let told = c.requires.told c.if-is_told.true in
-    c.is_row_of_cells.ensures
-    ∙ sym (first_tells dots.width dots.height dots.digits.now c.args.scale c.args.zone.now c.requires.some told.above
-    told.under told.whole told.same told.some)
+pub equal_until-equal-requires-clause-same : goal.equal_until-equal-requires-clause-same
+equal_until-equal-requires-clause-same g c =
+    λ k after early. c.loop-y.invariant.same k (omega (arith, after)) (omega (arith, after)) early

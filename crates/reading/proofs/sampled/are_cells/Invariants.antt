@@ -1,17 +1,16 @@
-use Rattle.std.proofs.Common.{◌≡◌, ◌-◌, ◌/◌, ◌<◌, ℕ, true}
+use Rattle.std.proofs.Common.{◌≡◌, ◌-◌, ◌<◌, ◌≤◌, ℕ, true}
 use Rattle.std.specs.List.{list_all, range_with_len}
-use Rattle.reading.specs.Dots.{raster_in}
-use Rattle.reading.specs.Private.{is_of_cell}
 use Rattle.picture.specs.Text.{below}
+use Rattle.reading.specs.Private.{IsRowAgain, is_row_of_cells}
 use Rattle.reading.proofs.sampled.are_cells.Given as goal
 
--- the rows to come decide, and those before have the colours of their cells
+-- the rows to come decide; the one before has the colours of its cells
 abbrev pub invariant-loop-y : goal.invariant-loop-y
-invariant-loop-y l =
-    let test = is_of_cell (raster_in l.dots.width l.dots.height l.dots.digits.now) l.scale l.zone
-    (l.dots.width / l.scale) (l.dots.height / l.scale) in
+invariant-loop-y g l =
+    let p = g.G.Grid.picture l.dots in
+    let test = is_row_of_cells p l.scale l.zone in
     record {
-      decide : list_all (λ y. list_all (λ x. test x y) (below l.dots.width)) (below l.dots.height)
-          ≡ list_all (λ y. list_all (λ x. test x y) (below l.dots.width)) (range_with_len l.y (l.dots.height - l.y));
-      before : (k : ℕ) → k < l.y → list_all (λ x. test x k) (below l.dots.width) ≡ true;
+      decide : list_all test (below p.height) ≡ list_all test (range_with_len l.y (p.height - l.y));
+      before : 0 < l.y → test (l.y - 1) ≡ true;
+      same : (k : ℕ) → 0 < k → l.y ≤ k → k < l.equal → IsRowAgain p k;
     }

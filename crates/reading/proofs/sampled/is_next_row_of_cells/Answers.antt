@@ -1,22 +1,20 @@
-use Rattle.std.proofs.Common.{◌≡◌, ◌+◌, ◌-◌, ◌*◌, ◌/◌, ◌%◌, ◌<◌, ℕ, arith, sym, ◌∙◌, ap}
-use Rattle.std.proofs.Math.Nat.{mul-div_cancel}
-use Rattle.std.proofs.lemmas.Nat.{div-add-mod'}
-use Rattle.reading.proofs.EqualDotLaws.{cells_again, same_dots}
+use Rattle.std.proofs.Common.{arith, ◌≡◌, ◌≢◌, ◌⊎◌, ◌%◌, ◌∙◌, ap, sym, inl, inr, not}
+use Rattle.std.proofs.lemmas.Bool.{both_ways, eq-eqb, eqb-true}
+use Rattle.reading.proofs.CellLaws.{cells_again}
 use Rattle.reading.proofs.sampled.is_next_row_of_cells.Goals as goal
+use Rattle.reading.proofs.sampled.is_next_row_of_cells.Goals.{then-zone-eq0, else-zone-eq0, then-are_bars, else-are_bars}
 
--- the first row of the cells of a row
-first_of : (scale y : ℕ) → 0 < scale → y / scale ≡ (y - y % scale) / scale
-first_of scale y some =
-    let whole : y / scale * scale + y % scale ≡ y = div-add-mod' y scale in
-    let first : y - y % scale ≡ y / scale * scale = omega (arith, whole) in
-    sym (ap (λ n. n / scale) first ∙ mul-div_cancel (y / scale) some)
-
-pub returns-then-is_row_again : goal.returns-then-is_row_again
-returns-then-is_row_again c =
-    let dots = c.args.dots.now in
-    let y = c.args.y in
-    let first = y - y % c.args.scale in
-    sym (cells_again dots.width dots.height dots.digits.now c.args.scale c.args.zone.now y first
-    (first_of c.args.scale y c.requires.some) (λ x wide. same_dots dots.width dots.height dots.digits.now x y first wide
-    c.requires.high (omega arith) (c.is_row_again.ensures c.if-is_row_again.true x wide))
-    ∙ c.requires.before first (omega arith))
+pub returns-then-y-scale-ne0 : goal.returns-then-y-scale-ne0
+returns-then-y-scale-ne0 g c =
+    let zone = c.args.zone.now in
+    let again = c.requires.same (omega arith) c.if-y-equal.true in
+    let way : ((zone.top ≡ 0) × (zone.bottom ≡ 0)) ⊎ (c.args.y % c.args.scale ≢ 0) =
+    elim c.if-are_bars.branch [
+      | then-are_bars w ↦ elim c.if-zone-eq0.branch [
+        | then-zone-eq0 v ↦ inl (v.if-zone-eq0.true, eqb-true zone.bottom 0 (sym v.are_bars-is ∙ w.if-are_bars.true))
+        | else-zone-eq0 v ↦ absurd (v.if-zone-eq0.false (eqb-true zone.top 0 (sym v.are_bars-is ∙ w.if-are_bars.true)))
+      ]
+      | else-are_bars w ↦ inr (λ e. both_ways _ (w.value-is ∙ ap not (eq-eqb (c.args.y % c.args.scale) 0 e)) c.if-y-scale-ne0.true)
+    ] in
+    sym (cells_again (g.G.Grid.picture c.args.dots.now) c.args.scale zone c.requires.some c.args.y again.later
+    c.requires.high c.requires.whole again.same way (c.requires.before again.later))

@@ -1,14 +1,21 @@
-use Rattle.std.proofs.Common.{ℕ, ◌-◌, sym, subst}
-use Rattle.reading.specs.Dots.{raster_in}
-use Rattle.picture.specs.Picture.{AreEqualRows}
+use Rattle.std.proofs.Common.{◌≡◌, ◌+◌, ◌*◌, ◌<◌, ◌∙◌, sym, arith, ℕ}
 use Rattle.reading.specs.Private.{modules_in}
-use Rattle.reading.proofs.EqualDotLaws.{equal_modules}
+use Rattle.reading.proofs.CellLaws.{begins}
 use Rattle.reading.proofs.sampled.SampledGrid.equal_rows.Goals as goal
 
 pub returns-then-self : goal.returns-then-self
-returns-then-self c =
+returns-then-self g c =
     let s = c.args.self.now in
-    let modules = modules_in (raster_in s.dots.width s.dots.height s.dots.digits.now) s.scale s.zone in
-    subst (λ (n : ℕ). AreEqualRows modules c.args.y (n - c.args.y)) (sym c.height.ensures)
-    (equal_modules s.dots.width s.dots.height s.dots.digits.now s.scale s.zone c.args.y s.some (s.equal c.if-self.true)
-    c.requires)
+    let p = g.G.Grid.picture s.dots.now in
+    let y = c.args.y in
+    record {
+      some = omega (arith, c.height.ensures, c.requires);
+      inside = omega (arith, c.height.ensures, c.requires);
+      equal = λ x k wide more.
+          let column = begins p.width s.scale (s.zone.left + x) s.some (omega (arith, wide)) in
+          let same : (row : ℕ) → row < (modules_in p s.scale s.zone).height → p.dark ((s.zone.left + x) * s.scale) ((s.zone.top + row) * s.scale)
+          ≡ p.dark ((s.zone.left + x) * s.scale) 0 =
+          λ row high. s.equal c.if-self.true ((s.zone.left + x) * s.scale) ((s.zone.top + row) * s.scale) column
+          (begins p.height s.scale (s.zone.top + row) s.some (omega (arith, high))) in
+          same (y + k) (omega (arith, more, c.height.ensures)) ∙ sym (same y c.requires);
+    }

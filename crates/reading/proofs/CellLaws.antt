@@ -1,0 +1,115 @@
+-- Pixels of cells, and the modules that they show.
+use Rattle.std.proofs.Common.{None, ◌≡◌, ◌≢◌, ℕ, suc, ◌+◌, ◌-◌, ◌*◌, ◌/◌, ◌%◌, ◌<◌, ◌≤◌, ◌⊎◌, Bool, true, false, ◌&&◌}
+use Rattle.std.proofs.Common.{refl, ap, ◌∙◌, arith, inl, inr, nat_le, nat_lt, map}
+use Rattle.std.specs.Bool.{beq, then_some}
+use Rattle.std.specs.List.{list_all}
+use Rattle.std.specs.Cmp.{booleans_Decides}
+use Rattle.std.proofs.lemmas.Bool.{cases_eq}
+use Rattle.std.proofs.lemmas.Bool.Decides.{nat_tests}
+use Rattle.std.proofs.lemmas.Nat.{div-add-mod'}
+use Rattle.std.proofs.Math.Nat.{div-mul-le_self, div-lt_iff_lt-mul, le-div_iff_mul-le, mul-div_cancel}
+use Rattle.qrmatrix.proofs.ComputedLaws.{passes, same_tests}
+use Rattle.picture.specs.Picture.{Picture}
+use Rattle.picture.specs.Reading.{are_cells, cell, is_module, raster, sample}
+use Rattle.picture.specs.Text.{below, pixel_row}
+use Rattle.picture.specs.declared.quiet_zone.QuietZone.{QuietZone}
+use Rattle.picture.proofs.SampleLaws.{map-range, value_at-raster}
+use Rattle.reading.specs.Private.{are_whole_cells, is_of_cell, is_row_of_cells, modules_in}
+
+-- a cell that is there begins inside
+pub begins : (length scale cell : ℕ) → 0 < scale → cell < length / scale → cell * scale < length
+begins length scale cell some inside =
+    let whole : suc cell * scale ≤ length = (le-div_iff_mul-le some).0 inside in
+    omega (arith, whole, some)
+
+-- a number that is not the first of its cell is of the same cell as the one before
+pub same_cell : (scale y : ℕ) → 0 < scale → y % scale ≢ 0 → y / scale ≡ (y - 1) / scale
+same_cell scale y some inner =
+    let parts = div-add-mod' y scale in
+    let least : y / scale ≤ (y - 1) / scale = (le-div_iff_mul-le some).1 (omega (arith, parts, inner)) in
+    let next : y / scale < y / scale + 1 = omega arith in
+    let most : (y - 1) / scale < y / scale + 1 =
+    (div-lt_iff_lt-mul some).1 (omega (arith, (div-lt_iff_lt-mul some).0 next)) in
+    omega (arith, least, most)
+
+twice : (a b : Bool) → (a && (a && b)) ≡ (a && b)
+twice true b = refl
+twice false b = refl
+
+module _ (p : Picture) (scale : ℕ) (zone : QuietZone) (some : 0 < scale) where
+  -- the first pixel of the cell of a pixel is inside
+  first_inside : (length x : ℕ) → x < length → x / scale * scale < length
+  first_inside length x inside = omega (arith, inside, div-mul-le_self x scale)
+
+  cells_are : are_cells (raster p) scale zone (p.width / scale) (p.height / scale)
+      ≡ list_all (is_row_of_cells p scale zone) (below p.height)
+  cells_are = same_tests _ (is_row_of_cells p scale zone) p.height (λ y high.
+      same_tests _ (λ x. is_of_cell p scale zone x y) p.width (λ x wide.
+      rw (
+        value_at-raster p x y wide high,
+        value_at-raster p (x / scale * scale) (y / scale * scale) (first_inside p.width x wide) (first_inside p.height y high),
+      ) refl))
+
+  modules_are : map (λ row. map (λ column. cell (raster p) scale (zone.left + column) (zone.top + row))
+      (below (p.width / scale - zone.left - zone.right))) (below (p.height / scale - zone.top - zone.bottom))
+      ≡ (raster (modules_in p scale zone)).rows
+  modules_are = map-range _ (pixel_row (modules_in p scale zone)) 0 (p.height / scale - zone.top - zone.bottom) (λ row _ high.
+      map-range _ (λ column. (modules_in p scale zone).dark column row) 0 (p.width / scale - zone.left - zone.right)
+      (λ column _ wide.
+      value_at-raster p ((zone.left + column) * scale) ((zone.top + row) * scale)
+      (begins p.width scale (zone.left + column) some (omega (arith, wide)))
+      (begins p.height scale (zone.top + row) some (omega (arith, high)))))
+
+  -- what is sampled
+  pub sample_is : (whole cells : Bool) → whole ≡ are_whole_cells p scale zone
+      → cells ≡ list_all (is_row_of_cells p scale zone) (below p.height)
+      → sample (raster p) scale zone ≡ then_some (whole && cells) (raster (modules_in p scale zone)).rows
+  unfolding sample
+  sample_is whole cells is are = rw (cells_are, modules_are, is, are) refl
+
+  pub not_whole : false ≡ are_whole_cells p scale zone → sample (raster p) scale zone ≡ None
+  not_whole is = sample_is false (list_all (is_row_of_cells p scale zone) (below p.height)) is refl
+
+  -- a row with the pixels of the one before has the colours of its cells where that one has: where they are the same
+  -- cells, or no quiet zone is above and below
+  pub cells_again : (y : ℕ) → 0 < y → y < p.height → p.height % scale ≡ 0
+      → ((x : ℕ) → x < p.width → p.dark x y ≡ p.dark x (y - 1))
+      → ((zone.top ≡ 0) × (zone.bottom ≡ 0)) ⊎ (y % scale ≢ 0)
+      → is_row_of_cells p scale zone (y - 1) ≡ true → is_row_of_cells p scale zone y ≡ true
+  cells_again y later high whole same way before =
+      same_tests (λ x. is_of_cell p scale zone x y) (λ x. is_of_cell p scale zone x (y - 1)) p.width each ∙ before
+    where
+      row_within : (k : ℕ) → k ≤ y → k / scale < p.height / scale
+      row_within k before = (div-lt_iff_lt-mul some).1 (omega (arith, before, high, whole, div-add-mod' p.height scale))
+
+      -- where a row of cells begins, and no quiet zone is above and below
+      first_row : (x : ℕ) → x < p.width → y % scale ≡ 0 → zone.top ≡ 0 → zone.bottom ≡ 0
+          → is_of_cell p scale zone x y ≡ is_of_cell p scale zone x (y - 1)
+      first_row x wide first above under =
+          let column = x / scale in
+          let flag = nat_le zone.left column && nat_lt (column + zone.right) (p.width / scale) in
+          let flag_is : (k : ℕ) → k ≤ y
+          → is_module zone (p.width / scale) (p.height / scale) column (k / scale) ≡ flag =
+          λ k early. let inside = row_within k early in rw (above, under) (grind (arith, nat_tests)) in
+          let in_first = first_inside p.width x wide in
+          let begins_here : y / scale * scale ≡ y = omega (arith, first, div-add-mod' y scale) in
+          let passed = (booleans_Decides _ _).0 (passes (λ x. is_of_cell p scale zone x (y - 1)) p.width (column * scale)
+          before in_first) in
+          let colour : p.dark (column * scale) (y - 1) ≡ (flag && p.dark (column * scale) ((y - 1) / scale * scale)) =
+          passed ∙ rw (mul-div_cancel column some, flag_is (y - 1) (omega arith)) refl in
+          let before_it = (y - 1) / scale * scale in
+          let same_module : (is_module zone (p.width / scale) (p.height / scale) column (y / scale)
+          && p.dark (column * scale) (y / scale * scale))
+          ≡ (is_module zone (p.width / scale) (p.height / scale) column ((y - 1) / scale) && p.dark (column * scale) before_it) =
+          rw (flag_is y (omega arith), begins_here, same (column * scale) in_first, flag_is (y - 1) (omega arith))
+          (ap (λ d. flag && d) colour ∙ twice flag (p.dark (column * scale) before_it)) in
+          (λ i. beq (same x wide i) (same_module i))
+
+      each : (x : ℕ) → x < p.width → is_of_cell p scale zone x y ≡ is_of_cell p scale zone x (y - 1)
+      each x wide = elim (cases_eq (y % scale) 0) [
+        | inr inner ↦ rw (same x wide, same_cell scale y some inner) refl
+        | inl first ↦ elim way [
+          | inl bars ↦ first_row x wide first bars.0 bars.1
+          | inr inner ↦ absurd (inner first)
+        ]
+      ]
