@@ -25,7 +25,7 @@ from labeltools.engine import LABELS_FAILED, Engine, Refused, bytes_a_row, libra
 from labeltools.frames import Box
 from labeltools.layout import LaidOut, short
 from labeltools.lines_file import LineRecord
-from labeltools.messages import ToolError, quoted
+from labeltools.messages import Talk, ToolError, quoted
 from labeltools.own_design import PARTS, Place, key_of
 from labeltools.own_layout import OwnLayout, OwnSymbol
 from labeltools.pen import bits_of
@@ -197,10 +197,15 @@ def left_of(place: Geometry) -> int:
 
 
 class Comparison:
-    """Compares the documents of a job; `is_turned` is whether labels are turned to the right."""
+    """Compares the documents of a job; `is_turned` is whether labels are turned to the right, and
+    `go_on` of the talk is called for every few pages and may stop the work.
+    """
 
-    def __init__(self, plan: Plan, form: str, words: Sequence[str], is_turned: bool) -> None:
+    def __init__(
+        self, plan: Plan, form: str, words: Sequence[str], is_turned: bool, talk: Talk
+    ) -> None:
         self.plan = plan
+        self.talk = talk
         self.form = form
         self.engine = Engine(words)
         is_escaped = "--escapes" in words
@@ -220,6 +225,7 @@ class Comparison:
         """
         pages = self.read(documents)
         while group := list(islice(pages, TOGETHER)):
+            self.talk.go_on(0, 0)
             wanted = [self.wanted_on(page) for page in group]
             for page, symbols in zip(group, wanted):
                 check_symbols(page, symbols)

@@ -122,7 +122,8 @@ class Press:
         area = laid_out.area
         self.turn = area.height if area.is_turned else 0
         self.pens = pens_of(job, letters)
-        self.comparison = Comparison(job.plan, job.form.name, job.words, area.is_turned)
+        how = (job.plan, job.form.name, job.words, area.is_turned)
+        self.comparison = Comparison(*how, talk)
 
     @property
     def pen(self) -> Pen:

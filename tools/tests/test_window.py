@@ -880,7 +880,7 @@ class WindowTest(unittest.TestCase):
         heart = Heart()
         self.open(path)
         self.window.save(self.folder / "long.pdf")
-        settle(2)
+        settle(1)
         heart.stop()
         return heart
 
