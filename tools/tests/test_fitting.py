@@ -7,6 +7,7 @@ from pathlib import Path
 from typing import Any, Optional, Sequence
 
 import designs
+import support
 from labeltools.fitting import LEFT, MIDDLE, RIGHT, Fitted, Fitter, Style
 from labeltools.glyphs import UNIT
 from labeltools.letters import Fonts, Letters
@@ -156,6 +157,10 @@ class Boxes(unittest.TestCase):
 
 class Drawn(unittest.TestCase):
     """Glyphs in a PDF, and how it is read back."""
+
+    @classmethod
+    def setUpClass(cls) -> None:
+        support.labels_program()
 
     def test_a_second_line_behind_letters_of_another_font(self) -> None:
         """A line begins below the begin of the one before, not behind its last letters: the second
