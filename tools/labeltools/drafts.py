@@ -4,6 +4,7 @@ import re
 from dataclasses import dataclass, field
 from decimal import Decimal
 from typing import Iterator, NamedTuple, Sequence
+from unicodedata import category
 
 from labeltools.text import NOTHING, Text
 from labeltools.cells import Cell, Kind
@@ -101,7 +102,7 @@ class Noticed:
     def text(self, column: Column, row: Row, text: str) -> None:
         """Looks at a title or text; raises `RowError` for one that was encoded twice."""
         cell = row.cells[column.place]
-        if len(text) <= LONGEST_SIGN and (text == "0" or not any(map(str.isalnum, text))):
+        if len(text) <= LONGEST_SIGN and is_sign(text):
             self.signs.setdefault(column, Found(row.number, text))
         is_odd = LOOKED_AT.search(text) or not (text.isascii() or BEHIND.isdisjoint(text))
         if isinstance(cell, str) and not is_odd:  # most texts, at once
@@ -364,6 +365,20 @@ class RowReader:
             return None
         most = PROGRAM_DECIMALS if rules.pattern else MOST_DECIMALS
         return parse_unit_price(text, currency, most) if is_unit else parse(text, currency, most)
+
+
+def is_sign(text: str) -> bool:
+    """Returns whether a text is 0 or punctuation alone. An arrow and the like are pictures.
+
+    >>> is_sign("-"), is_sign("..."), is_sign("▼"), is_sign("7")
+    (True, True, False, False)
+    """
+    return text == "0" or not any(one.isalnum() or is_picture(one) for one in text)
+
+
+def is_picture(letter: str) -> bool:
+    """Returns whether a letter is a symbol that is not in ASCII."""
+    return not letter.isascii() and category(letter).startswith("S")
 
 
 def is_zero(cell: Cell) -> bool:

@@ -586,6 +586,7 @@ class Texts(CellTest):
             wanted = f'row 3 has "{sign}" as text, in column 2 ("Name"): '
             wanted += "does it stand for an empty cell?"
             self.assertEqual((titles, said), (["Tea", sign, sign, "7"], [wanted]))
+        self.assertEqual(self.ran(f"EAN;Name\n{PENCIL};▼\n".encode(), *PRICED[:4]), (["▼"], []))
 
     def test_what_a_program_writes_without_a_value(self) -> None:
         for text in ("(NULL)", "[none]", "\\N", "NA", "5,9E+12"):
