@@ -357,7 +357,7 @@ class Journals(Folder):
         self.assertEqual(sorted(labels), sorted(labels_in(printed())))
 
     def test_each_byte_comes_back(self) -> None:
-        """By Python's own escapes, which these are; a blank at the end is none that can get lost."""
+        """By Python's own escapes, which these are. A blank at the end cannot get lost."""
         for data in (bytes(range(256)), b" a  ", b"\\x41"):
             text = escaped(data).decode()
             self.assertEqual(text.encode().decode("unicode_escape").encode("latin-1"), data)
