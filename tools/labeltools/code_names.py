@@ -17,8 +17,14 @@ NO_ARTICLE = re.compile(
     r"|tariff|taric|hs\b|sh\b|commodit|douan|warennu|stat\b|konto|iban|bic\b|steuer|tax|vat\b"
     r"|ust|kunde|gln\b|iln\b|intrastat|celni|cn\b|ncm\b|gtip\b"
     r"|customer|client|order|bestell|best\.|commande|auftrag|invoice|rechnung|facture|booking"
-    r"|currency|wahrung|colou?r|farb|donor|seller|warehouse)"
+    r"|currency|wahrung|colou?r|farb|donor|seller|warehouse"
+    r"|bin\b|location|emplac|ubicac|parent\b|lagerort|lagerplatz)"
     r"|telefon|phone|gruppe|group"
+)
+# parts of names of links to pictures
+PICTURE = re.compile(
+    r"\b(?:image|imagen|immagin|picture|photo|foto|thumb|obraz|zdjec|obraz|kep\b|gorsel|resim)"
+    r"|bild(?:er)?\b|bild-?url|afbeeld|изображ|фото|картин|画像|图片|圖片|이미지"
 )
 # parties that give their own numbers to the articles of a shop: suppliers and makers
 OTHERS = (
@@ -35,12 +41,12 @@ OTHERS = (
 )
 # what a shop calls its own numbers
 OURS = (
-    r"intern\w* inhouse in-house eigen\w* hausn our own nostr notre nuestr nosso propr?i\w* wlasn"
-    r" vlastn sajat belso vnitrni interni unser\w* onze vara egen ic\skod dahili внутрен внутр"
+    r"intern(?!at)\w* inhouse in-house eigen\w* hausn our own nostr notre nuestr nosso propr?i\w* wlasn"
+    r" vlastn sajat belso vnitrni unser\w* onze egen ic\skod dahili внутрен внутр"
     r" εσωτερ 自社 社内 内部 자체"
 )
 NUMBERS = (
-    r"(?:no|nos|nr|nrs|num|number|numer|numero|nummer|n[°º]|№|#|id|code|kod|cod|codigo|codice|ref"
+    r"(?:no|nos|nr|nrs|num|number|numer|numero|nummer|n[°º]|№|#|code|kod|cod|codigo|codice|ref"
     r"|cislo|broj|stevilka|szam|kodas|kods|kodu|numara|koodi|nro)"
 )
 ARTICLES = (

@@ -9,7 +9,7 @@ from dataclasses import dataclass, field, replace
 from functools import partial
 from itertools import islice, zip_longest
 
-from labeltools.code_names import BARE, NUMBER, PIECE, CodeRole, code_role
+from labeltools.code_names import BARE, NUMBER, PICTURE, PIECE, CodeRole, code_role
 from labeltools.codes import AUTO, CodeRules, code_of
 from labeltools.column_words import any_of, named, plain
 from labeltools.columns import names_of, texts_of
@@ -150,10 +150,7 @@ def best_of(kind: str, columns: Mapping[int, Filled]) -> tuple[int | None, Seque
     if scores.get(best, 0) < LEAST:
         return (None, numbers_among(columns)) if kind == "code" else (None, [])
     if kind == "code":
-        others = rivals(columns, best)
-        ours = [at for at in (best, *others) if code_role(columns[at].name) is CodeRole.OURS]
-        is_sure = share(columns[best].texts, is_code) >= LEAST
-        return (ours[0], []) if len(ours) == 1 and not is_sure else code_among(columns, best, others)
+        return code_among(columns, best, rivals(columns, best))
     return best, []
 
 
@@ -171,8 +168,12 @@ def code_among(
 ) -> tuple[int, Sequence[int]]:
     """Returns the place of the codes; and those of which only the keeper knows it. Beside the best
     column, one that has less than half as many codes is none, unless they are new; nor is that of
-    packs beside that of pieces.
+    packs beside that of pieces. A number that the shop says is its own goes before its other ones.
     """
+    is_sure = share(columns[best].texts, is_code) >= LEAST
+    ours = [at for at in (best, *others) if code_role(columns[at].name) is CodeRole.OURS]
+    if len(ours) == 1 and not is_sure:
+        return ours[0], []
     least = len(columns[best].texts) / 2
     codes = [at for at in others if len(columns[at].texts) >= least or is_new(columns[at].name)]
     full = [best, *codes]
@@ -212,7 +213,7 @@ def is_number(column: Filled) -> bool:
     texts, role = column.texts, code_role(column.name)
     if role is CodeRole.NO_ARTICLE or len(set(texts)) < len(texts):
         return False
-    has_name = role is CodeRole.OURS or role is CodeRole.OWN and not BARE.fullmatch(plain(column.name))
+    has_name = role in OWN_NUMBERS and not BARE.fullmatch(plain(column.name))
     article = NAMED_ARTICLE if has_name else ARTICLE
     return share(texts, article.fullmatch) > LEAST > share(texts, is_price)
 
@@ -283,6 +284,8 @@ def score(kind: str, column: Filled) -> float:
 def score_of_codes(column: Filled, by_name: float) -> float:
     """Returns how well a column is one of codes."""
     texts, role = column.texts, code_role(column.name)
+    if PICTURE.search(plain(column.name)):
+        return 0.0
     are_codes = share(texts, is_code)
     if role in OWN_NUMBERS and is_number(column):
         by_name = max(by_name, 1.0)

@@ -26,6 +26,7 @@ OF_A_FIFTH = Decimal(25)  # a rate, and what is added to a price that is reduced
 LEAST_ROWS = 4  # that show a rate
 MOST_RATES = 3  # of one table
 ROUNDED = Decimal("0.012")  # what two roundings to cents may make
+NEAR_ABOVE_COST = Decimal("0.7")  # the same, of a shop that is known to pay less
 NEAR = Decimal("0.8")  # of the price that a maker recommends: a dealer pays less
 OF_SHOPS = (0, 5, 9)  # the last digits of the prices of shops
 SELDOM = 4  # one row of so many has the price of an action
@@ -207,8 +208,8 @@ def is_near_to(one: Amounts, listed: Amounts, is_above_cost: bool) -> bool:
     rows, and above it in few. Beside what the shop pays, few rows show it.
     """
     both = list(pairs(one, listed))
-    near = sum(NEAR * high <= low <= high for low, high in both)
-    least = 2 if is_above_cost else LEAST_ROWS
+    part, least = (NEAR_ABOVE_COST, 2) if is_above_cost else (NEAR, LEAST_ROWS)
+    near = sum(part * high <= low <= high for low, high in both)
     return len(both) >= least and 4 * near >= 3 * len(both)
 
 

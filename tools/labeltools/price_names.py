@@ -28,7 +28,7 @@ PAID = (
     r" cout inkoop inkp kostprijs groothandel leverancier acquis acq ingrosso rivendit fornit"
     r" forn compra mayorist mayoreo por\smayor distribuidor proveedor pvd adquisic custo coste"
     r" atacado revend fornecedor inkop inpris innpris innkjop indkob kost engros forhandler"
-    r" aterforsal sjalvkost leverand osto sisaanosto hankinta tukku omakust jalleenmyy ostu"
+    r" aterforsal sjalvkost leverand osto sisaanosto hankinta tukku omakust jalleenmyy ostu b2b"
     r" hulgi zakup nabyc hurt koszt dostawc nakup porizovac velkoobch voc obstarav dodavatel"
     r" beszerz nagyker bekerul onkolts viszontelad achizit en-gros angro furnizor nabav"
     r" veleprod vpc alis maliyet toptan bayi iepirk vairum pirkim isigij didmen savikain закуп"
@@ -63,7 +63,8 @@ WITHOUT = (
     r"|без|χωρισ|προ)"
 )
 WITH = (
-    r"(?:mit|m|inc|inkl\w*|incl\w*|avec|with|con|c/|com|med|m/|met|cu|su|ar|s|sa|z|sis|vc|vcetne|vratane|vr|с|з|із|με)"
+    r"(?:mit|m|inc|inkl\w*|incl\w*|avec|with|con|c/|com|med|m/|met|cu|su|ar|s|sa|z|sis|vc|vcetne"
+    r"|vratane|vr|с|з|із|με)"
 )
 NET = re.compile(
     rf"\b{WITHOUT}{RATE}{TAX}|{TAX}\s*(?:e[xk][ck]|escl|nicht|not?\b|non|niet|haric|0\b)"
@@ -138,7 +139,7 @@ SOLD = (
 )
 # what everybody pays in a shop
 PUBLIC = (
-    r"pvp pvc avp evp laden endkund endverbrauch verbraucher konsument privatkund regal retail"
+    r"pvp pvc avp evp lvp b2c laden endkund endverbrauch verbraucher konsument privatkund regal retail"
     r" rsp shelf kassenpreis consumer customer public pubblic particulier client rayon scaffale"
     r" dettaglio banco minorist varejo consument winkel klant butik kundpris detal detail"
     r" klient amanunt maloobch moc mpc maloprod kisker fogyaszt bolti etiket vahittais"
@@ -204,7 +205,7 @@ NEUTRAL = (
 )
 EMPTY_BRACKETS = re.compile(r"[(\[]\W*[)\]]")
 # abbreviations of what a shop pays in one trade and of what customers pay in another
-EITHER = re.compile(r"(?:ep|cp|ip|kp|oh|af|cz|pc|e|p)")
+EITHER = re.compile("ep|cp|ip|kp|oh|af|cz|pc")
 LONGEST_ENDING = 5  # letters behind the beginning of a word: `detaliczna`
 LONGEST_PARTICLE = 3  # letters of a word that says nothing of its own
 
