@@ -36,13 +36,13 @@ OTHERS = (
     r" toimitt valmist maahantuo dostawc dost wytworc dodavat dod vyrobc vyrob beszallit szallit"
     r" gyart furniz producat dobavlj dobavit proizvodj proizvodac proizvajal tedarik uretici"
     r" satici tarnija tootja piegad razot tiekej gamintoj birg framleid pemasok pabrik pembekal"
-    r" постав производит поставщ доставч виробн постачал изготов προμηθ κατασκευ 仕入 メーカー 供应 供應"
-    r" 厂商 厂家 廠商 廠家 制造 製造 제조 공급 ספק יצרן מפיץ مورد مصنع"
+    r" постав производит поставщ доставч виробн постачал изготов προμηθ κατασκευ 仕入 メーカー 供应"
+    r" 供應 厂商 厂家 廠商 廠家 制造 製造 제조 공급 ספק יצרן מפיץ مورد مصنع"
 )
 # what a shop calls its own numbers
 OURS = (
-    r"intern(?!at)\w* inhouse in-house eigen\w* hausn our own nostr notre nuestr nosso propr?i\w* wlasn"
-    r" vlastn sajat belso vnitrni unser\w* onze egen ic\skod dahili внутрен внутр"
+    r"intern(?!at)\w* inhouse in-house eigen\w* hausn our own nostr notre nuestr nosso propr?i\w*"
+    r" wlasn vlastn sajat belso vnitrni unser\w* onze egen ic\skod dahili внутрен внутр"
     r" εσωτερ 自社 社内 内部 자체"
 )
 NUMBERS = (
@@ -74,6 +74,16 @@ class CodeRole(Enum):
     UNKNOWN = auto()
     OWN = auto()  # a number of articles, with no more said
     OURS = auto()  # the name says that the shop itself gave it
+
+
+def is_bare(name: str) -> bool:
+    """Returns whether a name says no more than that a column has numbers, maybe of its rows.
+
+    >>> is_bare("Nr."), is_bare("Ref."), is_bare("Item no.")
+    (True, False, False)
+    """
+    words = " ".join(plain(name).split())
+    return BARE.fullmatch(words) is not None and not OWN.search(words)
 
 
 def code_role(name: str) -> CodeRole:

@@ -9,7 +9,7 @@ from dataclasses import dataclass, field, replace
 from functools import partial
 from itertools import islice, zip_longest
 
-from labeltools.code_names import BARE, NUMBER, PICTURE, PIECE, CodeRole, code_role
+from labeltools.code_names import NUMBER, PICTURE, PIECE, CodeRole, code_role, is_bare
 from labeltools.codes import AUTO, CodeRules, code_of
 from labeltools.column_words import any_of, named, plain
 from labeltools.columns import names_of, texts_of
@@ -213,7 +213,7 @@ def is_number(column: Filled) -> bool:
     texts, role = column.texts, code_role(column.name)
     if role is CodeRole.NO_ARTICLE or len(set(texts)) < len(texts):
         return False
-    has_name = role in OWN_NUMBERS and not BARE.fullmatch(plain(column.name))
+    has_name = role in OWN_NUMBERS and not is_bare(column.name)
     article = NAMED_ARTICLE if has_name else ARTICLE
     return share(texts, article.fullmatch) > LEAST > share(texts, is_price)
 

@@ -157,9 +157,10 @@ def without_actions(columns: Columns) -> Columns:
 
 def is_full_beside(few: Amounts, full: Amounts) -> bool:
     """Returns whether prices are those of all rows beside lower ones of few."""
-    is_full = full.role is not Role.FOR_SOME and full.filled >= LEAST_ROWS
-    is_seldom = SELDOM * few.filled <= full.filled and few.filled < full.filled
-    return is_full and is_seldom and all(low < high for low, high in pairs(few, full))
+    both = list(pairs(few, full))
+    is_full = full.role in (Role.PLAIN, Role.LISTED, *OWN) and full.filled >= LEAST_ROWS
+    is_seldom = SELDOM * few.filled <= full.filled and len(both) == few.filled
+    return is_full and is_seldom and all(low < high for low, high in both)
 
 
 def without_bought(columns: Columns) -> Columns:

@@ -420,6 +420,11 @@ class Codes(unittest.TestCase):
         families = ["Code famille", "F-1001", "F-1001", "F-1002"]
         self.assertEqual(guess([families, ["Référence", *NUMBERS[1]]], 1).columns["code"], 1)
 
+    def test_numbers_may_be_short_where_their_name_says_that_they_are_of_articles(self) -> None:
+        numbers = ("1001", "1002", "1003")
+        for name, wanted in (("Ref.", {"code": 0}), ("Nr.", {})):
+            self.assertEqual(guess([[name, *numbers]], 1).columns, wanted, name)
+
     def test_a_link_to_a_picture_is_no_code(self) -> None:
         links = [f"https://shop.example/{number}.jpg" for number in NUMBERS[0]]
         found = guess([["Image URL", *links], ["SKU", *NUMBERS[1]]], 1)
