@@ -140,8 +140,8 @@ SOLD = (
 # what everybody pays in a shop
 PUBLIC = (
     r"pvp pvc avp evp lvp b2c laden endkund endverbrauch verbraucher konsument privatkund regal"
-    r" retail rsp shelf kassenpreis consumer customer public pubblic particulier client rayon scaffale"
-    r" dettaglio banco minorist varejo consument winkel klant butik kundpris detal detail"
+    r" retail rsp shelf kassenpreis consumer customer public pubblic particulier client rayon"
+    r" scaffale dettaglio banco minorist varejo consument winkel klant butik kundpris detal detail"
     r" klient amanunt maloobch moc mpc maloprod kisker fogyaszt bolti etiket vahittais"
     r" kuluttaja perakende jaehind mazum mazmen розн дребно роздріб λιαν 売価 上代 店頭 零售 소매 eceran"
     r" צרכן"

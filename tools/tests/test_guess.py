@@ -365,8 +365,8 @@ AMOUNTS = (
     # the net price beside what the maker recommends with its tax
     ("Händler;5,00 7,00 8,00 9,99;UVP inkl. MwSt.;12,00 24,00 6,00 3,60;unser Preis;10 20 5 3", 3),
 )
-# names of two columns of numbers where no article has an EAN, and the one that is the shop's; "" where
-# only the keeper knows it, or it has none
+# names of two columns of numbers where no article has an EAN, and the one that is the shop's; ""
+# where only the keeper knows it, or it has none
 OWN_CODES = (
     ("Producer code;Item no.", "Item no."),
     ("Distributor SKU;Stock number", "Stock number"),
