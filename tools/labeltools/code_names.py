@@ -23,7 +23,7 @@ NO_ARTICLE = re.compile(
 )
 # parts of names of links to pictures
 PICTURE = re.compile(
-    r"\b(?:image|imagen|immagin|picture|photo|foto|thumb|obraz|zdjec|obraz|kep\b|gorsel|resim)"
+    r"\b(?:image|imagen|immagin|picture|photo|foto|thumb|obraz|zdjec|kep\b|gorsel|resim)"
     r"|bild(?:er)?\b|bild-?url|afbeeld|изображ|фото|картин|画像|图片|圖片|이미지"
 )
 # parties that give their own numbers to the articles of a shop: suppliers and makers
@@ -61,7 +61,7 @@ OWN = re.compile(
     r"|tuotekoodi|nimikenumero|tootekood|artnr|artno|artikelnr|artikelkod\w*|varenr|varenummer"
     r"|teilenummer|produktnummer|sachnummer|materialnummer|warennr|stok no)\b"
     rf"|\b{ARTICLES}[\W_]*{NUMBERS}(?!\w)|\b{NUMBERS}[\W_]*(?:de |del |do |di |van )?{ARTICLES}\b"
-    r"|artikeln(?:umme)?r|артикул|номенклатур|κωδικ|品番|商品コード|商品番号|货号|貨號|商品编|商品編|편번|품번|상품코드|מק.?ט"
+    r"|artikeln(?:umme)?r|артикул|номенклатур|κωδικ|品番|商品コード|商品番号|货号|貨號|商品编|商品編|품번|상품코드|מק.?ט"
 )
 BARE = re.compile(rf"\W*{NUMBERS}\W*")
 
