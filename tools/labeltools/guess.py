@@ -9,6 +9,7 @@ from dataclasses import dataclass, field, replace
 from functools import partial
 from itertools import islice, zip_longest
 
+from labeltools.code_names import NUMBER, PICTURE, PIECE, CodeRole, code_role, is_bare
 from labeltools.codes import AUTO, CodeRules, code_of
 from labeltools.column_words import any_of, named, plain
 from labeltools.columns import names_of, texts_of
@@ -35,31 +36,24 @@ NAMES = {
     "sku lot charge batch code codigo codice kod artikelnummer art.-nr nummer",
     "title": "bezeichnung artikelname titel title produkt product article artikel designation "
     "libelle descripcion descrizione omschrijving description beschreibung nazwa name nom nombre "
-    "nome naam item",
+    "nome naam desc item",
     "copies": "etiketten labels etiquettes etiquetas etichette etykiet copies kopien exemplare",
 }
-# parts of names of codes that are surely EAN or UPC
-NUMBER = re.compile(r"ean|gtin|upc|isbn")
 # parts of names of one article, where there are packs
 ONE = "einzel stuck piece each single stuks pezzo sztuk bouteille flasche bottle"
-# parts of names of numbers that a shop gives to each piece, where others give one to an article
-PIECE = re.compile(r"\b(?:serie|serial|s/n|imei|inventar|inventory|inventaire|accession|exempl)")
-# parts of names of numbers of others than articles
-OTHER_CODES = re.compile(
-    r"\b(?:tel|phone|mobil|fax|plz|postal|post\s?code|zip|country|lander|land\b|pays|zoll|customs"
-    r"|tariff|taric|hs\b|sh\b|commodit|douan|warennu|stat\b|konto|iban|bic\b|steuer|tax|vat\b"
-    r"|ust|kunde"
-    r"|customer|client|order|bestell|best\.|commande|auftrag|invoice|rechnung|facture|booking"
-    r"|liefer|lief\.|supplier|vendor|fourn|currency|wahrung|colou?r|farb|donor|seller|warehouse)"
-    r"|telefon|phone|gruppe|group"
-)
 # what may be a number of an article, or of a piece: three digits and more, but no date
 ARTICLE = re.compile(
     r"(?!\d{1,4}[./-]\d{1,2}[./-]\d{1,4}\Z)(?=(?:.*[0-9]){3})(?:(?=.*[A-Za-z])|(?=[^.]{5}))"
     r"[\w./-]{4,30}"
 )
+# the same, where the name says that it is one: numbers may be short
+NAMED_ARTICLE = re.compile(r"(?=(?:.*[0-9]){3})[\w./ -]{3,30}")
+OWN_NUMBERS = (CodeRole.OWN, CodeRole.OURS)
+# names of codes that many rows may share
+LOT = re.compile(r"\b(?:lot|charge|batch|qr|link|url)")
+DISTINCT = 0.8  # the least part of the texts of a column of codes that differ
 KINDS = ("code", "title", "price", "copies")
-NOT_PAID = (Role.OTHER, Role.SUM, Role.NET, Role.OF_UNIT)
+NOT_PAID = (Role.OTHER, Role.BOUGHT, Role.SUM, Role.NET, Role.OF_UNIT)
 UNSURE = (Role.NET, Role.OF_UNIT)  # may be asked for, where there is no other
 SAMPLE = 300  # rows that are looked at
 COPIES = re.compile("[0-9]{1,3}")
@@ -154,11 +148,19 @@ def best_of(kind: str, columns: Mapping[int, Filled]) -> tuple[int | None, Seque
     scores = {place: score(kind, column) for place, column in columns.items()}
     best = max(columns, key=scores.__getitem__, default=-1)
     if scores.get(best, 0) < LEAST:
-        is_of_codes = kind == "code"
-        return None, [at for at, one in columns.items() if is_of_codes and is_number(one)]
+        return (None, numbers_among(columns)) if kind == "code" else (None, [])
     if kind == "code":
         return code_among(columns, best, rivals(columns, best))
     return best, []
+
+
+def numbers_among(columns: Mapping[int, Filled]) -> Sequence[int]:
+    """Returns the places of the columns that may have numbers of the shop's own articles."""
+    return [
+        at
+        for at, one in columns.items()
+        if code_role(one.name) is not CodeRole.OTHERS and is_number(one)
+    ]
 
 
 def code_among(
@@ -166,8 +168,12 @@ def code_among(
 ) -> tuple[int, Sequence[int]]:
     """Returns the place of the codes; and those of which only the keeper knows it. Beside the best
     column, one that has less than half as many codes is none, unless they are new; nor is that of
-    packs beside that of pieces.
+    packs beside that of pieces. A number that the shop says is its own goes before its other ones.
     """
+    is_sure = share(columns[best].texts, is_code) >= LEAST
+    ours = [at for at in (best, *others) if code_role(columns[at].name) is CodeRole.OURS]
+    if len(ours) == 1 and not is_sure:
+        return ours[0], []
     least = len(columns[best].texts) / 2
     codes = [at for at in others if len(columns[at].texts) >= least or is_new(columns[at].name)]
     full = [best, *codes]
@@ -192,18 +198,29 @@ def is_other_code(column: Filled, is_sure: bool) -> bool:
     others that are, and numbers of each piece; else numbers of articles whose name says so.
     """
     words = plain(column.name)
+    role = code_role(column.name)
     if is_sure and share(column.texts, is_code) >= LEAST:
-        return not is_of_many(column.name)
-    is_like = PIECE.search(words) if is_sure else named(words, NAMES["code"].split())
-    return bool(is_like) and is_number(column)
+        is_article = role is not CodeRole.NO_ARTICLE and not is_constant(column)
+        return is_article and not is_of_many(column.name)
+    if role is CodeRole.OTHERS:
+        return False
+    is_named = role in OWN_NUMBERS or named(words, NAMES["code"].split()) > 0
+    return bool(PIECE.search(words) if is_sure else is_named) and is_number(column)
 
 
 def is_number(column: Filled) -> bool:
     """Returns whether a column may have numbers of articles: each is another one."""
-    texts = column.texts
-    if OTHER_CODES.search(plain(column.name)) or len(set(texts)) < len(texts):
+    texts, role = column.texts, code_role(column.name)
+    if role is CodeRole.NO_ARTICLE or len(set(texts)) < len(texts):
         return False
-    return share(texts, ARTICLE.fullmatch) > LEAST > share(texts, is_price)
+    has_name = role in OWN_NUMBERS and not is_bare(column.name)
+    article = NAMED_ARTICLE if has_name else ARTICLE
+    return share(texts, article.fullmatch) > LEAST > share(texts, is_price)
+
+
+def is_constant(column: Filled) -> bool:
+    """Returns whether all rows have the same text, as those of one supplier have its number."""
+    return len(column.texts) > 1 == len(set(column.texts))
 
 
 def price_of(columns: Mapping[int, Filled]) -> tuple[int | None, Sequence[int]]:
@@ -228,7 +245,8 @@ def price_of(columns: Mapping[int, Filled]) -> tuple[int | None, Sequence[int]]:
     }
     if of_shops and all(one.role is Role.FOR_SOME for one in of_shops.values()):
         of_shops |= {at: one for at, one in unsure.items() if one.role is Role.OF_UNIT}
-    price = price_among(of_shops) if of_shops else None
+    bought = [one for one in prices.values() if one.role is Role.BOUGHT]
+    price = price_among(of_shops, bought) if of_shops else None
     asked = of_shops or unsure if price is None else {price: of_shops[price]}
     sums = [at for at, one in prices.items() if any(is_taxed(one, net) for net in asked.values())]
     return (price, []) if price is not None and not sums else (None, sorted([*asked, *sums]))
@@ -253,16 +271,31 @@ def score(kind: str, column: Filled) -> float:
     words, texts = plain(column.name), column.texts
     by_name = named(column.name, NAMES[kind].split())
     if kind == "code":
-        if OTHER_CODES.search(words) and not NUMBER.search(words):
-            by_name = 0
-        is_case = 3 * is_of_many(column.name)
-        return by_name + 3 * share(texts, is_code) + share(texts, LINK.search) - is_case
+        return score_of_codes(column, by_name)
     if kind == "copies":
         return by_name if share(texts, COPIES.fullmatch) == 1 else 0.0
     if NUMBERED.search(words):
         return 0.0
     differ = len(set(texts)) / max(1, len(texts))
-    return by_name + share(texts, WORDS.search) * differ - share(texts, is_price)
+    no_title = max(share(texts, is_price), share(texts, ARTICLE.fullmatch))
+    return by_name + share(texts, WORDS.search) * differ - no_title
+
+
+def score_of_codes(column: Filled, by_name: float) -> float:
+    """Returns how well a column is one of codes."""
+    texts, role = column.texts, code_role(column.name)
+    if PICTURE.search(plain(column.name)):
+        return 0.0
+    are_codes = share(texts, is_code)
+    if role in OWN_NUMBERS and is_number(column):
+        by_name = max(by_name, 1.0)
+    is_repeated = len(set(texts)) < DISTINCT * len(texts) and not LOT.search(plain(column.name))
+    is_of_others = role is CodeRole.OTHERS and not NUMBER.search(plain(column.name))
+    if role is CodeRole.NO_ARTICLE or are_codes < LEAST and (is_of_others or is_repeated):
+        by_name = 0.0
+    no_article = role is CodeRole.NO_ARTICLE and is_constant(column)
+    many = 3 * (is_of_many(column.name) or no_article)
+    return by_name + 3 * are_codes + share(texts, LINK.search) - many
 
 
 def bare(texts: Sequence[str]) -> list[str]:

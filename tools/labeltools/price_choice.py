@@ -2,6 +2,7 @@
 that only the keeper of the shop knows it.
 """
 
+import re
 from collections import Counter
 from contextlib import suppress
 from dataclasses import dataclass
@@ -11,7 +12,7 @@ from typing import Iterator, Mapping, Sequence
 
 from labeltools.messages import RowError
 from labeltools.money import parse
-from labeltools.price_names import PriceName, Role
+from labeltools.price_names import DATED, EITHER, NO_MORE, PriceName, Role
 
 # rates of value added tax, in per cent, by which a net price becomes that of the shop
 RATES = tuple(
@@ -25,8 +26,10 @@ OF_A_FIFTH = Decimal(25)  # a rate, and what is added to a price that is reduced
 LEAST_ROWS = 4  # that show a rate
 MOST_RATES = 3  # of one table
 ROUNDED = Decimal("0.012")  # what two roundings to cents may make
+NEAR_ABOVE_COST = Decimal("0.7")  # the same, of a shop that is known to pay less
 NEAR = Decimal("0.8")  # of the price that a maker recommends: a dealer pays less
 OF_SHOPS = (0, 5, 9)  # the last digits of the prices of shops
+SELDOM = 4  # one row of so many has the price of an action
 OWN = (Role.NOW, Role.SOLD, Role.PUBLIC)
 
 
@@ -63,13 +66,17 @@ def value_of(cell: str) -> Decimal | None:
     return None
 
 
-def price_among(columns: Columns) -> int | None:
-    """Returns the place of the price; None where only the keeper knows it."""
+def price_among(columns: Columns, bought: Sequence[Amounts] = ()) -> int | None:
+    """Returns the place of the price, beside what the shop pays; None where only the keeper knows
+    it.
+    """
     if len(columns) > 1:
         columns = without_lists(columns)
         columns = without_net(columns)
         columns = without_weak(columns)
-        columns = without_recommended(columns)
+        columns = without_actions(columns)
+        columns = without_bought(columns)
+        columns = without_recommended(columns, bought)
     if len(columns) > 1:
         return own_among(columns)
     place, one = next(iter(columns.items()))
@@ -121,7 +128,7 @@ def without_net(columns: Columns) -> Columns:
     amounts say, or their names: VK beside VK brutto.
     """
     of_shop = [one for one in columns.values() if one.role in (Role.PLAIN, *OWN)]
-    taxed = {one.says.untaxed for one in of_shop if one.says.is_gross}
+    taxed = {one.says.untaxed for one in columns.values() if one.says.is_gross}
 
     def is_net(one: Amounts) -> bool:
         return one.says.words in taxed or any(is_net_of(one, other) for other in of_shop)
@@ -135,26 +142,76 @@ def without_weak(columns: Columns) -> Columns:
     return others or columns
 
 
-def without_recommended(columns: Columns) -> Columns:
+def without_actions(columns: Columns) -> Columns:
+    """Returns the columns without prices for a while that few rows have, beside one of nearly all
+    rows that is above them: it is the full price.
+    """
+
+    def is_action(one: Amounts) -> bool:
+        if one.role is not Role.FOR_SOME or DATED.search(one.says.words):
+            return False
+        return any(is_full_beside(one, full) for full in columns.values())
+
+    return {at: one for at, one in columns.items() if not is_action(one)}
+
+
+def is_full_beside(few: Amounts, full: Amounts) -> bool:
+    """Returns whether prices are those of all rows beside lower ones of few."""
+    both = list(pairs(few, full))
+    is_full = full.role in (Role.PLAIN, Role.LISTED, *OWN) and full.filled >= LEAST_ROWS
+    is_seldom = SELDOM * few.filled <= full.filled and len(both) == few.filled
+    return is_full and is_seldom and all(low < high for low, high in both)
+
+
+def without_bought(columns: Columns) -> Columns:
+    """Returns the columns without those whose abbreviation may be of what the shop pays, beside a
+    price that names itself sold and is far above in each row.
+    """
+    sold = [one for one in columns.values() if one.role in (Role.SOLD, Role.PUBLIC)]
+
+    def is_bought(one: Amounts) -> bool:
+        words = re.sub(r"[\W\d]+", "", NO_MORE.sub(" ", one.says.words))
+        return bool(EITHER.fullmatch(words)) and any(is_far_below(one, other) for other in sold)
+
+    return {at: one for at, one in columns.items() if not is_bought(one)}
+
+
+def is_far_below(one: Amounts, other: Amounts) -> bool:
+    """Returns whether prices are below others in each row, by more than shops give away."""
+    both = list(pairs(one, other))
+    return len(both) > 1 and all(low < NEAR * high for low, high in both)
+
+
+def is_own(one: Amounts, bought: Sequence[Amounts]) -> bool:
+    """Returns whether prices are above what the shop pays, in each row."""
+    above = [list(pairs(cost, one)) for cost in bought]
+    return any(both and all(low < high for low, high in both) for both in above)
+
+
+def without_recommended(columns: Columns, bought: Sequence[Amounts]) -> Columns:
     """Returns the columns without what a maker recommends, where the shop has its own price."""
     listed = [one for one in columns.values() if one.role is Role.LISTED]
     others = {at: one for at, one in columns.items() if one.role is not Role.LISTED}
     has_own = any(one.role in OWN for one in others.values())
     is_near = [
-        all(is_near_to(one, other) or is_seldom_above(other, one) for other in listed)
+        all(
+            is_near_to(one, other, is_own(one, bought)) or is_seldom_above(other, one)
+            for other in listed
+        )
         for one in others.values()
         if one.role is Role.PLAIN
     ]
     return others if has_own or is_near == [True] else columns
 
 
-def is_near_to(one: Amounts, listed: Amounts) -> bool:
+def is_near_to(one: Amounts, listed: Amounts, is_above_cost: bool) -> bool:
     """Returns whether prices are those of a shop beside what a maker recommends: near to it in most
-    rows, and above it in few.
+    rows, and above it in few. Beside what the shop pays, few rows show it.
     """
     both = list(pairs(one, listed))
-    near = sum(NEAR * high <= low <= high for low, high in both)
-    return len(both) >= LEAST_ROWS and 4 * near >= 3 * len(both)
+    part, least = (NEAR_ABOVE_COST, 2) if is_above_cost else (NEAR, LEAST_ROWS)
+    near = sum(part * high <= low <= high for low, high in both)
+    return len(both) >= least and 4 * near >= 3 * len(both)
 
 
 def is_seldom_above(listed: Amounts, price: Amounts) -> bool:

@@ -16,7 +16,7 @@ PRICE = (
     " kaina hind harga tarif eladasi fogyasztoi цена ціна τιμη 税込 価格 売価 定価 价格 零售 售价 售價 價格 판매가"
     " 가격 מחיר سعر"
 ).split()
-SHORT = "vk pvp pvc avp uvp rrp srp msrp".split()
+SHORT = "vk vp pvp pvc avp uvp rrp srp msrp".split()
 HUNGARIAN = re.compile(r"\w ar\Z|egysegar")  # Eladási ár, but no Danish year
 # what a shop pays
 PAID = (
@@ -28,13 +28,15 @@ PAID = (
     r" cout inkoop inkp kostprijs groothandel leverancier acquis acq ingrosso rivendit fornit"
     r" forn compra mayorist mayoreo por\smayor distribuidor proveedor pvd adquisic custo coste"
     r" atacado revend fornecedor inkop inpris innpris innkjop indkob kost engros forhandler"
-    r" aterforsal sjalvkost leverand osto sisaanosto hankinta tukku omakust jalleenmyy ostu"
+    r" aterforsal sjalvkost leverand osto sisaanosto hankinta tukku omakust jalleenmyy ostu b2b"
     r" hulgi zakup nabyc hurt koszt dostawc nakup porizovac velkoobch voc obstarav dodavatel"
     r" beszerz nagyker bekerul onkolts viszontelad achizit en-gros angro furnizor nabav"
     r" veleprod vpc alis maliyet toptan bayi iepirk vairum pirkim isigij didmen savikain закуп"
     r" приход входн опт себестоим собиварт собіварт поставщ постачал дилер гурт доставн едро"
     r" αγορ κοστ χονδρ 仕入 原価 卸 下代 进价 進價 进货 成本 批发 批發 采购 採購 매입 원가 도매 공급 입고 beli modal grosir"
-    r" innkaup עלות קני شراء تكلفة جملة zak\b"
+    r" innkaup עלות קני شراء تكلفة جملة zak\b nc ekp"
+    # prices of books that are kept, of stock and between firms
+    r" ewid\w* evidenc ksiegow verrechnungs transfer intercompany planpreis inventur"
 )
 # what is not paid now, or not here: older prices, those that the law wants beside a reduction,
 # limits, averages, prices of others
@@ -61,7 +63,8 @@ WITHOUT = (
     r"|без|χωρισ|προ)"
 )
 WITH = (
-    r"(?:mit|m|inc|inkl\w*|incl\w*|avec|with|con|c/|com|med|m/|met|cu|su|ar|s|sa|z|sis|с|з|із|με)"
+    r"(?:mit|m|inc|inkl\w*|incl\w*|avec|with|con|c/|com|med|m/|met|cu|su|ar|s|sa|z|sis|vc|vcetne"
+    r"|vratane|vr|с|з|із|με)"
 )
 NET = re.compile(
     rf"\b{WITHOUT}{RATE}{TAX}|{TAX}\s*(?:e[xk][ck]|escl|nicht|not?\b|non|niet|haric|0\b)"
@@ -81,6 +84,7 @@ MANY = (
     r" doos doosprijs omdoos overdoos caja caixa scatola kolli kassepris koli colli ve zbiorcz"
     r" umverp \w*karton (?:ab|from|des|da|desde|od|vanaf|fra|fran)\s[0-9]+(?![0-9./-])"
     r" \w*staffel [0-9]+\s?\+ box shipper trade\s(?:unit|item) display"
+    r" (?:je|pro|per|par|por|za|/)\s?(?:kar|krt|ktn|ctn|cs|ct|bx|pal|gbd|cx|cj|ds|kt|krat)\b"
 )
 # of a pack, which may be the article, too; or of another place than the shop
 WEAK = (
@@ -128,16 +132,16 @@ MEASURE = re.compile(
 )
 # what a shop sells for
 SOLD = (
-    r"vk vkp sell selling sales(?=\W+(?:price|in[ck])) unser unsere our notre nostro nuestro"
+    r"vk vkp vp sell selling sales(?=\W+(?:price|in[ck])) unser unsere our notre nostro nuestro"
     r" eigen verkauf vente venta vendita venda vend verkoop pv sprzed prodej predaj prodaj salg"
     r" forsalj utpris utsalg udsalg ulosmyy myynti satis eladas vanzar parduo pardav pardosan"
     r" muugi продаж πωλησ 販売 售价 售價 销售 판매 jual utsoluverd بيع sprz\b"
 )
 # what everybody pays in a shop
 PUBLIC = (
-    r"pvp pvc avp evp laden endkund endverbrauch verbraucher konsument privatkund regal retail"
-    r" rsp shelf kassenpreis consumer customer public pubblic particulier client rayon scaffale"
-    r" dettaglio banco minorist varejo consument winkel klant butik kundpris detal detail"
+    r"pvp pvc avp evp lvp b2c laden endkund endverbrauch verbraucher konsument privatkund regal"
+    r" retail rsp shelf kassenpreis consumer customer public pubblic particulier client rayon"
+    r" scaffale dettaglio banco minorist varejo consument winkel klant butik kundpris detal detail"
     r" klient amanunt maloobch moc mpc maloprod kisker fogyaszt bolti etiket vahittais"
     r" kuluttaja perakende jaehind mazum mazmen розн дребно роздріб λιαν 売価 上代 店頭 零售 소매 eceran"
     r" צרכן"
@@ -174,6 +178,7 @@ class Role(Enum):
     """What a name says of a column of amounts, as far as it says it."""
 
     OTHER = auto()  # no customer pays it
+    BOUGHT = auto()  # the shop pays it
     SUM = auto()  # an amount that is no price, such as a margin or a total
     NET = auto()  # without its tax
     OF_UNIT = auto()
@@ -198,6 +203,9 @@ NEUTRAL = (
     "standard normal regular regul flasche bottle bouteille bottiglia botella einzel magasin shop"
     " store negozio tienda sklep loja filiale incl inkl mein"
 )
+EMPTY_BRACKETS = re.compile(r"[(\[]\W*[)\]]")
+# abbreviations of what a shop pays in one trade and of what customers pay in another
+EITHER = re.compile("ep|cp|ip|kp|oh|af|cz|pc")
 LONGEST_ENDING = 5  # letters behind the beginning of a word: `detaliczna`
 LONGEST_PARTICLE = 3  # letters of a word that says nothing of its own
 
@@ -222,7 +230,7 @@ def price_name(name: str) -> PriceName:
     """Returns what the name of a column of amounts says.
 
     >>> [price_name(name).role.name for name in ("VK brutto", "EK brutto", "Preis", "VK ab 1.12.")]
-    ['SOLD', 'OTHER', 'PLAIN', 'FOR_SOME']
+    ['SOLD', 'BOUGHT', 'PLAIN', 'FOR_SOME']
     >>> [price_name(name).role.name for name in ("Sell inc VAT", "Sales tax", "VK (Subtotal)")]
     ['SOLD', 'OTHER', 'NET']
     """
@@ -236,7 +244,7 @@ def price_name(name: str) -> PriceName:
         role=role_of(name, words),
         words=words,
         base=level["base"] if level else "",
-        untaxed=" ".join(GROSS.sub(" ", words).split()),
+        untaxed=" ".join(EMPTY_BRACKETS.sub(" ", GROSS.sub(" ", words)).split()),
         is_price=is_named_price(name) or has_sign(name),
         is_gross=is_gross,
         is_bare=not more,
@@ -252,7 +260,9 @@ def role_of(name: str, words: str) -> Role:
         return Role.OTHER
     if any_of(OTHER_NUMBERS).search(nouns) and not has_noun(name):
         return Role.OTHER
-    if any(any_of(listed).search(words) for listed in (PAID, OLD, MANY, PERIOD)):
+    if any_of(PAID).search(words):
+        return Role.BOUGHT
+    if any(any_of(listed).search(words) for listed in (OLD, MANY, PERIOD)):
         return Role.OTHER
     if NET.search(words):
         return Role.NET

@@ -320,12 +320,15 @@ def check(parser: Parser, arguments: argparse.Namespace) -> None:
 
 
 def proposed(arguments: argparse.Namespace) -> Text:
-    """Returns the words that may fit a table; none where it is not a file, or has no codes."""
+    """Returns the words that may fit a table, and the columns among which only the keeper knows the
+    codes; none where it is not a file, or has no codes.
+    """
     if arguments.table in (None, "-"):
         return NOTHING
     name, data = read_input(arguments.table)
     guess = guess_of(data, name, TableOptions(file=file_options(arguments)), Silence())
-    if "code" not in guess.columns:
+    codes = [column_word(guess.names, place) for place in guess.doubts.get("code", ())]
+    if "code" not in guess.columns and not codes:
         return NOTHING
     options: dict[str, Any] = {
         option: column_word(guess.names, place) for option, place in guess.columns.items()
@@ -333,7 +336,10 @@ def proposed(arguments: argparse.Namespace) -> Text:
     options["symbology"] = guess.symbology if guess.symbology != AUTO else ""
     options["header-row"] = guess.header if guess.header > 1 else 0
     options["no-header"] = not guess.header
-    return Text("try {}", shlex.join([TOOL, *words_of(options), arguments.table]))
+    words = shlex.join([TOOL, *words_of(options), arguments.table])
+    if codes:
+        return Text("--code may be {}; try {}", ", ".join(map(shlex.quote, codes)), words)
+    return Text("try {}", words)
 
 
 def older_lines(path: str) -> LinesFile:

@@ -7,7 +7,7 @@ from pathlib import Path
 from typing import Sequence
 
 import support
-from labeltools import column_words, price_names
+from labeltools import code_names, column_words, price_names
 from labeltools import guess as guesses
 from labeltools.guess import Guess, guess, guess_of
 from labeltools.messages import Silence
@@ -203,6 +203,12 @@ class Guesses(unittest.TestCase):
                 "label-table --code Strichcode --title Produkt --price 'Neuer Preis' "
                 f"--copies 'Anzahl Etiketten' --header-row 2 '{path}'",
             )
+            path.write_text("Ware;Code;SKU;VK\nKugellager;M-10023;S-77120;4,20\n")
+            self.assertIn(
+                f"--code may be Code, SKU; try label-table --title Ware --price VK "
+                f"--symbology code128 '{path}'",
+                support.messages(support.run("label-table", path))[-1],
+            )
             path.write_text("Name;Ort\nUlla;Ulm\n")
             self.assertNotIn("try", support.messages(support.run("label-table", path))[-1])
             done = support.run("label-table", Path(folder, "none.csv"))
@@ -321,6 +327,7 @@ PRICES = (
 # names of amounts that no customer pays, or of which only the keeper knows it
 NO_PRICES = (
     *("Consignor", "Zuzahlung", "Lagerwert", "EK", "Ihr Preis", "Preis netto", "Bruttogewicht"),
+    *("Cena ewidencyjna", "Verrechnungspreis", "NC", "Preis je Ktn", "B2B price"),
     *("VK-Menge", "Shelf life", "Montant TTC", "Preisfaktor", "Price code"),
 )
 # amounts of three columns, and the number of the one that is the price; 0 where only the keeper
@@ -341,11 +348,91 @@ AMOUNTS = (
     # a total that is the price with its tax, and columns of zeros
     ("Venta (neta);2,08 3,50 4,16 5,00;Venta;2,08 3,50 4,16 5,00;Total;2,50 4,20 4,99 6,00", 0),
     ("Retail price;0,00 0,00 0,00 0,00;Sale price;0,00 0,00 0,00 0,00;Price;2,50 4,20 4,99 6", 3),
+    # the name in brackets says that the tax is in it
+    ("Tarifa 1;8,26 4,13 2,07 1,65;Tarifa 1 (IVA incl.);9,99 5 2,50 2;Marge;1 2 3 4", 2),
+    # a price for a while that one row has; one from a day on is asked, and one that is above
+    ("Prix promo;- 9,99 - -;Prix;9,99 18,50 4,99 7,00;Marge;1 2 3 4", 2),
+    ("VK ab 1.12.;- 9,99 - -;VK;9,99 18,50 4,99 7,00;Marge;1 2 3 4", 0),
+    ("Prix promo;- 19,99 - -;Prix;9,99 18,50 4,99 7,00;Marge;1 2 3 4", 0),
+    # an abbreviation of what the shop pays, unless it is near to what customers pay
+    ("IP EUR;4,10 9,20 2,05 3,00;VP EUR;9,99 18,50 4,99 7,00;Marge;1 2 3 4", 2),
+    ("EP EUR;9,10 18,20 4,85 6,90;VP EUR;9,99 18,50 4,99 7,00;Marge;1 2 3 4", 0),
+    # beside what the shop pays, prices that are below what a maker recommends are its own
+    ("MSRP;9,99 18,50 4,99 7,00;Price;7,99 14,50 3,75 5,80;Cost;4 7 2 3", 2),
+    ("MSRP;9,99 18,50 4,99 7,00;Price;3,99 6,50 1,75 2,80;Cost;4 7 2 3", 0),
+    # the price of a carton
+    ("Preis/Krt;60 90 24 42;VK mit MwSt;9,99 18,50 4,99 7,00;Marge;1 2 3 4", 2),
     # the net price beside what the maker recommends with its tax
     ("Händler;5,00 7,00 8,00 9,99;UVP inkl. MwSt.;12,00 24,00 6,00 3,60;unser Preis;10 20 5 3", 3),
 )
+# names of two columns of numbers where no article has an EAN, and the one that is the shop's; ""
+# where only the keeper knows it, or it has none
+OWN_CODES = (
+    ("Producer code;Item no.", "Item no."),
+    ("Distributor SKU;Stock number", "Stock number"),
+    ("MPN;Product code", "Product code"),
+    ("Herstellerartikelnummer;Artikelnummer", "Artikelnummer"),
+    ("Liefer-Art.-Nr.;Art.-Nr.", "Art.-Nr."),
+    ("Fremdnummer;Materialnummer", "Materialnummer"),
+    ("Code fabricant;Code article", "Code article"),
+    ("Réf. distributeur;Réf.", "Réf."),
+    ("Ref. fabricante;Ref. interna", "Ref. interna"),
+    ("Codice costruttore;Codice articolo", "Codice articolo"),
+    ("Artikelcode fabrikant;Artikelnr.", "Artikelnr."),
+    ("Kod producenta;Indeks towaru", "Indeks towaru"),
+    ("Kód výrobce;Kód zboží", "Kód zboží"),
+    ("Tillverkarens kod;Artikelnummer", "Artikelnummer"),
+    ("Valmistajan koodi;Tuotenumero", "Tuotenumero"),
+    ("Gyártói kód;Cikkszám", "Cikkszám"),
+    ("Cod producător;Cod produs", "Cod produs"),
+    ("Üretici kodu;Stok kodu", "Stok kodu"),
+    ("Код поставщика;Артикул", "Артикул"),
+    ("Κωδικός προμηθευτή;Κωδικός", "Κωδικός"),
+    ("Item number;Internal number", "Internal number"),
+    ("Client reference;Reference", "Reference"),
+    ("International code;Reference", ""),
+    ("Lieferantennummer;Hersteller-Nr.", ""),
+    ("Stock number;SKU", ""),
+)
+NUMBERS = (("30-11821", "30-11822", "77-40013"), ("KB-2001", "KB-2002", "KB-2003"))
 CODES = ("4006381333931", "9780306406157", "5901234123457")
 LOW, HIGH = ("1,20", "8,40", "2,05"), ("1,99", "12,49", "3,10")
+
+
+class Codes(unittest.TestCase):
+    def test_numbers_of_other_parties_are_no_codes(self) -> None:
+        for names, wanted in OWN_CODES:
+            for order in (1, -1):
+                both = list(zip(names.split(";"), NUMBERS))[::order]
+                found = guess([["Title", "Tea", "Book", "Gum"], *([n, *c] for n, c in both)], 1)
+                place = found.columns.get("code")
+                self.assertEqual("" if place is None else found.names[place], wanted, names)
+
+    def test_what_is_asked_has_no_number_of_another_party(self) -> None:
+        numbers = [["Kennung", *NUMBERS[0]], ["Vendor code", *NUMBERS[1]]]
+        found = guess([["Title", "Tea", "Book", "Gum"], *numbers], 1)
+        self.assertEqual(found.doubts, {"code": [1]})
+
+    def test_a_number_that_all_rows_share_is_no_code(self) -> None:
+        for name in ("GLN Hersteller", "Depot"):
+            shared = [name, *["4012345000009"] * 3]
+            self.assertEqual(guess([shared, ["EAN", *CODES]], 1).columns["code"], 1, name)
+        families = ["Code famille", "F-1001", "F-1001", "F-1002"]
+        self.assertEqual(guess([families, ["Référence", *NUMBERS[1]]], 1).columns["code"], 1)
+
+    def test_numbers_may_be_short_where_their_name_says_that_they_are_of_articles(self) -> None:
+        numbers = ("1001", "1002", "1003")
+        for name, wanted in (("Ref.", {"code": 0}), ("Nr.", {})):
+            self.assertEqual(guess([[name, *numbers]], 1).columns, wanted, name)
+
+    def test_a_link_to_a_picture_is_no_code(self) -> None:
+        links = [f"https://shop.example/{number}.jpg" for number in NUMBERS[0]]
+        found = guess([["Image URL", *links], ["SKU", *NUMBERS[1]]], 1)
+        self.assertEqual((found.columns["code"], found.symbology), (1, "code128"))
+
+    def test_numbers_of_articles_are_no_titles(self) -> None:
+        columns = [["Item", *NUMBERS[1]], ["UPC", *CODES], ["Desc", "Tea", "Book", "Gum"]]
+        self.assertEqual(guess(columns, 1).columns["title"], 2)
 
 
 class Prices(unittest.TestCase):
@@ -387,7 +474,7 @@ class Prices(unittest.TestCase):
 def load_tests(
     loader: unittest.TestLoader, tests: unittest.TestSuite, _: object
 ) -> unittest.TestSuite:
-    for module in (guesses, column_words, price_names):
+    for module in (guesses, code_names, column_words, price_names):
         tests.addTests(doctest.DocTestSuite(module))
     return tests
 
