@@ -43,6 +43,7 @@ CONDITIONAL = Text("has a number format that depends on a condition")
 NO_VALUE = Fault(NOT_SAVED, NOT_SAVED_HINT)
 PLAIN = Run("")  # the form of most letters
 FALSE = ("0", "false")
+MOST_KEPT = 4096  # numbers of a file
 # colours by the numbers of themes and of palettes (18.8.3, 18.8.27); others are compared by number
 THEME = {"0": WHITE, "1": BLACK}
 PALETTE = {"0": BLACK, "1": WHITE, "8": BLACK, "9": WHITE, "64": BLACK, "65": WHITE}
@@ -149,9 +150,21 @@ class Book:
     formatter: Formatter
     is_from_1904: bool
     is_stale: bool
+    numbers: dict[tuple[str, str], "Number"] = field(default_factory=dict)
+
+    def number(self, value: str, number_format: str) -> "Number":
+        """Returns the cell of a number; those that were read last are kept, by value and format."""
+        kept = self.numbers.get((value, number_format))
+        if kept is not None:
+            return kept
+        if len(self.numbers) >= MOST_KEPT:
+            self.numbers.clear()
+        found = Number(value, exact_of(value), number_format, self)
+        self.numbers[value, number_format] = found
+        return found
 
 
-@dataclass(frozen=True, slots=True)
+@dataclass(slots=True)  # not frozen: it keeps its text, since files repeat their numbers
 class Number(Special):
     """A cell with a number."""
 
@@ -159,6 +172,7 @@ class Number(Special):
     exact: Decimal
     number_format: str
     book: Book
+    text: str = ""  # as its format shows it, once that was asked for
 
     @property
     def kind(self) -> Kind:
@@ -172,7 +186,10 @@ class Number(Special):
 
     def shown(self) -> str:
         """Returns the number as its format shows it."""
-        return self.book.formatter.shown(self.number_format, self.exact, self.book.is_from_1904)
+        if not self.text:
+            book = self.book
+            self.text = book.formatter.shown(self.number_format, self.exact, book.is_from_1904)
+        return self.text
 
     def printed(self) -> str:
         """Returns the number as its format shows it, and keeps it as an example of the signs in
@@ -517,7 +534,7 @@ def cell_of(cell: Element, book: Book) -> Cell:
 def value_of(kind: str, value: str, style: str, book: Book) -> Cell:
     """Returns a cell that has a value, which is no text."""
     if kind == "n":
-        return Number(value, exact_of(value), style, book)
+        return book.number(value, style)
     if kind == "e":
         what = Text(
             "has {}, which the spreadsheet writes where it has no value to show", quoted(value)
