@@ -4,7 +4,6 @@ import csv
 import re
 from dataclasses import dataclass, field
 from itertools import count, islice
-from operator import itemgetter
 from typing import Iterator, NamedTuple, Sequence
 
 from labeltools.encoding import decoded
@@ -303,7 +302,7 @@ def parsed(text: str, begin: int, delimiter: str) -> Iterator[Record]:
     the last one.
     """
     csv.field_size_limit(LONGEST_LINE)
-    lines = map(itemgetter(0), LINE.finditer(text, begin))
+    lines = (line[0] for line in LINE.finditer(text, begin))
     reader = csv.reader(lines, delimiter=delimiter, strict=True)
     again = LINE.finditer(text, begin)  # for the lines of faulty rows, `passed` of which are behind
     passed = 0
