@@ -21,18 +21,21 @@ HEAD = re.compile(
 NO_TAG = re.compile(rb"<[!?]|<\Z")
 # a text as it is: no sign of XML, no control, and not the first byte of U+FFFE, which is none
 BARE = r"[^<>&\x00-\x1f\xef]*+"
+VALUE = r'[^"<>&\x00-\x1f\xef]++'  # of an attribute
 
 
 class Short(NamedTuple):
     """What short elements look like: `form` finds their start tag without its end, and what is in
-    them; `end` is their end tag.
+    them; `end` is their end tag; `prefixes` are those in them, which the first element has to
+    declare.
     """
 
     form: re.Pattern[bytes]
     end: bytes
+    prefixes: tuple[str, ...]
 
 
-def short(name: str, inside: str) -> Short:
+def short(name: str, inside: str, *prefixes: str) -> Short:
     """Returns the form of elements of a name that have this in them: an expression in ASCII that
     takes right XML alone.
 
@@ -40,7 +43,7 @@ def short(name: str, inside: str) -> Short:
     (b'<row r="2"', b'<c/>')
     """
     form = rf'(?P<start><{name}(?: [A-Za-z0-9:-]+="[^"<>]*")*)>(?P<inside>{inside})</{name}>'
-    return Short(re.compile(form.encode()), f"</{name}>".encode())
+    return Short(re.compile(form.encode()), f"</{name}>".encode(), prefixes)
 
 
 class Cutter:
@@ -51,7 +54,8 @@ class Cutter:
     """
 
     def __init__(self, short_ones: Short) -> None:
-        self.form, self.end = short_ones
+        self.form, self.end, prefixes = short_ones
+        self.declarations = [f' xmlns:{prefix}="'.encode() for prefix in prefixes]
         self.kept: deque[str] = deque()
         self.may_begin = False
         self.has_cut = False
@@ -66,9 +70,11 @@ class Cutter:
         for piece in chain(pieces, [b""]):
             data = rest + piece
             if self.is_first and (head := HEAD.match(data)):
-                self.is_plain = True
                 at = head.end()
-                yield data[:at]
+                first = data[at : data.find(b">", at)]
+                self.is_plain = all(one in first for one in self.declarations)
+                if at:
+                    yield data[:at]
             self.is_first = False
             while self.is_plain and at < len(data):
                 if self.may_begin and (found := self.emptied(data, at)):

@@ -10,19 +10,26 @@ from typing import Dict, Iterator, List, Sequence
 from unittest import mock
 
 import support
-from labeltools import xlsx as reader
+from labeltools import ods as ods_reader
+from labeltools import xlsx as xlsx_reader
 from labeltools.cells import seen
 from labeltools.messages import ToolError
 from labeltools.number_format import Formatter, Signs
 from labeltools.table import rows_of_workbook
 from test_table import BOOK, PENCIL, SMALL
 from test_table_mutants import CHANGES
-from test_table_workbooks import cell, packed, rows, unpacked, xlsx
+from test_table_workbooks import cell, ods, packed, rows, table, unpacked, xlsx
 
 SEED = 71
 MUTANTS = 3000
 SHEET = "xl/worksheets/sheet1.xml"
 STRINGS = "xl/sharedStrings.xml"
+CONTENT = "content.xml"
+CELL = "<table:table-cell"
+STRUCK = (
+    '<style:style style:name="ce1" style:family="table-cell"><style:text-properties'
+    ' style:text-line-through-style="solid"/></style:style>'
+)
 
 
 def by_parser(*arguments: object) -> Iterator[object]:
@@ -30,7 +37,7 @@ def by_parser(*arguments: object) -> Iterator[object]:
     return WALK(*arguments[:3])  # type: ignore[arg-type]
 
 
-WALK = reader.elements_or_short
+WALK = xlsx_reader.elements_or_short
 
 
 def read(data: bytes) -> List[str]:
@@ -53,11 +60,38 @@ def short_file() -> Dict[str, str]:
     lines: List[Sequence[object]] = [["EAN", "Name", "Preis"]]
     lines += [[PENCIL, f"Käse {number}", cell(number, style=1)] for number in range(1, 9)]
     lines += [['<c t="s"><v>0</v></c>', '<c t="s"><v>1</v></c>', cell(2.5, "D10")]]
-    lines += [[own], [SMALL, '<c><f>1+1</f><v>2</v></c>', cell(3)], [BOOK, "ïﬁ", None]]
+    lines += [[own], [SMALL, "<c><f>1+1</f><v>2</v></c>", cell(3)], [BOOK, "ïﬁ", None]]
     lines += [[PENCIL, f"日本 {number}", cell(number, style=1)] for number in range(1, 9)]
     sheet = rows(*lines).replace('<row r="4"', '<row hidden="1" r="4"')
     strings = "<si><t>0,80</t></si><si><t xml:space='preserve'> a </t></si><si><t>b</t></si>"
     return unpacked(xlsx(sheet, formats=["0.00"], strings=strings.replace("'", '"')))
+
+
+def ods_value(kind: str, text: str, more: str = "", own: str = "calcext") -> str:
+    """A cell of .ods as LibreOffice writes it."""
+    later = f' {own}:value-type="{kind}"' if own else ""
+    value = f'office:value-type="{kind}"{more}{later}'
+    return f"{CELL} {value}><text:p>{text}</text:p></table:table-cell>"
+
+
+def short_ods(styles: str = "", own: str = "calcext") -> Dict[str, str]:
+    """The parts of an .ods most of whose rows are short, of each kind of short cells."""
+    euro = ' office:currency="EUR" office:value="2.5"'
+    lines = [["EAN", "Name", "Preis"]]
+    for number in range(1, 9):
+        price = ods_value("float", f"{number},00", f' office:value="{number}"', own)
+        lines.append([PENCIL, ods_value("string", f"Käse  {number} ", "", own), price])
+    many = f'{CELL} table:style-name="ce1" table:number-columns-repeated="2"/>'
+    day = ods_value("date", "25.11.26", ' office:date-value="2026-11-25"', own)
+    lines.append([many, ods_value("currency", "2,50 €", euro, own)])
+    lines.append([f"{CELL}/>", ods_value("boolean", "WAHR"), ods_value("error", "#NV"), day])
+    lines.append([SMALL, ods_value("string", "a<text:s/>b"), ods_value("float", "3")])
+    lines.append([BOOK, "ïﬁ", ods_value("percentage", "4 %", ' office:value="0.05"', own)])
+    struck = ods_value("string", "x").replace(CELL, f'{CELL} table:style-name="ce1"')
+    lines += [[PENCIL, f"日本 {number}", struck] for number in range(1, 9)]
+    parts = unpacked(ods(table(*lines), styles=styles))
+    parts[CONTENT] = parts[CONTENT].replace('"string" >', '"string">')
+    return parts
 
 
 class Short(unittest.TestCase):
@@ -65,7 +99,10 @@ class Short(unittest.TestCase):
         """A file is read twice alike; returns what is read."""
         data = packed(parts)
         found = read(data)
-        with mock.patch.object(reader, "elements_or_short", by_parser):
+        with (
+            mock.patch.object(xlsx_reader, "elements_or_short", by_parser),
+            mock.patch.object(ods_reader, "elements_or_short", by_parser),
+        ):
             self.assertEqual(found, read(data))
         return found
 
@@ -76,10 +113,46 @@ class Short(unittest.TestCase):
         self.assertIn("aA", found[10])
 
     def test_short_rows_are_taken(self) -> None:
-        data = packed(short_file())
-        with mock.patch.object(reader, "cells_in", wraps=reader.cells_in) as taken:
-            read(data)
-        self.assertGreater(taken.call_count, 12)
+        for reader, parts in ((xlsx_reader, short_file()), (ods_reader, short_ods())):
+            with mock.patch.object(reader, "cells_in", wraps=reader.cells_in) as taken:
+                read(packed(parts))
+            self.assertGreater(taken.call_count, 12)
+
+    def test_right_rows_of_ods(self) -> None:
+        for own in ("calcext", ""):
+            found = self.check(short_ods("", own))
+            self.assertEqual(len(found), 22)  # and one before them, for the sheet
+            self.assertIn("Käse 3", found[4])
+        self.assertEqual(sum("Fault" in row for row in self.check(short_ods(STRUCK))), 9)
+
+    def test_other_cells_of_ods(self) -> None:
+        value = 'office:value-type="float" office:value="1"'
+        cells = (
+            f'{CELL} office:value="1" {value}/>',
+            f'{CELL} table:number-columns-repeated="0"/>',
+            f'{CELL} table:number-columns-repeated="99999"/>',
+            f'{CELL} table:number-columns-repeated="20" {value}/>',
+            f'{CELL} table:number-columns-spanned="2" {value}/>',
+            f'{CELL} office:value-type="float" office:value="1e999"/>',
+            f'{CELL} office:value-type="float" office:value=""/>',
+            f'{CELL} other:value-type="float"/>',
+            f"{CELL} {value}><text:p>a</text:p><text:p>b</text:p></table:table-cell>",
+            f"{CELL} {value}><text:p>a&#65;</text:p></table:table-cell>",
+            f"{CELL} {value}><text:p>a]]></text:p></table:table-cell>",
+            f'{CELL} office:value-type="string" calcext:value-type="error"/>',
+            "<table:covered-table-cell/>",
+        )
+        for text in cells:
+            for styles in ("", STRUCK):
+                parts = short_ods(styles)
+                row = f"<table:table-row>{text}"
+                parts[CONTENT] = (
+                    parts[CONTENT]
+                    .replace("<table:table-row>", row)
+                    .replace(row, "<table:table-row>", 3)
+                )
+                with self.subTest(text):
+                    self.check(parts)
 
     def test_what_begins_no_row(self) -> None:
         row = '<row r="9"><c r="A9"><v>1</v></c></row>'
@@ -113,6 +186,11 @@ class Short(unittest.TestCase):
             with self.subTest(text):
                 self.check(parts)
 
+    def test_no_declaration(self) -> None:
+        for name, parts in ((SHEET, short_file()), (CONTENT, short_ods())):
+            parts[name] = parts[name].partition("?>")[2].strip()
+            self.assertGreater(len(self.check(parts)), 20)
+
     def test_other_encodings(self) -> None:
         for encoding in ("iso-8859-1", "utf-16", "shift_jis"):
             parts: Dict[str, str] = dict(short_file())
@@ -124,11 +202,11 @@ class Short(unittest.TestCase):
     @support.slow
     def test_mutants(self) -> None:
         whole = 0
-        base = short_file()
+        bases = [short_file(), short_ods(), short_ods(STRUCK), short_ods("", "")]
         for number in range(MUTANTS):
             numbers = random.Random(f"{SEED} {number}")
-            parts = dict(base)
-            name = numbers.choice((SHEET, SHEET, STRINGS))
+            parts = dict(bases[max(0, number % 6 - 2)])
+            name = numbers.choice((SHEET, SHEET, STRINGS)) if SHEET in parts else CONTENT
             for _ in range(numbers.choice((1, 1, 2))):
                 parts[name] = numbers.choice(CHANGES)(parts[name], numbers)
             with self.subTest(number):
