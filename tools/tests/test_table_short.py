@@ -25,6 +25,7 @@ MUTANTS = 3000
 SHEET = "xl/worksheets/sheet1.xml"
 STRINGS = "xl/sharedStrings.xml"
 CONTENT = "content.xml"
+LAST = '<row r="40"><c r="A40"><v>40</v></c></row>'
 CELL = "<table:table-cell"
 STRUCK = (
     '<style:style style:name="ce1" style:family="table-cell"><style:text-properties'
@@ -125,6 +126,15 @@ class Short(unittest.TestCase):
             self.assertIn("Käse 3", found[4])
         self.assertEqual(sum("Fault" in row for row in self.check(short_ods(STRUCK))), 9)
 
+    def test_a_prefix_that_is_not_declared(self) -> None:
+        parts = short_ods()
+        declared = ' xmlns:calcext="urn:oasis:names:tc:opendocument:xmlns:calcext:1.0"'
+        first = "<table:table-row>"
+        parts[CONTENT] = (
+            parts[CONTENT].replace(declared, "").replace(first, first[:-1] + declared + ">", 1)
+        )
+        self.assertIn("damaged", self.check(parts)[-1])
+
     def test_other_cells_of_ods(self) -> None:
         value = 'office:value-type="float" office:value="1"'
         cells = (
@@ -155,11 +165,14 @@ class Short(unittest.TestCase):
                     self.check(parts)
 
     def test_what_begins_no_row(self) -> None:
-        row = '<row r="9"><c r="A9"><v>1</v></c></row>'
-        comments = (f"<!--{row}-->", f"<![CDATA[{row}]]>", f"<?x {row}?>", f"<a>{row}</a>")
-        for text in (*comments, "<row/><!-- </row>-->", "<row a='>'/>", "\ufffe", "&amp;", "\0"):
+        row = LAST.replace("40", "39")
+        around = (("<!--", "-->"), ("<![CDATA[", "]]>"), ("<?x ", "?>"), ("<a>", "</a>"))
+        texts = [f"{begin}{row}{end}" for begin, end in around]
+        texts += [f"<row/>{begin}</row>{row}{end}" for begin, end in around]
+        texts += [f"<row/><a><row></row>{row}</a>", "<row a='>'/>", "\ufffe", "&amp;", "\0"]
+        for text in texts:
             parts = short_file()
-            parts[SHEET] = parts[SHEET].replace('<row r="6"', f'{text}<row r="6"')
+            parts[SHEET] = parts[SHEET].replace("</sheetData>", f"{text}{LAST}</sheetData>")
             with self.subTest(text):
                 self.check(parts)
 
@@ -177,6 +190,8 @@ class Short(unittest.TestCase):
             '<c t="str"><is><t>a</t></is></c>',
             '<c t="e"><v>#REF!</v></c>',
             "<c><v>1e999</v></c>",
+            "<c><v>1\ufffe</v></c>",
+            "<c><v>1\x1f</v></c>",
             "<c><v>x</v></c>",
             '<c x:r="A1"><v>1</v></c>',
         )
@@ -198,6 +213,9 @@ class Short(unittest.TestCase):
             parts[SHEET] = text.encode(encoding, "replace")  # type: ignore[assignment]
             with self.subTest(encoding):
                 self.check(parts)
+        parts = dict(short_file())
+        parts[SHEET] = parts[SHEET].encode().replace(b"\xc3\xa4", b"\xe4")  # type: ignore[assignment]
+        self.assertIn("damaged", self.check(parts)[-1])
 
     @support.slow
     def test_mutants(self) -> None:
