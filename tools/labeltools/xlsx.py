@@ -375,7 +375,7 @@ def sheet_rows(archive: ZipFile, path: str, book: Book) -> Iterator[Row]:
     number = 0
     around = Around()
     form = None if book.styles.letters else SHORT_ROW
-    for element, short_cells in elements_or_short(archive, path, Walk(ROW, [COLUMN]), form):
+    for element, inside in elements_or_short(archive, path, Walk(ROW, [COLUMN]), form):
         if element.tag == "col":
             around.add(element)
             continue
@@ -385,10 +385,11 @@ def sheet_rows(archive: ZipFile, path: str, book: Book) -> Iterator[Row]:
             raise out_of_order(number)
         row_links = dict(links.get(number, {}))
         around.row = whole(element.get("s", "0"))
-        if short_cells is None:
-            cells = cells_of(element, number, book, row_links)
-        else:
-            cells = cells_in(short_cells, number, book)
+        cells = (
+            cells_of(element, number, book, row_links)
+            if inside is None
+            else cells_in(inside, number, book)
+        )
         doubts: dict[int, Doubt] = {}
         if book.styles.letters:
             take_letters(element, cells, around, book, doubts)

@@ -4,10 +4,13 @@ Each file is read twice: once as it is, and once by the parser alone. Rows, cell
 messages have to be the same, of right files and of thousands of damaged ones by a fixed seed.
 """
 
+import io
 import random
 import unittest
-from typing import Dict, Iterator, List, Sequence
+import zipfile
+from typing import Dict, Iterator, List, Optional, Sequence, Tuple
 from unittest import mock
+from xml.etree.ElementTree import Element
 
 import support
 from labeltools import ods as ods_reader
@@ -16,6 +19,7 @@ from labeltools.cells import seen
 from labeltools.messages import ToolError
 from labeltools.number_format import Formatter, Signs
 from labeltools.table import rows_of_workbook
+from labeltools.workbook import Walk, elements_or_short
 from test_table import BOOK, PENCIL, SMALL
 from test_table_mutants import CHANGES
 from test_table_workbooks import cell, ods, packed, rows, table, unpacked, xlsx
@@ -33,12 +37,11 @@ STRUCK = (
 )
 
 
-def by_parser(*arguments: object) -> Iterator[object]:
-    """All elements of a walk, whatever is short."""
-    return WALK(*arguments[:3])  # type: ignore[arg-type]
-
-
-WALK = xlsx_reader.elements_or_short
+def by_parser(
+    archive: zipfile.ZipFile, part: str, walk: Walk, form: object
+) -> Iterator[Tuple[Element, Optional[str]]]:
+    """All elements of a walk by the parser alone, whatever is short."""
+    return elements_or_short(archive, part, walk)
 
 
 def read(data: bytes) -> List[str]:
@@ -66,6 +69,15 @@ def short_file() -> Dict[str, str]:
     sheet = rows(*lines).replace('<row r="4"', '<row hidden="1" r="4"')
     strings = "<si><t>0,80</t></si><si><t xml:space='preserve'> a </t></si><si><t>b</t></si>"
     return unpacked(xlsx(sheet, formats=["0.00"], strings=strings.replace("'", '"')))
+
+
+def with_sheet(sheet: bytes) -> bytes:
+    """A file of .xlsx whose sheet has these bytes."""
+    stream = io.BytesIO()
+    with zipfile.ZipFile(stream, "w") as archive:
+        for name, text in short_file().items():
+            archive.writestr(name, sheet if name == SHEET else text)
+    return stream.getvalue()
 
 
 def ods_value(kind: str, text: str, more: str = "", own: str = "calcext") -> str:
@@ -98,7 +110,10 @@ def short_ods(styles: str = "", own: str = "calcext") -> Dict[str, str]:
 class Short(unittest.TestCase):
     def check(self, parts: Dict[str, str]) -> List[str]:
         """A file is read twice alike; returns what is read."""
-        data = packed(parts)
+        return self.check_file(packed(parts))
+
+    def check_file(self, data: bytes) -> List[str]:
+        """The same of a file."""
         found = read(data)
         with (
             mock.patch.object(xlsx_reader, "elements_or_short", by_parser),
@@ -207,15 +222,13 @@ class Short(unittest.TestCase):
             self.assertGreater(len(self.check(parts)), 20)
 
     def test_other_encodings(self) -> None:
+        text = short_file()[SHEET]
         for encoding in ("iso-8859-1", "utf-16", "shift_jis"):
-            parts: Dict[str, str] = dict(short_file())
-            text = parts[SHEET].replace("UTF-8", encoding)
-            parts[SHEET] = text.encode(encoding, "replace")  # type: ignore[assignment]
             with self.subTest(encoding):
-                self.check(parts)
-        parts = dict(short_file())
-        parts[SHEET] = parts[SHEET].encode().replace(b"\xc3\xa4", b"\xe4")  # type: ignore[assignment]
-        self.assertIn("damaged", self.check(parts)[-1])
+                encoded = text.replace("UTF-8", encoding).encode(encoding, "replace")
+                self.check_file(with_sheet(encoded))
+        damaged = text.encode().replace("ä".encode(), b"\xe4")
+        self.assertIn("damaged", self.check_file(with_sheet(damaged))[-1])
 
     @support.slow
     def test_mutants(self) -> None:
