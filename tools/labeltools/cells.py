@@ -259,6 +259,8 @@ def taken(cell: Cell, use: Use) -> str:
         text = cell  # most cells, at once
     else:
         text = plain_text(cell)
+    if use is PRICE and text[:1].isdigit() and "+" not in text:
+        return text  # most prices, at once
     if use is PRINTED or use is PRICE:
         refuse_no_value(text)
     return text

@@ -2,6 +2,7 @@
 
 import re
 from dataclasses import dataclass
+from functools import cached_property
 from typing import NamedTuple, Sequence
 
 from labeltools.text import NOTHING, Text, counted, joined
@@ -80,7 +81,7 @@ class CodeRules:
     without_check_digit: bool = False
     allow_zeros: bool = False
 
-    @property
+    @cached_property
     def is_free(self) -> bool:
         """Whether a code is any text."""
         return self.symbology in FREE

@@ -152,9 +152,10 @@ class CsvTable:
         if row.problem or row.is_blank():
             return Row(*row)
         cells = row.cells
-        problem = shape.problem(cells)
-        if problem:
-            return Row(row.number, cells, problem)
+        if not len(cells) == shape.names == shape.width:  # most rows have these
+            problem = shape.problem(cells)
+            if problem:
+                return Row(row.number, cells, problem)
         if self.delimiter == "," and shape.prices:
             self.look_at_prices(row, shape.prices)
         if len(cells) > shape.names and self.options.file.has_header is not False:
@@ -203,7 +204,7 @@ def csv_table(data: bytes, name: str, options: TableOptions, talk: Talk) -> CsvT
         raise ToolError(
             Text("{} has more than {} line ends", name, MOST_LINE_ENDS), Text("is it a table?")
         )
-    if any(match.end() - match.start() > LONGEST_LINE for match in LINE.finditer(text)):
+    if max(map(len, LINE.findall(text)), default=0) > LONGEST_LINE:
         raise ToolError(Text("{} has a line of more than 1 MB", name), Text("is it a table?"))
     begin = 1 if text.startswith("\ufeff") else 0
     given = DELIMITERS.get(options.file.delimiter or "", options.file.delimiter)
@@ -301,25 +302,23 @@ def parsed(text: str, begin: int, delimiter: str) -> Iterator[Record]:
     the last one.
     """
     csv.field_size_limit(LONGEST_LINE)
-    taken: list[str] = []
-
-    def lines() -> Iterator[str]:
-        for match in LINE.finditer(text, begin):
-            taken.append(match[0])
-            yield match[0]
-
-    reader = csv.reader(lines(), delimiter=delimiter, strict=True)
+    lines = (line[0] for line in LINE.finditer(text, begin))
+    reader = csv.reader(lines, delimiter=delimiter, strict=True)
+    again = LINE.finditer(text, begin)  # for the lines of faulty rows, `passed` of which are behind
+    passed = 0
     for number in count(1):
-        taken.clear()
+        first = reader.line_num
         try:
             cells = next(reader)
-            if len(taken) > 1 and is_of_rows(cells, delimiter):
+            if reader.line_num - first > 1 and is_of_rows(cells, delimiter):
                 yield Record(number, [], RowError(UNCLOSED))
             else:
                 yield Record(number, cells)
         except StopIteration:
             return
         except csv.Error as error:
+            taken = [line[0] for line in islice(again, first - passed, reader.line_num - passed)]
+            passed = reader.line_num
             row, is_last = faulty(number, taken, delimiter, str(error))
             yield row
             if is_last:

@@ -194,7 +194,10 @@ UNITS = frozenset(
 COUNTS = "(?:für|for|pour|por|per|za|voor|för|pelo|az|la|за|x)"
 UNIT = r"(?:[0-9]{1,4}(?:[.,][0-9]{1,3})? ?)?[^\W\d_]{1,14}[.²³]?"
 PER = rf"(?: ?/ ?| (?:je|pro|per|par|por|al|le|la|the|a|za|na|på|pr\.|от|за|à|/|の) ){UNIT}"
-COMMON = re.compile("(0|[1-9][0-9]{0,5})([.,])([0-9]{2})(?:[ \u00a0]?(€))?")  # most prices, at once
+# most prices, at once
+COMMON = re.compile(
+    "(0|[1-9][0-9]{0,5}|[1-9][0-9]{0,2}([.,'])[0-9]{3})([.,])([0-9]{2})(?:[ \u00a0]?(€))?"
+)
 PIECES = r"(?:Stk\.?|Stück|pcs|x|st\.?|шт\.?)"
 MANY = re.compile(rf"([1-9][0-9]?) ?{PIECES}? ?{COUNTS} (.*)", re.IGNORECASE)
 TAIL = "|".join(map(re.escape, BEHIND_WORDS.split()))
@@ -346,10 +349,11 @@ def parse(text: str, own: str = "", most_decimals: int = MOST_DECIMALS) -> Money
     has several numbers
     is below zero
     """
-    if common := COMMON.fullmatch(text):
-        whole, point, decimals, euro = common.groups()
-        value = Decimal(f"{whole}.{decimals}")
-        return Money(text, value, point, "", 2, "EUR" if euro else "")
+    common = COMMON.fullmatch(text)
+    if common and common[2] != common[3]:
+        whole, group, point, decimals, euro = common.groups(default="")
+        value = Decimal(f"{whole.replace(group, '')}.{decimals}")
+        return Money(text, value, point, group, 2, "EUR" if euro else "")
     bare = with_usual_points(plain_price(text))
     count, bare = count_in(bare)
     unit, bare = unit_in(bare)

@@ -119,6 +119,31 @@ class Section:
         """Whether it shows a date or a time."""
         return self.count("date") > 0 and not (self.count("number") or self.count("percent"))
 
+    @cached_property
+    def is_number(self) -> bool:
+        """Whether it shows a number, once, and no other one; a comma behind a number divides by
+        thousand.
+        """
+        return self.count("number") == 1 and not self.has_more
+
+    @cached_property
+    def is_zero(self) -> bool:
+        """Whether it shows zero alone, without a number, as `"free"`."""
+        return not (self.count("number") or self.count("percent") or self.has_more)
+
+    @cached_property
+    def has_more(self) -> bool:
+        """Whether it has more than a number, or a text, in which programs differ."""
+        if Part("number", "@") in self.parts and len(self.parts) > 1:
+            return True
+        others = self.count("date") + self.count("noon")
+        return bool(others or Part("plain", ",") in self.parts or self.count("percent") > 1)
+
+    @cached_property
+    def is_percentage(self) -> bool:
+        """Whether it shows a number of hundredths."""
+        return self.count("percent") > 0
+
 
 @dataclass
 class Formatter:
@@ -167,9 +192,9 @@ class Formatter:
 
     def number_text(self, section: Section, value: Decimal, number_format: str) -> str:
         """Returns a number without its sign as a section shows it."""
-        if not is_number(section, value):
+        if not (section.is_number or section.is_zero and not value):
             raise not_understood(number_format)
-        size = abs(value).scaleb(2) if section.count("percent") else abs(value)
+        size = abs(value).scaleb(2) if section.is_percentage else abs(value)
         signs = signs_of(section.language) or self.signs
         shown = [
             by_pattern(size, one.text, signs) if one.kind == "number" else one.text
@@ -178,21 +203,7 @@ class Formatter:
         return "".join(shown).strip()
 
 
-def is_number(section: Section, value: Decimal) -> bool:
-    """Returns whether a section shows a number, once, and no other one.
-
-    One without a number shows zero alone, as `"free"`; a comma behind a number divides by thousand.
-    """
-    count = section.count("number")
-    if Part("number", "@") in section.parts and len(section.parts) > 1:  # here programs differ
-        return False
-    others = section.count("date") + section.count("noon") + section.parts.count(Part("plain", ","))
-    percents = section.count("percent")
-    if others or count > 1 or percents > 1:
-        return False
-    return count == 1 or not value and not percents
-
-
+@lru_cache(maxsize=256)
 def has_own_signs(number_format: str) -> bool:
     """Returns whether a format shows numbers by the signs of its reader, and not by those of a
     language.
@@ -398,26 +409,53 @@ def date_part(part: Part, moment: datetime, is_noon: bool) -> str:
     return str(numbers[letter]).zfill(len(part.text))
 
 
+class Digits(NamedTuple):
+    """How a pattern of `0`, `#`, `?`, `,` and a point shows a number: `unit` is that of its last
+    decimal, of which `needed` are always there, as `least` digits of the whole number are; it
+    `shows_zero` where each spreadsheet shows that alike.
+    """
+
+    unit: Decimal
+    needed: int
+    least: int
+    has_groups: bool
+    has_point: bool
+    shows_zero: bool
+
+
+@lru_cache(maxsize=256)
+def digits_by(pattern: str) -> Digits:
+    """Returns how a pattern shows a number; raises `RowError` where spreadsheets differ."""
+    whole_pattern, point, decimals_pattern = pattern.partition(".")
+    has_groups = "," in whole_pattern
+    is_plain = "E" not in pattern.upper() and "," not in decimals_pattern
+    if not is_plain or has_groups and not WHOLE_PATTERN.fullmatch(whole_pattern):
+        raise not_understood(pattern)
+    return Digits(
+        unit=Decimal(1).scaleb(-len(decimals_pattern)),
+        needed=len(decimals_pattern.rstrip("#?")),
+        least=least_digits(whole_pattern),
+        has_groups=has_groups,
+        has_point=point != "",
+        shows_zero=not re.search("0,*[#?]", whole_pattern),
+    )
+
+
 def by_pattern(value: Decimal, pattern: str, signs: Signs) -> str:
     """Returns a number that is not negative by `General`, or by a pattern of `0`, `#`, `?`, `,` and
     a point.
     """
     if pattern[0] in "Gg@":
         return general(value, signs)
-    whole_pattern, point, decimals_pattern = pattern.partition(".")
-    has_groups = "," in whole_pattern
-    is_plain = "E" not in pattern.upper() and "," not in decimals_pattern
-    if not is_plain or has_groups and not WHOLE_PATTERN.fullmatch(whole_pattern):
-        raise not_understood(pattern)
-    rounded = value.quantize(Decimal(1).scaleb(-len(decimals_pattern)), ROUND_HALF_UP, EXACT)
+    form = digits_by(pattern)
+    rounded = value.quantize(form.unit, ROUND_HALF_UP, EXACT)
     whole, _, decimals = f"{rounded:,f}".partition(".")
-    needed = len(decimals_pattern.rstrip("#?"))
-    decimals = decimals[:needed] + decimals[needed:].rstrip("0")
-    is_odd = re.search("0,*[#?]", whole_pattern) and whole == "0"
-    if is_odd or point and not decimals:  # here spreadsheets differ
+    decimals = decimals[: form.needed] + decimals[form.needed :].rstrip("0")
+    is_odd = whole == "0" and not form.shows_zero
+    if is_odd or form.has_point and not decimals:  # here spreadsheets differ
         raise not_understood(pattern)
-    whole = whole.replace(",", signs.thousands if has_groups else "")
-    whole = whole.lstrip("0").zfill(least_digits(whole_pattern))
+    whole = whole.replace(",", signs.thousands if form.has_groups else "")
+    whole = whole.lstrip("0").zfill(form.least)
     return whole + (signs.decimal + decimals if decimals else "")
 
 

@@ -7,7 +7,7 @@ from decimal import Decimal
 from functools import cache
 from itertools import chain, groupby, product
 from typing import Iterator, Mapping, Sequence
-from xml.etree.ElementTree import Element
+from xml.etree.ElementTree import Element, SubElement
 from zipfile import ZipFile
 
 from labeltools.text import NOTHING, Text
@@ -20,6 +20,7 @@ from labeltools.ods_styles import CELL, LETTERS, NO_FORM, PARAGRAPH, SPAN, Form,
 from labeltools.ods_styles import common_styles
 from labeltools.prices import is_same
 from labeltools.rows import Doubt, Merge, Row
+from labeltools.short_elements import BARE, VALUE, Short, short
 from labeltools.workbook import (
     LARGEST_ROW,
     MOST_COLUMNS,
@@ -31,16 +32,18 @@ from labeltools.workbook import (
     TOO_LARGE,
     TYPED,
     Sheet,
+    Walk,
     areas_of,
     chosen,
     doubt,
     elements,
+    elements_or_short,
     exact_of,
     filled,
     has_word,
     merges_at,
 )
-from labeltools.workbook import repeats, rows_from, whole
+from labeltools.workbook import pieces, repeats, rows_from, whole
 
 # groups of rows and columns, which may be in one another, and count nothing
 GROUPS = (
@@ -58,6 +61,32 @@ HEADS = (
 )
 # the corner of an area behind the name of its sheet
 CORNER = re.compile(r"(?:^|\.)\$?([A-Z]{1,3})\$?([0-9]{1,7})(?![^\s:])")
+# the attributes of short cells in the order of LibreOffice; a later one of a local name is taken
+ATTRIBUTES = (
+    *("table:style-name", "table:number-columns-repeated", "office:value-type"),
+    *("office:currency", "office:value", "office:date-value", "calcext:value-type"),
+)
+LOCAL_NAMES = [name.partition(":")[2] for name in ATTRIBUTES]
+PREFIXES = ("table", "office", "text", "calcext")
+
+
+def cell_form(names: Sequence[str], value: str, bare: str) -> str:
+    """Returns the expression of cells that have at most these attributes, and one line of text."""
+    attributes = "".join(f'(?: {name}="({value})")?' for name in names)
+    return (
+        f"<table:table-cell{attributes} ?(?:/>|>(?:<text:p>({bare})</text:p>)?</table:table-cell>)"
+    )
+
+
+def short_row(names: Sequence[str], *prefixes: str) -> Short:
+    """Returns the form of rows whose cells have at most these attributes."""
+    return short("table:table-row", f"(?:{cell_form(names, VALUE, BARE)})*+", *prefixes)
+
+
+SHORT_CELL = re.compile(cell_form(ATTRIBUTES, '[^"]+', "[^<]*"))
+SHORT_ROW = short_row(ATTRIBUTES, *PREFIXES)
+PLAIN_ROW = short_row(ATTRIBUTES[:-1], *PREFIXES[:-1])  # of files without LibreOffice's names
+MOST_KEPT = 4096  # numbers of a file
 NUMBERS = ("float", "percentage", "currency", "date", "time")
 FIGURES = "-+−()0123456789.,'’ \u00a0\u202f"  # of an amount, beside its currency
 # white space that counts, by signs that no XML has, and other white space
@@ -93,6 +122,7 @@ class Number(Special):
     formatter: Formatter
     kind: Kind = Kind.NUMBER
     currency: str = ""
+    is_agreed: bool = False  # the value and the text were compared
 
     def number(self) -> Decimal | None:
         """Returns the number that it has."""
@@ -102,6 +132,8 @@ class Number(Special):
         """Raises `RowError` where the text has a number, a date or a currency that is not that of
         the value.
         """
+        if self.is_agreed:
+            return
         value = self.value
         if self.exact is None:
             value = self.moment
@@ -117,6 +149,7 @@ class Number(Special):
         if self.currency and is_other_sign(self.text.strip(FIGURES), self.currency):
             what = Text("has the currency {} and the text {}", self.currency, quoted(self.text))
             raise RowError(what, SAVE_AGAIN)
+        self.is_agreed = True
 
     def shown(self) -> str:
         """Returns the text that is shown."""
@@ -160,6 +193,23 @@ class Content:
     row: str = ""  # the style of the cells of the row that is read
     number: int = 1
     merges: list[Merge] = field(default_factory=list)
+    numbers: dict[tuple[str, ...], Number] = field(default_factory=dict)  # those that are kept
+
+    def cell_of_number(
+        self, kind: str, value: str, text: str, moment: str, currency: str
+    ) -> Number:
+        """Returns the cell of a number, a date or a time; those that were read last are kept."""
+        key = kind, value, text, moment, currency
+        kept = self.numbers.get(key)
+        if kept is not None:
+            return kept
+        if len(self.numbers) >= MOST_KEPT:
+            self.numbers.clear()
+        exact = exact_of(value) if value else None
+        own = Kind.MOMENT if kind in ("date", "time") else Kind.NUMBER
+        found = Number(value or text, text, exact, moment, self.formatter, own, currency)
+        self.numbers[key] = found
+        return found
 
     def begin_sheet(self, name: str, is_visible: bool) -> None:
         """Begins a sheet."""
@@ -204,9 +254,11 @@ def sheet_rows(archive: ZipFile, formatter: Formatter) -> Iterator[tuple[tuple[s
     content = Content(
         formatter, is_calculated(archive), common_styles(archive), conditions_of(archive)
     )
-    for element in elements(archive, "content.xml", f"{TABLE}/table-row", HEADS, GROUPS):
+    walk = Walk(f"{TABLE}/table-row", HEADS, GROUPS)
+    form = short_form(archive)
+    for element, inside in elements_or_short(archive, "content.xml", walk, form):
         if element.tag == "table-row":
-            for row in element_rows(element, content):
+            for row in element_rows(element, inside, content):
                 yield content.sheet, row
         elif element.tag == "style":
             content.styles.begin(element.attrib)
@@ -223,6 +275,43 @@ def sheet_rows(archive: ZipFile, formatter: Formatter) -> Iterator[tuple[tuple[s
             is_visible = element.get("style-name") not in content.hidden
             content.begin_sheet(element.get("name", ""), is_visible)
             yield content.sheet, Row(0, ())
+
+
+def short_form(archive: ZipFile) -> Short:
+    """Returns what the short rows of a file look like."""
+    first = next(pieces(archive, "content.xml"), b"")
+    return SHORT_ROW if b" xmlns:calcext=" in first else PLAIN_ROW
+
+
+def elements_in(row: str) -> Iterator[Element]:
+    """Yields the cells of a short row by what is in it, as a parser does."""
+    for *values, line in SHORT_CELL.findall(row):
+        cell = Element("table-cell", {name: one for name, one in zip(LOCAL_NAMES, values) if one})
+        SubElement(cell, "p").text = line
+        yield cell
+
+
+def cells_in(row: str, content: Content) -> list[Cell]:
+    """Returns the cells of a short row by what is in it, where no style changes letters."""
+    letters = 0
+    cells: list[Cell] = []
+    place = 0
+    for _, repeated, first, currency, value, moment, later, line in SHORT_CELL.findall(row):
+        count = min(whole(repeated, 1), MOST_COLUMNS + 1) if repeated else 1
+        kind = later or first
+        text = spaced(line)
+        cell: Cell = text
+        if kind in NUMBERS:
+            cell = content.cell_of_number(kind, value, text, moment, currency)
+        elif kind != "string":
+            cell = cell_of_kind(kind, text)
+        if cell:
+            letters += (len(cell) if isinstance(cell, str) else 1) * count
+            if letters > LARGEST_ROW:
+                raise ToolError(TOO_LARGE, SAVE_AGAIN)
+            filled(cells, place).extend([cell] * count)
+        place = min(place + count, MOST_COLUMNS)
+    return cells
 
 
 def conditions_of(archive: ZipFile) -> dict[str, list[tuple[Merge, str]]]:
@@ -265,16 +354,20 @@ def is_calculated(archive: ZipFile) -> bool:
     return False
 
 
-def element_rows(element: Element, content: Content) -> Iterator[Row]:
+def element_rows(element: Element, inside: str | None, content: Content) -> Iterator[Row]:
     """Yields the rows of an element, as often as it is repeated, but none that is empty and not
-    hidden.
+    hidden; `inside` is what was in one that is short.
     """
     number = content.number
     content.row = element.get("default-cell-style-name", "")
     content.merges = merges_at(content.merges, number)
     links: dict[int, str] = {}
     doubts: dict[int, Doubt] = {}
-    cells = cells_of(element, content, links, doubts)
+    if inside is not None and content.styles.is_plain:
+        cells = cells_in(inside, content)
+    else:
+        element.extend(elements_in(inside or ""))
+        cells = cells_of(element, content, links, doubts)
     if content.conditions:
         content.see_conditions(cells, doubts)
     is_hidden = element.get("visibility", "visible") != "visible"
@@ -379,18 +472,10 @@ def cell_of(cell: Element, content: Content, form: Form) -> Cell:
         value = cell.get("value", "")
         if form.place:
             return Fault(RAISED, TYPED, value or text)
-        exact = exact_of(value) if value else None
         moment = cell.get("date-value", "")
-        own = Kind.MOMENT if kind in ("date", "time") else Kind.NUMBER
-        currency = cell.get("currency", "")
-        return Number(value or text, text, exact, moment, content.formatter, own, currency)
-    if kind == "error":
-        what = Text(
-            "has {}, which the spreadsheet writes where it has no value to show", quoted(text)
-        )
-        return Fault(what, value=text)
-    if kind == "boolean":
-        return Truth(text)
+        return content.cell_of_number(kind, value, text, moment, cell.get("currency", ""))
+    if kind in ("error", "boolean"):
+        return cell_of_kind(kind, text)
     if not kind and not text and "formula" in cell.attrib and not content.is_calculated:
         return Fault(NOT_SAVED, NOT_SAVED_HINT)
     own_text = cell.get("string-value")
@@ -398,6 +483,16 @@ def cell_of(cell: Element, content: Content, form: Form) -> Cell:
         what = Text("has the value {} and the text {}", quoted(own_text), quoted(text))
         return Fault(what, SAVE_AGAIN, text)
     return text
+
+
+def cell_of_kind(kind: str, text: str) -> Cell:
+    """Returns a cell that has no number by its type and its text."""
+    if kind == "error":
+        what = Text(
+            "has {}, which the spreadsheet writes where it has no value to show", quoted(text)
+        )
+        return Fault(what, value=text)
+    return Truth(text) if kind == "boolean" else text
 
 
 @cache

@@ -179,25 +179,26 @@ class TableRun:
         for row in rows:
             if row.number % BETWEEN == 0:
                 self.talk.go_on(row.number, 0)
-            empty += range(last + 1, row.number)
+            if row.number > last + 1:
+                empty += range(last + 1, row.number)
             last = row.number + row.repeat - 1
             if row.is_hidden and not self.options.file.hidden:
                 self.hidden += not row.is_blank()
             elif row.is_blank():
                 empty.append(last)
             else:
-                self.leave_out_empty(empty)
-                empty = []
+                if empty:
+                    self.leave_out_empty(empty)
+                    empty = []
                 self.take(row)
 
     def leave_out_empty(self, empty: Sequence[int]) -> None:
-        """Leaves out empty rows."""
-        if empty:
-            what = Text("the row is empty")
-            if empty[1:]:
-                what = Text("the row is empty, and all to row {}", empty[-1])
-            self.talk.note(Place("", "row", empty[0]), "", what, NOTHING)
-            self.writer.left_out += empty
+        """Leaves out empty rows, of which there is one at least."""
+        what = Text("the row is empty")
+        if empty[1:]:
+            what = Text("the row is empty, and all to row {}", empty[-1])
+        self.talk.note(Place("", "row", empty[0]), "", what, NOTHING)
+        self.writer.left_out += empty
 
     def take(self, row: Row) -> None:
         """Takes one row that is not blank, or leaves it out."""

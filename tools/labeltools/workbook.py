@@ -13,13 +13,14 @@ from functools import lru_cache, partial, reduce
 from io import BytesIO
 from itertools import chain, pairwise
 from typing import Iterable, Iterator, Mapping, NamedTuple, Sequence
-from xml.etree.ElementTree import Element, ParseError, XMLPullParser
+from xml.etree.ElementTree import Element, ParseError, XMLParser, XMLPullParser
 from zipfile import ZIP_DEFLATED, ZIP_STORED, BadZipFile, ZipFile
 
 from labeltools.text import Text, counted
 from labeltools.messages import BAD_ARGUMENTS, ToolError, quoted
 from labeltools.cells import Cell
 from labeltools.rows import Doubt, Merge, Row
+from labeltools.short_elements import Cutter, Short
 
 MOST_ROWS = 1048576
 MOST_COLUMNS = 16384
@@ -29,6 +30,7 @@ LARGEST_ROW = 1 << 20  # bytes, or letters
 LARGEST_TEXTS = 1 << 27  # letters of all shared strings
 PIECE = 1 << 16
 DEEPEST = 100
+DEEPEST_SHORT = 8  # elements in one another in short ones
 MOST_PARTS = 1 << 14  # of the zip
 MOST_OTHERS = 1 << 20  # elements one after another that are no part of a row
 MOST_NAMES = 4096
@@ -185,7 +187,11 @@ class Walk:
     """
 
     def __init__(
-        self, path: str, heads: Sequence[str], without: Sequence[str], passed: str
+        self,
+        path: str,
+        heads: Sequence[str] = (),
+        without: Sequence[str] = (),
+        passed: str = "",
     ) -> None:
         self.path = path
         self.heads = heads
@@ -230,6 +236,12 @@ class Walk:
             self.forget()
         return False
 
+    def is_between(self) -> bool:
+        """Returns whether an element that is asked for whole may come next."""
+        outer = "/".join(one.tag for one in self.around if one.tag not in self.without)
+        is_deep = self.depth + DEEPEST_SHORT >= DEEPEST
+        return not (self.inside or is_deep) and outer == self.path.rpartition("/")[0]
+
     def whole(self, element: Element) -> Element:
         """Returns an element that has ended, with the names of all in it without namespaces."""
         for one in element:
@@ -258,29 +270,64 @@ def elements(
     Elements with a name of `without` are left out of paths; those at `passed` are passed over. All
     names are local ones.
     """
+    for element, _ in elements_or_short(archive, part, Walk(path, heads, without, passed)):
+        yield element
+
+
+def elements_or_short(
+    archive: ZipFile, part: str, walk: Walk, form: Short | None = None
+) -> Iterator[tuple[Element, str | None]]:
+    """Yields the elements of a walk; those that are short have nothing in them, and what was in
+    them as text beside them.
+    """
     if not part:  # the file has no such part
         return
     if has_word(archive, part, b"<!DOCTYPE"):  # its entities may become any size
         raise ToolError(
             Text("has a document type (DOCTYPE), which no spreadsheet writes"), SAVE_AGAIN
         )
-    walk = Walk(path, heads, without, passed)
+    cutter = Cutter(form) if form else None
+    try:
+        yield from parsed(pieces(archive, part), walk, cutter)
+    except ParseError:
+        if cutter and cutter.has_cut:
+            refuse_whole(archive, part)
+        raise
+
+
+def parsed(
+    data: Iterator[bytes], walk: Walk, cutter: Cutter | None
+) -> Iterator[tuple[Element, str | None]]:
+    """Yields the elements of a walk through the pieces of a part, as `elements_or_short` does."""
     parser = XMLPullParser(("start", "end"))
-    for piece in chain(pieces(archive, part), [b""]):
-        walk.size += len(piece)
-        if piece:
-            parser.feed(piece)
+    for feed in chain(cutter.feeds(data) if cutter else data, [b""]):
+        walk.size += len(feed)
+        if feed:
+            parser.feed(feed)
         else:
             parser.close()
+        has_ended = False
         for event, element in parser.read_events():
             if event == "start":
                 if walk.begin(element):
-                    yield element
+                    yield element, None
             elif walk.end():
-                yield walk.whole(element)
+                has_ended = True
+                inside = cutter.kept.popleft() if cutter and cutter.kept else None
+                yield walk.whole(element), inside
                 walk.forget()
+        if cutter:
+            cutter.may_begin = has_ended and walk.is_between()
         if walk.size > LARGEST_ROW:
             raise ToolError(TOO_LARGE, SAVE_AGAIN)
+
+
+def refuse_whole(archive: ZipFile, part: str) -> None:
+    """Raises `ParseError` for a part that is no XML, with the place in all of it."""
+    parser = XMLParser(target=object())
+    for piece in pieces(archive, part):
+        parser.feed(piece)
+    parser.close()
 
 
 def rows_from(row: Row, repeat: int) -> Iterator[Row]:

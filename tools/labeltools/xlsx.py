@@ -16,6 +16,7 @@ from labeltools.cells import BLACK, FONT_OF_SIGNS, OF_SIGNS, RAISED, STRUCK, SUB
 from labeltools.cells import UNSEEN, WHITE, WITHOUT, Cell, Fault, Kind, Run, Signs, Special, Truth
 from labeltools.cells import are_unseen, text_of_runs
 from labeltools.rows import Doubt, Merge, Row
+from labeltools.short_elements import BARE, short
 from labeltools.workbook import LARGEST_TEXTS, NOT_SAVED, NOT_SAVED_HINT
 from labeltools.workbook import (
     SAVE_AGAIN,
@@ -23,11 +24,13 @@ from labeltools.workbook import (
     TRUE,
     TYPED,
     Sheet,
+    Walk,
     areas_of,
     chosen,
     corners_of,
     doubt,
     elements,
+    elements_or_short,
     exact_of,
 )
 from labeltools.workbook import filled, has_word, merges_at, place_of, rows_from, whole
@@ -42,7 +45,18 @@ LATER_CONDITION = "/worksheet/extLst/ext/conditionalFormattings/conditionalForma
 CONDITIONAL = Text("has a number format that depends on a condition")
 NO_VALUE = Fault(NOT_SAVED, NOT_SAVED_HINT)
 PLAIN = Run("")  # the form of most letters
+# a cell that has a value or a text, and nothing else: the letters of its column, the number of its
+# style, its type, and what it has
+SHORT_CELL = (
+    '<c(?: r="([A-Z]{{1,3}})[0-9]{{1,7}}")?(?: s="([0-9]{{1,10}})")?'
+    '(?: t="(n|s|str|inlineStr)")?(?:/>|>'
+    '(?:<v>({bare})</v>|<is><t(?: xml:space="preserve")?>({bare})</t></is>)?</c>)'
+)
+CELL = re.compile(SHORT_CELL.format(bare="[^<]*"))
+SHORT_ROW = short("row", f"(?:{SHORT_CELL.format(bare=BARE)})*+")
+SHORT_STRING = short("si", f'<t(?: xml:space="preserve")?>{BARE}</t>')
 FALSE = ("0", "false")
+MOST_KEPT = 4096  # numbers of a file
 # colours by the numbers of themes and of palettes (18.8.3, 18.8.27); others are compared by number
 THEME = {"0": WHITE, "1": BLACK}
 PALETTE = {"0": BLACK, "1": WHITE, "8": BLACK, "9": WHITE, "64": BLACK, "65": WHITE}
@@ -149,9 +163,21 @@ class Book:
     formatter: Formatter
     is_from_1904: bool
     is_stale: bool
+    numbers: dict[tuple[str, str], "Number"] = field(default_factory=dict)
+
+    def number(self, value: str, number_format: str) -> "Number":
+        """Returns the cell of a number; those that were read last are kept, by value and format."""
+        kept = self.numbers.get((value, number_format))
+        if kept is not None:
+            return kept
+        if len(self.numbers) >= MOST_KEPT:
+            self.numbers.clear()
+        found = Number(value, exact_of(value), number_format, self)
+        self.numbers[value, number_format] = found
+        return found
 
 
-@dataclass(frozen=True, slots=True)
+@dataclass(slots=True)  # not frozen: it keeps its text, since files repeat their numbers
 class Number(Special):
     """A cell with a number."""
 
@@ -159,6 +185,7 @@ class Number(Special):
     exact: Decimal
     number_format: str
     book: Book
+    text: str = ""  # as its format shows it, once that was asked for
 
     @property
     def kind(self) -> Kind:
@@ -172,7 +199,10 @@ class Number(Special):
 
     def shown(self) -> str:
         """Returns the number as its format shows it."""
-        return self.book.formatter.shown(self.number_format, self.exact, self.book.is_from_1904)
+        if not self.text:
+            book = self.book
+            self.text = book.formatter.shown(self.number_format, self.exact, book.is_from_1904)
+        return self.text
 
     def printed(self) -> str:
         """Returns the number as its format shows it, and keeps it as an example of the signs in
@@ -266,8 +296,8 @@ def strings_of(archive: ZipFile, part: str) -> list[str | Rich]:
     """Returns the shared strings."""
     strings: list[str | Rich] = []
     letters = 0
-    for element in elements(archive, part, "/sst/si"):
-        string = string_of(element)
+    for element, inside in elements_or_short(archive, part, Walk("/sst/si"), SHORT_STRING):
+        string = string_of(element) if inside is None else unescaped(inside[:-4].partition(">")[2])
         strings.append(string)
         if isinstance(string, str):
             letters += len(string)
@@ -344,7 +374,8 @@ def sheet_rows(archive: ZipFile, path: str, book: Book) -> Iterator[Row]:
     merges: list[Merge] = []
     number = 0
     around = Around()
-    for element in elements(archive, path, ROW, [COLUMN]):
+    form = None if book.styles.letters else SHORT_ROW
+    for element, inside in elements_or_short(archive, path, Walk(ROW, [COLUMN]), form):
         if element.tag == "col":
             around.add(element)
             continue
@@ -354,7 +385,11 @@ def sheet_rows(archive: ZipFile, path: str, book: Book) -> Iterator[Row]:
             raise out_of_order(number)
         row_links = dict(links.get(number, {}))
         around.row = whole(element.get("s", "0"))
-        cells = cells_of(element, number, book, row_links)
+        cells = (
+            cells_of(element, number, book, row_links)
+            if inside is None
+            else cells_in(inside, number, book)
+        )
         doubts: dict[int, Doubt] = {}
         if book.styles.letters:
             take_letters(element, cells, around, book, doubts)
@@ -394,6 +429,24 @@ def cells_of(row: Element, number: int, book: Book, links: dict[int, str]) -> li
         formula = element.findtext("f")
         if formula and (found := HYPERLINK.fullmatch(formula)):
             links[place] = found[1]
+    return cells
+
+
+def cells_in(row: str, number: int, book: Book) -> list[Cell]:
+    """Returns the cells of a short row by what is in it."""
+    cells: list[Cell] = []
+    for letters, style, kind, value, inline in CELL.findall(row):
+        place = place_of(letters) if letters else len(cells)
+        if place < len(cells):
+            raise out_of_order(number)
+        own = whole(style or "0")
+        shown = book.styles.formats[own]
+        cell: Cell = ""
+        if kind == "inlineStr" or kind == "str" and value:
+            cell = text_of(unescaped(value or inline), shown, book.styles.looks[own])
+        elif value:
+            cell = cell_by(kind or "n", value, own, shown, book)
+        filled(cells, place).append(cell)
     return cells
 
 
@@ -507,17 +560,17 @@ def cell_of(cell: Element, book: Book) -> Cell:
             return NO_VALUE
     elif not value and kind != "inlineStr":
         return ""
-    if kind == "s":
-        return text_of(book.strings[whole(value or "")], style, book.styles.looks[number])
     if kind in ("str", "inlineStr"):
         return text_of(string_of(cell), style, book.styles.looks[number])
-    return value_of(kind, value or "", style, book)
+    return cell_by(kind, value or "", number, style, book)
 
 
-def value_of(kind: str, value: str, style: str, book: Book) -> Cell:
-    """Returns a cell that has a value, which is no text."""
+def cell_by(kind: str, value: str, number: int, style: str, book: Book) -> Cell:
+    """Returns a cell by its type, its value, and the number and the format of its style."""
     if kind == "n":
-        return Number(value, exact_of(value), style, book)
+        return book.number(value, style)
+    if kind == "s":
+        return text_of(book.strings[whole(value)], style, book.styles.looks[number])
     if kind == "e":
         what = Text(
             "has {}, which the spreadsheet writes where it has no value to show", quoted(value)
