@@ -161,6 +161,17 @@ def buffer_output() -> None:
         sys.stdout = TextIOWrapper(whole, sys.stdout.encoding)
 
 
+def keep_standard_error() -> None:
+    """Leaves standard error to the tool alone: what the libraries of the system write there, such as
+    warnings about fonts, goes nowhere, where each line is an answer.
+    """
+    own = os.dup(sys.stderr.fileno())
+    null = os.open(os.devnull, os.O_WRONLY)
+    os.dup2(null, sys.stderr.fileno())
+    os.close(null)
+    sys.stderr = open(own, "w", encoding=sys.stderr.encoding, errors="backslashreplace")
+
+
 def flush_or_forget(stream: Any) -> None:
     """Flushes a stream, or sends what is left nowhere: Python's last flush would change the status
     to 120.
@@ -180,12 +191,12 @@ def on_signals(action: Any = signal.SIG_DFL) -> None:
 
 
 @contextmanager
-def hold_signals() -> Iterator[None]:
-    """Holds a signal back while something goes out that has to be whole; a second one ends the tool
-    at once. Within another such time it does nothing.
+def hold_signals() -> Iterator[list[int]]:
+    """Holds a signal back while something goes out that has to be whole, and gives a list in which
+    it then is; a second one ends the tool at once. Within another such time it does nothing.
     """
     if HELD:
-        yield
+        yield HELD[0]
         return
     taken: list[int] = []
     HELD.append(taken)
@@ -196,7 +207,7 @@ def hold_signals() -> Iterator[None]:
 
     on_signals(take)
     try:
-        yield
+        yield taken
     finally:
         HELD.clear()
         on_signals()
