@@ -162,8 +162,8 @@ def buffer_output() -> None:
 
 
 def keep_standard_error() -> None:
-    """Leaves standard error to the tool alone: what the libraries of the system write there, such as
-    warnings about fonts, goes nowhere, where each line is an answer.
+    """Leaves standard error to the tool alone, where each line is an answer: what the libraries of
+    the system write there, such as warnings about fonts, goes nowhere.
     """
     own = os.dup(sys.stderr.fileno())
     null = os.open(os.devnull, os.O_WRONLY)

@@ -83,7 +83,8 @@ def ranges_in(rows: str) -> Ranges:
     found: list[tuple[int, int]] = []
     for part in filter(None, rows.split(",")):
         first, dash, last = part.partition("-")
-        found.append((int(first), int(last or (ENDLESS if dash else first))))
+        end = ENDLESS if dash and not last else int(last or first)
+        found.append((int(first), end))
     apart: list[tuple[int, int]] = []
     for start, end in sorted(found):
         if apart and start <= apart[-1][1]:
@@ -94,8 +95,8 @@ def ranges_in(rows: str) -> Ranges:
 
 
 def without(ranges: Ranges, numbers: Sequence[int]) -> Ranges:
-    """Returns what is left of ranges without some numbers, which are in order; of a range without an
-    end its first number, where it has none of them.
+    """Returns what is left of ranges without some numbers, which are in order; of a range without
+    an end that is its first number, where it has none of them.
 
     >>> without(((2, 5), (8, 9), (20, ENDLESS)), [1, 3, 8])
     ((2, 2), (4, 5), (9, 9), (20, 20))
@@ -123,7 +124,7 @@ def rows_text(ranges: Ranges) -> Text:
 
 
 def few(names: Sequence[str], count: int) -> Text:
-    """Returns names, the first of them where they are many, with a count of what all of them name."""
+    """Returns names; where they are many, the first of them and the count of what all name."""
     text = joined(", ", names[:MOST_RANGES])
     return Text("{} .. ({} in all)", text, count) if len(names) > MOST_RANGES else text
 

@@ -147,8 +147,8 @@ class Sender:
         return sum(map(len, documents))
 
     def claim(self, record: LineRecord, is_last: bool) -> bool:
-        """Returns whether a label is for this lane, and writes into the journal that it is sent. The
-        way out is left to others where nothing more goes out; raises `ToolError`.
+        """Returns whether a label is for this lane, which the journal then has as sent. The way out
+        is left to others where nothing more goes out by it. Raises `ToolError`.
         """
         is_ours = self.journal is None
         try:

@@ -98,7 +98,6 @@ class Fifo(RawIOBase):
         self.is_idle = size == 0
         return size
 
-
     def wait(self) -> None:
         """Waits for bytes, or until the last writer has gone."""
         while not self.poll.poll(LOOK * 1000):
@@ -134,7 +133,7 @@ def next_line(source: BinaryIO) -> bytes:
 
 
 def fault_of(line: bytes, source: BinaryIO) -> Text:
-    """Returns what is wrong with a line that is not whole, and reads the rest of a longer one."""
+    """Returns what is wrong with a line that is not whole; the rest of a long one is read."""
     if line.endswith(b"\n"):
         return NOTHING
     if len(line) < LONGEST:
@@ -145,8 +144,8 @@ def fault_of(line: bytes, source: BinaryIO) -> Text:
 
 
 def jobs(source: BinaryIO) -> Iterator[Job]:
-    """Yields each line with data as soon as it is there; of a FIFO, for ever. A line whose object is
-    too long is not printed without it.
+    """Yields each line with data as soon as it is there; of a FIFO, for ever. A line whose object
+    is too long is not printed without it.
     """
     remark = b""
     waiting = NOTHING  # what is wrong with the object before a line

@@ -1,11 +1,9 @@
-"""A desk among programs that do as they like: printers that end a connection in their own time, lanes
-that end while others look, outputs that fill up, FIFOs that are replaced, libraries that talk.
+"""A desk among programs that do as they like: printers that end a connection in their own time,
+lanes that end while others look, outputs that fill up, FIFOs that are replaced, libraries that talk.
 """
 
 import doctest
-import functools
 import os
-import resource
 import signal
 import socket
 import subprocess
@@ -14,18 +12,17 @@ import unittest
 from contextlib import suppress
 from pathlib import Path
 from types import ModuleType
-from typing import Callable, Optional
+from typing import Callable
 from unittest import mock
 
 import support
-from labeltools import files, selection, sending
-from labeltools.journal import SENDING, Journal
+from labeltools import files, sending
+from labeltools.journal import Journal
 from labeltools.network import NetworkPrinter
-from labeltools.selection import selection_of
 from printers import LABEL, Printer
 from test_desk import ROLL, TICKETS, Folder, ended, labels_in, printed
 
-MANY = 1024  # open files, of which select() takes fewer
+WAIT = 20.0  # seconds in which a stream ends that has nothing to do
 START = """
 import os, signal
 from labeltools.network import Broken
@@ -42,6 +39,14 @@ def broken():
 {code}
 main()
 """
+MANY_FILES = """
+import resource
+_, most = resource.getrlimit(resource.RLIMIT_NOFILE)
+resource.setrlimit(resource.RLIMIT_NOFILE, (min(2048, most), most))
+for _ in range(1024):  # select() takes fewer
+    os.dup(0)
+"""
+LIMIT = "import resource; resource.setrlimit(resource.RLIMIT_FSIZE, ({size}, {size}))"
 LOCK = """
 import fcntl, os, sys
 from labeltools.journal import FAR
@@ -77,21 +82,19 @@ class Impatient(Printer):
 class Starts(Folder):
     """Tests that start a stream."""
 
-    def start(
-        self, *words: str, setup: Optional[Callable[[], object]] = None, **variables: str
-    ) -> "subprocess.Popen[bytes]":
-        """Starts a stream, after `setup` in its process."""
+    def start(self, *words: str, code: str = "", **variables: str) -> "subprocess.Popen[bytes]":
+        """Starts a stream, with some code before it."""
         pipe = subprocess.PIPE
         stream = subprocess.Popen(
-            [str(support.TOOLS / "label-print"), *ROLL, "--stream", *words],
+            ["/usr/bin/python3", "-c", START.format(code=code), *ROLL, "--stream", *words],
             stdin=pipe,
             stdout=subprocess.DEVNULL,
             stderr=pipe,
             env={**support.environment(), **variables},
-            preexec_fn=setup,
-            close_fds=False,
+            cwd=support.TOOLS,
         )
         self.addCleanup(ended, stream)
+        self.addCleanup(stream.kill)
         return stream
 
     def answer(self, stream: "subprocess.Popen[bytes]", line: bytes) -> str:
@@ -135,21 +138,13 @@ class Connections(Starts):
 
     def test_more_open_files_than_select_takes(self) -> None:
         """A program that starts the tool may hand on as many as it has."""
-        soft, hard = resource.getrlimit(resource.RLIMIT_NOFILE)
-        resource.setrlimit(resource.RLIMIT_NOFILE, (min(4 * MANY, hard), hard))
-        self.addCleanup(resource.setrlimit, resource.RLIMIT_NOFILE, (soft, hard))
-        for _ in range(MANY):
-            file = os.dup(0)
-            os.set_inheritable(file, True)
-            self.addCleanup(os.close, file)
         fifo = f"{self.folder}/till"
         os.mkfifo(fifo)
         printer = Printer(slow=0.02).start()
-        stream = self.start("--print", printer.name, "--dpi", "600", fifo)
+        stream = self.start("--print", printer.name, "--dpi", "600", fifo, code=MANY_FILES)
         Path(fifo).write_bytes(b"qr A\n")
         assert stream.stderr
         self.assertRegex(stream.stderr.readline(), b"^taken 1 ")
-        stream.terminate()
 
 
 class Doubts(Starts):
@@ -199,8 +194,7 @@ class Doubts(Starts):
         words = ("--print", printer.name, "--journal", self.path)
         size = Path(self.waiting(printer.name)).stat().st_size
         os.unlink(self.path)
-        limit = functools.partial(resource.setrlimit, resource.RLIMIT_FSIZE, (size + 2, size + 2))
-        stream = self.start(*words, setup=limit)
+        stream = self.start(*words, code=LIMIT.format(size=size + 2))
         self.assertRegex(self.answer(stream, b"qr T00001\n"), "^doubtful 1 .*File too large")
         self.assertRegex(self.answer(stream, b"qr T00002\n"), "^unsent 2 .*File too large")
         lines = TICKETS[:10]
@@ -226,7 +220,9 @@ class Doubts(Starts):
         stream = self.start("--journal", self.path)
         self.assertRegex(self.answer(stream, b"qr T00002\n"), "^taken 1 ")
         os.unlink(self.path)
-        self.assertRegex(self.answer(stream, b"qr T00003\n"), "^unsent 2 .* it has not Zeile \ufffd")
+        self.assertRegex(
+            self.answer(stream, b"qr T00003\n"), "^unsent 2 .* it has not Zeile \ufffd"
+        )
 
 
 class Ends(Folder):
@@ -310,29 +306,22 @@ class Streams(Starts):
                 self.assertRegex(stream.stderr.readline(), b"^taken 1 ")
                 fifo.unlink()
                 make()
+            self.assertEqual(stream.wait(WAIT), 1)
             self.assertRegex(stream.stderr.read(), b"till: another program has changed it\n")
-            self.assertEqual(stream.wait(support.SECONDS), 1)
             fifo.unlink()
 
     def test_a_fifo_that_goes_while_nobody_writes(self) -> None:
         fifo = f"{self.folder}/till"
         os.mkfifo(fifo)
-        code = (
-            "from labeltools import stream, print_main\n"
-            "stream.LOOK = 0.1\n"
-            "print_main.main()\n"
-        )
-        words = ["/usr/bin/python3", "-c", code, *ROLL, "--stream", fifo]
-        env = support.environment()
-        pipe = subprocess.PIPE
-        run = subprocess.Popen(words, stdout=pipe, stderr=pipe, env=env, cwd=support.TOOLS)
-        self.addCleanup(ended, run)
+        stream = self.start(fifo, code="from labeltools import stream; stream.LOOK = 0.1")
         Path(fifo).write_bytes(b"qr A\n")
-        assert run.stderr
-        self.assertRegex(run.stderr.readline(), b"^taken 1 ")
+        assert stream.stderr
+        self.assertRegex(stream.stderr.readline(), b"^taken 1 ")
+        while sum(path.samefile(fifo) for path in open_files(stream)) < 2:
+            time.sleep(0.01)  # it waits for the next writer when it is one itself
         os.unlink(fifo)
-        self.assertRegex(run.stderr.read(), b"the lines cannot be read: No such file")
-        self.assertEqual(run.wait(support.SECONDS), 1)
+        self.assertEqual(stream.wait(WAIT), 1)
+        self.assertRegex(stream.stderr.read(), b"the lines cannot be read: No such file")
 
 
 class Choices(Folder):
@@ -355,6 +344,11 @@ class Choices(Folder):
         done = printed("--only", "1", *codes)
         named = ", ".join(f"X{number:02}" for number in range(10))
         self.said(done, 1, rf"\Alabel-print: {named} .. \(12 in all\): of --only-code, but not")
+
+
+def open_files(stream: "subprocess.Popen[bytes]") -> list[Path]:
+    """The open files of a stream."""
+    return [path for path in Path(f"/proc/{stream.pid}/fd").iterdir() if path.exists()]
 
 
 def load_tests(
