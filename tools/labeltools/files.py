@@ -24,7 +24,8 @@ def temporary() -> Iterator[None]:
             raise
         hint = Text("make room there, or name another folder in $TMPDIR")
         reason = error.strerror or str(error)
-        raise ToolError(Text("{}: {}", tempfile.gettempdir(), reason), hint) from error
+        folder = tempfile.tempdir or "$TMPDIR"  # none that can be written was found
+        raise ToolError(Text("{}: {}", folder, reason), hint) from error
 
 
 def save(file: IO[bytes], path: Path, number: int = 1) -> None:

@@ -46,6 +46,14 @@ resource.setrlimit(resource.RLIMIT_NOFILE, (min(2048, most), most))
 for _ in range(1024):  # select() takes fewer
     os.dup(0)
 """
+NO_FOLDER = """
+import tempfile
+
+def gettempdir():
+    raise FileNotFoundError(2, "none")
+
+tempfile.gettempdir = gettempdir
+"""
 LIMIT = "import resource; resource.setrlimit(resource.RLIMIT_FSIZE, ({size}, {size}))"
 LOCK = """
 import fcntl, os, sys
@@ -248,6 +256,11 @@ class Ends(Folder):
         done = self.changed("StandardOutput.send = lambda outlet, data: end() or broken()")
         self.said(done, -signal.SIGTERM, "label-print: it is off: it took 0 labels whole; look at")
         self.said(done, -signal.SIGTERM, "then print from line 1 on by --only 1-\n")
+
+    def test_no_folder_for_temporary_files(self) -> None:
+        """The message names no other file, and has what to do."""
+        done = self.changed(NO_FOLDER, "--to", "pdf")
+        self.said(done, 1, r"label-print: \$TMPDIR: none; make room there, or name another folder")
 
     def test_labels_of_others_in_the_same_file(self) -> None:
         """What another lane has added to a file since is not taken out with a label that does not
