@@ -14,6 +14,7 @@ from typing import Any, BinaryIO, Callable, Iterator, Mapping, NoReturn, Optiona
 from labeltools.text import NOTHING, Text, translated
 from labeltools.messages import BadArguments, Place, ToolError, of_system, sentence, write_message
 
+STANDARD_ERROR = 2
 ENDING = (signal.SIGHUP, signal.SIGINT, signal.SIGTERM)
 HELD: list[list[int]] = []  # the signals that came while they are held back, where they are
 
@@ -113,12 +114,22 @@ def main_of(tool: str, function: Callable[[], Optional[int]]) -> NoReturn:
     ToolError and OSError.
     """
     on_signals()
+    fill_standard_streams()
     if sys.stderr is None:  # Python would write messages to standard output, which may be a printer
         sys.stderr = open(os.devnull, "w", encoding="utf-8")
     status = status_of(tool, function)
     for stream in (sys.stdout, sys.stderr):
         flush_or_forget(stream)
     sys.exit(status)
+
+
+def fill_standard_streams() -> None:
+    """Opens /dev/null by the numbers of standard streams that are closed: a file that got one would
+    have in it what libraries of the system write on standard error.
+    """
+    while (file := os.open(os.devnull, os.O_RDWR)) <= STANDARD_ERROR:
+        pass
+    os.close(file)
 
 
 def status_of(tool: str, function: Callable[[], Optional[int]]) -> int:

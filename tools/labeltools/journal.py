@@ -214,6 +214,7 @@ class Journal:
                 raise ToolError(Text("{} is no journal", self.path), NO_JOURNAL)
             os.ftruncate(self.file, 0)
             self.append(HEAD)
+            sync_folder(self.path)
             self.lines = 1
             return
         *whole, last = data.split(b"\n")
@@ -309,6 +310,18 @@ class Journal:
             os.ftruncate(self.file, self.end)
             raise
         self.end += len(line)
+
+
+def sync_folder(path: str) -> None:
+    """Has the name of a new file on the disk: without it all that is in the file would be lost when
+    the power fails. Not every file system can do so, nor can each folder be read.
+    """
+    with suppress(OSError):
+        folder = os.open(Path(path).resolve().parent, os.O_RDONLY | os.O_CLOEXEC)
+        try:
+            os.fsync(folder)
+        finally:
+            os.close(folder)
 
 
 def is_journal(data: bytes) -> bool:

@@ -159,9 +159,7 @@ def has_ended(line: socket.socket) -> bool:
     that it has broken off is left to `send`, which says so.
     """
     with suppress(OSError):  # there is nothing to read, or it was broken off
-        while line.recv(HEARD):
-            pass
-        return True
+        return not line.recv(HEARD)
     return False
 
 

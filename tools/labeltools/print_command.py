@@ -398,7 +398,7 @@ def check_arguments(arguments: argparse.Namespace, job: PrintJob) -> None:
 def sender_of(arguments: argparse.Namespace) -> Sender:
     """Returns what sends labels one by one."""
     queue: str = arguments.queue or ""
-    outlet: Outlet = StandardOutput()
+    outlet: Outlet = StandardOutput(is_synced=arguments.journal is not None)
     if queue:
         outlet = NetworkPrinter(queue)
     journal = Journal(arguments.journal, outlet.name) if arguments.journal else None

@@ -2,7 +2,9 @@
 without one.
 """
 
+import os
 import shlex
+import stat
 from contextlib import suppress
 from io import BytesIO
 from typing import Iterable, Iterator, Optional, Protocol, Sized
@@ -42,9 +44,12 @@ class Outlet(Protocol):
 
 
 class StandardOutput:
-    """Standard output."""
+    """Standard output; with `is_synced` each label of a file is on the disk once it is sent."""
 
     name = OUTPUT
+
+    def __init__(self, is_synced: bool = False) -> None:
+        self.is_synced = is_synced
 
     def open(self) -> object:
         """Raises `ToolError` where it is closed."""
@@ -52,8 +57,11 @@ class StandardOutput:
 
     def send(self, data: bytes) -> None:
         """Writes a whole label; raises `Broken` where it does not take it."""
+        output = standard_output().fileno()
         try:
-            send(BytesIO(data), standard_output().fileno())
+            send(BytesIO(data), output)
+            if self.is_synced and stat.S_ISREG(os.fstat(output).st_mode):
+                os.fdatasync(output)
         except OSError as error:
             raise Broken(Text("{}: {}", OUTPUT, error.strerror)) from error
 

@@ -257,6 +257,37 @@ class Ends(Folder):
         self.said(done, -signal.SIGTERM, "label-print: it is off: it took 0 labels whole; look at")
         self.said(done, -signal.SIGTERM, "then print from line 1 on by --only 1-\n")
 
+    def test_what_is_on_the_disk_when_the_power_fails(self) -> None:
+        """The name of a new journal, each label of a file before its mark."""
+        with open(f"{self.folder}/labels", "wb") as labels:
+            names = {labels.fileno(): "labels"}
+            order: list[str] = []
+
+            def sync(file: int) -> None:
+                path = os.readlink(f"/proc/self/fd/{file}")
+                events = Path(self.path).read_text().split("\t")[1::5]
+                order.append(" ".join([names.get(file) or Path(path).name, *events]))
+
+            with mock.patch.multiple("os", fsync=sync, fdatasync=sync):
+                with mock.patch("labeltools.sending.standard_output", lambda: labels):
+                    done = printed("--journal", self.path, input=TICKETS[:10])
+        self.assertEqual(done.returncode, 0, done.stderr)
+        folder = Path(self.folder).name
+        self.assertEqual(order, [folder, "journal sending", "labels sending"])
+
+    def test_a_journal_in_place_of_a_stream_that_is_closed(self) -> None:
+        """What a library writes on standard error is not in it."""
+        Path(self.folder, "lines").write_bytes(TICKETS)
+        code = START.format(code="os.fdatasync = lambda file: os.write(2, b'warning')")
+        words = [*ROLL, "--journal", self.path, f"{self.folder}/lines"]
+        command = ["/bin/sh", "-c", 'exec "$@" <&- 2>&-', "sh", "/usr/bin/python3", "-c", code]
+        env = support.environment()
+        pipe = subprocess.PIPE
+        done = subprocess.run([*command, *words], stdout=pipe, env=env, cwd=support.TOOLS)
+        self.assertEqual((done.returncode, len(LABEL.findall(done.stdout))), (0, 30))
+        self.assertRegex(Path(self.path).read_text(), r"\A#labels journal 1\n")
+        self.assertEqual(self.events(), ["sending", "taken"] * 30)
+
     def test_no_folder_for_temporary_files(self) -> None:
         """The message names no other file, and has what to do."""
         done = self.changed(NO_FOLDER, "--to", "pdf")
