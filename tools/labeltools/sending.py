@@ -92,6 +92,7 @@ class Sender:
         self.sent: list[LaidOut] = []
         self.taken = 0
         self.known = 0
+        self.is_at_end = False  # whether standard output takes no more
 
     def send_all(self, press: Press, prints: Prints) -> None:
         """Sends labels with their copies; raises `ToolError` where the printer does not take them,
@@ -174,6 +175,7 @@ class Sender:
             if is_last:
                 self.outlet.close()
         except Broken:
+            self.is_at_end = self.outlet.name == OUTPUT
             self.give_up()
             raise
         if self.journal is not None:

@@ -27,7 +27,7 @@ from labeltools.messages import Silence, ToolError, sentence, visible
 from labeltools.network import Broken
 from labeltools.press import Press, PrintJob
 from labeltools.print_job import DrawnLines, Prepared, PrintOptions, prepared
-from labeltools.sending import OUTPUT, Sender
+from labeltools.sending import Sender
 from labeltools.text import NOTHING, Text, translated
 
 SKIPPED = (b'#{"labels"', b'#{"end"')
@@ -200,11 +200,12 @@ class Stream:
 
     @property
     def is_at_end(self) -> bool:
-        """Whether no label goes out any more: a label was drawn wrongly, or another program has
-        taken the place of the journal.
+        """Whether no label goes out any more: a label was drawn wrongly, standard output takes none,
+        or another program has taken the place of the journal.
         """
         journal = self.sender.journal
-        return bool(self.status) or (journal is not None and journal.is_lost)
+        is_lost = journal is not None and journal.is_lost
+        return bool(self.status) or self.sender.is_at_end or is_lost
 
     def print(self, job: Job) -> int:
         """Prints a label and returns how many bytes it has; raises `Refused`, `Known`,
@@ -279,6 +280,6 @@ def run(options: PrintOptions, job: PrintJob, path: Optional[str], sender: Sende
                 print(word, one.number, visible(translated(text)), file=sys.stderr, flush=True)
             except OSError:
                 return 1
-        if stream.is_at_end or (word == DOUBTFUL and sender.outlet.name == OUTPUT):
+        if stream.is_at_end:
             return stream.status or 1
     return status

@@ -213,6 +213,11 @@ class Doubts(Starts):
         self.said(done, 0, "1 label taken by")
         self.assertEqual(self.answer(stream, b"qr T00001\n"), "known 3 qr T00001\n")
 
+    def test_a_stream_to_standard_output_goes_on(self) -> None:
+        """What is in doubt is one label, and standard output takes others."""
+        done = printed("--stream", "--journal", self.waiting("tcp://a"), input=TICKETS[:20])
+        self.said(done, 1, r"\Adoubtful 1 may be on paper, from tcp://a.*\ntaken 2 .*\n\Z")
+
     def test_a_line_that_a_stream_has_printed_itself(self) -> None:
         """Whoever is told to send it again would print it twice."""
         stream = self.start("--journal", self.path)
