@@ -63,10 +63,10 @@ class NetworkPrinter:
 
     def open(self) -> socket.socket:
         """Returns the connection, which is made where there is none, or the printer has ended it;
-        raises `Unreachable`.
+        raises `Unreachable`, and `Broken` where the printer breaks off meanwhile.
         """
         if self.line is not None and has_ended(self.line):
-            self.drop()
+            self.close()
         if self.line is None:
             try:
                 self.line = socket.create_connection(self.address, CONNECT)
@@ -81,7 +81,7 @@ class NetworkPrinter:
         """Sends a whole label and waits until it is acknowledged; raises `Unreachable` and
         `Broken`.
         """
-        line = self.open()
+        line = self.line or self.open()
         try:
             self.push(line, data)
         except OSError as error:
@@ -158,9 +158,9 @@ def has_ended(line: socket.socket) -> bool:
     """Returns whether the other side has ended a connection, as printers do that wait in vain; one
     that it has broken off is left to `send`, which says so.
     """
-    with suppress(OSError):  # there is nothing to read, or it was broken off
-        return not line.recv(HEARD)
-    return False
+    look = select.poll()
+    look.register(line, select.POLLRDHUP)
+    return look.poll(0) == [(line.fileno(), select.POLLRDHUP)]  # with no error beside it
 
 
 def wait_for_room(line: socket.socket, seconds: float) -> None:

@@ -86,26 +86,27 @@ class Fifo(RawIOBase):
         `ToolError` where another file has its name.
         """
         if self.is_idle:
-            self.require_name()
-            writer = os.open(self.path, os.O_WRONLY)  # of our own: until another one writes
-            try:
-                self.wait()
-            finally:
-                os.close(writer)
-        else:
-            self.wait()
+            self.wait_for_writer()
+        self.poll.poll()
         size = os.readv(self.source, [buffer])
         self.is_idle = size == 0
         return size
 
-    def wait(self) -> None:
-        """Waits for bytes, or until the last writer has gone."""
-        while not self.poll.poll(LOOK * 1000):
+    def wait_for_writer(self) -> None:
+        """Waits until another program has it open. Meanwhile there is a writer of our own, or the FIFO
+        would be at its end.
+        """
+        has_writer = False
+        while not has_writer:
             self.require_name()
+            writer = os.open(self.path, os.O_WRONLY)
+            has_bytes = bool(self.poll.poll(LOOK * 1000))
+            os.close(writer)
+            has_writer = has_bytes or not self.poll.poll(0)  # it is not at its end
 
     def require_name(self) -> None:
         """Raises `ToolError` where another file has its name, and `OSError` where none has: nobody
-        can write into it any more.
+        can open it any more.
         """
         if not os.path.samestat(os.stat(self.path), os.fstat(self.source)):
             raise ToolError(Text("{}: another program has changed it", self.path))
@@ -200,8 +201,8 @@ class Stream:
 
     @property
     def is_at_end(self) -> bool:
-        """Whether no label goes out any more: a label was drawn wrongly, standard output takes none,
-        or another program has taken the place of the journal.
+        """Whether no label goes out any more: a label was drawn wrongly, standard output takes
+        none, or another program has taken the place of the journal.
         """
         journal = self.sender.journal
         is_lost = journal is not None and journal.is_lost

@@ -18,7 +18,7 @@ from unittest import mock
 import support
 from labeltools import files, sending
 from labeltools.journal import Journal
-from labeltools.network import NetworkPrinter
+from labeltools.network import Broken, NetworkPrinter
 from printers import LABEL, Printer
 from test_desk import ROLL, TICKETS, Folder, ended, labels_in, printed
 
@@ -128,6 +128,20 @@ class Connections(Starts):
             time.sleep(0.1)  # what it ended is on its way
         outlet.close()
         self.assertEqual((printer.connections, printer.labels), (2, [label] * 2))
+
+    def test_one_that_a_printer_has_broken_off_is_not(self) -> None:
+        """It says that bytes were thrown away, which may be those of the label before."""
+        printer = Printer(cut=1).start()
+        outlet = NetworkPrinter(printer.name)
+        label = labels_in(printed(input=TICKETS[:10]))[0]
+        outlet.open()
+        outlet.send(label)
+        printer.wait(1)
+        time.sleep(0.1)  # its answer is on its way
+        outlet.open()
+        with self.assertRaises(Broken):
+            outlet.send(label)
+        self.assertEqual(printer.labels, [label])
 
     def test_a_stream_leaves_a_printer_to_the_lane_that_has_the_label(self) -> None:
         """It has connected, and finds that another lane was first."""
@@ -371,6 +385,22 @@ class Streams(Starts):
         os.unlink(fifo)
         self.assertEqual(stream.wait(WAIT), 1)
         self.assertRegex(stream.stderr.read(), b"the lines cannot be read: No such file")
+
+    def test_a_fifo_that_a_writer_has_taken_for_itself(self) -> None:
+        """It has opened it, and taken its name away: it may write whenever it likes."""
+        fifo = Path(self.folder, "till")
+        os.mkfifo(fifo)
+        stream = self.start(str(fifo), code="from labeltools import stream; stream.LOOK = 0.1")
+        assert stream.stderr
+        with fifo.open("wb", buffering=0) as writer:
+            while sum(path.samefile(fifo) for path in open_files(stream)) < 1:
+                time.sleep(0.01)
+            time.sleep(0.3)  # longer than the name may be missing
+            fifo.unlink()
+            for number in (1, 2):
+                time.sleep(0.3)
+                writer.write(b"qr A\n")
+                self.assertRegex(stream.stderr.readline(), b"^taken %d " % number)
 
 
 class Choices(Folder):
