@@ -93,8 +93,8 @@ class Fifo(RawIOBase):
         return size
 
     def wait_for_writer(self) -> None:
-        """Waits until another program has it open. Meanwhile there is a writer of our own, or the FIFO
-        would be at its end.
+        """Waits until another program has it open. Meanwhile there is a writer of our own, or the
+        FIFO would be at its end.
         """
         has_writer = False
         while not has_writer:
