@@ -14,6 +14,7 @@ from typing import Any, BinaryIO, Callable, Iterator, Mapping, NoReturn, Optiona
 from labeltools.text import NOTHING, Text, translated
 from labeltools.messages import BadArguments, Place, ToolError, of_system, sentence, write_message
 
+STANDARD_ERROR = 2
 ENDING = (signal.SIGHUP, signal.SIGINT, signal.SIGTERM)
 HELD: list[list[int]] = []  # the signals that came while they are held back, where they are
 
@@ -113,12 +114,22 @@ def main_of(tool: str, function: Callable[[], Optional[int]]) -> NoReturn:
     ToolError and OSError.
     """
     on_signals()
+    fill_standard_streams()
     if sys.stderr is None:  # Python would write messages to standard output, which may be a printer
         sys.stderr = open(os.devnull, "w", encoding="utf-8")
     status = status_of(tool, function)
     for stream in (sys.stdout, sys.stderr):
         flush_or_forget(stream)
     sys.exit(status)
+
+
+def fill_standard_streams() -> None:
+    """Opens /dev/null by the numbers of standard streams that are closed: a file that got one would
+    have in it what libraries of the system write on standard error.
+    """
+    while (file := os.open(os.devnull, os.O_RDWR)) <= STANDARD_ERROR:
+        pass
+    os.close(file)
 
 
 def status_of(tool: str, function: Callable[[], Optional[int]]) -> int:
@@ -161,6 +172,17 @@ def buffer_output() -> None:
         sys.stdout = TextIOWrapper(whole, sys.stdout.encoding)
 
 
+def keep_standard_error() -> None:
+    """Leaves standard error to the tool alone, where each line is an answer: what the libraries of
+    the system write there, such as warnings about fonts, goes nowhere.
+    """
+    own = os.dup(sys.stderr.fileno())
+    null = os.open(os.devnull, os.O_WRONLY)
+    os.dup2(null, sys.stderr.fileno())
+    os.close(null)
+    sys.stderr = open(own, "w", encoding=sys.stderr.encoding, errors="backslashreplace")
+
+
 def flush_or_forget(stream: Any) -> None:
     """Flushes a stream, or sends what is left nowhere: Python's last flush would change the status
     to 120.
@@ -180,12 +202,12 @@ def on_signals(action: Any = signal.SIG_DFL) -> None:
 
 
 @contextmanager
-def hold_signals() -> Iterator[None]:
-    """Holds a signal back while something goes out that has to be whole; a second one ends the tool
-    at once. Within another such time it does nothing.
+def hold_signals() -> Iterator[list[int]]:
+    """Holds a signal back while something goes out that has to be whole, and gives a list in which
+    it then is; a second one ends the tool at once. Within another such time it does nothing.
     """
     if HELD:
-        yield
+        yield HELD[0]
         return
     taken: list[int] = []
     HELD.append(taken)
@@ -196,7 +218,7 @@ def hold_signals() -> Iterator[None]:
 
     on_signals(take)
     try:
-        yield
+        yield taken
     finally:
         HELD.clear()
         on_signals()

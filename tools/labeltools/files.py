@@ -24,7 +24,8 @@ def temporary() -> Iterator[None]:
             raise
         hint = Text("make room there, or name another folder in $TMPDIR")
         reason = error.strerror or str(error)
-        raise ToolError(Text("{}: {}", tempfile.gettempdir(), reason), hint) from error
+        folder = tempfile.tempdir or "$TMPDIR"  # none that can be written was found
+        raise ToolError(Text("{}: {}", folder, reason), hint) from error
 
 
 def save(file: IO[bytes], path: Path, number: int = 1) -> None:
@@ -46,12 +47,24 @@ def save(file: IO[bytes], path: Path, number: int = 1) -> None:
 
 def send(file: IO[bytes], output: int) -> None:
     """Writes a whole file to an open one, which gets nothing where it does not take all."""
-    state = os.fstat(output)
+    size = os.fstat(output).st_size
     data = b""
+    done = 0
     try:
         while data := data or file.read(BLOCK):
-            data = data[os.write(output, data) :]
+            written = os.write(output, data)
+            data = data[written:]
+            done += written
     except OSError:
-        if stat.S_ISREG(state.st_mode):
-            os.ftruncate(output, state.st_size)
+        take_back(output, size, done)
         raise
+
+
+def take_back(output: int, size: int, done: int) -> None:
+    """Takes the last `done` bytes out of an open file that had a size before them, unless another
+    program has written to it since; what is written next follows what is there.
+    """
+    state = os.fstat(output)
+    if stat.S_ISREG(state.st_mode) and state.st_size == size + done:
+        os.ftruncate(output, size)
+        os.lseek(output, -done, os.SEEK_CUR)

@@ -113,11 +113,6 @@ class Journal:
             self.read()
             self.write(TAKEN, record)
 
-    def look(self) -> None:
-        """Reads what other lanes wrote; raises `ToolError`."""
-        with self.locked():
-            self.read()
-
     def give_up(self) -> None:
         """Leaves the label that is sent in doubt, with the number of this lane, and takes another
         number: other lanes see that nobody sends the label any more.
@@ -131,9 +126,18 @@ class Journal:
         return self.entries.get(code_of(record))
 
     def is_doubtful(self, record: LineRecord) -> bool:
-        """Returns whether a label was sent by a lane that has ended before it was taken."""
+        """Returns whether a label was sent by a lane that has ended before it was taken. That lane
+        may have ended since the journal was read, and several may look at it: so it is read again
+        while no other one does.
+        """
         found = self.entry(record)
-        return found is not None and found.event == SENDING and not self.is_alive(found)
+        if found is None or found.event != SENDING:
+            return False
+        with suppress(ToolError), self.locked():  # where it cannot be read, what is known counts
+            self.read()
+            found = self.entries[code_of(record)]
+            return found.event == SENDING and not self.is_alive(found)
+        return not self.is_alive(found)
 
     def is_alive(self, entry: Entry) -> bool:
         """Returns whether the lane of an entry is sending it now."""
@@ -210,6 +214,7 @@ class Journal:
                 raise ToolError(Text("{} is no journal", self.path), NO_JOURNAL)
             os.ftruncate(self.file, 0)
             self.append(HEAD)
+            sync_folder(self.path)
             self.lines = 1
             return
         *whole, last = data.split(b"\n")
@@ -256,7 +261,11 @@ class Journal:
         with suppress(FileNotFoundError):
             lines = Path(self.path).read_bytes().split(b"\n")
             found = {read[0] for line in lines if (read := entry_in(line.rstrip(ENDS), 0))}
-        lost = [entry.place.decode() for code, entry in self.entries.items() if code not in found]
+        lost = [
+            entry.place.decode("utf-8", "replace")
+            for code, entry in self.entries.items()
+            if code not in found
+        ]
         if not lost:
             return Text("nothing more is printed: give the same command again")
         named = ", ".join(lost[:MOST_NAMED])
@@ -301,6 +310,18 @@ class Journal:
             os.ftruncate(self.file, self.end)
             raise
         self.end += len(line)
+
+
+def sync_folder(path: str) -> None:
+    """Has the name of a new file on the disk: without it all that is in the file would be lost when
+    the power fails. Not every file system can do so, nor can each folder be read.
+    """
+    with suppress(OSError):
+        folder = os.open(Path(path).resolve().parent, os.O_RDONLY | os.O_CLOEXEC)
+        try:
+            os.fsync(folder)
+        finally:
+            os.close(folder)
 
 
 def is_journal(data: bytes) -> bool:

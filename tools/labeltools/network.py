@@ -62,7 +62,11 @@ class NetworkPrinter:
         self.line: socket.socket | None = None
 
     def open(self) -> socket.socket:
-        """Returns the connection, which is made where there is none; raises `Unreachable`."""
+        """Returns the connection, which is made where there is none, or the printer has ended it;
+        raises `Unreachable`, and `Broken` where the printer breaks off meanwhile.
+        """
+        if self.line is not None and has_ended(self.line):
+            self.close()
         if self.line is None:
             try:
                 self.line = socket.create_connection(self.address, CONNECT)
@@ -77,7 +81,7 @@ class NetworkPrinter:
         """Sends a whole label and waits until it is acknowledged; raises `Unreachable` and
         `Broken`.
         """
-        line = self.open()
+        line = self.line or self.open()
         try:
             self.push(line, data)
         except OSError as error:
@@ -109,7 +113,10 @@ class NetworkPrinter:
             elif time.monotonic() > end:
                 raise TimeoutError
             before = left
-            select.select([], [line] if rest else [], [], pause)
+            if rest:
+                wait_for_room(line, pause)
+            else:
+                time.sleep(pause)
             pause = min(2 * pause, LONG)
         require_whole(line)
 
@@ -145,6 +152,22 @@ def hear(line: socket.socket) -> None:
     """Reads what a printer says, and forgets it; raises `OSError` where it has broken off."""
     with suppress(BlockingIOError):
         line.recv(HEARD)
+
+
+def has_ended(line: socket.socket) -> bool:
+    """Returns whether the other side has ended a connection, as printers do that wait in vain; one
+    that it has broken off is left to `send`, which says so.
+    """
+    look = select.poll()
+    look.register(line, select.POLLRDHUP)
+    return look.poll(0) == [(line.fileno(), select.POLLRDHUP)]  # with no error beside it
+
+
+def wait_for_room(line: socket.socket, seconds: float) -> None:
+    """Waits until the system takes more bytes, for some seconds at most."""
+    room = select.poll()  # it takes any number of open files, unlike select
+    room.register(line, select.POLLOUT)
+    room.poll(seconds * 1000)
 
 
 def require_whole(line: socket.socket) -> None:

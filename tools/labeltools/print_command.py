@@ -21,6 +21,7 @@ from labeltools.command_line import (
     CommandTalk,
     Parser,
     hold_signals,
+    keep_standard_error,
     read_input,
     standard_output,
     wrong_argument,
@@ -397,7 +398,7 @@ def check_arguments(arguments: argparse.Namespace, job: PrintJob) -> None:
 def sender_of(arguments: argparse.Namespace) -> Sender:
     """Returns what sends labels one by one."""
     queue: str = arguments.queue or ""
-    outlet: Outlet = StandardOutput()
+    outlet: Outlet = StandardOutput(is_synced=arguments.journal is not None)
     if queue:
         outlet = NetworkPrinter(queue)
     journal = Journal(arguments.journal, outlet.name) if arguments.journal else None
@@ -447,6 +448,8 @@ def run() -> int:
     """Returns 0 where each label is printed, 1 where one is left out."""
     arguments = command_line().parse_args()
     make_streams_wait()
+    if arguments.is_stream:
+        keep_standard_error()
     options = options_of(arguments)
     if arguments.list_stock is not None:
         return listed(arguments.list_stock)

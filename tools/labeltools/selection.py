@@ -1,6 +1,8 @@
 """Which labels of a file are printed: rows, ranges of them, and codes."""
 
 import re
+import sys
+from bisect import bisect_left, bisect_right
 from codecs import BOM_UTF8
 from dataclasses import dataclass
 from pathlib import Path
@@ -9,24 +11,25 @@ from typing import Iterable, Iterator, Optional, Sequence
 from labeltools.lines_file import LineRecord
 from labeltools.messages import Place, ToolError
 from labeltools.report import MOST_RANGES, LeftOut, range_text, ranges_of
-from labeltools.text import Text
+from labeltools.text import Text, joined
 
-MOST_ROWS = 1_048_576
+Ranges = tuple[tuple[int, int], ...]  # the first and the last number of each, in order, apart
+ENDLESS = sys.maxsize  # the last number of a range without an end
 ROWS = re.compile(r"(?:\d{1,7}(?:-\d{1,7})?,)*\d{1,7}(?:-(?:\d{1,7})?)?", re.ASCII)
 FILE = "@"  # before the name of a file of codes
 
 
 @dataclass(frozen=True)
 class Selection:
-    """Rows of the table, or lines where no rows are known; all from a row on; codes."""
+    """Rows of the table, or lines where no rows are known; codes."""
 
-    rows: frozenset[int] = frozenset()
-    start: Optional[int] = None
+    rows: Ranges = ()
     codes: frozenset[bytes] = frozenset()
 
     def has_row(self, place: Place) -> bool:
         """Returns whether a row is asked for by its number."""
-        return place.number in self.rows or (self.start is not None and place.number >= self.start)
+        at = bisect_right(self.rows, (place.number, ENDLESS))
+        return at > 0 and place.number <= self.rows[at - 1][1]
 
     def has(self, record: LineRecord) -> bool:
         """Returns whether the label of a line is asked for."""
@@ -42,15 +45,12 @@ class Selection:
             rows.add(record.place.number)
             if self.codes:
                 codes.update(names_of(record))
-        lacking = sorted(self.rows - rows)
-        if self.start is not None and all(row < self.start for row in rows):
-            lacking.append(self.start)
-        reason = Text("of --only, but not in the input")
-        for row in lacking:
-            yield LeftOut(Place("", "row", row), "", reason)
-        for code in sorted(self.codes - codes):
-            text = code.decode("utf-8", "backslashreplace")
-            yield LeftOut(None, text, Text("{}: of --only-code, but not in the input", text))
+        if lacking := without(self.rows, sorted(rows)):
+            reason = Text("of --only, but not in the input")
+            yield LeftOut(None, "", Text("{}: {}", rows_text(lacking), reason))
+        if named := [code.decode("utf-8", "backslashreplace") for code in self.codes - codes]:
+            text = few(sorted(named), len(named))
+            yield LeftOut(None, "", Text("{}: of --only-code, but not in the input", text))
 
 
 def names_of(record: LineRecord) -> set[bytes]:
@@ -71,16 +71,62 @@ def selection_of(rows: Optional[str], codes: Iterable[str]) -> Optional[Selectio
         wanted |= codes_of(code)
     if rows is None and not wanted:
         return None
-    found: set[int] = set()
-    start: Optional[int] = None
-    for part in (rows or "").split(","):
+    return Selection(ranges_in(rows or ""), frozenset(wanted))
+
+
+def ranges_in(rows: str) -> Ranges:
+    """Returns the ranges that an argument names.
+
+    >>> ranges_in("7-9,2,8-12"), ranges_in("30-,2-40") == ((2, ENDLESS),)
+    (((2, 2), (7, 12)), True)
+    """
+    found: list[tuple[int, int]] = []
+    for part in filter(None, rows.split(",")):
         first, dash, last = part.partition("-")
-        if dash and not last:
-            start = int(first)
-        elif part:
-            found.add(int(first))
-            found.update(range(int(first), min(int(last or first), MOST_ROWS) + 1))
-    return Selection(frozenset(found), start, frozenset(wanted))
+        end = ENDLESS if dash and not last else int(last or first)
+        found.append((int(first), end))
+    apart: list[tuple[int, int]] = []
+    for start, end in sorted(found):
+        if apart and start <= apart[-1][1]:
+            start, before = apart.pop()
+            end = max(before, end)
+        apart.append((start, end))
+    return tuple(apart)
+
+
+def without(ranges: Ranges, numbers: Sequence[int]) -> Ranges:
+    """Returns what is left of ranges without some numbers, which are in order; of a range without
+    an end that is its first number, where it has none of them.
+
+    >>> without(((2, 5), (8, 9), (20, ENDLESS)), [1, 3, 8])
+    ((2, 2), (4, 5), (9, 9), (20, 20))
+    >>> without(((2, ENDLESS),), [7])
+    ()
+    """
+    left: list[tuple[int, int]] = []
+    for start, end in ranges:
+        inside = numbers[bisect_left(numbers, start) : bisect_right(numbers, end)]
+        if end == ENDLESS:
+            left += [] if inside else [(start, start)]
+            continue
+        for number in (*inside, end + 1):
+            if start < number:
+                left.append((start, number - 1))
+            start = number + 1
+    return tuple(left)
+
+
+def rows_text(ranges: Ranges) -> Text:
+    """Returns rows in words."""
+    count = sum(last - first + 1 for first, last in ranges)
+    named = few([range_text(first, last) for first, last in ranges], count)
+    return Text("row {}", named) if count == 1 else Text("rows {}", named)
+
+
+def few(names: Sequence[str], count: int) -> Text:
+    """Returns names; where they are many, the first of them and the count of what all name."""
+    text = joined(", ", names[:MOST_RANGES])
+    return Text("{} .. ({} in all)", text, count) if len(names) > MOST_RANGES else text
 
 
 def words_of_rest(places: Sequence[Place], start: int, is_chosen: bool) -> str:

@@ -2,9 +2,12 @@
 without one.
 """
 
+import os
+import shlex
+import stat
 from contextlib import suppress
 from io import BytesIO
-from typing import Iterable, Iterator, Optional, Protocol
+from typing import Iterable, Iterator, Optional, Protocol, Sized
 
 from labeltools.command_line import hold_signals, standard_output
 from labeltools.files import send
@@ -36,11 +39,17 @@ class Outlet(Protocol):
     def close(self) -> None:
         """Ends the way out after what was sent; raises `Broken` where it broke off before."""
 
+    def drop(self) -> None:
+        """Ends the way out at once, where nothing was sent."""
+
 
 class StandardOutput:
-    """Standard output."""
+    """Standard output; with `is_synced` each label of a file is on the disk once it is sent."""
 
     name = OUTPUT
+
+    def __init__(self, is_synced: bool = False) -> None:
+        self.is_synced = is_synced
 
     def open(self) -> object:
         """Raises `ToolError` where it is closed."""
@@ -48,13 +57,19 @@ class StandardOutput:
 
     def send(self, data: bytes) -> None:
         """Writes a whole label; raises `Broken` where it does not take it."""
+        output = standard_output().fileno()
         try:
-            send(BytesIO(data), standard_output().fileno())
+            send(BytesIO(data), output)
+            if self.is_synced and stat.S_ISREG(os.fstat(output).st_mode):
+                os.fdatasync(output)
         except OSError as error:
             raise Broken(Text("{}: {}", OUTPUT, error.strerror)) from error
 
     def close(self) -> None:
         """Does nothing: it is closed at the end of the tool."""
+
+    def drop(self) -> None:
+        """Does nothing, as `close`."""
 
 
 class Sender:
@@ -77,13 +92,28 @@ class Sender:
         self.sent: list[LaidOut] = []
         self.taken = 0
         self.known = 0
+        self.is_at_end = False  # whether standard output takes no more
 
     def send_all(self, press: Press, prints: Prints) -> None:
         """Sends labels with their copies; raises `ToolError` where the printer does not take them,
-        with what to do then.
+        with what to do then. A signal ends it after the label that goes out: that is such an error,
+        which is said here, since the signal then ends the tool.
         """
+        with hold_signals() as came:
+            try:
+                self.send_until(came, press, prints)
+            except ToolError as error:
+                if came:
+                    press.talk.say(error.what, error.hint)
+                raise
+
+    def send_until(self, came: Sized, press: Press, prints: Prints) -> None:
+        """Sends labels until a signal came; raises `ToolError` as `send_all`."""
         done = 0
         for item, copies in prints.runs():
+            if came:
+                self.end()
+                raise self.stopped(item, prints)
             try:
                 self.send(press, item, copies, not self.sent)
             except Broken as error:
@@ -95,6 +125,10 @@ class Sender:
                 raise ToolError(what, error.hint, error.status) from error
             done += copies
             press.talk.go_on(done, len(prints))
+        self.end()
+
+    def end(self) -> None:
+        """Ends the way out after what was sent; raises `ToolError` where it broke off before."""
         try:
             self.outlet.close()
         except Broken as error:
@@ -113,14 +147,25 @@ class Sender:
             return 0
         documents = list(written(press, item, copies, is_first))
         self.outlet.open()
-        if self.journal is not None and not self.journal.claim(record, self.again):
+        if not self.claim(record, is_last):
             self.known += 1
             return 0
-        with hold_signals():
-            self.give(record, documents, is_last)
+        self.give(record, documents, is_last)
         self.taken += copies
         self.sent.append(item)
         return sum(map(len, documents))
+
+    def claim(self, record: LineRecord, is_last: bool) -> bool:
+        """Returns whether a label is for this lane, which the journal then has as sent. The way out
+        is left to others where nothing more goes out by it. Raises `ToolError`.
+        """
+        is_ours = self.journal is None
+        try:
+            is_ours = self.journal is None or self.journal.claim(record, self.again)
+        finally:
+            if is_last and not is_ours:
+                self.outlet.drop()
+        return is_ours
 
     def give(self, record: LineRecord, documents: Iterable[bytes], is_last: bool) -> None:
         """Gives a label to the printer, and writes that it was taken; raises `Broken`."""
@@ -130,15 +175,23 @@ class Sender:
             if is_last:
                 self.outlet.close()
         except Broken:
-            if self.journal is not None:
-                with suppress(ToolError):  # what is wrong with the printer is said
-                    self.journal.give_up()
+            self.is_at_end = self.outlet.name == OUTPUT
+            self.give_up()
             raise
         if self.journal is not None:
             try:
                 self.journal.take(record)
             except ToolError as error:
+                self.give_up()
                 raise Broken(error.what, error.hint) from error
+
+    def give_up(self) -> None:
+        """Leaves a label in doubt, in the journal too; what is wrong with that is not said, since
+        something else is.
+        """
+        if self.journal is not None:
+            with suppress(ToolError):
+                self.journal.give_up()
 
     def is_known(self, item: LaidOut) -> bool:
         """Returns whether the journal is known to have a label, without looking into it again."""
@@ -161,21 +214,36 @@ class Sender:
             if not self.sent:
                 return text
             last = self.sent[-1].label.record.place.text
-            words = f"--only --again {self.outlet.name}"
+            words = f"--only --again {typed(self.outlet.name)}"
             return Text(
                 "look that {} is on paper, or print what is missing by {}; {}", last, words, text
             )
+        return self.rest(item, prints)
+
+    def rest(self, item: LaidOut, prints: Prints) -> Text:
+        """Returns how a label and those behind it are printed."""
+        place = item.label.record.place
         places = [one.label.record.place for one in prints.items]
         start = next(number for number, one in enumerate(prints.items) if one is item)
         words = words_of_rest(places, start, self.is_chosen)
-        again = f" --again {self.again}" if self.again else ""
+        again = f" --again {typed(self.again)}" if self.again else ""
         return Text(
             "look at the last one on paper, then print from {} on by {}", place.text, words + again
         )
 
+    def stopped(self, item: LaidOut, prints: Prints) -> ToolError:
+        """Returns what is said where a signal came before a label."""
+        place = item.label.record.place.text
+        done = Text("{}: {}", self.outlet.name, self.so_far())
+        what = Text("{}: {} and what follows it were not sent", done, place)
+        if self.journal is not None and self.again is None:
+            return ToolError(what, Text("the same command prints what is missing"))
+        return ToolError(what, self.rest(item, prints))
+
     def advice_at_end(self) -> Text:
         """Returns what to do where the printer broke off after the last label."""
-        words = f"--only --again {self.outlet.name}" if self.journal is not None else "--only"
+        again = f" --again {typed(self.outlet.name)}" if self.journal is not None else ""
+        words = f"--only{again}"
         return Text("look at the last one on paper, and print what is missing by {}", words)
 
     def doubt(self, record: LineRecord) -> Text:
@@ -187,7 +255,7 @@ class Sender:
         entry = self.journal.entry(record)
         printer = entry.printer.decode("utf-8", "replace") if entry else ""
         reason = Text("may be on paper, from {}: look for it", printer)
-        hint = Text("if it is not there, give --only-code CODE --again {}", printer)
+        hint = Text("if it is not there, give --only-code CODE --again {}", typed(printer))
         return sentence(reason, hint)
 
     def doubtful(self, prints: Prints) -> Iterator[LeftOut]:
@@ -197,6 +265,15 @@ class Sender:
             if reason := self.doubt(record):
                 data = record.data.decode("utf-8", "backslashreplace")
                 yield LeftOut(record.place, data, reason)
+
+
+def typed(printer: str) -> str:
+    """Returns the name of a printer as a shell takes it.
+
+    >>> typed("tcp://till-3:9100"), typed("standard output")
+    ('tcp://till-3:9100', "'standard output'")
+    """
+    return shlex.quote(printer)
 
 
 def written(press: Press, item: LaidOut, copies: int, is_first: bool) -> Iterator[bytes]:

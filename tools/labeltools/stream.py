@@ -27,11 +27,15 @@ from labeltools.messages import Silence, ToolError, sentence, visible
 from labeltools.network import Broken
 from labeltools.press import Press, PrintJob
 from labeltools.print_job import DrawnLines, Prepared, PrintOptions, prepared
-from labeltools.sending import OUTPUT, Sender
+from labeltools.sending import Sender
 from labeltools.text import NOTHING, Text, translated
 
 SKIPPED = (b'#{"labels"', b'#{"end"')
 LONGEST = 65_536  # bytes of a line
+LOOK = 5.0  # seconds between two looks whether a FIFO has its name still
+CUT_OFF = Text("cut off before its line end")
+TOO_LONG = Text("longer than {} bytes", LONGEST)
+LONG_OBJECT = Text("the object before it is longer than {} bytes", LONGEST)
 TAKEN = "taken"
 REFUSED = "refused"
 KNOWN = "known"
@@ -70,24 +74,42 @@ class Fifo(RawIOBase):
         self.path = path
         self.source = os.open(path, os.O_RDONLY | os.O_NONBLOCK)
         self.is_idle = True
+        self.poll = select.poll()  # it takes any number of open files, unlike select
+        self.poll.register(self.source, select.POLLIN)
 
     def readable(self) -> bool:
         """Returns that it can be read."""
         return True
 
     def readinto(self, buffer: Any) -> int:
-        """Waits for bytes, and reads them; returns 0 once where the last writer has gone."""
+        """Waits for bytes, and reads them; returns 0 once where the last writer has gone. Raises
+        `ToolError` where another file has its name.
+        """
         if self.is_idle:
-            writer = os.open(self.path, os.O_WRONLY)  # of our own: until another one writes
-            try:
-                select.select([self.source], [], [])
-            finally:
-                os.close(writer)
-        else:
-            select.select([self.source], [], [])
+            self.wait_for_writer()
+        self.poll.poll()
         size = os.readv(self.source, [buffer])
         self.is_idle = size == 0
         return size
+
+    def wait_for_writer(self) -> None:
+        """Waits until another program has it open. Meanwhile there is a writer of our own, or the
+        FIFO would be at its end.
+        """
+        has_writer = False
+        while not has_writer:
+            self.require_name()
+            writer = os.open(self.path, os.O_WRONLY)
+            has_bytes = bool(self.poll.poll(LOOK * 1000))
+            os.close(writer)
+            has_writer = has_bytes or not self.poll.poll(0)  # it is not at its end
+
+    def require_name(self) -> None:
+        """Raises `ToolError` where another file has its name, and `OSError` where none has: nobody
+        can open it any more.
+        """
+        if not os.path.samestat(os.stat(self.path), os.fstat(self.source)):
+            raise ToolError(Text("{}: another program has changed it", self.path))
 
 
 def source_of(path: Optional[str]) -> BinaryIO:
@@ -111,29 +133,40 @@ def next_line(source: BinaryIO) -> bytes:
         raise ToolError(Text("the lines cannot be read: {}", error.strerror)) from error
 
 
+def fault_of(line: bytes, source: BinaryIO) -> Text:
+    """Returns what is wrong with a line that is not whole; the rest of a long one is read."""
+    if line.endswith(b"\n"):
+        return NOTHING
+    if len(line) < LONGEST:
+        return CUT_OFF
+    while len(rest := next_line(source)) == LONGEST and rest[-1:] != b"\n":
+        pass
+    return TOO_LONG
+
+
 def jobs(source: BinaryIO) -> Iterator[Job]:
-    """Yields each line with data as soon as it is there; of a FIFO, for ever."""
+    """Yields each line with data as soon as it is there; of a FIFO, for ever. A line whose object
+    is too long is not printed without it.
+    """
     remark = b""
+    waiting = NOTHING  # what is wrong with the object before a line
     number = 0
     is_fifo = isinstance(getattr(source, "raw", None), Fifo)
     while (line := next_line(source)) or is_fifo:
         if not line:
             remark = b""
+            waiting = NOTHING
             continue
         number += 1
-        fault = NOTHING
-        if not line.endswith(b"\n"):
-            fault = Text("cut off before its line end")
-            if len(line) == LONGEST:
-                fault = Text("longer than {} bytes", LONGEST)
-                while len(rest := next_line(source)) == LONGEST and rest[-1:] != b"\n":
-                    pass
+        fault = fault_of(line, source)
         data = line.removesuffix(b"\n")
-        if not fault and data.startswith(OBJECT):
-            remark = b"" if data.startswith(SKIPPED) else line
-        elif data and (fault or not data.startswith(b"#")):
-            yield Job(number, remark, data, fault)
+        if data.startswith(OBJECT) and fault is not CUT_OFF:
+            remark = b"" if fault or data.startswith(SKIPPED) else line
+            waiting = LONG_OBJECT if fault else NOTHING
+        elif data and (fault is CUT_OFF or not data.startswith(b"#")):
+            yield Job(number, remark, data, fault or waiting)
             remark = b""
+            waiting = NOTHING
 
 
 class Stream:
@@ -168,11 +201,12 @@ class Stream:
 
     @property
     def is_at_end(self) -> bool:
-        """Whether no label goes out any more: a label was drawn wrongly, or another program has
-        taken the place of the journal.
+        """Whether no label goes out any more: a label was drawn wrongly, standard output takes
+        none, or another program has taken the place of the journal.
         """
         journal = self.sender.journal
-        return bool(self.status) or (journal is not None and journal.is_lost)
+        is_lost = journal is not None and journal.is_lost
+        return bool(self.status) or self.sender.is_at_end or is_lost
 
     def print(self, job: Job) -> int:
         """Prints a label and returns how many bytes it has; raises `Refused`, `Known`,
@@ -199,8 +233,6 @@ class Stream:
         """Raises `Known` for a line that the journal has, or `Broken` where its label is in doubt,
         and nobody has printed it since.
         """
-        if self.sender.journal is not None:
-            self.sender.journal.look()
         if reason := self.sender.doubt(record):
             raise Broken(reason)
         raise Known
@@ -234,8 +266,11 @@ class Stream:
 def run(options: PrintOptions, job: PrintJob, path: Optional[str], sender: Sender) -> int:
     """Prints the lines of a source and answers each; returns 1 where one is not printed. It ends
     where nobody takes its labels, or reads its answers, any more: a line without an answer would be
-    sent again, and its label be there twice. So a signal, too, waits for the answer.
+    sent again, and its label be there twice. So a signal, too, waits for the answer, and nothing is
+    printed where standard error was closed from the start.
     """
+    if sys.__stderr__ is None:
+        return 1
     status = 0
     stream = Stream(options, job, sender)
     for one in jobs(source_of(path)):
@@ -246,6 +281,6 @@ def run(options: PrintOptions, job: PrintJob, path: Optional[str], sender: Sende
                 print(word, one.number, visible(translated(text)), file=sys.stderr, flush=True)
             except OSError:
                 return 1
-        if stream.is_at_end or (word == DOUBTFUL and sender.outlet.name == OUTPUT):
+        if stream.is_at_end:
             return stream.status or 1
     return status

@@ -332,6 +332,9 @@ class Journals(Folder):
             def close(self) -> None:
                 order.append("close")
 
+            def drop(self) -> None:
+                order.append("drop")
+
         options = PrintOptions(paper=(60.0, 40.0), dpi=203, to="zpl")
         found = labels_of(options, planned(options), "lines", TICKETS[:21], Silence())
         sender = Sender(Recorder(), Journal(self.path, "tcp://a"))

@@ -45,6 +45,22 @@ def takes(run: "subprocess.Popen[bytes]", number: int) -> bool:
     return bool(caught >> (number - 1) & 1)
 
 
+def said_after(form: str, labels: int) -> Tuple[str, ...]:
+    """What may be said where a signal came after so many labels of LABELS: of a printer's form the
+    row to go on from, unless nothing had begun, or all was done.
+    """
+    if form == "pbm" or labels == len(LABELS):
+        return ("",)
+    whole = "1 label" if labels == 1 else f"{labels} labels"
+    row = labels + 2
+    message = (
+        f"label-print: standard output: it took {whole} whole: row {row} and what follows it were"
+        " not sent; look at the last one on paper, then print from"
+        f" row {row} on by --only {row}-\n"
+    )
+    return (message,) if labels else ("", message)
+
+
 def records_of(data: bytes) -> Tuple[LineRecord, ...]:
     """The lines of a file."""
     return read_lines(data, "lines").records
@@ -272,17 +288,19 @@ class Signals(unittest.TestCase):
         for form, done in whole.items():
             self.assertEqual((done.returncode, done.stderr), (0, b""), form)
             output, seen = done.stdout, set()
-            for moment, found in enumerate(self.outputs(form, data, len(output))):
+            for moment, (found, said) in enumerate(self.outputs(form, data, len(output))):
                 same = len(os.path.commonprefix([output, found]))
                 self.assertTrue(
                     output.startswith(found), (form, moment, same, found[same - 40 : same + 80])
                 )
-                seen.add(len(decode[form](found)) if found else 0)
+                count = len(decode[form](found)) if found else 0
+                self.assertIn(said, said_after(form, count), (form, moment))
+                seen.add(count)
             self.assertGreater(len(seen), 3, form)
 
-    def outputs(self, form: str, data: bytes, size: int) -> Iterator[bytes]:
+    def outputs(self, form: str, data: bytes, size: int) -> Iterator[Tuple[bytes, str]]:
         """What goes out where the reader waits after a part, a signal comes, and the reader goes
-        on.
+        on; and the messages.
         """
         command = [str(support.TOOLS / "label-print"), *ROLL, form]
         with tempfile.TemporaryDirectory() as folder:
@@ -303,8 +321,12 @@ class Signals(unittest.TestCase):
                     yield from [self.stopped(*one, moment) for moment, one in enumerate(runs)]
                     runs = []
 
-    def stopped(self, run: "subprocess.Popen[bytes]", reader: int, size: int, number: int) -> bytes:
-        """The output of a run that gets a signal after `size` bytes of it were read."""
+    def stopped(
+        self, run: "subprocess.Popen[bytes]", reader: int, size: int, number: int
+    ) -> Tuple[bytes, str]:
+        """The output and the messages of a run that gets a signal after `size` bytes of it were
+        read.
+        """
         found = b""
         while len(found) < size and (part := os.read(reader, min(4096, size - len(found)))):
             found += part
@@ -317,8 +339,7 @@ class Signals(unittest.TestCase):
             said = run.stderr.read() if run.stderr else b""
             ended = (run.wait(), said, len(found), size)
             self.assertIn(ended[0], (0, -signal.SIGTERM, -signal.SIGINT, -signal.SIGHUP), ended)
-            self.assertEqual(said, b"", ended)
-        return found
+        return found, said.decode()
 
     def test_documents_are_whole_or_not_there(self) -> None:
         data = support.file_of(LABELS)

@@ -1,0 +1,443 @@
+"""A desk among programs that do as they like: printers that end a connection in their own time,
+lanes that end while others look, outputs that fill up, FIFOs that are replaced, libraries that talk.
+"""
+
+import doctest
+import os
+import signal
+import socket
+import subprocess
+import time
+import unittest
+from contextlib import suppress
+from pathlib import Path
+from types import ModuleType
+from typing import Callable
+from unittest import mock
+
+import support
+from labeltools import files, sending
+from labeltools.journal import Journal
+from labeltools.network import Broken, NetworkPrinter
+from printers import LABEL, Printer
+from test_desk import ROLL, TICKETS, Folder, ended, labels_in, printed
+
+WAIT = 20.0  # seconds in which a stream ends that has nothing to do
+START = """
+import os, signal
+from labeltools.network import Broken
+from labeltools.print_main import main
+from labeltools.sending import StandardOutput
+from labeltools.text import Text
+
+def end():
+    os.kill(os.getpid(), signal.SIGTERM)
+
+def broken():
+    raise Broken(Text("it is off"))
+
+{code}
+main()
+"""
+MANY_FILES = """
+import resource
+_, most = resource.getrlimit(resource.RLIMIT_NOFILE)
+resource.setrlimit(resource.RLIMIT_NOFILE, (min(2048, most), most))
+for _ in range(1024):  # select() takes fewer
+    os.dup(0)
+"""
+NO_FOLDER = """
+import tempfile
+
+def gettempdir():
+    raise FileNotFoundError(2, "none")
+
+tempfile.gettempdir = gettempdir
+"""
+LIMIT = "import resource; resource.setrlimit(resource.RLIMIT_FSIZE, ({size}, {size}))"
+LOCK = """
+import fcntl, os, sys
+from labeltools.journal import FAR
+fcntl.lockf(os.open(sys.argv[1], os.O_RDWR), fcntl.LOCK_EX | fcntl.LOCK_NB, 1, FAR)
+"""
+
+
+def setUpModule() -> None:
+    support.labels_program()
+
+
+class Impatient(Printer):
+    """A printer that ends each connection, once it has been quiet for some seconds."""
+
+    def __init__(self, quiet: float = 0.2) -> None:
+        super().__init__()
+        self.quiet = quiet
+        self.connections = 0
+        self.ended = 0
+
+    def read(self, line: socket.socket) -> None:
+        """Reads labels until none has come for a while."""
+        self.connections += 1
+        line.settimeout(self.quiet)
+        buffer = b""
+        with line, suppress(TimeoutError):
+            while data := line.recv(4096):
+                buffer += data
+        self.keep(LABEL.findall(buffer))
+        self.ended += 1
+
+
+class Starts(Folder):
+    """Tests that start a stream."""
+
+    def start(self, *words: str, code: str = "", **variables: str) -> "subprocess.Popen[bytes]":
+        """Starts a stream, with some code before it."""
+        pipe = subprocess.PIPE
+        stream = subprocess.Popen(
+            ["/usr/bin/python3", "-c", START.format(code=code), *ROLL, "--stream", *words],
+            stdin=pipe,
+            stdout=subprocess.DEVNULL,
+            stderr=pipe,
+            env={**support.environment(), **variables},
+            cwd=support.TOOLS,
+        )
+        self.addCleanup(ended, stream)
+        self.addCleanup(stream.kill)
+        return stream
+
+    def answer(self, stream: "subprocess.Popen[bytes]", line: bytes) -> str:
+        """The answer to a line."""
+        assert stream.stdin and stream.stderr
+        stream.stdin.write(line)
+        stream.stdin.flush()
+        return stream.stderr.readline().decode()
+
+
+class Connections(Starts):
+    """Connections that a printer ends, and one that a stream has no more need of."""
+
+    def test_one_that_a_printer_has_ended_is_made_again(self) -> None:
+        """Nothing of the next label goes into the old one: it would be in doubt for nothing."""
+        printer = Impatient()
+        outlet = NetworkPrinter(printer.start().name)
+        label = labels_in(printed(input=TICKETS[:10]))[0]
+        for count in (1, 2):
+            outlet.open()
+            outlet.send(label)
+            printer.wait(count)
+            time.sleep(0.1)  # what it ended is on its way
+        outlet.close()
+        self.assertEqual((printer.connections, printer.labels), (2, [label] * 2))
+
+    def test_one_that_a_printer_has_broken_off_is_not(self) -> None:
+        """It says that bytes were thrown away, which may be those of the label before."""
+        printer = Printer(cut=1).start()
+        outlet = NetworkPrinter(printer.name)
+        label = labels_in(printed(input=TICKETS[:10]))[0]
+        outlet.open()
+        outlet.send(label)
+        printer.wait(1)
+        time.sleep(0.1)  # its answer is on its way
+        outlet.open()
+        with self.assertRaises(Broken):
+            outlet.send(label)
+        self.assertEqual(printer.labels, [label])
+
+    def test_a_stream_leaves_a_printer_to_the_lane_that_has_the_label(self) -> None:
+        """It has connected, and finds that another lane was first."""
+        printer = Impatient(quiet=60.0)
+        words = ("--print", printer.start().name, "--journal", self.path)
+        stream = self.start(*words)
+        self.assertRegex(self.answer(stream, b"qr T00001\n"), "^taken 1 ")
+        done = printed(*words, "--only", "2")
+        self.assertEqual(done.returncode, 0, done.stderr)
+        self.assertEqual(self.answer(stream, b"qr T00002\n"), "known 2 qr T00002\n")
+        end = time.monotonic() + 10
+        while printer.ended < 3 and time.monotonic() < end:
+            time.sleep(0.01)
+        self.assertEqual((printer.connections, printer.ended), (3, 3))
+        self.assertRegex(self.answer(stream, b"qr T00003\n"), "^taken 3 ")
+
+    def test_more_open_files_than_select_takes(self) -> None:
+        """A program that starts the tool may hand on as many as it has."""
+        fifo = f"{self.folder}/till"
+        os.mkfifo(fifo)
+        printer = Printer(slow=0.02).start()
+        stream = self.start("--print", printer.name, "--dpi", "600", fifo, code=MANY_FILES)
+        Path(fifo).write_bytes(b"qr A\n")
+        assert stream.stderr
+        self.assertRegex(stream.stderr.readline(), b"^taken 1 ")
+
+
+class Doubts(Starts):
+    """Labels that are in doubt, and those that are not."""
+
+    def waiting(self, printer: str) -> str:
+        """A journal with the first label of TICKETS in doubt."""
+        line = f"2026-11-27T09:30:00Z\tsending\tlane 1\t{printer}\tline 1\tqr T00001\n"
+        Path(self.path).write_text(f"#labels journal 1\n{line}")
+        return self.path
+
+    def test_a_lane_that_has_ended_since_the_journal_was_read(self) -> None:
+        """Its label was taken meanwhile: nobody has to look for it."""
+        Journal(self.waiting("tcp://b"), "tcp://a").claim(self.records[1])
+        ours = Journal(self.path, "tcp://a")
+        taken = Path(self.path).read_text().replace("sending", "taken").splitlines()[1]
+        with open(self.path, "a") as file:
+            file.write(f"{taken}\n")
+        self.assertFalse(ours.is_doubtful(self.records[0]))
+        self.assertTrue(ours.is_doubtful(self.records[1]))
+
+    def test_it_is_looked_at_while_no_other_lane_does(self) -> None:
+        """Two that try the lock of a lane that has ended would each take the other for that one."""
+        ours = Journal(self.waiting("tcp://b"), "tcp://a")
+        held: list[bool] = []
+
+        def look(journal: Journal, _: object) -> bool:
+            words = ["/usr/bin/python3", "-c", LOCK, journal.path]
+            other = subprocess.run(words, cwd=support.TOOLS, capture_output=True)
+            held.append(b"BlockingIOError" in other.stderr)
+            return False
+
+        with mock.patch.object(Journal, "is_alive", look):
+            self.assertTrue(ours.is_doubtful(self.records[0]))
+        self.assertEqual(held, [True])
+
+    def test_what_can_be_typed(self) -> None:
+        done = printed("--journal", self.waiting("standard output"), input=TICKETS[:10])
+        self.said(done, 1, "give --only-code CODE --again 'standard output'\n")
+        self.waiting("standard output")
+        words = ("--journal", self.path, "--only-code", "T00001", "--again", "standard output")
+        self.assertEqual(len(labels_in(printed(*words, input=TICKETS[:10]))), 1)
+
+    def test_a_full_disk_at_the_mark_of_a_stream(self) -> None:
+        """The stream goes on; another command names the label, and prints it by --again."""
+        printer = Printer().start()
+        words = ("--print", printer.name, "--journal", self.path)
+        size = Path(self.waiting(printer.name)).stat().st_size
+        os.unlink(self.path)
+        stream = self.start(*words, code=LIMIT.format(size=size + 2))
+        self.assertRegex(self.answer(stream, b"qr T00001\n"), "^doubtful 1 .*File too large")
+        self.assertRegex(self.answer(stream, b"qr T00002\n"), "^unsent 2 .*File too large")
+        lines = TICKETS[:10]
+        done = support.run("label-print", *ROLL, *words, input=lines)
+        self.said(done, 1, "line 1: may be on paper, from tcp://")
+        again = ("--only", "1", "--again", printer.name)
+        done = support.run("label-print", *ROLL, *words, *again, input=lines)
+        self.said(done, 0, "1 label taken by")
+        self.assertEqual(self.answer(stream, b"qr T00001\n"), "known 3 qr T00001\n")
+
+    def test_a_stream_to_standard_output_goes_on(self) -> None:
+        """What is in doubt is one label, and standard output takes others."""
+        done = printed("--stream", "--journal", self.waiting("tcp://a"), input=TICKETS[:20])
+        self.said(done, 1, r"\Adoubtful 1 may be on paper, from tcp://a.*\ntaken 2 .*\n\Z")
+
+    def test_a_line_that_a_stream_has_printed_itself(self) -> None:
+        """Whoever is told to send it again would print it twice."""
+        stream = self.start("--journal", self.path)
+        self.assertRegex(self.answer(stream, b"qr T00001\n"), "^taken 1 ")
+        os.rename(self.path, f"{self.path}.old")
+        self.assertEqual(self.answer(stream, b"qr T00001\n"), "known 2 qr T00001\n")
+        self.assertRegex(self.answer(stream, b"qr T00002\n"), "^unsent 3 .* has changed it")
+
+    def test_a_place_in_other_letters(self) -> None:
+        """An editor may have written it, and another program the journal."""
+        journal = Path(self.waiting("tcp://a"))
+        journal.write_bytes(journal.read_bytes().replace(b"line 1\t", b"Zeile \xfc\t"))
+        stream = self.start("--journal", self.path)
+        self.assertRegex(self.answer(stream, b"qr T00002\n"), "^taken 1 ")
+        os.unlink(self.path)
+        self.assertRegex(
+            self.answer(stream, b"qr T00003\n"), "^unsent 2 .* it has not Zeile \ufffd"
+        )
+
+
+class Ends(Folder):
+    """Signals, and disks that are full."""
+
+    def changed(self, code: str, *words: str) -> "support.Finished[bytes]":
+        """Runs label-print with some code before it."""
+        command = ["/usr/bin/python3", "-c", START.format(code=code), *ROLL, *words]
+        env = support.environment()
+        return subprocess.run(
+            command, input=TICKETS, capture_output=True, env=env, cwd=support.TOOLS
+        )
+
+    def test_a_signal_leaves_no_label_in_doubt(self) -> None:
+        """It comes when the label is in the journal, and has not gone out yet."""
+        done = self.changed("os.fdatasync = lambda file: end()", "--journal", self.path)
+        self.said(done, -signal.SIGTERM, "it took 1 label whole: line 2 and what follows it were")
+        self.said(done, -signal.SIGTERM, "not sent; the same command prints what is missing\n")
+        self.assertEqual((len(labels_in(done)), self.events()), (1, ["sending", "taken"]))
+
+    def test_a_way_out_that_breaks_off_after_a_signal(self) -> None:
+        """The signal ends the tool, and the row is named all the same."""
+        done = self.changed("StandardOutput.send = lambda outlet, data: end() or broken()")
+        self.said(done, -signal.SIGTERM, "label-print: it is off: it took 0 labels whole; look at")
+        self.said(done, -signal.SIGTERM, "then print from line 1 on by --only 1-\n")
+
+    def test_what_is_on_the_disk_when_the_power_fails(self) -> None:
+        """The name of a new journal, each label of a file before its mark."""
+        with open(f"{self.folder}/labels", "wb") as labels:
+            names = {labels.fileno(): "labels"}
+            order: list[str] = []
+
+            def sync(file: int) -> None:
+                path = os.readlink(f"/proc/self/fd/{file}")
+                events = Path(self.path).read_text().split("\t")[1::5]
+                order.append(" ".join([names.get(file) or Path(path).name, *events]))
+
+            with mock.patch.multiple("os", fsync=sync, fdatasync=sync):
+                with mock.patch("labeltools.sending.standard_output", lambda: labels):
+                    done = printed("--journal", self.path, input=TICKETS[:10])
+        self.assertEqual(done.returncode, 0, done.stderr)
+        folder = Path(self.folder).name
+        self.assertEqual(order, [folder, "journal sending", "labels sending"])
+
+    def test_a_journal_in_place_of_a_stream_that_is_closed(self) -> None:
+        """What a library writes on standard error is not in it."""
+        Path(self.folder, "lines").write_bytes(TICKETS)
+        code = START.format(code="os.fdatasync = lambda file: os.write(2, b'warning')")
+        words = [*ROLL, "--journal", self.path, f"{self.folder}/lines"]
+        command = ["/bin/sh", "-c", 'exec "$@" <&- 2>&-', "sh", "/usr/bin/python3", "-c", code]
+        env = support.environment()
+        pipe = subprocess.PIPE
+        done = subprocess.run([*command, *words], stdout=pipe, env=env, cwd=support.TOOLS)
+        self.assertEqual((done.returncode, len(LABEL.findall(done.stdout))), (0, 30))
+        self.assertRegex(Path(self.path).read_text(), r"\A#labels journal 1\n")
+        self.assertEqual(self.events(), ["sending", "taken"] * 30)
+
+    def test_no_folder_for_temporary_files(self) -> None:
+        """The message names no other file, and has what to do."""
+        done = self.changed(NO_FOLDER, "--to", "pdf")
+        self.said(done, 1, r"label-print: \$TMPDIR: none; make room there, or name another folder")
+
+    def test_labels_of_others_in_the_same_file(self) -> None:
+        """What another lane has added to a file since is not taken out with a label that does not
+        fit; and what is written later follows what is there.
+        """
+        path = Path(self.folder, "labels")
+        for added, left in ((b"", b"old"), (b"other", b"oldnewother")):
+            path.write_bytes(b"old")
+            with path.open("r+b", buffering=0) as file:
+                file.seek(0, os.SEEK_END)
+                file.write(b"new")
+                with path.open("ab") as other:
+                    other.write(added)
+                files.take_back(file.fileno(), 3, 3)
+                self.assertEqual(path.read_bytes(), left)
+                if not added:
+                    file.write(b"later")
+                    self.assertEqual(path.read_bytes(), b"oldlater")
+
+
+class Streams(Starts):
+    """Answers, FIFOs and objects of a stream."""
+
+    def test_what_libraries_say_is_no_answer(self) -> None:
+        """Fontconfig warns of this locale, which a ssh from another system may set."""
+        stream = self.start(LC_ALL="UTF-8")
+        self.assertRegex(self.answer(stream, b"qr A\n"), "^taken 1 ")
+        stream = self.start(FONTCONFIG_FILE="/no/such")
+        self.assertRegex(self.answer(stream, b"qr A\n"), "^taken 1 ")
+
+    def test_standard_error_is_closed(self) -> None:
+        words = [str(support.TOOLS / "label-print"), *ROLL, "--stream"]
+        command = ["/bin/sh", "-c", 'exec "$@" 2>&-', "sh", *words]
+        pipe = subprocess.PIPE
+        done = subprocess.run(command, input=TICKETS, stdout=pipe, env=support.environment())
+        self.assertEqual((done.returncode, done.stdout), (1, b""))
+
+    def test_an_object_that_is_too_long(self) -> None:
+        """Its line is not printed without it; a remark is none of it."""
+        lines = b'#{"title":"%s"}\nqr A\n# %s\nqr B\n' % (b"x" * 70_000, b"x" * 70_000)
+        done = printed("--stream", input=lines)
+        refused, taken = done.stderr.decode().splitlines()
+        self.assertEqual(refused, "refused 2 the object before it is longer than 65536 bytes")
+        self.assertRegex(taken, "^taken 4 .* qr B$")
+
+    def test_a_fifo_that_another_file_has_replaced(self) -> None:
+        """Nobody can write to it any more."""
+        fifo = Path(self.folder, "till")
+        makers: tuple[Callable[[], object], ...] = (fifo.touch, lambda: os.mkfifo(fifo))
+        for make in makers:
+            os.mkfifo(fifo)
+            stream = self.start(str(fifo))
+            assert stream.stderr
+            with fifo.open("wb", buffering=0) as writer:
+                writer.write(b"qr A\n")
+                self.assertRegex(stream.stderr.readline(), b"^taken 1 ")
+                fifo.unlink()
+                make()
+            self.assertEqual(stream.wait(WAIT), 1)
+            self.assertRegex(stream.stderr.read(), b"till: another program has changed it\n")
+            fifo.unlink()
+
+    def test_a_fifo_that_goes_while_nobody_writes(self) -> None:
+        fifo = f"{self.folder}/till"
+        os.mkfifo(fifo)
+        stream = self.start(fifo, code="from labeltools import stream; stream.LOOK = 0.1")
+        Path(fifo).write_bytes(b"qr A\n")
+        assert stream.stderr
+        self.assertRegex(stream.stderr.readline(), b"^taken 1 ")
+        while sum(path.samefile(fifo) for path in open_files(stream)) < 2:
+            time.sleep(0.01)  # it waits for the next writer when it is one itself
+        os.unlink(fifo)
+        self.assertEqual(stream.wait(WAIT), 1)
+        self.assertRegex(stream.stderr.read(), b"the lines cannot be read: No such file")
+
+    def test_a_fifo_that_a_writer_has_taken_for_itself(self) -> None:
+        """It has opened it, and taken its name away: it may write whenever it likes."""
+        fifo = Path(self.folder, "till")
+        os.mkfifo(fifo)
+        stream = self.start(str(fifo), code="from labeltools import stream; stream.LOOK = 0.1")
+        assert stream.stderr
+        with fifo.open("wb", buffering=0) as writer:
+            while sum(path.samefile(fifo) for path in open_files(stream)) < 1:
+                time.sleep(0.01)
+            time.sleep(0.3)  # longer than the name may be missing
+            fifo.unlink()
+            for number in (1, 2):
+                time.sleep(0.3)
+                writer.write(b"qr A\n")
+                self.assertRegex(stream.stderr.readline(), b"^taken %d " % number)
+
+
+class Choices(Folder):
+    """Rows and codes of large files."""
+
+    def test_rows_beyond_those_of_a_spreadsheet(self) -> None:
+        """Lines of one's own may be more: each that is asked for is printed."""
+        last = 2_000_000
+        lines = b"".join(b'#{"row":%d}\nqr R%d\n' % (row, row) for row in range(last - 9, last + 1))
+        for rows, count in ((f"1999996-{last}", 5), ("1-9999999", 10), ("1999999-", 2)):
+            done = printed("--only", rows, input=lines)
+            self.assertEqual(len(labels_in(done)), count, rows)
+            self.assertEqual(done.returncode, int(count == 10))
+
+    def test_all_that_is_missing_is_counted(self) -> None:
+        """In one message, however much it is."""
+        done = printed("--only", "20-9999999,7,3-8")
+        self.said(done, 1, r"\Alabel-print: rows 31-9999999: of --only, but not in the input\n\Z")
+        codes = [word for number in range(12) for word in ("--only-code", f"X{number:02}")]
+        done = printed("--only", "1", *codes)
+        named = ", ".join(f"X{number:02}" for number in range(10))
+        self.said(done, 1, rf"\Alabel-print: {named} .. \(12 in all\): of --only-code, but not")
+
+
+def open_files(stream: "subprocess.Popen[bytes]") -> list[Path]:
+    """The open files of a stream."""
+    return [path for path in Path(f"/proc/{stream.pid}/fd").iterdir() if path.exists()]
+
+
+def load_tests(
+    loader: unittest.TestLoader, tests: unittest.TestSuite, _: object
+) -> unittest.TestSuite:
+    modules: list[ModuleType] = [sending]
+    for module in modules:
+        tests.addTests(doctest.DocTestSuite(module))
+    return tests
+
+
+if __name__ == "__main__":
+    unittest.main()
