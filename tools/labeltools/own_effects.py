@@ -9,14 +9,15 @@ import unicodedata
 from typing import Iterator, NamedTuple, Optional
 from xml.etree.ElementTree import Element
 
-from labeltools.own_drawing import PATH_HINT, SPACE, declared, sheet_of, tag_of
+from labeltools.own_drawing import PATH_HINT, SPACE, declared, properties_of, sheet_of, tag_of
 from labeltools.text import Text
 
 # what librsvg takes no notice of, and its values that mean what is drawn then
 WITHOUT_EFFECT = frozenset(
-    "alignment-baseline background background-color dominant-baseline font-variant"
-    " font-variant-caps mask-image pathLength rotate text-shadow text-transform textLength"
-    " transform-box transform-origin vector-effect word-spacing".split()
+    "alignment-baseline background background-color dominant-baseline font-feature-settings"
+    " font-kerning font-variant font-variant-caps font-variant-ligatures font-variant-numeric"
+    " mask-image pathLength rotate text-shadow text-transform textLength transform-box"
+    " transform-origin vector-effect word-spacing".split()
 )
 ONLY_MOVED = frozenset(("transform-box", "transform-origin"))  # they change what is moved alone
 ONLY_IN_STYLES = frozenset(("scale", "translate"))  # as attributes they are others
@@ -31,7 +32,7 @@ VALUED = frozenset(
 )
 NEWER = re.compile(
     r"(?<![\w-])((?:calc|circle|clamp|color|color-mix|ellipse|env|hwb|inset|lab|lch|light-dark|max"
-    r"|min|oklab|oklch|path|polygon|var)\()|(?<![\w#.-])[\d.]+(ch|lh|q|rem|vh|vmax|vmin|vw)\b"
+    r"|min|oklab|oklch|path|polygon|var)\()|(?<![\w#.-])[\d.]+(ch|ex|lh|q|rem|vh|vmax|vmin|vw)\b"
     r"|^\s*(initial|revert|unset)\s*$",
     re.IGNORECASE,
 )
@@ -40,11 +41,14 @@ AT_RULE = re.compile(r"@[\w-]+")
 # those that change nothing on paper, or are looked at elsewhere
 KNOWN_RULES = ("@charset", "@font-face", "@import", "@keyframes", "@namespace", "@page")
 STYLE_HINT = Text("write a plain style, such as fill:#000 or 2px")
-LISTS = ("x", "y", "dx", "dy")  # of a text: a number for each letter
+MOVES = ("dx", "dy")
+LISTS = ("x", "y", *MOVES)  # of a text: a number for each letter
+ZERO = re.compile(r"-?0*\.?0*[a-z]*")
 SEPARATED = re.compile(r"[\s,]+")
 TEXTS = ("text", "tspan")
 SPACES = "{http://www.w3.org/XML/1998/namespace}space"
 PRESERVE = "preserve"
+BLEND = "mix-blend-mode"
 KEPT = ("break-spaces", "pre", "pre-wrap")
 
 
@@ -74,7 +78,14 @@ def without_effect(root: Element) -> Iterator[str]:
         is_moved = "transform" in keys or (bool(sheet) and is_moving)
         yield from sorted(WITHOUT_EFFECT & (keys if is_moved else keys - ONLY_MOVED))
         if tag_of(element) in TEXTS:
-            yield from (key for key in LISTS if len(numbers_of(element, key)) > 1)
+            yield from (key for key in LISTS if len(places_in(element, key)) > 1)
+        if tag_of(element) == "clipPath" and any(map(is_clipped, element.iter())):
+            yield "clip-path in clipPath"
+
+
+def is_clipped(element: Element) -> bool:
+    """Returns whether an element is clipped by its attribute or its style."""
+    return not is_usual(dict(properties_of(element)).get("clip-path", ""))
 
 
 def is_usual(value: str) -> bool:
@@ -126,16 +137,27 @@ def newer_in(value: str) -> Iterator[str]:
         yield f"{function})" if function else unit or word
 
 
-def numbers_of(element: Element, key: str) -> list[str]:
-    """Returns the numbers of an attribute of a text."""
-    return SEPARATED.split(element.get(key, "").strip())
+def places_in(element: Element, key: str) -> list[str]:
+    """Returns where the letters of a text begin by an attribute; nothing for one that is not moved.
+
+    >>> places_in(Element("text", {"dx": "0 0.5, 0 0"}), "dx")
+    ['', '0.5']
+    """
+    found = SEPARATED.split(element.get(key, "").strip())
+    if key in MOVES:
+        found = ["" if ZERO.fullmatch(one) else one for one in found]
+    while len(found) > 1 and not found[-1]:
+        found.pop()
+    return found
 
 
 def make_alike(root: Element) -> None:
-    """Writes texts in other words where librsvg would draw them otherwise: blanks that are kept by
+    """Writes in other words what librsvg would draw otherwise: blanks of texts that are kept by
     `white-space`, line ends, which are blanks, and letters that have a place each, as programs
-    write what they read from PDF.
+    write what they read from PDF; colours that are mixed with those below, but not with paper.
     """
+    if any(key == BLEND for one in root.iter() for key, _ in properties_of(one)):
+        root.set("style", f"{root.get('style', '')};isolation:isolate")  # of the white page
     for element, is_preserved in [*texts_in(root, False)]:
         if is_preserved:
             element.set(SPACES, PRESERVE)
@@ -166,7 +188,7 @@ def part_letters(element: Element, is_preserved: bool) -> None:
     """Makes parts of a text that begin where a letter has a place of its own: librsvg takes the
     first place of a list alone. What it does not part stays as it is.
     """
-    places = {key: numbers_of(element, key) for key in LISTS}
+    places = {key: places_in(element, key) for key in LISTS}
     letters = element.text or ""
     is_plain = is_preserved or letters == " ".join(letters.split())
     is_parted = is_plain and not len(element) and all(map(is_alone, letters))
@@ -179,7 +201,7 @@ def part_letters(element: Element, is_preserved: bool) -> None:
 
 def is_alone(letter: str) -> bool:
     """Returns whether a letter is drawn alike beside others and without them."""
-    is_one = ord(letter) < 0x10000 and not unicodedata.combining(letter)
+    is_one = ord(letter) < 0x10000 and not unicodedata.category(letter).startswith("M")
     return is_one and unicodedata.bidirectional(letter) not in ("AL", "R")
 
 

@@ -17,6 +17,8 @@ PLAIN: Label = ("code128 A", {})
 WORDS = 'font-family="DejaVu Sans" font-size="5"'
 PRESERVE = 'xml:space="preserve"'
 BOX = '<path style="{}" d="M2 2H22V12H2Z"/>'
+DIFFERENCE = 'style="mix-blend-mode:difference"'  # white on black is black, on paper it is white
+BLEND = f'<path d="M12 4H39V9H12Z" fill="#fff" {DIFFERENCE}/>'
 FIGMA = "fill:#D9D9D9;fill:color(display-p3 0.85 0.85 0.85)"  # it writes a colour in two ways
 COPIED = "clones and patterns draw too much again; make it a picture, in Inkscape by Edit, Make"
 STYLES = " is not drawn as in other programs: write a plain style, such as fill:#000 or 2px"
@@ -83,6 +85,14 @@ ALIKE = (
         f'<text {WORDS} x="2" y="8">A\nB<tspan>C</tspan>\nD</text>',
         f'<text {WORDS} x="2" y="8">A B<tspan>C</tspan> D</text>',
     ),
+    (
+        f'<text {WORDS} x="2" y="8" dx="0 0 0 4 0">Word</text>',
+        f'<text {WORDS} x="2" y="8">Wor<tspan dx="4">d</tspan></text>',
+    ),
+    (
+        f'<path d="M2 2H22V12H2Z"/>{BLEND}',
+        f'<path d="M2 2H22V12H2Z"/><path d="M12 4H22V9H12Z" fill="#fff"/>',
+    ),
     (f"<style>/* @import 'a.css'; */</style>{BOX}", BOX),
     (f"<style>@namespace url(http://www.w3.org/2000/svg);</style>{BOX}", BOX),
 )
@@ -115,6 +125,11 @@ SAID = (
         PATHS,
     ),
     (f'<text {WORDS} x="2 9" y="9">A<tspan>B</tspan></text>', "x", PATHS),
+    (
+        '<clipPath id="b"><path clip-path="url(#a)" d="M2 2H9V9Z"/></clipPath>',
+        "clip-path in clipPath",
+        PATHS,
+    ),
     (f'<text {WORDS} x="20 9" y="9">س2</text>', "x", PATHS),
 )
 # styles that librsvg draws as browsers do, or that have no effect
@@ -127,6 +142,8 @@ NOT_SAID = (
     BOX.format("font-variant:normal;font-variant-caps:normal;filter:invert(1);scale:none"),
     '<pattern id="path"/><path style="fill:url(#path) #000" id="2rem" d="M2 2H9V9Z"/>',
     "<filter id='f'><feDisplacementMap scale='9'/></filter>",
+    '<clipPath id="b"><path clip-path="none" d="M2 2H9V9Z"/></clipPath>',
+    f'<text {WORDS} x="2" y="9" dx="0 0 0">a<tspan>b</tspan>c</text>',
 )
 
 
