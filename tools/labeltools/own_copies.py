@@ -3,16 +3,18 @@ ask for more than a computer draws in a day.
 """
 
 import re
-from typing import Iterator
+from typing import Iterator, Mapping, Optional
 from xml.etree.ElementTree import Element
 
 from labeltools.messages import ToolError
 from labeltools.own_drawing import LINKS, PICTURE_HINT, properties_of, tag_of
 from labeltools.text import Text
 
-MOST_COPIES = 100_000  # elements that are drawn again
+MOST_COPIES = 50_000  # elements that are drawn again
 PAINT = re.compile(r"url\(\s*[\"']?#([^\"')]+)")
 WORDS = re.compile(r"[A-Za-z]|[\d.]+")  # of a path: there are no more vertices
+# what holds shapes that are drawn elsewhere, if at all
+HOLDERS = ("clipPath", "defs", "marker", "mask", "pattern", "symbol")
 CHEAP = ("clipPath", "filter", "linearGradient", "radialGradient")  # the same for many shapes
 BEGUN = 0  # the count of an element whose parts are not counted yet
 
@@ -20,13 +22,13 @@ BEGUN = 0  # the count of an element whose parts are not counted yet
 def check_copies(name: str, root: Element) -> None:
     """Raises `ToolError` where more is drawn again than a drawing may have."""
     elements = [*root.iter()]
-    ids = {element.get("id", ""): element for element in reversed(elements)}
+    ids = {element.get("id"): element for element in reversed(elements)}
     most = len(elements) + MOST_COPIES
     counts: dict[Element, int] = {}  # of all that an element draws, itself included
     waiting = [root]
     while waiting:
         element = waiting[-1]
-        parts = [*element, *shown_by(element, ids)]
+        parts = [*drawn_in(element), *shown_by(element, ids)]
         if element not in counts:
             counts[element] = BEGUN
             waiting += [part for part in parts if part not in counts]
@@ -35,16 +37,21 @@ def check_copies(name: str, root: Element) -> None:
         if counts[element] == BEGUN:
             counts[element] = 1 + sum(counts[part] for part in parts)
         if counts[element] > most:
-            what = Text("{}: clones and patterns draw too much again", name)
+            what = Text("{}: clones and patterns repeat too many shapes", name)
             raise ToolError(what, PICTURE_HINT)
 
 
-def shown_by(element: Element, ids: dict[str, Element]) -> Iterator[Element]:
+def drawn_in(element: Element) -> Iterator[Element]:
+    """Yields the elements in one that are drawn there."""
+    return (one for one in element if tag_of(one) not in HOLDERS)
+
+
+def shown_by(element: Element, ids: Mapping[Optional[str], Element]) -> Iterator[Element]:
     """Yields the elements that an element draws again, by their ids, each as often as it does."""
     for key, value in properties_of(element):
-        name = value.removeprefix("#") if key in LINKS else ""
         paint = PAINT.search(value)
-        shown = ids.get(paint[1] if paint else name)
+        name = paint[1] if paint else value[1:] if key in LINKS else None
+        shown = ids.get(name) if name else None
         if shown is not None and tag_of(shown) not in CHEAP:
             yield from [shown] * times(element, key)
 

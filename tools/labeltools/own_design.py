@@ -24,7 +24,7 @@ import cairo
 from labeltools.area import Edges
 from labeltools.messages import BAD_ARGUMENTS, ToolError, quoted
 from labeltools.names import name_of
-from labeltools.own_copies import PAINT, check_copies
+from labeltools.own_copies import HOLDERS, PAINT, check_copies
 from labeltools.own_drawing import (
     DPI,
     LINKS,
@@ -73,8 +73,6 @@ UNNAMED = re.compile(
 )
 AGAIN = re.compile(r"(.+?) \d+")
 AFTER_HYPHEN = re.compile(r"-\d+\s*$")
-# what holds shapes that are drawn elsewhere, if at all
-HOLDERS = ("clipPath", "defs", "marker", "mask", "pattern", "symbol")
 SHAPES = ("path", "circle", "ellipse", "polygon", "polyline", "line", "image", "use", "text")
 BLANKS = " _-"
 ACROSS = {"left": -1, "middle": 0, "right": 1}

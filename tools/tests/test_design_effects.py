@@ -20,7 +20,7 @@ BOX = '<path style="{}" d="M2 2H22V12H2Z"/>'
 DIFFERENCE = 'style="mix-blend-mode:difference"'  # white on black is black, on paper it is white
 BLEND = f'<path d="M12 4H39V9H12Z" fill="#fff" {DIFFERENCE}/>'
 FIGMA = "fill:#D9D9D9;fill:color(display-p3 0.85 0.85 0.85)"  # it writes a colour in two ways
-COPIED = "clones and patterns draw too much again; make it a picture, in Inkscape by Edit, Make"
+COPIED = "clones and patterns repeat too many shapes; make it a picture, in Inkscape by Edit, Make"
 STYLES = " is not drawn as in other programs: write a plain style, such as fill:#000 or 2px"
 PATHS = " is not drawn as in other programs: make it a path, in Inkscape by Path, Object to Path"
 
@@ -91,7 +91,7 @@ ALIKE = (
     ),
     (
         f'<path d="M2 2H22V12H2Z"/>{BLEND}',
-        f'<path d="M2 2H22V12H2Z"/><path d="M12 4H22V9H12Z" fill="#fff"/>',
+        '<path d="M2 2H22V12H2Z"/><path d="M12 4H22V9H12Z" fill="#fff"/>',
     ),
     (f"<style>/* @import 'a.css'; */</style>{BOX}", BOX),
     (f"<style>@namespace url(http://www.w3.org/2000/svg);</style>{BOX}", BOX),
@@ -180,6 +180,12 @@ class Effects(OwnPages):
     def test_a_drawing_of_some_clones_is_drawn(self) -> None:
         clones = "".join(f'<use href="#a" x="{number % 50}"/>' for number in range(5000))
         self.assertTrue(self.dots(f'<path id="a" d="M2 2h1v9h-1z"/>{clones}')[:150].any())
+        chain = "".join(f'<g id="c{one}"><use href="#c{one - 1}"/></g>' for one in range(1, 300))
+        links = f'<defs><path id="c0" d="M2 2H9V9Z"/>{chain}</defs><use href="#c299"/>'
+        self.assertTrue(self.dots(links)[:150].any())
+        page = f'{designs.PAGE} id="page"'
+        parts = '<g><path d="M2 2H9V9Z" fill="#000" stroke="none" opacity="1"/></g>' * 10_000
+        self.assertEqual(self.said(self.found(parts + CODE, [PLAIN], page)), [])
         gradient = (
             '<linearGradient id="b">' + '<stop stop-color="#000"/>' * 50 + "</linearGradient>"
         )
