@@ -25,6 +25,8 @@ MOST_BYTES = 8_000_000
 MOST_DEPTH = 200  # of elements in one another
 PICTURES = {"png": b"IEND", "jpeg": b"\xff\xd9"}  # and what is at the end of each
 MOST_PIXELS = 50_000_000  # of a picture
+EXIF = b"Exif\0\0"  # before what a camera says, as how its picture is turned
+MOST_EXIF = 65_536  # bytes at the begin of a picture, in which that is
 OUTSIDE = re.compile(r"url\((?!\s*[\"']?(?:#|data:))|@import", re.IGNORECASE)
 # the elements that librsvg draws, and those that no program draws by themselves
 DRAWN = frozenset(
@@ -201,6 +203,8 @@ def check_links(name: str, element: Element) -> None:
         if before.startswith("data:"):
             picture = decoded(data)
             kind = kind_of(name, picture)
+            if kind == "jpeg" and EXIF in picture[:MOST_EXIF]:
+                kind, picture = "png", upright(picture)
             element.set(key, f"data:image/{kind};base64,{b64encode(picture).decode()}")
     values = [value for _, value in properties_of(element)]
     if is_outside or any(map(OUTSIDE.search, (*values, sheet_of(element)))):
@@ -233,6 +237,14 @@ def kind_of(name: str, picture: bytes) -> str:
     if not is_ended or not is_loaded(library("GdkPixbuf", "2.0").PixbufLoader(), picture):
         raise ToolError(Text("{}: a picture is not whole", name), Text("embed it anew"))
     return kind
+
+
+def upright(picture: bytes) -> bytes:
+    """Returns a picture as PNG, turned as its camera says: librsvg takes no notice of that."""
+    loader = library("GdkPixbuf", "2.0").PixbufLoader()
+    is_loaded(loader, picture)
+    _, turned = loader.get_pixbuf().apply_embedded_orientation().save_to_bufferv("png", [], [])
+    return bytes(turned)
 
 
 def decoded(letters: str) -> bytes:

@@ -19,6 +19,7 @@ from labeltools.messages import Silence, ToolError
 from labeltools.own_design import colour_of
 from labeltools.own_drawing import rectangle
 from labeltools.own_layout import OwnLayout
+from labeltools.pango import library
 from labeltools.print_job import Prepared, PrintOptions, planned
 
 TITLE = '<rect id="title" {}/>' + CODE
@@ -675,6 +676,21 @@ class Drawings(OwnPages):
             found = self.found(PICTURE.format(kind, data))
             for end, wanted in zip(self.ink(found), (2, 7, 2, 7)):
                 self.assertAlmostEqual(end, wanted, delta=0.13)
+
+    def test_a_picture_is_turned_as_its_camera_says(self) -> None:
+        """Its left half is black, and the left side of the file is the upper one (Exif, 6)."""
+        pixbuf = library("GdkPixbuf", "2.0").Pixbuf
+        row = bytes(3 * 32) + b"\xff" * 3 * 32
+        dots = library("GLib", "2.0").Bytes.new(row * 32)
+        plain = pixbuf.new_from_bytes(dots, 0, False, 8, 64, 32, len(row))
+        _, jpeg = plain.save_to_bufferv("jpeg", ["quality"], ["100"])
+        turn = b"Exif\0\0MM\0*\0\0\0\x08\0\x01\x01\x12\0\x03\0\0\0\x01\0\x06\0\0\0\0\0\0"
+        segment = b"\xff\xe1" + struct.pack(">H", len(turn) + 2) + turn
+        for exif, box in ((b"", 'width="16" height="8"'), (segment, 'width="8" height="16"')):
+            data = base64.b64encode(jpeg[:2] + exif + jpeg[2:]).decode()
+            body = PICTURE.format("jpeg", data).replace('width="5" height="5"', box)
+            for end, wanted in zip(self.ink(self.found(body)), (2, 10, 2, 10)):
+                self.assertAlmostEqual(end, wanted, delta=0.2)
 
     def test_a_page_of_an_old_inkscape(self) -> None:
         """Its lengths without a unit are of 90 dpi."""
