@@ -195,6 +195,7 @@ def part_letters(element: Element, is_preserved: bool) -> None:
     if letters and is_parted and max(map(len, places.values())) > 1:
         element.text = None
         element[:] = spans_of(letters, places)
+        element.set(SPACES, PRESERVE)  # a part may begin with a blank
         for key in LISTS:
             element.attrib.pop(key, None)
 

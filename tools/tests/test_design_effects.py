@@ -90,6 +90,10 @@ ALIKE = (
         f'<text {WORDS} x="2" y="8">Wor<tspan dx="4">d</tspan></text>',
     ),
     (
+        f'<text {WORDS} x="2" y="8" dx="0 0 3">AB CD</text>',
+        f'<text {WORDS} x="2" y="8" {PRESERVE}>AB<tspan dx="3"> CD</tspan></text>',
+    ),
+    (
         f'<path d="M2 2H22V12H2Z"/>{BLEND}',
         '<path d="M2 2H22V12H2Z"/><path d="M12 4H22V9H12Z" fill="#fff"/>',
     ),
