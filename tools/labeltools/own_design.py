@@ -24,10 +24,10 @@ import cairo
 from labeltools.area import Edges
 from labeltools.messages import BAD_ARGUMENTS, ToolError, quoted
 from labeltools.names import name_of
+from labeltools.own_copies import HOLDERS, PAINT, check_copies
 from labeltools.own_drawing import (
     DPI,
     LINKS,
-    PATH_HINT,
     SPACE,
     check_elements,
     draw,
@@ -38,9 +38,9 @@ from labeltools.own_drawing import (
     root_of,
     tag_of,
     walked,
-    without_effect,
     words_of,
 )
+from labeltools.own_effects import lost_in, make_alike
 from labeltools.stock import Size, size_text
 from labeltools.symbologies import SYMBOLOGIES
 from labeltools.text import Text
@@ -63,7 +63,7 @@ UNITS = {"px": 1.0, "mm": 1 / PX, "cm": 10 / PX, "in": DPI, "pt": DPI / 72, "pc"
 NEAR = 1.0  # millimetres by which a page may differ from a label
 ALIKE = 0.015  # by which the proportions of a page without millimetres may
 MOST_KNOWN = 1024  # names whose keys are kept
-THIN = 1e-4  # the height of what shows the upper edge of a place
+THIN = 1e-7  # the height of what shows the upper edge of a place
 TINY = 0.01  # millimetres
 # names that programs give by themselves
 UNNAMED = re.compile(
@@ -73,9 +73,6 @@ UNNAMED = re.compile(
 )
 AGAIN = re.compile(r"(.+?) \d+")
 AFTER_HYPHEN = re.compile(r"-\d+\s*$")
-# what holds shapes that are drawn elsewhere, if at all
-HOLDERS = ("clipPath", "defs", "marker", "mask", "pattern", "symbol")
-PAINT = re.compile(r"url\(\s*[\"']?#([^\"')]+)")
 SHAPES = ("path", "circle", "ellipse", "polygon", "polyline", "line", "image", "use", "text")
 BLANKS = " _-"
 ACROSS = {"left": -1, "middle": 0, "right": 1}
@@ -130,11 +127,13 @@ class Place:
         """The part or column that it is for, as names are compared, without a number behind it."""
         return part_of(self.name)
 
-    def meets(self, other: "Place") -> bool:
-        """Returns whether it has room in common with another one."""
+    def common(self, other: "Place") -> float:
+        """Returns the lesser side of the room that it has in common with another one, in
+        millimetres; 0 or less where there is none.
+        """
         across = min(self.left + self.width, other.left + other.width) - max(self.left, other.left)
         down = min(self.top + self.height, other.top + other.height) - max(self.top, other.top)
-        return min(across, down) > TINY
+        return min(across, down)
 
 
 @dataclass(frozen=True)
@@ -210,6 +209,8 @@ def read_design(name: str, cell: Size, white: Edges, turn: Optional[bool]) -> Ow
     """
     root = root_of(name)
     check_elements(name, root)
+    check_copies(name, root)
+    make_alike(root)
     page = page_of(name, root)
     is_turned = fitting_turn(name, page, cell, turn)
     label = cell[::-1] if is_turned else cell
@@ -237,10 +238,9 @@ def read_design(name: str, cell: Size, white: Edges, turn: Optional[bool]) -> Ow
 
 def remarks_on(name: str, root: Element) -> Iterator[Text]:
     """Yields what is said of a drawing that other programs draw otherwise."""
-    lost = ", ".join(without_effect(root))
-    if lost:
-        what = Text("{}: {} is not drawn as in other programs", name, lost)
-        yield Text("{}: {}", what, PATH_HINT)
+    for lost in lost_in(root):
+        what = Text("{}: {} is not drawn as in other programs", name, ", ".join(lost.names))
+        yield Text("{}: {}", what, lost.hint)
 
 
 def size_of_page(name: str) -> Size:
@@ -412,7 +412,7 @@ def check_shapes(name: str, shapes: Mapping[str, str], keys: Iterable[str]) -> N
     for key in keys:
         if key in shapes:
             hint = Text("draw a rectangle for its place")
-            raise ToolError(Text("{}: {} is a {}", name, key, shapes[key]), hint)
+            raise ToolError(Text("{}: {} is no rectangle ({})", name, key, shapes[key]), hint)
 
 
 def place_of(name: str, written: str) -> Place:
@@ -577,7 +577,7 @@ def check_places(name: str, places: tuple[Place, ...], label: Size) -> None:
             raise ToolError(what, Text("the page is {}", size_text(label)))
     for number, one in enumerate(places):
         for other in places[number + 1 :]:
-            if (one.is_symbol or other.is_symbol) and one.meets(other):
+            if (one.is_symbol or other.is_symbol) and one.common(other) > TINY:
                 titles = one.title, other.title
                 what = Text("{}: the places {} and {} have room in common", name, *titles)
                 hint = Text("move them apart, or take the name of what is to be drawn away")

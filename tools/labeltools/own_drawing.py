@@ -25,6 +25,8 @@ MOST_BYTES = 8_000_000
 MOST_DEPTH = 200  # of elements in one another
 PICTURES = {"png": b"IEND", "jpeg": b"\xff\xd9"}  # and what is at the end of each
 MOST_PIXELS = 50_000_000  # of a picture
+EXIF = b"Exif\0\0"  # before what a camera says, as how its picture is turned
+MOST_EXIF = 65_536  # bytes at the begin of a picture, in which that is
 OUTSIDE = re.compile(r"url\((?!\s*[\"']?(?:#|data:))|@import", re.IGNORECASE)
 # the elements that librsvg draws, and those that no program draws by themselves
 DRAWN = frozenset(
@@ -55,15 +57,7 @@ WITH_FONTS = ("svg", "g", "text", "tspan", "a", "style")
 GENERAL = ("serif", "sans-serif", "sans", "monospace", "cursive", "fantasy", "system-ui", "inherit")
 DECLARED = re.compile(r"(?<![\w-])([\w-]+)\s*:\s*([^;{}]+)")
 SHORTHAND = re.compile(r"\d[\w.%]*(?:\s*/\s*\S+)?\s+(\S.*)")  # font: bold 3px serif
-# what librsvg takes no notice of, and its values that mean what is drawn then
-WITHOUT_EFFECT = (
-    "alignment-baseline background background-color dominant-baseline rotate text-transform"
-    " textLength transform-origin vector-effect word-spacing"
-).split()
-USUAL = frozenset(
-    "0 0px #fff #ffffff alphabetic auto baseline inherit none normal rgb(255,255,255) transparent"
-    " white".split()
-)
+NO_RULES = re.compile(r"/\*.*?\*/|@namespace[^;{}]*;", re.DOTALL)  # of a style sheet
 
 
 def root_of(name: str) -> Element:
@@ -77,6 +71,7 @@ def root_of(name: str) -> Element:
     try:
         root = ElementTree.fromstring(data)
     except (ElementTree.ParseError, LookupError, ValueError) as error:
+        check_utf8(name, data)
         raise ToolError(Text("{} is no SVG: {}", name, error)) from error
     if root.tag != f"{SPACE}svg":
         hint = Text("it begins with {}", BEGIN)
@@ -109,12 +104,24 @@ def check_bytes(name: str, data: bytes) -> None:
         hint = Text("make its pictures smaller")
         raise ToolError(Text("{} has more than {} MB", name, MOST_BYTES // 1_000_000), hint)
     if b"\0" in data or b"<!ENTITY" in data:
-        what = Text("{} has entities, or is not in UTF-8", name)
-        hint = Text("save it as plain SVG, in Illustrator without its editing capabilities")
-        raise ToolError(what, hint)
+        raise not_plain(name)
     if b"<?xml-stylesheet" in data:
         what = Text("{}: its style sheet is another file, which is not read", name)
         raise ToolError(what, Text("save it as plain SVG"))
+
+
+def check_utf8(name: str, data: bytes) -> None:
+    """Raises `ToolError` for a file that is not in UTF-8."""
+    try:
+        data.decode()
+    except UnicodeDecodeError as error:
+        raise not_plain(name) from error
+
+
+def not_plain(name: str) -> ToolError:
+    """Returns why a file is refused that is no plain SVG."""
+    hint = Text("save it as plain SVG, in Illustrator without its editing capabilities")
+    return ToolError(Text("{} has entities, or is not in UTF-8", name), hint)
 
 
 def tag_of(element: Element) -> str:
@@ -136,13 +143,21 @@ def walked(root: Element) -> Iterator[tuple[Element, Element, int]]:
         waiting += [(element, child, depth + 1) for child in reversed(element)]
 
 
+def declared(styles: str) -> list[tuple[str, str]]:
+    """Returns the properties of CSS in a style, or in a style sheet."""
+    return DECLARED.findall(styles)
+
+
+def sheet_of(element: Element) -> str:
+    """Returns the style sheet in an element, without what is no rule of it."""
+    return NO_RULES.sub(" ", element.text or "") if tag_of(element) == "style" else ""
+
+
 def properties_of(element: Element) -> list[tuple[str, str]]:
     """Returns the attributes of an element and its properties of CSS: those of its style, or of all
     of a style sheet.
     """
-    sheet = element.text or "" if tag_of(element) == "style" else ""
-    declared = DECLARED.findall(f"{element.get('style', '')};{sheet}")
-    return [*element.attrib.items(), *declared]
+    return [*element.attrib.items(), *declared(f"{element.get('style', '')};{sheet_of(element)}")]
 
 
 def fonts_of(root: Element) -> tuple[str, ...]:
@@ -161,21 +176,6 @@ def fonts_of(root: Element) -> tuple[str, ...]:
             if names[0] and names[0].lower() not in GENERAL:
                 fonts[",".join(names)] = None
     return tuple(fonts) if has_words else ()
-
-
-def without_effect(root: Element) -> list[str]:
-    """Returns the names of what would change a drawing in other programs, but does not here."""
-    found: dict[str, None] = {}
-    for element in root.iter():
-        if tag_of(element) == "style" and "@media" in (element.text or ""):
-            found["@media"] = None
-        properties = properties_of(element)
-        is_moved = any(key == "transform" for key, _ in properties)
-        for key, value in properties:
-            is_usual = USUAL.issuperset(value.lower().replace(", ", ",").split())
-            if key in WITHOUT_EFFECT and not is_usual and (is_moved or key != "transform-origin"):
-                found[key] = None
-    return list(found)
 
 
 def check_elements(name: str, root: Element) -> None:
@@ -203,10 +203,11 @@ def check_links(name: str, element: Element) -> None:
         if before.startswith("data:"):
             picture = decoded(data)
             kind = kind_of(name, picture)
+            if kind == "jpeg" and EXIF in picture[:MOST_EXIF]:
+                kind, picture = "png", upright(picture)
             element.set(key, f"data:image/{kind};base64,{b64encode(picture).decode()}")
     values = [value for _, value in properties_of(element)]
-    sheet = element.text or "" if tag_of(element) == "style" else ""
-    if is_outside or any(map(OUTSIDE.search, (*values, sheet))):
+    if is_outside or any(map(OUTSIDE.search, (*values, sheet_of(element)))):
         hint = Text("embed it, in Inkscape by Extensions, Images, Embed Images")
         what = Text("{}: {} is of another file, which is not read", name, tag_of(element))
         raise ToolError(what, hint)
@@ -231,11 +232,19 @@ def kind_of(name: str, picture: bytes) -> str:
         what = Text(
             "{}: a picture is not PNG or JPEG, or has more than {:,} pixels", name, MOST_PIXELS
         )
-        raise ToolError(what, Text("embed a smaller one"))
+        raise ToolError(what, Text("embed it as PNG, or a smaller one"))
     is_ended = PICTURES[kind] in picture[len(picture) // 2 :]
     if not is_ended or not is_loaded(library("GdkPixbuf", "2.0").PixbufLoader(), picture):
         raise ToolError(Text("{}: a picture is not whole", name), Text("embed it anew"))
     return kind
+
+
+def upright(picture: bytes) -> bytes:
+    """Returns a picture as PNG, turned as its camera says: librsvg takes no notice of that."""
+    loader = library("GdkPixbuf", "2.0").PixbufLoader()
+    is_loaded(loader, picture)
+    _, turned = loader.get_pixbuf().apply_embedded_orientation().save_to_bufferv("png", [], [])
+    return bytes(turned)
 
 
 def decoded(letters: str) -> bytes:

@@ -19,7 +19,7 @@ from labeltools.letters import BLANK, Fonts, Letters, Sign, extent_of, font_for,
 from labeltools.lines_file import symbology_and_data
 from labeltools.messages import Place as LinePlace
 from labeltools.messages import Talk, quoted
-from labeltools.own_design import PARTS, OwnDesign, Place, check_shapes, key_of
+from labeltools.own_design import NEAR, PARTS, OwnDesign, Place, check_shapes, key_of
 from labeltools.stock import size_text
 from labeltools.symbologies import SYMBOLOGIES, Symbology
 from labeltools.text import Text
@@ -132,6 +132,15 @@ class Room:
     def high(self) -> int:
         """Its height as it is read."""
         return self.box.width if self.place.quarters % 2 else self.box.height
+
+    @property
+    def is_small(self) -> bool:
+        """Whether its letters are smaller than the least ones, though none so small are wished: it
+        is too low for them, or too narrow for one where a text is cut.
+        """
+        if (self.common + 1) * self.dot < min(LEAST_TEXT, self.place.size or LEAST_TEXT):
+            return True
+        return self.wide < self.least and any(fit.is_cut for fit in self.fits.values())
 
     def largest(self, lines: int) -> int:
         """Returns the largest letters of a number of lines."""
@@ -318,6 +327,7 @@ class OwnLayouts:
         self.own |= frozenset(place.part for place in self.places)
         self.boxes = {place: self.box_of(place) for place in self.places}
         self.boxes_of = cache(self.new_boxes)
+        self.keys: Mapping[Place, str] = {}
 
     def box_of(self, place: Place) -> Box:
         """Returns the dots of a place that the paper takes."""
@@ -332,6 +342,7 @@ class OwnLayouts:
     def lay_out(self, labels: Sequence[PrintLabel], talk: Talk) -> LaidOutFile:
         """Returns labels with their layouts, why others are left out, and what is said of all."""
         values = [values_of(label, self.note, self.own) for label in labels]
+        self.keys = self.keys_of_places(values)
         symbols = self.second_symbols(values, talk)
         rooms = self.rooms(values)
         placed = []
@@ -344,12 +355,19 @@ class OwnLayouts:
                 self.left_out[label.record.number] = problem.reason
             else:
                 placed.append(LaidOut(label, layout))
-        said = tuple(self.said(labels, values))
+        said = tuple(self.said(labels, values, rooms))
         return LaidOutFile(tuple(placed), self.area, self.left_out, said)
+
+    def keys_of_places(self, values: Iterable[Values]) -> Mapping[Place, str]:
+        """Returns the keys of the texts in places: Line-2 is a column where any label has one of
+        that name, or else the second place of Line, on all labels alike.
+        """
+        known = frozenset(key for value in values for key in value.names)
+        return {one: one.key if one.key in known else one.part for one in self.places}
 
     def text_at(self, place: Place, values: Values) -> str:
         """Returns the text of a label in a place."""
-        return values.texts.get(place.key) or values.texts.get(place.part) or ""
+        return values.texts.get(self.keys[place], "")
 
     def rooms(self, values: Iterable[Values]) -> dict[Place, Room]:
         """Returns the rooms of texts."""
@@ -483,17 +501,18 @@ class OwnLayouts:
         return Text("{}: {}", what, hint)
 
     def said(
-        self, labels: Sequence[PrintLabel], values: Sequence[Values]
+        self, labels: Sequence[PrintLabel], values: Sequence[Values], rooms: Mapping[Place, Room]
     ) -> Iterator[tuple[LinePlace, Text]]:
-        """Yields what is said of the design, of parts without a place, and of places for which no
-        label has anything. Raises `ToolError` where a shape that is no rectangle has the name of a
-        column.
+        """Yields what is said of the design, of letters in its places, of parts without a place,
+        and of places for which no label has anything. Raises `ToolError` where a shape that is no
+        rectangle has the name of a column.
         """
         if not labels:
             return
         first = labels[0].record.place
         file = self.design.file
         yield from ((first, text) for text in self.said_of_design())
+        yield from ((first, text) for text in self.said_of_letters(values, rooms))
         names: dict[str, str] = {}
         for value in values:
             for key in value.texts:
@@ -513,6 +532,32 @@ class OwnLayouts:
                 quoted(empty[0].title),
             )
             yield first, Text("{}: no label has anything for {}: {}", file, named, hint)
+
+    def said_of_letters(
+        self, values: Sequence[Values], rooms: Mapping[Place, Room]
+    ) -> Iterator[Text]:
+        """Yields what is said of texts that are over each other, and of small letters."""
+        file = self.design.file
+        for one, other in self.over_each_other([*rooms], values):
+            titles = one.title, other.title
+            what = Text("{}: the places {} and {} have room in common", file, *titles)
+            yield Text("{}: {}", what, Text("a label has a text for each: move them apart"))
+        for place in (place for place, room in rooms.items() if room.is_small):
+            what = Text("{}: the place {} has letters below {} mm", file, place.title, LEAST_TEXT)
+            yield Text("{}: {}", what, ENLARGE)
+
+    def over_each_other(
+        self, places: Sequence[Place], values: Sequence[Values]
+    ) -> Iterator[tuple[Place, Place]]:
+        """Yields places of texts, each with the first one before it that it has room in common
+        with, where a label has a text for both.
+        """
+        for number, place in enumerate(places):
+            for one in places[:number]:
+                both = (self.text_at(one, value) and self.text_at(place, value) for value in values)
+                if one.common(place) > NEAR / 2 and any(both):
+                    yield one, place
+                    break
 
     def said_of_design(self) -> Iterator[Text]:
         """Yields what is said of the design alone: of its places, its drawing and its fonts."""

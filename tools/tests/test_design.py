@@ -19,17 +19,15 @@ from labeltools.messages import Silence, ToolError
 from labeltools.own_design import colour_of
 from labeltools.own_drawing import rectangle
 from labeltools.own_layout import OwnLayout
+from labeltools.pango import library
 from labeltools.print_job import Prepared, PrintOptions, planned
 
 TITLE = '<rect id="title" {}/>' + CODE
 WIDE = 'x="2" y="2" width="56" height="10"'
 ONE: Label = ("code128 A", {"title": "Title"})
-BOMB = "".join(
-    f'<g id="g{number}">' + f'<use href="#g{number - 1}"/>' * 10 + "</g>" for number in range(1, 9)
-)
 PICTURE = '<image x="2" y="2" width="5" height="5" href="data:image/{};base64,{}"/>' + CODE
 NOT_EMBEDDED = "is of another file, which is not read; embed it"
-NOT_PICTURE = "a picture is not PNG or JPEG, or has more than 50,000,000 pixels; embed a smaller"
+NOT_PICTURE = "a picture is not PNG or JPEG, or has more than 50,000,000 pixels; embed it as PNG"
 HIDDEN = "the place title is hidden, or has no size; give it a width and a height, and show its"
 FLOWS = "is not drawn; make it plain text, in Inkscape by Text, Convert to Text"
 
@@ -89,8 +87,8 @@ REFUSED = (
         f'<path d="M0 0H30V20H0Z"/>{TITLE.format(WIDE)}',
         "is light and dark in the place title; lett",
     ),
-    (f'<path id="title" d="M2 2H9"/>{CODE}', "title is a path; draw a rectangle for its place"),
-    (f'<text id="price" x="2" y="9">1</text>{CODE}', "price is a text; draw a rectangle for its"),
+    (f'<path id="title" d="M2 2H9"/>{CODE}', "title is no rectangle (path); draw a rectangle"),
+    (f'<text id="price" x="2" y="9">1</text>{CODE}', "price is no rectangle (text); draw a"),
     (f'<image href="logo.png"/>{CODE}', f"image {NOT_EMBEDDED}"),
     (f'<image href="/etc/logo.png"/>{CODE}', f"image {NOT_EMBEDDED}"),
     (f'<use href="other.svg#logo"/>{CODE}', f"use {NOT_EMBEDDED}"),
@@ -107,10 +105,6 @@ REFUSED = (
     (f"<filter><feDropShadow/></filter>{CODE}", "feDropShadow is not drawn; make it a picture, in"),
     (TITLE.format(WIDE) + '<use href="#title" y="9"/>', "a clone shows the place title; unlink it"),
     (f'<g id="a">{TITLE.format(WIDE)}</g><use href="#a"/>', "a clone shows the place title; unli"),
-    (
-        f'<defs><g id="g0"><path d="M0 0h1"/></g>{BOMB}</defs><use href="#g8"/>{CODE}',
-        "cannot be drawn",
-    ),
     ("<g>" * 201 + "</g>" * 201 + CODE, "elements are more than 200 deep in one another"),
     ("<g>" * 100_000 + "</g>" * 100_000 + CODE, "elements are more than 200 deep in one another"),
     (f"<!--{'x' * 8_000_000}-->{CODE}", "has more than 8 MB; make its pictures smaller"),
@@ -183,6 +177,14 @@ FILES = (
         b'<?xml-stylesheet href="a.css"?><svg/>',
         "its style sheet is another file, which is not read",
     ),
+    (
+        "<svg>Größe</svg>".encode("latin-1"),
+        "has entities, or is not in UTF-8; save it as plain",
+    ),
+    (
+        b'<?xml version="1.0" encoding="GB2312"?><svg>\xbb\xf5</svg>',
+        "has entities, or is not in UTF-8; save it as plain",
+    ),
     (b"\x1f\x8b\x08\x00" + bytes(9), "has entities, or is not in UTF-8; save it as plain SVG"),
 )
 
@@ -233,7 +235,7 @@ class Refused(OwnPages):
         """It would be drawn as it is on each label: the same seat on each ticket."""
         body = f'<text id="Seat" x="2" y="9" font-size="4">12</text>{CODE}'
         self.assertEqual(len(self.found(body).labels), 1)
-        with self.assertRaisesRegex(ToolError, "seat is a text"):
+        with self.assertRaisesRegex(ToolError, r"seat is no rectangle \(text\)"):
             self.found(body, [("code128 A", {"text": {"Seat": "7"}})])
 
     def test_files_that_are_no_svg(self) -> None:
@@ -357,6 +359,21 @@ class Names(OwnPages):
         texts = ["Am Hang 1", "Hinterhaus", "7", "Am Hang 2", "8"]
         self.assertEqual([text.text for text in texts_of(found)], texts)
 
+    def test_a_column_with_a_hyphen_is_no_second_place(self) -> None:
+        """Where a label has nothing for Line-2, Line is not there twice."""
+        rects = [
+            f'<rect id="{name}" x="2" y="{2 + 6 * number}" width="56" height="5"/>'
+            for number, name in enumerate(("Line", "Line-2"))
+        ]
+        for other in ({"Line": "Am Hang 2"}, {"Line": "Am Hang 2", "Line-2": ""}):
+            labels = [
+                ("code128 A", {"text": {"Line": "Am Hang 1", "Line-2": "Hinterhaus"}}),
+                ("code128 B", {"text": other}),
+            ]
+            found = self.found("".join(rects) + CODE, labels)
+            texts = ["Am Hang 1", "Hinterhaus", "Am Hang 2"]
+            self.assertEqual([text.text for text in texts_of(found)], texts)
+
     def test_a_column_is_never_taken_for_a_part(self) -> None:
         place = f'<rect id="price" {WIDE}/>{CODE}'
         found = self.found(place, [("code128 A", {"text": {"Price": "cheap"}})])
@@ -430,6 +447,16 @@ class Texts(OwnPages):
             edges = (top - 4, 36 - right, 16 - bottom, left - 24)
             self.assertAlmostEqual(edges[quarters], 0, delta=0.3)
 
+    def test_places_in_large_units(self) -> None:
+        """Their own lengths are small numbers, as metres are."""
+        page = 'width="60mm" height="40mm" viewBox="0 0 .06 .04"'
+        body = '<rect id="code" x=".002" y=".02" width=".056" height=".018"/>'
+        body += (
+            '<g transform="scale(1e-3)"><rect id="title" x="2" y="2" width="56" height="10"/></g>'
+        )
+        usual = self.ink(self.found(TITLE.format(WIDE)))
+        self.assertEqual(self.ink(self.found(body, page=page)), usual)
+
     def test_mirrored_places_are_upright(self) -> None:
         """Drawings of programs whose axis points upwards are mirrored."""
         for scale in ("-1 1", "1 -1"):
@@ -438,6 +465,30 @@ class Texts(OwnPages):
             )
             (text,) = texts_of(self.found(f'<rect id="title" {box}/>{CODE}'))
             self.assertEqual(text.place.quarters, 0)
+
+    def test_small_letters_are_said(self) -> None:
+        place = '<rect data-place="title{}" x="2" y="2" width="{}" height="{}"/>' + CODE
+        said = [": the place title has letters below 1.8 mm: enlarge it"]
+        for box in (("", 40, 0.5), ("", 0.5, 12), (", size=3", 40, 0.9)):
+            self.assertEqual(self.said(self.found(place.format(*box))), said, box)
+        for box in (("", 40, 1.8), (", size=1.2", 40, 1.2)):
+            self.assertEqual(self.said(self.found(place.format(*box))), [], box)
+
+    def test_texts_that_are_over_each_other_are_said(self) -> None:
+        body = (
+            '<rect id="title" x="2" y="2" width="56" height="8"/>'
+            '<rect id="price" x="2" y="{}" width="56" height="8"/>' + CODE
+        )
+        both = {"title": "a", "price": "1 €"}
+        hint = "a label has a text for each: move them apart"
+        said = [f": the places title and price have room in common: {hint}"]
+        either = [("code128 A", {"title": "a"}), ("code128 B", {"price": "1 €"})]
+        for top, labels, wanted in (
+            (9, [("code128 A", both)], said),
+            (9, either, []),
+            (9.8, [("code128 A", both)], []),
+        ):
+            self.assertEqual(self.said(self.found(body.format(top), labels)), wanted)
 
     def test_a_long_text_wraps_then_shrinks_then_is_cut(self) -> None:
         place = '<rect data-place="title{}" x="2" y="2" width="20" height="9"/>' + CODE
@@ -570,7 +621,6 @@ class Drawings(OwnPages):
             ('<text textLength="9" x="2" y="9" font-size="4">a</text>', "textLength"),
             ('<path style="vector-effect:non-scaling-stroke" d="M2 2H9"/>', "vector-effect"),
             ("<style>path{dominant-baseline: middle}</style>", "dominant-baseline"),
-            ("<style>@media print {path {fill: red}}</style>", "@media"),
             (
                 '<path transform="rotate(90)" transform-origin="30 9" d="M2 2H9"/>',
                 "transform-origin",
@@ -626,6 +676,21 @@ class Drawings(OwnPages):
             found = self.found(PICTURE.format(kind, data))
             for end, wanted in zip(self.ink(found), (2, 7, 2, 7)):
                 self.assertAlmostEqual(end, wanted, delta=0.13)
+
+    def test_a_picture_is_turned_as_its_camera_says(self) -> None:
+        """Its left half is black, and the left side of the file is the upper one (Exif, 6)."""
+        pixbuf = library("GdkPixbuf", "2.0").Pixbuf
+        row = bytes(3 * 32) + b"\xff" * 3 * 32
+        dots = library("GLib", "2.0").Bytes.new(row * 32)
+        plain = pixbuf.new_from_bytes(dots, 0, False, 8, 64, 32, len(row))
+        _, jpeg = plain.save_to_bufferv("jpeg", ["quality"], ["100"])
+        turn = b"Exif\0\0MM\0*\0\0\0\x08\0\x01\x01\x12\0\x03\0\0\0\x01\0\x06\0\0\0\0\0\0"
+        segment = b"\xff\xe1" + struct.pack(">H", len(turn) + 2) + turn
+        for exif, box in ((b"", 'width="16" height="8"'), (segment, 'width="8" height="16"')):
+            data = base64.b64encode(jpeg[:2] + exif + jpeg[2:]).decode()
+            body = PICTURE.format("jpeg", data).replace('width="5" height="5"', box)
+            for end, wanted in zip(self.ink(self.found(body)), (2, 10, 2, 10)):
+                self.assertAlmostEqual(end, wanted, delta=0.2)
 
     def test_a_page_of_an_old_inkscape(self) -> None:
         """Its lengths without a unit are of 90 dpi."""
