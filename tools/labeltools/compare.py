@@ -10,7 +10,7 @@ Where a symbol differs, what the library reads in its place is said, if it is a 
 """
 
 from bisect import bisect_left
-from dataclasses import dataclass, field
+from dataclasses import dataclass
 from functools import cache, lru_cache
 from itertools import groupby, islice
 from operator import itemgetter, mul
@@ -18,7 +18,7 @@ from typing import Any, Iterable, Iterator, NamedTuple, Optional, Sequence
 
 from labeltools.area import Plan
 from labeltools.decode import Dots, NotDecoded, dots_of, rows_in, rows_reader
-from labeltools.drawn_codes import DrawnCode, DrawnPage, Ink, is_at
+from labeltools.drawn_codes import EVERYWHERE, NO_ROOM, DrawnCode, DrawnPage, Ink, is_at
 from labeltools.drawn_pdf import pages_of_pdf
 from labeltools.drawn_svg import page_of_svg
 from labeltools.engine import LABELS_FAILED, Engine, Refused, bytes_a_row, library
@@ -32,7 +32,6 @@ from labeltools.pen import bits_of
 from labeltools.text import Text
 
 Labels = Sequence[tuple[LaidOut, tuple[int, int]]]
-Inks = tuple[Ink, ...]
 Symbols = Sequence[tuple["Wanted", LineRecord]]
 LONGER = 5  # modules by which guards are longer (GS1 General Specifications, 5.2)
 # modules of the longer bars, from the first bar on: ISO/IEC 15420
@@ -91,7 +90,7 @@ class Geometry:
     """Where a symbol has to be on a page: its bars, its longer guards with their first and last
     modules, and the picture of both; the quarters by which it is turned; the dots of a module; as
     it is read its modules from left to right, the dots of its bars from top to bottom, and those
-    of each of its rows and of what guards are longer. `clear` is ink that is known not to meet it.
+    of each of its rows and of what guards are longer.
     """
 
     bars: Box
@@ -102,7 +101,6 @@ class Geometry:
     wide: int
     high: int
     bands: tuple[int, ...]
-    clear: set[Ink] = field(default_factory=set)
 
     @property
     def is_linear(self) -> bool:
@@ -111,15 +109,9 @@ class Geometry:
 
     def is_met_by(self, ink: Ink) -> bool:
         """Returns whether ink meets it."""
-        if ink in self.clear:
+        if not ink.meets(self.picture):
             return False
-        if ink.meets(self.picture):
-            if ink.meets(self.bars) or any(ink.meets(box) for box, _ in self.guards):
-                return True
-        if len(self.clear) > KNOWN:
-            self.clear.clear()
-        self.clear.add(ink)
-        return False
+        return ink.meets(self.bars) or any(ink.meets(box) for box, _ in self.guards)
 
 
 class Wanted(NamedTuple):
@@ -152,9 +144,7 @@ class ReadPage(NamedTuple):
 
 
 class Regions:
-    """The symbols of a page by where they are, so that few are looked at for some ink; `clear` is
-    ink that is known to meet none of them.
-    """
+    """The symbols of a page by where they are, so that few are looked at for some ink."""
 
     def __init__(self, places: Sequence[Geometry]) -> None:
         found: dict[tuple[int, int], list[Geometry]] = {}
@@ -163,7 +153,6 @@ class Regions:
             found.setdefault((box.top, box.bottom), []).append(place)
         self.rows = [(*span, sorted(row, key=left_of)) for span, row in found.items()]
         self.wide = max([place.picture.width for place in places], default=0)
-        self.clear: set[Inks] = set()
 
     def met_by(self, ink: Ink) -> Optional[Geometry]:
         """Returns a symbol that ink of letters, lines or pictures meets, if there is one."""
@@ -179,16 +168,27 @@ class Regions:
                     return place
         return None
 
-    def is_clear_of(self, inks: Inks) -> bool:
-        """Returns whether ink meets no symbol."""
-        if inks in self.clear:
-            return True
-        if any(map(self.met_by, inks)):
-            return False
-        if len(self.clear) > KNOWN:
-            self.clear.clear()
-        self.clear.add(inks)
-        return True
+    def are_clear_of(self, inks: Iterable[Ink]) -> bool:
+        """Returns whether ink meets none of them."""
+        return not any(map(self.met_by, inks))
+
+    def room_at(self, place: float, upper: float, lower: float) -> tuple[float, float]:
+        """Returns from where to where ink meets no symbol that is so high on the page, which it has
+        on both sides of a place.
+        """
+        first, last = EVERYWHERE
+        for top, bottom, row in self.rows:
+            if upper >= bottom or lower <= top:
+                continue
+            for symbol in row:
+                box = symbol.picture
+                if box.right <= place:
+                    first = max(first, box.right)
+                elif box.left >= place:
+                    last = min(last, box.left)
+                else:
+                    return NO_ROOM
+        return first, last
 
 
 def left_of(place: Geometry) -> int:
@@ -441,17 +441,18 @@ class CodesOfPage:
     def taken(self, box: Box, quarters: int) -> Optional[DrawnCode]:
         """Returns the picture that fills a box, and takes it away."""
         for number, code in enumerate(self.page.codes):
-            if is_at(code.corners, box, quarters):
+            if is_at(code.frame, box, quarters):
                 return self.page.codes.pop(number)
         return None
 
     def check_rest(self, symbols: Regions) -> None:
         """Raises `Different` where something is drawn over a symbol, or a picture is left."""
-        for letters in self.page.letters:
-            if not symbols.is_clear_of(letters.rough):
-                check_inks(letters.inks(), symbols, self.dot)
-        check_inks(self.page.inks + [code.ink for code in self.page.codes], symbols, self.dot)
+        for place, letters in self.page.letters:
+            if not place.is_clear_of(symbols, letters):
+                check_inks(place.inks(letters), symbols, self.dot)
+        check_inks(self.page.inks, symbols, self.dot)
         if self.page.codes:
+            check_inks([code.frame.ink for code in self.page.codes], symbols, self.dot)
             raise Different(Text("a page goes out with a code of no label"))
 
 

@@ -584,10 +584,10 @@ class Read(unittest.TestCase):
             {"width": code.width - 1},
             {"height": code.height - 1},
             {"modules": code.modules[:-1]},
-            {"corners": tuple((x + 0.5, y) for x, y in code.corners)},
+            {"frame": replace(code.frame, corners=[(x + 0.5, y) for x, y in code.frame.corners])},
         )
         for change in changes:
-            page.codes = [replace(code, **change)]
+            page.codes = [code._replace(**change)]
             with self.subTest(change=change), self.assertRaises(compare.Different):
                 compare.CodesOfPage(page, 0.125).check(wanted)
         page.codes = [code]
@@ -666,11 +666,12 @@ class Read(unittest.TestCase):
         """Rough ink has all of the exact one in it, whatever the letters are."""
         font = Font({48: Reach(0.6, 0.1, 0.2, 0.0, 0.7), 49: Reach(0.6, 0.15, 0.05, -0.1, 0.6)}, 1)
         for shown in (b"(01)Tj", b"(10)Tj"):
-            self.assert_near(font.rough(shown), [(0.05, -0.1, 1.15, 0.7)])
+            self.assert_near(font.rough(font.shape(shown)).extents, [(0.05, -0.1, 1.15, 0.7)])
         (ink,) = font.extents(b"(01)Tj")
         self.assert_near([ink], [(0.1, -0.1, 1.15, 0.7)])
-        apart = font.rough(b"[(0)-600(11)]TJ")
-        self.assert_near(apart, [(0.05, -0.1, 0.55, 0.7), (1.25, -0.1, 2.35, 0.7)])
+        apart = font.rough(font.shape(b"(0)-600(11)"))
+        self.assert_near(apart.extents, [(0.05, -0.1, 0.55, 0.7), (1.25, -0.1, 2.35, 0.7)])
+        self.assertEqual(font.shape(b"(0)-600(11)"), font.shape(b"(1)-600(10)"))
 
     def assert_near(self, extents: Sequence[Extent], wanted: Sequence[Sequence[float]]) -> None:
         """Extents are those that are wanted, but for their rounding."""
