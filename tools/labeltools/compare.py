@@ -12,9 +12,9 @@ Where a symbol differs, what the library reads in its place is said, if it is a 
 from bisect import bisect_left
 from dataclasses import dataclass
 from functools import cache, lru_cache
-from itertools import groupby, islice
-from operator import itemgetter, mul
-from typing import Any, Iterable, Iterator, NamedTuple, Optional, Sequence
+from itertools import islice
+from operator import mul
+from typing import Any, Iterable, Iterator, Mapping, NamedTuple, Optional, Sequence
 
 from labeltools.area import Plan
 from labeltools.decode import Dots, NotDecoded, dots_of, rows_in, rows_reader
@@ -388,23 +388,21 @@ class DotsOfPage:
         is_across = 0 <= box.left and box.right <= self.dots.width
         if not is_across or not 0 <= box.top <= box.bottom <= self.dots.height:
             raise Different(Text("its code leaves the page"))
-        rows = iter(rows_of_symbol(wanted))
-        for band in bands_of(wanted.place):
-            dots = b"".join([row * high for row, high in islice(rows, band.rows)])
-            found = self.found(band)
+        for part, dots in parts_of_symbol(wanted):
+            found = self.found(part)
             if found == dots:
                 continue
-            other = (number_of(found) ^ number_of(dots)) & band.mask
+            other = (number_of(found) ^ number_of(dots)) & part.mask
             if other:
-                down, bit = divmod(8 * len(dots) - other.bit_length(), 8 * band.size)
-                across, down = 8 * band.first + bit, band.top + down
+                down, bit = divmod(8 * len(dots) - other.bit_length(), 8 * part.size)
+                across, down = 8 * part.first + bit, part.top + down
                 raise Different(self.said(wanted, across * self.dot, down * self.dot))
 
-    def found(self, band: "Band") -> bytes:
-        """Returns the dots of a page where a band is."""
-        behind = self.dots.stride - band.first - band.size
-        read = rows_reader(band.first, band.size, behind, band.high)
-        return b"".join(read(self.dots.packed, band.top * self.dots.stride))
+    def found(self, part: "Part") -> bytes:
+        """Returns the dots of a page where a part of a symbol is."""
+        behind = self.dots.stride - part.first - part.size
+        read = rows_reader(part.first, part.size, behind, part.high)
+        return b"".join(read(self.dots.packed, part.top * self.dots.stride))
 
     def said(self, wanted: Wanted, across: float, down: float) -> Text:
         """Returns where a symbol is wrong, and what is read in its place."""
@@ -553,45 +551,100 @@ def data_in(rows: Sequence[str], scale: int) -> Optional[bytes]:
     return next((data for data in found if data is not None), None)
 
 
-class Band(NamedTuple):
-    """Rows of a symbol on a page of which the same dots are looked at: how many rows of modules, or
-    if it is turned columns, they are; its first row of dots and their number; its first byte in
-    them and how many these are; which of these dots are looked at, as a number.
+class Part(NamedTuple):
+    """A part of the picture of a symbol on a page: its first row of dots and their number; its
+    first byte in them and how many these are; which of these dots are looked at, as a number; of
+    bars that are turned what a light and a dark module are in it, by their digits.
     """
 
-    rows: int
     top: int
     high: int
     first: int
     size: int
     mask: int
+    dots: Mapping[str, bytes]
 
 
 @lru_cache(KNOWN)
-def bands_of(place: Geometry) -> list[Band]:
-    """Returns the bands of a symbol, from top to bottom: all of its dots are looked at, but those
-    between longer guards.
+def parts_of(place: Geometry) -> tuple[Part, ...]:
+    """Returns the parts of the picture of a symbol. All of its dots are looked at, but those
+    between longer guards, where digits may be: so these are parts of their own, rows of dots or, if
+    it is turned, columns of bytes.
     """
+    box = place.picture
     rows = ["1" * place.wide] * len(place.bands)
     if place.guards:
         guards = list("0" * place.wide)
         for _, (first, last) in place.guards:
             guards[first:last] = "1" * (last - first)
         rows[1] = "".join(guards)
-    bands = []
-    top = place.picture.top
-    for mask, group in groupby(packed_rows(rows, place), key=itemgetter(0)):
-        highs = [high for _, high in group]
-        high = sum(highs)
-        where = (top, high, place.picture.left // 8, len(mask))
-        bands.append(Band(len(highs), *where, number_of(mask * high)))
-        top += high
-    return bands
+    packed = packed_rows(rows, place)
+    if place.quarters % 2 and place.is_linear:
+        masks = [row for row, high in packed for _ in range(high)]
+        return tuple(part_in_columns(place, masks, *columns) for columns in columns_of(place))
+    if not place.is_linear:
+        packed = [(b"".join([row * high for row, high in packed]), 1)]
+    first = box.left // 8
+    size = bytes_a_row(box.right) - first
+    found = []
+    top = box.top
+    for row, high in packed:
+        mask = row * high
+        found.append(Part(top, len(mask) // size, first, size, number_of(mask), {}))
+        top += len(mask) // size
+    return tuple(found)
+
+
+def columns_of(place: Geometry) -> Sequence[tuple[int, int]]:
+    """Returns the first and the last columns of bytes, from that of the picture on, of the parts of
+    bars that are turned: those in which are bars alone, and those with longer guards.
+    """
+    box, bars = place.picture, place.bars
+    left = box.left // 8
+    first, last = 0, bytes_a_row(box.right) - left
+    if bars.right < box.right:
+        between = bars.right // 8 - left
+        return (first, between), (between, last)
+    if box.left < bars.left:
+        between = bytes_a_row(bars.left) - left
+        return (first, between), (between, last)
+    return ((first, last),)
+
+
+def part_in_columns(place: Geometry, masks: Sequence[bytes], first: int, last: int) -> Part:
+    """Returns a part of bars that are turned, with these masks of their rows."""
+    dots = {}
+    for module in "01":
+        ((row, high), *_) = packed_rows([module * place.wide] * 2, place)
+        dots[module] = row[first:last] * high
+    box = place.picture
+    mask = number_of(b"".join([row[first:last] for row in masks]))
+    return Part(box.top, box.height, box.left // 8 + first, last - first, mask, dots)
+
+
+def parts_of_symbol(wanted: Wanted) -> Iterator[tuple[Part, bytes]]:
+    """Yields the parts of a symbol on a page, each with the dots that it has to have."""
+    symbol, place = wanted
+    parts = parts_of(place)
+    if symbol.rows > 1:
+        yield parts[0], b"".join([row * high for row, high in rows_of_symbol(wanted)])
+        return
+    left, right, _ = ZONES[symbol.symbology]
+    digits = symbol.modules.translate(DIGITS).decode("ascii")
+    digits = "0" * left + digits + "0" * right
+    if place.quarters % 2:
+        digits = digits if place.quarters == 1 else digits[::-1]
+        for part in parts:
+            yield part, b"".join(map(part.dots.__getitem__, digits))
+        return
+    row, _ = packed_rows([digits], place)[0]
+    for part in parts:
+        yield part, row * part.high
 
 
 def rows_of_symbol(wanted: Wanted) -> list[tuple[bytes, int]]:
-    """Returns the dots of a symbol as it is on a page: each of its rows in the bytes that its
-    picture touches, with how many rows of dots are so.
+    """Returns the dots of a symbol of many rows as it is on a page: each of its rows in the bytes
+    that its picture touches, with how many rows of dots are so.
     """
     symbol, place = wanted
     digits = symbol.modules.translate(DIGITS).decode("ascii")
@@ -601,13 +654,13 @@ def rows_of_symbol(wanted: Wanted) -> list[tuple[bytes, int]]:
     starts = range(0, len(digits), symbol.width)
     rows = [before + digits[start : start + symbol.width] + behind for start in starts]
     blank = ["0" * place.wide] * above
-    return packed_rows([*blank, *rows, *blank] if symbol.rows > 1 else rows * 2, place)
+    return packed_rows([*blank, *rows, *blank], place)
 
 
 def packed_rows(rows: Sequence[str], place: Geometry) -> list[tuple[bytes, int]]:
     """Returns rows of modules as they are on a page, as `rows_of_symbol` does."""
     box = place.picture
-    size = (box.right + 7) // 8 - box.left // 8
+    size = bytes_a_row(box.right) - box.left // 8
     behind = -box.right % 8
     lines, highs, wides = rows, place.bands, place.bands[::-1]
     if place.quarters % 2:

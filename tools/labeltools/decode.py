@@ -178,10 +178,10 @@ class Field(NamedTuple):
     def meets(self, others: Iterable["Field"]) -> bool:
         """Returns whether one of some other fields has a byte in common with this one."""
         left, top, right, bottom = self
-        return any(
-            top < its_bottom and left < its_right and its_left < right and its_top < bottom
-            for its_left, its_top, its_right, its_bottom in others
-        )
+        for its_left, its_top, its_right, its_bottom in others:
+            if top < its_bottom and left < its_right and its_left < right and its_top < bottom:
+                return True
+        return False
 
 
 @lru_cache(KNOWN)
