@@ -11,7 +11,7 @@ Where a symbol differs, what the library reads in its place is said, if it is a 
 
 from bisect import bisect_left
 from dataclasses import dataclass
-from functools import cache, lru_cache
+from functools import cache, cached_property, lru_cache
 from itertools import islice
 from operator import mul
 from typing import Any, Iterable, Iterator, Mapping, NamedTuple, Optional, Sequence
@@ -102,10 +102,16 @@ class Geometry:
     high: int
     bands: tuple[int, ...]
 
-    @property
+    @cached_property
     def is_linear(self) -> bool:
         """Whether its rows are bars and, below them, longer guards."""
         return len(self.bands) == 2
+
+    @cached_property
+    def modules(self) -> tuple[int, int]:
+        """How many modules it has across and down as it is read, with longer guards."""
+        longer = LONGER if self.guards else 0
+        return self.wide, self.high // self.scale + longer
 
     def is_met_by(self, ink: Ink) -> bool:
         """Returns whether ink meets it."""
@@ -272,13 +278,13 @@ class Comparison:
         """Raises `ToolError` where something is drawn over a symbol, or a page in dots is not that
         which was drawn.
         """
-        records = {wanted.place: record for wanted, record in symbols}
+        places = tuple([wanted.place for wanted, _ in symbols])
         try:
-            page.found.check_rest(self.regions(tuple(records)))
+            page.found.check_rest(self.regions(places))
             if page.drawn is not None and isinstance(page.found, DotsOfPage):
                 self.check_drawn(page.found.dots, page.drawn, page.labels)
         except Different as error:
-            of_place = records.get(error.place) if error.place else None
+            of_place = next((its for wanted, its in symbols if wanted.place is error.place), None)
             raise fault(error.what, error.record or of_place or page.alone) from error
 
     def check_size(self, dots: Dots, copies: int) -> None:
@@ -319,7 +325,7 @@ class Comparison:
     def wanted(self, spot: Spot, at: tuple[int, int]) -> Wanted:
         """Returns what has to be on a page for a symbol of a label whose area is at a place."""
         symbol = self.code(spot)
-        key = (*spot[3:], at, symbol.symbology, symbol.width, symbol.rows)
+        key = (spot[3:], at, symbol.symbology, symbol.width, symbol.rows)
         place = self.known.get(key)
         if place is None:
             if len(self.known) >= KNOWN:
@@ -427,19 +433,18 @@ class CodesOfPage:
     def check(self, wanted: Wanted) -> None:
         """Takes the picture of a symbol; raises `Different` where none is its own."""
         place = wanted.place
-        code = self.taken(place.picture, place.quarters)
+        code = self.taken(place)
         modules = modules_of(wanted)
-        size = (place.wide, len(modules) // bytes_a_row(place.wide))
-        if code is None or code.modules != modules or (code.width, code.height) != size:
+        if code is None or code.modules != modules or (code.width, code.height) != place.modules:
             rows = rows_in(code.modules, bytes_a_row(code.width)) if code else ()
             bars = [bits_of(row)[: place.wide] for row in rows[: place.high // place.scale]]
             across, down = place.picture.left * self.dot, place.picture.top * self.dot
             raise Different(said(across, down, bars, 1))
 
-    def taken(self, box: Box, quarters: int) -> Optional[DrawnCode]:
-        """Returns the picture that fills a box, and takes it away."""
+    def taken(self, place: Geometry) -> Optional[DrawnCode]:
+        """Returns the picture of a symbol at a place, and takes it away."""
         for number, code in enumerate(self.page.codes):
-            if is_at(code.frame, box, quarters):
+            if is_at(code.frame, place.picture, place.quarters):
                 return self.page.codes.pop(number)
         return None
 
@@ -698,12 +703,12 @@ def number_of(packed: bytes) -> int:
 
 def modules_of(wanted: Wanted) -> bytes:
     """Returns the modules of the picture of a symbol in rows of whole bytes, as it is read."""
-    symbol = wanted.symbol
+    symbol, place = wanted
     packed: bytes = symbol.packed(quiet_zones=True)
-    if symbol.rows > 1:
+    if not place.is_linear:
         return packed
-    rows = packed * (wanted.place.high // wanted.place.scale)
-    if not wanted.place.guards:
+    rows = packed * (place.high // place.scale)
+    if not place.guards:
         return rows
     mask = guard_mask(symbol.symbology, 8 * len(packed))
     guard = (int.from_bytes(packed, "big") & mask).to_bytes(len(packed), "big")

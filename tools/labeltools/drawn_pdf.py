@@ -7,7 +7,7 @@ its pictures and letters, and what is between them is read once for each place w
 import re
 import zlib
 from dataclasses import dataclass, field
-from functools import cached_property
+from functools import cached_property, lru_cache
 from typing import Any, Callable, Iterable, Iterator, Mapping, NamedTuple, Optional, Sequence
 
 from labeltools.decode import NotDecoded
@@ -52,6 +52,8 @@ TABLE = re.compile(rb"xref\s+0 ([0-9]+)\s+")
 ENTRY = 20  # bytes of an object in the table
 STREAM = b"stream\n"
 END_OF_STREAM = b"\nendstream"
+LENGTH_END = b" R\n"  # of the length of a stream, which is an object, right at the begin
+LENGTH_WITHIN = 64  # bytes
 END = b"endobj"
 KNOWN = 4096  # places of pages that are kept, and what differs behind each of them
 
@@ -75,31 +77,6 @@ class Around(NamedTuple):
     line: Matrix = PLAIN
     is_begun: bool = False
     font: Optional[Font] = None
-
-
-@dataclass(eq=False)
-class Place:
-    """A place in the content of pages: what is around it, and the ink of the paths right before it.
-    Pages go on from it to places that are known by the bytes between.
-    """
-
-    around: Around
-    inks: tuple[Ink, ...]
-    known: dict[bytes, "Place"] = field(default_factory=dict)
-
-    @cached_property
-    def frame(self) -> Frame:
-        """Where a picture is that is drawn here."""
-        matrix = self.around.matrix
-        corners = tuple(matrix.of(x, y) for x, y in ((0, 1), (1, 1), (0, 0)))
-        return Frame(corners, matrix.ink(0, 0, 1, 1))
-
-    @cached_property
-    def letters(self) -> "PlaceOfLetters":
-        """Where letters are that begin here; raises `ValueError` where they have no font."""
-        if self.around.font is None:
-            raise ValueError("letters without a font")
-        return PlaceOfLetters(self.around.line, self.around.font)
 
 
 @dataclass(eq=False)
@@ -162,6 +139,28 @@ class PlaceOfLetters:
         return self.matrix.moved(self.font.advance(letters), 0)
 
 
+class Place:
+    """A place in the content of pages: what is around it, and the ink of the paths right before it;
+    where letters are that begin here. Pages go on from it to places that are known by the bytes
+    between.
+    """
+
+    def __init__(self, around: Around, inks: tuple[Ink, ...]) -> None:
+        self.around = around
+        self.inks = inks
+        self.letters: Optional[PlaceOfLetters] = None
+        if around.is_begun and around.font is not None:
+            self.letters = PlaceOfLetters(around.line, around.font)
+        self.known: dict[bytes, Place] = {}
+
+    @cached_property
+    def frame(self) -> Frame:
+        """Where a picture is that is drawn here."""
+        matrix = self.around.matrix
+        corners = tuple(matrix.of(x, y) for x, y in ((0, 1), (1, 1), (0, 0)))
+        return Frame(corners, matrix.ink(0, 0, 1, 1))
+
+
 class Pdf:
     """A PDF whose objects are found by its table."""
 
@@ -218,12 +217,14 @@ class Pdf:
 
     def picture(self, number: int) -> Optional[Picture]:
         """Returns the picture that an object is; None where it is another thing."""
-        mask = MASK.match(self.data, self.start(number))
-        if mask is None:
+        data = self.data
+        start = self.start(number)
+        start = data.index(LENGTH_END, start, start + LENGTH_WITHIN)
+        begin = data.index(STREAM, start) + len(STREAM)
+        size = size_of_mask(data[start:begin])
+        if size is None:
             return None
-        begin = mask.end()
-        packed = self.data[begin : self.data.index(END_OF_STREAM, begin)]
-        return Picture(int(mask[1]), int(mask[2]), zlib.decompress(packed))
+        return Picture(*size, zlib.decompress(data[begin : data.index(END_OF_STREAM, begin)]))
 
     def new_form(self, number: int) -> tuple[float, float, float, float]:
         """Returns in which rectangle an object draws."""
@@ -234,11 +235,31 @@ class Pdf:
         return left, top, right, bottom
 
 
+@lru_cache(KNOWN)
+def size_of_mask(head: bytes) -> Optional[tuple[int, int]]:
+    """Returns how many modules a picture of one bit a pixel has across and down, by what its object
+    says behind its length; None where it is another thing.
+    """
+    mask = MASK.match(head)
+    return (int(mask[1]), int(mask[2])) if mask else None
+
+
 def one_string(plain: Optional[bytes], coded: Optional[bytes]) -> Optional[bytes]:
     """Returns a string that is shown, with its brackets; None where none is."""
     if plain is not None:
         return b"(%b)" % plain
     return b"<%b>" % coded if coded else None
+
+
+def behind(place: Place, shown: Sequence[tuple[PlaceOfLetters, bytes]]) -> PlaceOfLetters:
+    """Returns where letters are that follow others; raises `ValueError` where none are before them,
+    and where they have no font.
+    """
+    font = place.around.font
+    if not shown or font is None:
+        raise ValueError("letters without a place or a font")
+    before, letters = shown[-1]
+    return PlaceOfLetters(before.behind(letters), font)
 
 
 class Reader:
@@ -272,16 +293,8 @@ class Reader:
                 continue
             letters = several or one_string(plain, coded)
             if letters:
-                is_begun = place.around.is_begun
-                shown.append((place.letters if is_begun else self.behind(place, shown), letters))
+                shown.append((place.letters or behind(place, shown), letters))
         return found
-
-    def behind(self, place: Place, shown: Sequence[tuple[PlaceOfLetters, bytes]]) -> PlaceOfLetters:
-        """Returns where letters begin that are behind others; raises `LookupError` where none are
-        before them.
-        """
-        before, letters = shown[-1]
-        return PlaceOfLetters(before.behind(letters), place.letters.font)
 
     def place(self, around: Around, inks: tuple[Ink, ...]) -> Place:
         """Returns a place of pages, the same one where the same is around it."""
