@@ -19,7 +19,7 @@ from typing import Any, Iterable, Iterator, Mapping, NamedTuple, Optional, Seque
 from labeltools.area import Plan
 from labeltools.decode import Dots, NotDecoded, dots_of, rows_in, rows_reader
 from labeltools.drawn_codes import EVERYWHERE, NO_ROOM, DrawnCode, DrawnPage, Ink, is_at
-from labeltools.drawn_pdf import pages_of_pdf
+from labeltools.drawn_pdf import Places
 from labeltools.drawn_svg import page_of_svg
 from labeltools.engine import LABELS_FAILED, Engine, Refused, bytes_a_row, library
 from labeltools.frames import Box
@@ -220,6 +220,7 @@ class Comparison:
         area = plan.area.turned() if is_turned else plan.area
         self.area = Box(0, 0, area.width, area.height)
         self.cells = dict(zip(plan.places, plan.sheet.places))
+        self.places = Places(plan.dpi)
         self.known: dict[tuple[object, ...], Geometry] = {}
         self.regions = lru_cache(PAGES)(Regions)
 
@@ -253,7 +254,7 @@ class Comparison:
         """Yields the pages of a document; raises `Different`, and `NotDecoded`."""
         dot = self.plan.dot
         if self.form == "pdf":
-            for page in pages_of_pdf(document.data, self.plan.dpi, len(document.pages)):
+            for page in self.places.pages(document.data, len(document.pages)):
                 yield CodesOfPage(page, dot)
         elif self.form == "svg":
             drawing = page_of_svg(document.data, self.plan.dpi, self.plan.page)

@@ -285,7 +285,7 @@ class Segments:
         self.start = start + 16 + 3 * double
         self.lasts = struct.unpack_from(row, table, start + 14)
         self.firsts = struct.unpack_from(row, table, start + 16 + double)
-        self.deltas = struct.unpack_from(row, table, start + 16 + 2 * double)
+        self.deltas: tuple[int, ...] = struct.unpack_from(row, table, start + 16 + 2 * double)
         self.offsets = struct.unpack_from(row, table, self.start)
 
     def glyph(self, letter: int) -> int:

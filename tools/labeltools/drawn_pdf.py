@@ -69,14 +69,14 @@ class Picture(NamedTuple):
 class Around(NamedTuple):
     """What is around a part of a page: the matrix that takes it to dots, and those that are kept;
     the line of text that was begun last, to dots; whether letters that follow begin it, or else are
-    behind those before; their font.
+    behind those before; the name of their font.
     """
 
     matrix: Matrix
     kept: tuple[Matrix, ...] = ()
     line: Matrix = PLAIN
     is_begun: bool = False
-    font: Optional[Font] = None
+    font: bytes = b""
 
 
 @dataclass(eq=False)
@@ -139,35 +139,12 @@ class PlaceOfLetters:
         return self.matrix.moved(self.font.advance(letters), 0)
 
 
-class Place:
-    """A place in the content of pages: what is around it, and the ink of the paths right before it;
-    where letters are that begin here. Pages go on from it to places that are known by the bytes
-    between.
-    """
-
-    def __init__(self, around: Around, inks: tuple[Ink, ...]) -> None:
-        self.around = around
-        self.inks = inks
-        self.letters: Optional[PlaceOfLetters] = None
-        if around.is_begun and around.font is not None:
-            self.letters = PlaceOfLetters(around.line, around.font)
-        self.known: dict[bytes, Place] = {}
-
-    @cached_property
-    def frame(self) -> Frame:
-        """Where a picture is that is drawn here."""
-        matrix = self.around.matrix
-        corners = tuple(matrix.of(x, y) for x, y in ((0, 1), (1, 1), (0, 0)))
-        return Frame(corners, matrix.ink(0, 0, 1, 1))
-
-
 class Pdf:
     """A PDF whose objects are found by its table."""
 
-    def __init__(self, data: bytes, dpi: float) -> None:
+    def __init__(self, data: bytes) -> None:
         """Raises `LookupError` and `ValueError` where it is not as Cairo writes it."""
         self.data = data
-        self.scale = dpi / POINTS
         place = PLACE.search(data, len(data) - 64)
         table = TABLE.match(data, int(place[1])) if place else None
         if table is None:
@@ -175,7 +152,6 @@ class Pdf:
         self.table = table.end()
         self.fonts = Found(self.new_font)
         self.forms = Found(self.new_form)
-        self.reader = Reader(self)
 
     def start(self, number: int) -> int:
         """Returns where an object begins."""
@@ -207,13 +183,13 @@ class Pdf:
         kids = self.data[start : self.data.index(b"]", start)]
         return [int(kid) for kid in kids.split()[::3]]
 
-    def page(self, number: int) -> DrawnPage:
-        """Returns what is on a page."""
+    def page(self, number: int) -> tuple[bytes, bytes]:
+        """Returns how high a page is, and its content."""
         head = PAGE.match(self.data, self.start(number))
         if head is None:
             raise ValueError("a page without content")
         high, content = head.groups()
-        return self.reader.page(high, self.stream(int(content)))
+        return high, self.stream(int(content))
 
     def picture(self, number: int) -> Optional[Picture]:
         """Returns the picture that an object is; None where it is another thing."""
@@ -251,50 +227,39 @@ def one_string(plain: Optional[bytes], coded: Optional[bytes]) -> Optional[bytes
     return b"<%b>" % coded if coded else None
 
 
-def behind(place: Place, shown: Sequence[tuple[PlaceOfLetters, bytes]]) -> PlaceOfLetters:
-    """Returns where letters are that follow others; raises `ValueError` where none are before them,
-    and where they have no font.
+class Place:
+    """A place in the content of pages: what is around it, and the ink of the paths right before it.
+    Pages go on from it to places that are known by the bytes between.
     """
-    font = place.around.font
-    if not shown or font is None:
-        raise ValueError("letters without a place or a font")
-    before, letters = shown[-1]
-    return PlaceOfLetters(before.behind(letters), font)
+
+    def __init__(self, around: Around, inks: tuple[Ink, ...]) -> None:
+        self.around = around
+        self.is_begun = around.is_begun
+        self.inks = inks
+        self.known: dict[bytes, Place] = {}
+
+    @cached_property
+    def frame(self) -> Frame:
+        """Where a picture is that is drawn here."""
+        matrix = self.around.matrix
+        corners = tuple(matrix.of(x, y) for x, y in ((0, 1), (1, 1), (0, 0)))
+        return Frame(corners, matrix.ink(0, 0, 1, 1))
 
 
-class Reader:
-    """Reads pages."""
+class Places:
+    """Places of pages, which all documents of a job share: their dots are so many an inch."""
 
-    def __init__(self, pdf: Pdf) -> None:
-        self.pdf = pdf
+    def __init__(self, dpi: float) -> None:
+        self.scale = dpi / POINTS
         self.places: dict[tuple[Around, tuple[Ink, ...]], Place] = {}
-        self.drawings: set[bytes] = set()  # objects that are no pictures of codes
         self.begins = Found(self.new_begin)
 
     def new_begin(self, high: bytes) -> Place:
         """Returns where pages begin that are so many points high: their points are taken to dots
         from the upper left corner.
         """
-        scale = self.pdf.scale
+        scale = self.scale
         return self.place(Around(Matrix(scale, 0, 0, -scale, 0, scale * float(high))), ())
-
-    def page(self, high: bytes, content: bytes) -> DrawnPage:
-        """Returns what a page has that is so many points high."""
-        shown: list[tuple[PlaceOfLetters, bytes]] = []
-        found = DrawnPage([], shown, [])
-        place = self.begins[high]
-        parts: Iterator[Any] = iter([*DIFFERENT.split(content), *GROUPS])
-        for part, number, several, plain, coded in zip(parts, parts, parts, parts, parts):
-            place = place.known.get(part) or self.step(place, part)
-            if place.inks:
-                found.inks += place.inks
-            if number:
-                self.draw(number, place, found)
-                continue
-            letters = several or one_string(plain, coded)
-            if letters:
-                shown.append((place.letters or behind(place, shown), letters))
-        return found
 
     def place(self, around: Around, inks: tuple[Ink, ...]) -> Place:
         """Returns a place of pages, the same one where the same is around it."""
@@ -302,18 +267,72 @@ class Reader:
         if found is None:
             if len(self.places) > KNOWN:
                 self.places.clear()
+                self.begins.clear()
             found = self.places[around, inks] = Place(around, inks)
         return found
 
     def step(self, place: Place, part: bytes) -> Place:
         """Returns the place behind a part of a page, and keeps it."""
-        walk = Walk(place.around, self.pdf.fonts)
+        walk = Walk(place.around)
         walk.go(part)
         if len(place.known) > KNOWN:
             place.known.clear()
-        found = self.place(walk.around, tuple(walk.inks))
-        place.known[part] = found
+        found = place.known[part] = self.place(walk.around, tuple(walk.inks))
         return found
+
+    def pages(self, data: bytes, count: int) -> Iterator[DrawnPage]:
+        """Yields what is on each page of a document; raises `NotDecoded` where there are not so
+        many of them.
+        """
+        try:
+            pdf = Pdf(data)
+            pages = pdf.pages()
+            if len(pages) != count:
+                raise NotDecoded(Text("{} pages go out for {}", len(pages), count))
+            reader = Reader(pdf, self)
+            for number in pages:
+                yield reader.page(*pdf.page(number))
+        except (ValueError, LookupError, TypeError, zlib.error) as error:
+            raise NotDecoded(Text("no pdf of Cairo: {}", error)) from error
+
+
+class Reader:
+    """Reads pages of a document."""
+
+    def __init__(self, pdf: Pdf, places: Places) -> None:
+        self.pdf = pdf
+        self.places = places
+        self.letters = Found(self.new_letters)
+        self.drawings: set[bytes] = set()  # objects that are no pictures of codes
+
+    def page(self, high: bytes, content: bytes) -> DrawnPage:
+        """Returns what a page has that is so many points high."""
+        shown: list[tuple[PlaceOfLetters, bytes]] = []
+        found = DrawnPage([], shown, [])
+        place = self.places.begins[high]
+        parts: Iterator[Any] = iter([*DIFFERENT.split(content), *GROUPS])
+        for part, number, several, plain, coded in zip(parts, parts, parts, parts, parts):
+            place = place.known.get(part) or self.places.step(place, part)
+            if place.inks:
+                found.inks += place.inks
+            if number:
+                self.draw(number, place, found)
+                continue
+            letters = several or one_string(plain, coded)
+            if letters:
+                at = self.letters[place] if place.is_begun else self.behind(place, *shown[-1])
+                shown.append((at, letters))
+        return found
+
+    def new_letters(self, place: Place) -> PlaceOfLetters:
+        """Returns where letters are that begin at a place; raises `LookupError` where they have no
+        font.
+        """
+        return PlaceOfLetters(place.around.line, self.pdf.fonts[place.around.font])
+
+    def behind(self, place: Place, before: PlaceOfLetters, letters: bytes) -> PlaceOfLetters:
+        """Returns where letters are that follow others; raises as `new_letters`."""
+        return PlaceOfLetters(before.behind(letters), self.pdf.fonts[place.around.font])
 
     def draw(self, number: bytes, place: Place, found: DrawnPage) -> None:
         """Draws an object: a picture of a code, or another one, such as the drawing of a design,
@@ -335,9 +354,8 @@ class Walk:
     begins lines of text, names their font, fills or strokes paths.
     """
 
-    def __init__(self, around: Around, fonts: Mapping[bytes, Font]) -> None:
+    def __init__(self, around: Around) -> None:
         self.matrix, self.kept, self.line, _, self.font = around
-        self.fonts = fonts
         self.is_begun = False
         self.path: list[list[tuple[float, float]]] = []
         self.inks: list[Ink] = []
@@ -390,7 +408,7 @@ class Walk:
         name, size = words
         if float(size) != 1:
             raise ValueError("letters in another size than 1")
-        self.font = self.fonts[name[1:]]
+        self.font = name[1:]
 
     def begin_path(self, numbers: Sequence[bytes]) -> None:
         """Begins a part of a path."""
@@ -437,16 +455,3 @@ OPERATORS: Mapping[bytes, Callable[[Walk, Sequence[bytes]], None]] = {
     **dict.fromkeys((b"f", b"F", b"f*", b"S", b"s", b"B", b"B*", b"b", b"b*"), Walk.paint),
     b"n": Walk.end_path,
 }
-
-
-def pages_of_pdf(data: bytes, dpi: float, count: int) -> Iterator[DrawnPage]:
-    """Yields what is on each page; raises `NotDecoded` where there are not so many of them."""
-    try:
-        pdf = Pdf(data, dpi)
-        pages = pdf.pages()
-        if len(pages) != count:
-            raise NotDecoded(Text("{} pages go out for {}", len(pages), count))
-        for number in pages:
-            yield pdf.page(number)
-    except (ValueError, LookupError, TypeError, zlib.error) as error:
-        raise NotDecoded(Text("no pdf of Cairo: {}", error)) from error

@@ -16,7 +16,7 @@ import support
 from labeltools import compare, decode, engine, own_layout, pen, press
 from labeltools.engine import Modules
 from labeltools.drawn_letters import Extent, Font, Reach
-from labeltools.drawn_pdf import pages_of_pdf
+from labeltools.drawn_pdf import Places
 from labeltools.forms import dots, escpos, zpl
 from labeltools.forms.dots import Picture
 from labeltools.frames import Box
@@ -576,7 +576,7 @@ class Read(unittest.TestCase):
     def test_a_picture_that_is_another_one(self) -> None:
         found = found_of(options_of("pdf"), PAIR[:1])
         comparison = found.press(Silence()).comparison
-        (page,) = pages_of_pdf(write(found)[0], 203, 1)
+        (page,) = Places(203).pages(write(found)[0], 1)
         (code,) = page.codes
         (spot,) = compare.spots_of(found.labels[0], comparison.area)
         wanted = comparison.wanted(spot, found.job.plan.places[0])
