@@ -242,6 +242,30 @@ def without_row(picture: Picture) -> Picture:
     return replace(picture, packed=b"".join(rows))
 
 
+def drawn_as_it_is_read(symbol: Any, scale: int) -> tuple[list[str], list[str], int]:
+    """The dots of a symbol and those of them that are looked at, as rows of digits, and by how many
+    of these its guards are longer.
+    """
+    left, right, above = compare.ZONES[symbol.symbology]
+    digits = "".join(map(str, symbol.modules))
+    starts = range(0, len(digits), symbol.width)
+    rows = ["0" * left + digits[start : start + symbol.width] + "0" * right for start in starts]
+    wide = len(rows[0])
+    blank = ["0" * wide] * above
+    rows = ["".join(module * scale for module in row) for row in (*blank, *rows, *blank)]
+    if symbol.rows > 1:
+        rows = [row for row in rows for _ in range(scale)]
+        return rows, ["1" * wide * scale] * len(rows), 0
+    spans = compare.GUARDS.get(symbol.symbology, ())
+    longer = 5 * scale if spans else 0
+    guards = ["0"] * wide
+    for first, last in spans:
+        guards[left + first : left + last] = "1" * (last - first)
+    mask = "".join(module * scale for module in guards)
+    return rows * (HIGH + longer), ["1" * wide * scale] * HIGH + [mask] * longer, longer
+
+
+HIGH = 12  # dots of bars
 RUN_LENGTHS = zpl.run_lengths
 DRAW_MODULES = pen.Pen.draw_modules
 RUN_LABELS = engine.run_labels
@@ -572,6 +596,51 @@ class Read(unittest.TestCase):
                 wanted = ["0" * left + row + behind for row in dots]
                 highs = [high for _, high in packed]
                 self.assertEqual([row for row, n in zip(found, highs) for _ in range(n)], wanted)
+
+    def test_parts_of_symbols(self) -> None:
+        """They are all of a symbol in its place, but what is between longer guards."""
+        lines = (b"ean13 4006381333931", b"ean8 73513537", b"code128 LOT-7", b"qr X")
+        for line, scale, quarters, left in product(lines, (1, 3), range(4), (0, 5)):
+            symbol = engine.library().line(line, height=1)
+            rows, looked, longer = drawn_as_it_is_read(symbol, scale)
+            for _ in range(quarters):
+                rows = ["".join(column) for column in zip(*rows[::-1])]
+                looked = ["".join(column) for column in zip(*looked[::-1])]
+            box = Box(left, 0, len(rows[0]), len(rows))
+            bars = (
+                box._replace(height=box.height - longer),
+                box._replace(left=left + longer, width=box.width - longer),
+                box._replace(top=longer, height=box.height - longer),
+                box._replace(width=box.width - longer),
+            )[quarters]
+            first, last, _ = compare.ZONES[symbol.symbology]
+            guards = tuple(
+                (box, (first + start, first + end))
+                for start, end in compare.GUARDS.get(symbol.symbology, ())
+            )
+            high = (HIGH,) if symbol.rows == 1 else ()
+            bands = (*high, longer) if high else (scale,) * (box.height // scale)
+            wide = first + symbol.width + last
+            place = compare.Geometry(bars, guards, box, quarters, scale, wide, sum(bands), bands)
+            with self.subTest(line=line, scale=scale, quarters=quarters, left=left):
+                parts = list(compare.parts_of_symbol(compare.Wanted(symbol, place)))
+                stride = (left + len(rows[0]) + 7) // 8
+                whole = [0] * len(rows)
+                masks = [0] * len(rows)
+                for part, dots in parts:
+                    mask = part.mask.to_bytes(len(dots), "big")
+                    behind = 8 * (stride - part.first - part.size)
+                    for number in range(part.high):
+                        at = slice(number * part.size, (number + 1) * part.size)
+                        whole[part.top + number] |= int.from_bytes(dots[at], "big") << behind
+                        masks[part.top + number] |= int.from_bytes(mask[at], "big") << behind
+                moved = 8 * stride - left - len(rows[0])
+                self.assertEqual(masks, [int(row, 2) << moved for row in looked])
+                wanted = [int(row, 2) << moved for row in rows]
+                self.assertEqual(
+                    [found & mask for found, mask in zip(whole, masks)],
+                    [row & mask for row, mask in zip(wanted, masks)],
+                )
 
     def test_a_picture_that_is_another_one(self) -> None:
         found = found_of(options_of("pdf"), PAIR[:1])
