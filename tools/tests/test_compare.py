@@ -555,6 +555,9 @@ class Read(unittest.TestCase):
         rows = decode.new_dots((b"F0!J5,:,12345678,M9!", 4)).hex(" ", 4).upper()
         wanted = "F0FFFFFF 55550000 55550000 00000000 12345678 00000000 9999999F"
         self.assertEqual(rows, wanted)
+        for size, wanted in ((1, "f0f0f0"), (2, "f000f000f000")):  # parts that come again
+            for _ in range(2):
+                self.assertEqual(decode.new_dots((b"F,::", size)).hex(), wanted)
         for text in (
             b"F0F",
             b"12345678F",
