@@ -244,13 +244,13 @@ def known_rows(parts: Sequence[bytes], size: int) -> list[bytes]:
     known = ROWS[size]
     rows = list(map(known.get, parts))
     missing = [part for part, found in zip(parts, rows) if found is None]
+    read: dict[bytes, bytes] = {}
     if missing:
         if len(known) > SHORT_PARTS:
             known.clear()
         read = dict(zip(missing, new_rows(missing, size)))
         known.update({part: found for part, found in read.items() if len(part) <= SHORT})
-        rows = [read[part] if found is None else found for part, found in zip(parts, rows)]
-    return rows
+    return [read[part] if found is None else found for part, found in zip(parts, rows)]
 
 
 def new_rows(parts: Sequence[bytes], size: int) -> list[bytes]:

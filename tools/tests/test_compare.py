@@ -265,6 +265,22 @@ def drawn_as_it_is_read(symbol: Any, scale: int) -> tuple[list[str], list[str], 
     return rows * (HIGH + longer), ["1" * wide * scale] * HIGH + [mask] * longer, longer
 
 
+def rows_of_parts(parts: Any, high: int, stride: int) -> tuple[list[int], list[int]]:
+    """The dots that parts of a symbol have, and those that are looked at: a number for each row of
+    some bytes.
+    """
+    whole = [0] * high
+    masks = [0] * high
+    for part, found in parts:
+        mask = part.mask.to_bytes(len(found), "big")
+        behind = 8 * (stride - part.first - part.size)
+        for number in range(part.high):
+            at = slice(number * part.size, (number + 1) * part.size)
+            whole[part.top + number] |= int.from_bytes(found[at], "big") << behind
+            masks[part.top + number] |= int.from_bytes(mask[at], "big") << behind
+    return whole, masks
+
+
 HIGH = 12  # dots of bars
 RUN_LENGTHS = zpl.run_lengths
 DRAW_MODULES = pen.Pen.draw_modules
@@ -626,24 +642,13 @@ class Read(unittest.TestCase):
             wide = first + symbol.width + last
             place = compare.Geometry(bars, guards, box, quarters, scale, wide, sum(bands), bands)
             with self.subTest(line=line, scale=scale, quarters=quarters, left=left):
-                parts = list(compare.parts_of_symbol(compare.Wanted(symbol, place)))
+                parts = compare.parts_of_symbol(compare.Wanted(symbol, place))
                 stride = (left + len(rows[0]) + 7) // 8
-                whole = [0] * len(rows)
-                masks = [0] * len(rows)
-                for part, dots in parts:
-                    mask = part.mask.to_bytes(len(dots), "big")
-                    behind = 8 * (stride - part.first - part.size)
-                    for number in range(part.high):
-                        at = slice(number * part.size, (number + 1) * part.size)
-                        whole[part.top + number] |= int.from_bytes(dots[at], "big") << behind
-                        masks[part.top + number] |= int.from_bytes(mask[at], "big") << behind
-                moved = 8 * stride - left - len(rows[0])
-                self.assertEqual(masks, [int(row, 2) << moved for row in looked])
-                wanted = [int(row, 2) << moved for row in rows]
-                self.assertEqual(
-                    [found & mask for found, mask in zip(whole, masks)],
-                    [row & mask for row, mask in zip(wanted, masks)],
-                )
+                whole, masks = rows_of_parts(parts, len(rows), stride)
+                behind = 8 * stride - left - len(rows[0])
+                self.assertEqual(masks, [int(row, 2) << behind for row in looked])
+                wanted = [(int(row, 2) << behind) & mask for row, mask in zip(rows, masks)]
+                self.assertEqual([row & mask for row, mask in zip(whole, masks)], wanted)
 
     def test_a_picture_that_is_another_one(self) -> None:
         found = found_of(options_of("pdf"), PAIR[:1])
