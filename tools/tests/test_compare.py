@@ -15,8 +15,9 @@ from unittest import mock
 import support
 from labeltools import compare, decode, engine, own_layout, pen, press
 from labeltools.engine import Modules
+from labeltools.drawn_codes import Matrix
 from labeltools.drawn_letters import Extent, Font, Reach
-from labeltools.drawn_pdf import Places
+from labeltools.drawn_pdf import PlaceOfLetters, Places
 from labeltools.forms import dots, escpos, zpl
 from labeltools.forms.dots import Picture
 from labeltools.frames import Box
@@ -749,6 +750,27 @@ class Read(unittest.TestCase):
         apart = font.rough(font.shape(b"(0)-600(11)"))
         self.assert_near(apart.extents, [(0.05, -0.1, 0.55, 0.7), (1.25, -0.1, 2.35, 0.7)])
         self.assertEqual(font.shape(b"(0)-600(11)"), font.shape(b"(1)-600(10)"))
+
+    def test_letters_beside_symbols(self) -> None:
+        """Letters between two symbols may be as long as what is free there; above them, any."""
+        boxes = Box(0, 100, 50, 50), Box(150, 100, 50, 50)
+        symbols = compare.Regions(
+            [compare.Geometry(box, (), box, 0, 1, 50, 50, (50, 0)) for box in boxes]
+        )
+        font = Font({65: Reach(1.0, 0.1, 0.1, 0.0, 0.7), 66: Reach(2.0, 0.1, 0.1, 0.0, 0.7)}, 1)
+        for left, base, letters, is_clear in (
+            (60, 130, b"(AAAA)", True),
+            (60, 130, b"(AAAAA)", False),
+            (60, 130, b"(AA)-3000(A)", False),
+            (40, 130, b"(A)", False),
+            (60, 99, b"(AABBB)", True),
+            (60, 102, b"(AABBB)", False),
+            (210, 130, b"(AABBB)", True),
+        ):
+            place = PlaceOfLetters(Matrix(20, 0, 0, -20, left, base), font)
+            with self.subTest(left=left, base=base, letters=letters):
+                for _ in range(2):
+                    self.assertEqual(place.is_clear_of(symbols, letters), is_clear)
 
     def assert_near(self, extents: Sequence[Extent], wanted: Sequence[Sequence[float]]) -> None:
         """Extents are those that are wanted, but for their rounding."""
