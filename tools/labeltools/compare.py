@@ -10,16 +10,16 @@ Where a symbol differs, what the library reads in its place is said, if it is a 
 """
 
 from bisect import bisect_left
-from dataclasses import dataclass, field
-from functools import cache, lru_cache
-from itertools import groupby, islice
-from operator import itemgetter, mul
-from typing import Any, Iterable, Iterator, NamedTuple, Optional, Sequence
+from dataclasses import dataclass
+from functools import cache, cached_property, lru_cache
+from itertools import islice
+from operator import mul
+from typing import Any, Iterable, Iterator, Mapping, NamedTuple, Optional, Sequence
 
 from labeltools.area import Plan
 from labeltools.decode import Dots, NotDecoded, dots_of, rows_in, rows_reader
-from labeltools.drawn_codes import DrawnCode, DrawnPage, Ink, is_at
-from labeltools.drawn_pdf import pages_of_pdf
+from labeltools.drawn_codes import EVERYWHERE, NO_ROOM, DrawnCode, DrawnPage, Ink, is_at
+from labeltools.drawn_pdf import Places
 from labeltools.drawn_svg import page_of_svg
 from labeltools.engine import LABELS_FAILED, Engine, Refused, bytes_a_row, library
 from labeltools.frames import Box
@@ -32,7 +32,6 @@ from labeltools.pen import bits_of
 from labeltools.text import Text
 
 Labels = Sequence[tuple[LaidOut, tuple[int, int]]]
-Inks = tuple[Ink, ...]
 Symbols = Sequence[tuple["Wanted", LineRecord]]
 LONGER = 5  # modules by which guards are longer (GS1 General Specifications, 5.2)
 # modules of the longer bars, from the first bar on: ISO/IEC 15420
@@ -91,7 +90,7 @@ class Geometry:
     """Where a symbol has to be on a page: its bars, its longer guards with their first and last
     modules, and the picture of both; the quarters by which it is turned; the dots of a module; as
     it is read its modules from left to right, the dots of its bars from top to bottom, and those
-    of each of its rows and of what guards are longer. `clear` is ink that is known not to meet it.
+    of each of its rows and of what guards are longer.
     """
 
     bars: Box
@@ -102,24 +101,23 @@ class Geometry:
     wide: int
     high: int
     bands: tuple[int, ...]
-    clear: set[Ink] = field(default_factory=set)
 
-    @property
+    @cached_property
     def is_linear(self) -> bool:
         """Whether its rows are bars and, below them, longer guards."""
         return len(self.bands) == 2
 
+    @cached_property
+    def modules(self) -> tuple[int, int]:
+        """How many modules it has across and down as it is read, with longer guards."""
+        longer = LONGER if self.guards else 0
+        return self.wide, self.high // self.scale + longer
+
     def is_met_by(self, ink: Ink) -> bool:
         """Returns whether ink meets it."""
-        if ink in self.clear:
+        if not ink.meets(self.picture):
             return False
-        if ink.meets(self.picture):
-            if ink.meets(self.bars) or any(ink.meets(box) for box, _ in self.guards):
-                return True
-        if len(self.clear) > KNOWN:
-            self.clear.clear()
-        self.clear.add(ink)
-        return False
+        return ink.meets(self.bars) or any(ink.meets(box) for box, _ in self.guards)
 
 
 class Wanted(NamedTuple):
@@ -152,9 +150,7 @@ class ReadPage(NamedTuple):
 
 
 class Regions:
-    """The symbols of a page by where they are, so that few are looked at for some ink; `clear` is
-    ink that is known to meet none of them.
-    """
+    """The symbols of a page by where they are, so that few are looked at for some ink."""
 
     def __init__(self, places: Sequence[Geometry]) -> None:
         found: dict[tuple[int, int], list[Geometry]] = {}
@@ -163,7 +159,6 @@ class Regions:
             found.setdefault((box.top, box.bottom), []).append(place)
         self.rows = [(*span, sorted(row, key=left_of)) for span, row in found.items()]
         self.wide = max([place.picture.width for place in places], default=0)
-        self.clear: set[Inks] = set()
 
     def met_by(self, ink: Ink) -> Optional[Geometry]:
         """Returns a symbol that ink of letters, lines or pictures meets, if there is one."""
@@ -179,16 +174,27 @@ class Regions:
                     return place
         return None
 
-    def is_clear_of(self, inks: Inks) -> bool:
-        """Returns whether ink meets no symbol."""
-        if inks in self.clear:
-            return True
-        if any(map(self.met_by, inks)):
-            return False
-        if len(self.clear) > KNOWN:
-            self.clear.clear()
-        self.clear.add(inks)
-        return True
+    def are_clear_of(self, inks: Iterable[Ink]) -> bool:
+        """Returns whether ink meets none of them."""
+        return not any(map(self.met_by, inks))
+
+    def room_at(self, place: float, upper: float, lower: float) -> tuple[float, float]:
+        """Returns from where to where ink meets no symbol that is so high on the page, which it has
+        on both sides of a place.
+        """
+        first, last = EVERYWHERE
+        for top, bottom, row in self.rows:
+            if upper >= bottom or lower <= top:
+                continue
+            for symbol in row:
+                box = symbol.picture
+                if box.right <= place:
+                    first = max(first, box.right)
+                elif box.left >= place:
+                    last = min(last, box.left)
+                else:
+                    return NO_ROOM
+        return first, last
 
 
 def left_of(place: Geometry) -> int:
@@ -214,6 +220,7 @@ class Comparison:
         area = plan.area.turned() if is_turned else plan.area
         self.area = Box(0, 0, area.width, area.height)
         self.cells = dict(zip(plan.places, plan.sheet.places))
+        self.places = Places(plan.dpi)
         self.known: dict[tuple[object, ...], Geometry] = {}
         self.regions = lru_cache(PAGES)(Regions)
 
@@ -247,7 +254,7 @@ class Comparison:
         """Yields the pages of a document; raises `Different`, and `NotDecoded`."""
         dot = self.plan.dot
         if self.form == "pdf":
-            for page in pages_of_pdf(document.data, self.plan.dpi, len(document.pages)):
+            for page in self.places.pages(document.data, len(document.pages)):
                 yield CodesOfPage(page, dot)
         elif self.form == "svg":
             drawing = page_of_svg(document.data, self.plan.dpi, self.plan.page)
@@ -272,13 +279,13 @@ class Comparison:
         """Raises `ToolError` where something is drawn over a symbol, or a page in dots is not that
         which was drawn.
         """
-        records = {wanted.place: record for wanted, record in symbols}
+        places = tuple([wanted.place for wanted, _ in symbols])
         try:
-            page.found.check_rest(self.regions(tuple(records)))
+            page.found.check_rest(self.regions(places))
             if page.drawn is not None and isinstance(page.found, DotsOfPage):
                 self.check_drawn(page.found.dots, page.drawn, page.labels)
         except Different as error:
-            of_place = records.get(error.place) if error.place else None
+            of_place = next((its for wanted, its in symbols if wanted.place is error.place), None)
             raise fault(error.what, error.record or of_place or page.alone) from error
 
     def check_size(self, dots: Dots, copies: int) -> None:
@@ -319,7 +326,7 @@ class Comparison:
     def wanted(self, spot: Spot, at: tuple[int, int]) -> Wanted:
         """Returns what has to be on a page for a symbol of a label whose area is at a place."""
         symbol = self.code(spot)
-        key = (*spot[3:], at, symbol.symbology, symbol.width, symbol.rows)
+        key = (spot[3:], at, symbol.symbology, symbol.width, symbol.rows)
         place = self.known.get(key)
         if place is None:
             if len(self.known) >= KNOWN:
@@ -388,23 +395,21 @@ class DotsOfPage:
         is_across = 0 <= box.left and box.right <= self.dots.width
         if not is_across or not 0 <= box.top <= box.bottom <= self.dots.height:
             raise Different(Text("its code leaves the page"))
-        rows = iter(rows_of_symbol(wanted))
-        for band in bands_of(wanted.place):
-            dots = b"".join([row * high for row, high in islice(rows, band.rows)])
-            found = self.found(band)
+        for part, dots in parts_of_symbol(wanted):
+            found = self.found(part)
             if found == dots:
                 continue
-            other = (number_of(found) ^ number_of(dots)) & band.mask
+            other = (number_of(found) ^ number_of(dots)) & part.mask
             if other:
-                down, bit = divmod(8 * len(dots) - other.bit_length(), 8 * band.size)
-                across, down = 8 * band.first + bit, band.top + down
+                down, bit = divmod(8 * len(dots) - other.bit_length(), 8 * part.size)
+                across, down = 8 * part.first + bit, part.top + down
                 raise Different(self.said(wanted, across * self.dot, down * self.dot))
 
-    def found(self, band: "Band") -> bytes:
-        """Returns the dots of a page where a band is."""
-        behind = self.dots.stride - band.first - band.size
-        read = rows_reader(band.first, band.size, behind, band.high)
-        return b"".join(read(self.dots.packed, band.top * self.dots.stride))
+    def found(self, part: "Part") -> bytes:
+        """Returns the dots of a page where a part of a symbol is."""
+        behind = self.dots.stride - part.first - part.size
+        read = rows_reader(part.first, part.size, behind, part.high)
+        return b"".join(read(self.dots.packed, part.top * self.dots.stride))
 
     def said(self, wanted: Wanted, across: float, down: float) -> Text:
         """Returns where a symbol is wrong, and what is read in its place."""
@@ -429,29 +434,29 @@ class CodesOfPage:
     def check(self, wanted: Wanted) -> None:
         """Takes the picture of a symbol; raises `Different` where none is its own."""
         place = wanted.place
-        code = self.taken(place.picture, place.quarters)
+        code = self.taken(place)
         modules = modules_of(wanted)
-        size = (place.wide, len(modules) // bytes_a_row(place.wide))
-        if code is None or code.modules != modules or (code.width, code.height) != size:
+        if code is None or code.modules != modules or (code.width, code.height) != place.modules:
             rows = rows_in(code.modules, bytes_a_row(code.width)) if code else ()
             bars = [bits_of(row)[: place.wide] for row in rows[: place.high // place.scale]]
             across, down = place.picture.left * self.dot, place.picture.top * self.dot
             raise Different(said(across, down, bars, 1))
 
-    def taken(self, box: Box, quarters: int) -> Optional[DrawnCode]:
-        """Returns the picture that fills a box, and takes it away."""
+    def taken(self, place: Geometry) -> Optional[DrawnCode]:
+        """Returns the picture of a symbol at a place, and takes it away."""
         for number, code in enumerate(self.page.codes):
-            if is_at(code.corners, box, quarters):
+            if is_at(code.frame, place.picture, place.quarters):
                 return self.page.codes.pop(number)
         return None
 
     def check_rest(self, symbols: Regions) -> None:
         """Raises `Different` where something is drawn over a symbol, or a picture is left."""
-        for letters in self.page.letters:
-            if not symbols.is_clear_of(letters.rough):
-                check_inks(letters.inks(), symbols, self.dot)
-        check_inks(self.page.inks + [code.ink for code in self.page.codes], symbols, self.dot)
+        for place, letters in self.page.letters:
+            if not place.is_clear_of(symbols, letters):
+                check_inks(place.inks(letters), symbols, self.dot)
+        check_inks(self.page.inks, symbols, self.dot)
         if self.page.codes:
+            check_inks([code.frame.ink for code in self.page.codes], symbols, self.dot)
             raise Different(Text("a page goes out with a code of no label"))
 
 
@@ -552,45 +557,100 @@ def data_in(rows: Sequence[str], scale: int) -> Optional[bytes]:
     return next((data for data in found if data is not None), None)
 
 
-class Band(NamedTuple):
-    """Rows of a symbol on a page of which the same dots are looked at: how many rows of modules, or
-    if it is turned columns, they are; its first row of dots and their number; its first byte in
-    them and how many these are; which of these dots are looked at, as a number.
+class Part(NamedTuple):
+    """A part of the picture of a symbol on a page: its first row of dots and their number; its
+    first byte in them and how many these are; which of these dots are looked at, as a number; of
+    bars that are turned what a light and a dark module are in it, by their digits.
     """
 
-    rows: int
     top: int
     high: int
     first: int
     size: int
     mask: int
+    dots: Mapping[str, bytes]
 
 
 @lru_cache(KNOWN)
-def bands_of(place: Geometry) -> list[Band]:
-    """Returns the bands of a symbol, from top to bottom: all of its dots are looked at, but those
-    between longer guards.
+def parts_of(place: Geometry) -> tuple[Part, ...]:
+    """Returns the parts of the picture of a symbol. All of its dots are looked at, but those
+    between longer guards, where digits may be: so these are parts of their own, rows of dots or, if
+    it is turned, columns of bytes.
     """
+    box = place.picture
     rows = ["1" * place.wide] * len(place.bands)
     if place.guards:
         guards = list("0" * place.wide)
         for _, (first, last) in place.guards:
             guards[first:last] = "1" * (last - first)
         rows[1] = "".join(guards)
-    bands = []
-    top = place.picture.top
-    for mask, group in groupby(packed_rows(rows, place), key=itemgetter(0)):
-        highs = [high for _, high in group]
-        high = sum(highs)
-        where = (top, high, place.picture.left // 8, len(mask))
-        bands.append(Band(len(highs), *where, number_of(mask * high)))
-        top += high
-    return bands
+    packed = packed_rows(rows, place)
+    if place.quarters % 2 and place.is_linear:
+        masks = [row for row, high in packed for _ in range(high)]
+        return tuple(part_in_columns(place, masks, *columns) for columns in columns_of(place))
+    if not place.is_linear:
+        packed = [(b"".join([row * high for row, high in packed]), 1)]
+    first = box.left // 8
+    size = bytes_a_row(box.right) - first
+    found = []
+    top = box.top
+    for row, high in packed:
+        mask = row * high
+        found.append(Part(top, len(mask) // size, first, size, number_of(mask), {}))
+        top += len(mask) // size
+    return tuple(found)
+
+
+def columns_of(place: Geometry) -> Sequence[tuple[int, int]]:
+    """Returns the first and the last columns of bytes, from that of the picture on, of the parts of
+    bars that are turned: those in which are bars alone, and those with longer guards.
+    """
+    box, bars = place.picture, place.bars
+    left = box.left // 8
+    first, last = 0, bytes_a_row(box.right) - left
+    if bars.right < box.right:
+        between = bars.right // 8 - left
+        return (first, between), (between, last)
+    if box.left < bars.left:
+        between = bytes_a_row(bars.left) - left
+        return (first, between), (between, last)
+    return ((first, last),)
+
+
+def part_in_columns(place: Geometry, masks: Sequence[bytes], first: int, last: int) -> Part:
+    """Returns a part of bars that are turned, with these masks of their rows."""
+    dots = {}
+    for module in "01":
+        ((row, high), *_) = packed_rows([module * place.wide] * 2, place)
+        dots[module] = row[first:last] * high
+    box = place.picture
+    mask = number_of(b"".join([row[first:last] for row in masks]))
+    return Part(box.top, box.height, box.left // 8 + first, last - first, mask, dots)
+
+
+def parts_of_symbol(wanted: Wanted) -> Iterator[tuple[Part, bytes]]:
+    """Yields the parts of a symbol on a page, each with the dots that it has to have."""
+    symbol, place = wanted
+    parts = parts_of(place)
+    if symbol.rows > 1:
+        yield parts[0], b"".join([row * high for row, high in rows_of_symbol(wanted)])
+        return
+    left, right, _ = ZONES[symbol.symbology]
+    digits = symbol.modules.translate(DIGITS).decode("ascii")
+    digits = "0" * left + digits + "0" * right
+    if place.quarters % 2:
+        digits = digits if place.quarters == 1 else digits[::-1]
+        for part in parts:
+            yield part, b"".join(map(part.dots.__getitem__, digits))
+        return
+    row, _ = packed_rows([digits], place)[0]
+    for part in parts:
+        yield part, row * part.high
 
 
 def rows_of_symbol(wanted: Wanted) -> list[tuple[bytes, int]]:
-    """Returns the dots of a symbol as it is on a page: each of its rows in the bytes that its
-    picture touches, with how many rows of dots are so.
+    """Returns the dots of a symbol of many rows as it is on a page: each of its rows in the bytes
+    that its picture touches, with how many rows of dots are so.
     """
     symbol, place = wanted
     digits = symbol.modules.translate(DIGITS).decode("ascii")
@@ -600,13 +660,13 @@ def rows_of_symbol(wanted: Wanted) -> list[tuple[bytes, int]]:
     starts = range(0, len(digits), symbol.width)
     rows = [before + digits[start : start + symbol.width] + behind for start in starts]
     blank = ["0" * place.wide] * above
-    return packed_rows([*blank, *rows, *blank] if symbol.rows > 1 else rows * 2, place)
+    return packed_rows([*blank, *rows, *blank], place)
 
 
 def packed_rows(rows: Sequence[str], place: Geometry) -> list[tuple[bytes, int]]:
     """Returns rows of modules as they are on a page, as `rows_of_symbol` does."""
     box = place.picture
-    size = (box.right + 7) // 8 - box.left // 8
+    size = bytes_a_row(box.right) - box.left // 8
     behind = -box.right % 8
     lines, highs, wides = rows, place.bands, place.bands[::-1]
     if place.quarters % 2:
@@ -644,12 +704,12 @@ def number_of(packed: bytes) -> int:
 
 def modules_of(wanted: Wanted) -> bytes:
     """Returns the modules of the picture of a symbol in rows of whole bytes, as it is read."""
-    symbol = wanted.symbol
+    symbol, place = wanted
     packed: bytes = symbol.packed(quiet_zones=True)
-    if symbol.rows > 1:
+    if not place.is_linear:
         return packed
-    rows = packed * (wanted.place.high // wanted.place.scale)
-    if not wanted.place.guards:
+    rows = packed * (place.high // place.scale)
+    if not place.guards:
         return rows
     mask = guard_mask(symbol.symbology, 8 * len(packed))
     guard = (int.from_bytes(packed, "big") & mask).to_bytes(len(packed), "big")

@@ -6,10 +6,11 @@ import re
 import struct
 import zlib
 from binascii import unhexlify
+from collections import defaultdict
 from dataclasses import dataclass
 from functools import lru_cache
 from operator import itemgetter
-from typing import Callable, Iterable, NamedTuple
+from typing import Callable, Iterable, NamedTuple, Sequence
 
 from labeltools.kept import Kept
 from labeltools.text import Text
@@ -26,10 +27,13 @@ COUNTS_ALONE = bytes.maketrans(DIGITS + SIGNS, b" " * len(DIGITS + SIGNS))
 FILLING = bytes.maketrans(b",:", b"\t\n")
 ZEROS = bytes.maketrans(b" \n", b"0:")
 ONES = bytes.maketrans(b" ", b"F")
-PART = re.compile(b"([^:]*)(:*)")  # rows, and how often the last of them comes again
+AGAIN = re.compile(b":(:*)")  # the row above comes once more, and once for each that follows
 # not as bytes, which Python puts into a column of a page in three times the time
 FIELDS: Kept[tuple[bytes, int], bytearray] = Kept(1024)
 KNOWN = 1024  # sizes of what is read that are kept
+SHORT = 256  # bytes of a part of a field that is kept
+SHORT_PARTS = 4096
+ROWS: defaultdict[int, dict[bytes, bytes]] = defaultdict(dict)
 RASTER = b"\x1dv0\0"
 LINES_AND_CUT = b"\x1bd\x03\x1dV\x42\x00"
 RESET = b"\x1b@"
@@ -178,10 +182,10 @@ class Field(NamedTuple):
     def meets(self, others: Iterable["Field"]) -> bool:
         """Returns whether one of some other fields has a byte in common with this one."""
         left, top, right, bottom = self
-        return any(
-            top < its_bottom and left < its_right and its_left < right and its_top < bottom
-            for its_left, its_top, its_right, its_bottom in others
-        )
+        for its_left, its_top, its_right, its_bottom in others:
+            if top < its_bottom and left < its_right and its_left < right and its_top < bottom:
+                return True
+        return False
 
 
 @lru_cache(KNOWN)
@@ -221,19 +225,43 @@ def dots_of_field(text: bytes, field: Field) -> bytearray:
 
 
 def new_dots(key: tuple[bytes, int]) -> bytearray:
-    """Reads a graphic field of rows of some bytes."""
+    """Reads a graphic field of rows of some bytes. What is between rows that come again is whole
+    rows, and means the same wherever it is.
+    """
     text, size = key
+    parts = AGAIN.split(text)
+    is_short = len(text) < SHORT * len(parts)
+    rows = (known_rows if is_short else new_rows)(parts[::2], size)
+    for number, again in enumerate(parts[1::2]):
+        rows[number] += rows[number][-size:] * (1 + len(again))
+    return bytearray().join(rows)
+
+
+def known_rows(parts: Sequence[bytes], size: int) -> list[bytes]:
+    """Returns the rows of some bytes of parts of a graphic field; raises `NotDecoded`. Those of
+    short parts are kept: of bars that are turned nearly all come again.
+    """
+    known = ROWS[size]
+    rows = list(map(known.get, parts))
+    missing = [part for part, found in zip(parts, rows) if found is None]
+    read: dict[bytes, bytes] = {}
+    if missing:
+        if len(known) > SHORT_PARTS:
+            known.clear()
+        read = dict(zip(missing, new_rows(missing, size)))
+        known.update({part: found for part, found in read.items() if len(part) <= SHORT})
+    return [read[part] if found is None else found for part, found in zip(parts, rows)]
+
+
+def new_rows(parts: Sequence[bytes], size: int) -> list[bytes]:
+    """Returns the rows of some bytes of parts of a graphic field; raises `NotDecoded`."""
+    text = b":".join(parts)
     if text.translate(None, DIGITS + b":"):
         text = filled(expanded(text), 2 * size)
-    dots = bytearray()
-    for part, again in PART.findall(text):
-        rows = unhexlify(part)
-        if len(rows) % size:
-            raise NotDecoded(Text("a row of the zpl has not its length"))
-        dots += rows
-        if again:
-            dots += dots[-size:] * len(again)
-    return dots
+    rows = list(map(unhexlify, text.split(b":")))
+    if any([len(found) % size for found in rows]):
+        raise NotDecoded(Text("a row of the zpl has not its length"))
+    return rows
 
 
 def filled(text: bytes, digits: int) -> bytes:

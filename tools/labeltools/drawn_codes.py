@@ -2,9 +2,10 @@
 Lengths are in dots of the page, from its upper left corner.
 """
 
-from dataclasses import dataclass, field
+import math
+from dataclasses import dataclass
 from functools import lru_cache
-from typing import NamedTuple, Protocol, Sequence
+from typing import Iterable, NamedTuple, Protocol, Sequence
 
 from labeltools.frames import Box
 
@@ -12,7 +13,8 @@ POINTS = 72  # in an inch
 NEAR = 0.25  # of a dot, by which the place of a code may be off
 KNOWN = 4096  # places that are kept: most pages share them
 TOUCHING = 0.75  # of a dot, which ink may reach into a code by its rounding
-
+EVERYWHERE = (-math.inf, math.inf)  # room for letters that meet no symbol wherever they are
+NO_ROOM = (math.inf, -math.inf)
 
 Corners = tuple[tuple[float, float], ...]
 
@@ -79,47 +81,70 @@ class Matrix(NamedTuple):
 PLAIN = Matrix(1, 0, 0, 1, 0, 0)
 
 
-@dataclass(frozen=True)
-class DrawnCode:
-    """The picture of a code: its modules in rows of whole bytes, where the upper left, the upper
-    right and the lower left corner of it are on the page, and the rectangle that it fills.
+@dataclass(frozen=True, eq=False)
+class Frame:
+    """Where pictures are on pages: the upper left, the upper right and the lower left corner of
+    them, and the rectangle that they fill.
     """
 
-    width: int
-    height: int
-    modules: bytes
     corners: Corners
     ink: Ink
 
 
+class DrawnCode(NamedTuple):
+    """The picture of a code: its modules in rows of whole bytes, and where it is on the page."""
+
+    width: int
+    height: int
+    modules: bytes
+    frame: Frame
+
+
 @lru_cache(KNOWN)
-def is_at(corners: Corners, box: Box, quarters: int) -> bool:
-    """Returns whether corners are those of a box, turned to the right by some quarters."""
+def is_at(frame: Frame, box: Box, quarters: int) -> bool:
+    """Returns whether the corners of a frame are those of a box, turned to the right by some
+    quarters.
+    """
     around = ((box.left, box.top), (box.right, box.top), (box.right, box.bottom))
     points = (*around, (box.left, box.bottom))
     wanted = (points[quarters], points[(quarters + 1) % 4], points[quarters - 1])
-    pairs = zip(corners, wanted)
+    pairs = zip(frame.corners, wanted)
     return all(abs(x - u) < NEAR and abs(y - v) < NEAR for (x, y), (u, v) in pairs)
 
 
+class Symbols(Protocol):
+    """The symbols of a page."""
+
+    def room_at(self, place: float, upper: float, lower: float) -> tuple[float, float]:
+        """Returns from where to where ink meets no symbol that is so high on a page, which it has
+        on both sides of a place.
+        """
+
+    def are_clear_of(self, inks: Iterable[Ink]) -> bool:
+        """Returns whether ink meets none of them."""
+
+
 class Letters(Protocol):
-    """Letters on a page."""
+    """Where letters begin on a page."""
 
-    @property
-    def rough(self) -> tuple[Ink, ...]:
-        """Rectangles in which all of their ink is for certain, which is quick to say."""
+    def is_clear_of(self, symbols: Symbols, letters: bytes) -> bool:
+        """Returns whether it is certain that letters which begin here do not meet symbols, which is
+        quick to say.
+        """
 
-    def inks(self) -> Sequence[Ink]:
-        """Returns the rectangles in which their ink is."""
+    def inks(self, letters: bytes) -> Sequence[Ink]:
+        """Returns the rectangles in which the ink of letters is."""
 
 
 @dataclass
 class DrawnPage:
-    """The codes of a page, its letters, and the ink of lines and what else is drawn on it."""
+    """The codes of a page, its letters by where they begin, and the ink of lines and what else is
+    drawn on it.
+    """
 
-    codes: list[DrawnCode] = field(default_factory=list)
-    letters: list[Letters] = field(default_factory=list)
-    inks: list[Ink] = field(default_factory=list)
+    codes: list[DrawnCode]
+    letters: Sequence[tuple[Letters, bytes]]
+    inks: list[Ink]
 
 
 def ink_of(points: Sequence[tuple[float, float]]) -> Ink:

@@ -8,10 +8,16 @@ import math
 import re
 import struct
 from array import array
-from functools import lru_cache
-from typing import Callable, Mapping, NamedTuple, Sequence
+from bisect import bisect_left
+from typing import Callable, Hashable, Mapping, NamedTuple, Sequence, TypeVar
+
+from labeltools.kept import Found
+
+Key = TypeVar("Key", bound=Hashable)
+Made = TypeVar("Made")
 
 STRING = re.compile(rb"\(((?:[^\\()]|\\.)*)\)|<([0-9A-Fa-f]*)>|(-?[0-9.]+)", re.DOTALL)
+NUMBER = re.compile(rb"-?[0-9.]+")
 ESCAPE = re.compile(rb"\\(?:([0-7]{1,3})|(\n)|(.))", re.DOTALL)
 FIRST = re.compile(rb"/FirstChar ([0-9]+)")
 WIDTHS = re.compile(rb"/Widths \[([^\]]*)\]")
@@ -19,6 +25,7 @@ W_ARRAY = re.compile(rb"/W \[([0-9]+) \[([^\]]*)\]")
 DESCRIPTOR = re.compile(rb"/FontDescriptor ([0-9]+) 0 R")
 DESCENDANT = re.compile(rb"/DescendantFonts \[ ?([0-9]+) 0 R")
 TRUETYPE = re.compile(rb"/FontFile2 ([0-9]+) 0 R")
+WINDOWS = bytes(range(256)).decode("cp1252", "replace")  # the letters of WinAnsiEncoding
 KNOWN = 4096  # strings whose reach is kept: many numbers begin alike
 EM = 1000.0  # in which widths are
 APART = 0.2  # of the size of letters: more than kerning, as between the digits of an EAN
@@ -51,8 +58,28 @@ class Extent(NamedTuple):
         return Extent(*least, max(self.right, other.right), max(self.top, other.top))
 
 
+class Rough(NamedTuple):
+    """Where letters have ink at the most: how far to the left and right, and the rectangles."""
+
+    left: float
+    right: float
+    extents: tuple[Extent, ...]
+
+
+# what says where letters may have ink: what is between strings, and how many bytes each of these
+# has; or else the letters themselves
+Shape = tuple[tuple[bytes, ...], tuple[int, ...]] | bytes
 NO_INK = (0.0, 0.0, math.inf, -math.inf)
 NO_LETTER = Reach(0.0, *NO_INK)
+
+
+class Lately(Found[Key, Made]):
+    """What was found for some keys lately."""
+
+    def __missing__(self, key: Key) -> Made:
+        if len(self) > KNOWN:
+            self.clear()
+        return super().__missing__(key)
 
 
 class Font:
@@ -60,18 +87,22 @@ class Font:
 
     def __init__(self, letters: Mapping[int, Reach], size: int) -> None:
         self.size = size
-        count = 256 if size == 1 else max(letters, default=0) + 1
-        self.letters = [letters.get(code, NO_LETTER) for code in range(count)]
+        self.letters = letters
         # by columns, which is quick to ask for many letters
-        self.advances = [letter.advance for letter in self.letters]
-        self.bottoms = [letter.bottom for letter in self.letters]
-        self.tops = [letter.top for letter in self.letters]
-        self.bottom = min(self.bottoms)
-        self.top = max(self.tops)
-        self.word = lru_cache(KNOWN)(self.new_word)
-        self.strings = lru_cache(KNOWN)(self.new_strings)
-        self.blocks = lru_cache(KNOWN)(self.new_blocks)
-        shown = [letter for letter in self.letters if letter.top > -math.inf]
+        count = 256 if size == 1 else max(letters, default=0) + 1
+        self.advances = [NO_LETTER.advance] * count
+        self.bottoms = [NO_LETTER.bottom] * count
+        self.tops = [NO_LETTER.top] * count
+        for code, letter in letters.items():
+            self.advances[code] = letter.advance
+            self.bottoms[code] = letter.bottom
+            self.tops[code] = letter.top
+        self.bottom = min([letter.bottom for letter in letters.values()], default=math.inf)
+        self.top = max([letter.top for letter in letters.values()], default=-math.inf)
+        self.words = Lately(self.new_word)
+        self.strings = Lately(self.new_strings)
+        self.roughs = Lately(self.new_rough)
+        shown = [letter for letter in letters.values() if letter.top > -math.inf]
         advances = {letter.advance for letter in shown}
         self.even = advances.pop() if len(advances) == 1 else 0.0  # of letters that go alike far
         self.white = min([min(letter.left, letter.right) for letter in shown], default=0.0)
@@ -82,15 +113,16 @@ class Font:
             return text
         return [code for (code,) in struct.iter_unpack(">H", text)]
 
-    def new_word(self, plain: bytes, coded: bytes) -> Reach:
+    def new_word(self, string: tuple[bytes, bytes]) -> Reach:
         """Returns how far the letters of a string go, as if they were one letter."""
+        plain, coded = string
         codes = self.codes(bytes.fromhex(coded.decode()) if coded else unescaped(plain))
         if not codes:
             return NO_LETTER
         return Reach(
             sum(map(self.advances.__getitem__, codes)),
-            self.letters[codes[0]].left,
-            self.letters[codes[-1]].right,
+            self.letters.get(codes[0], NO_LETTER).left,
+            self.letters.get(codes[-1], NO_LETTER).right,
             min(map(self.bottoms.__getitem__, codes)),
             max(map(self.tops.__getitem__, codes)),
         )
@@ -99,31 +131,41 @@ class Font:
         """Returns where the letters of `Tj` or `TJ` have ink, words that are far from one another
         by themselves.
         """
-        return self.strings(shown)[0]
+        return self.strings[shown][0]
 
     def advance(self, shown: bytes) -> float:
         """Returns how far the letters of `Tj` or `TJ` go."""
-        return self.strings(shown)[1]
+        return self.strings[shown][1]
 
-    def rough(self, shown: bytes) -> tuple[Extent, ...]:
-        """Returns where the letters of `Tj` or `TJ` have ink at the most: where all letters go
-        alike far, as digits below bars, what they say is not looked at.
+    def shape(self, shown: bytes) -> Shape:
+        """Returns what says where the letters of `Tj` or `TJ` have ink at the most. Where all
+        letters go alike far, as digits below bars, what they say is not looked at.
         """
-        if not self.even or b"\\" in shown:
-            return self.extents(shown)
-        steps = STRING.findall(shown)
-        return self.blocks(
-            tuple([(len(plain) + len(coded) // 2, by) for plain, coded, by in steps])
-        )
+        if not self.even or b"\\" in shown or b"<" in shown:
+            return shown
+        parts = shown.replace(b")", b"(").split(b"(")
+        return tuple(parts[::2]), tuple([len(part) for part in parts[1::2]])
 
-    def new_blocks(self, steps: tuple[tuple[int, bytes], ...]) -> tuple[Extent, ...]:
-        """Returns where letters that go alike far have ink at the most."""
+    def rough(self, shape: Shape) -> Rough:
+        """Returns where letters of a shape have ink at the most."""
+        return self.roughs[shape]
+
+    def new_rough(self, shape: Shape) -> Rough:
+        """Returns where letters of a shape have ink at the most."""
+        extents = self.extents(shape) if isinstance(shape, bytes) else self.blocks(*shape)
+        left = min([extent.left for extent in extents], default=math.inf)
+        right = max([extent.right for extent in extents], default=-math.inf)
+        return Rough(left, right, extents)
+
+    def blocks(self, between: Sequence[bytes], sizes: Sequence[int]) -> tuple[Extent, ...]:
+        """Returns where strings of letters that go alike far have ink at the most."""
         found = []
         at = 0.0
-        for letters, by in steps:
+        for moves, size in zip(between, sizes):
+            at -= sum(map(float, NUMBER.findall(moves))) / EM
             start = at
-            at += letters // self.size * self.even - float(by or 0) / EM
-            if letters:
+            at += size // self.size * self.even
+            if size:
                 found.append(Extent(start + self.white, self.bottom, at - self.white, self.top))
         return tuple(found)
 
@@ -138,7 +180,7 @@ class Font:
                 at -= by
                 is_apart = is_apart or abs(by) > APART
                 continue
-            advance, left, right, bottom, top = self.word(plain, coded)
+            advance, left, right, bottom, top = self.words[plain, coded]
             start = at
             at += advance
             if top == -math.inf:
@@ -179,7 +221,8 @@ def font_of(
     if found:
         first = int(found[1]) if below else int((FIRST.search(head) or [0, 0])[1])
         listed = found[2] if below else found[1]
-        widths = {first + place: float(width) / EM for place, width in enumerate(listed.split())}
+        pairs = enumerate(listed.split(), first)
+        widths = {code: float(width) / EM for code, width in pairs if below or width != b"0"}
     described = DESCRIPTOR.search(head)
     file = TRUETYPE.search(dictionary(int(described[1]))) if described else None
     shapes = TrueType(stream(int(file[1]))) if file else None
@@ -190,7 +233,7 @@ def font_of(
         if shapes is None:
             letters[code] = Reach(width, 0.0, 0.0, *FILLED)
         else:
-            glyph = code if below else shapes.glyph(bytes([code]).decode("cp1252", "replace"))
+            glyph = code if below else shapes.glyph(ord(WINDOWS[code]))
             letters[code] = shapes.reach(glyph, width)
     return Font(letters, 2 if below else 1)
 
@@ -200,27 +243,21 @@ class TrueType:
 
     def __init__(self, data: bytes) -> None:
         (count,) = struct.unpack_from(">H", data, 4)
-        tables = {}
-        for number in range(count):
-            name, _, start, length = struct.unpack_from(">4sIII", data, 12 + 16 * number)
-            tables[name] = data[start : start + length]
+        places = list(struct.iter_unpack(">4sIII", data[12 : 12 + 16 * count]))
+        tables = {name: data[start : start + length] for name, _, start, length in places}
         (self.em,) = struct.unpack_from(">H", tables[b"head"], 18)
         (is_long,) = struct.unpack_from(">h", tables[b"head"], 50)
-        places = array("I" if is_long else "H")
+        found = array("I" if is_long else "H")
         raw = tables[b"loca"]
-        places.frombytes(raw[: len(raw) - len(raw) % places.itemsize])
-        places.byteswap()
-        self.places = [place * (1 if is_long else 2) for place in places]
+        found.frombytes(raw[: len(raw) - len(raw) % found.itemsize])
+        found.byteswap()
+        self.places = [place * (1 if is_long else 2) for place in found]
         self.shapes = tables[b"glyf"]
-        self.spans = spans_of(tables[b"cmap"]) if b"cmap" in tables else []
+        self.segments = Segments(tables[b"cmap"]) if b"cmap" in tables else None
 
-    def glyph(self, letter: str) -> int:
+    def glyph(self, letter: int) -> int:
         """Returns the glyph of a letter; 0 for the one of letters that are not there."""
-        code = ord(letter)
-        for span in self.spans:
-            if span.first <= code <= span.last:
-                return span.glyph(code)
-        return 0
+        return self.segments.glyph(letter) if self.segments else 0
 
     def reach(self, glyph: int, width: float) -> Reach:
         """Returns how far a glyph goes."""
@@ -228,41 +265,37 @@ class TrueType:
         if not is_there or self.places[glyph] == self.places[glyph + 1]:
             return Reach(width, *NO_INK)
         sides = struct.unpack_from(">4h", self.shapes, self.places[glyph] + 2)
-        left, bottom, right, top = (side / self.em for side in sides)
-        return Reach(width, left, width - right, bottom, top)
+        em = self.em
+        left, bottom, right, top = sides
+        return Reach(width, left / em, width - right / em, bottom / em, top / em)
 
 
-class Span(NamedTuple):
-    """Letters that follow one another in a table of format 4: the first and the last one, what is
-    added to a letter or its entry, and where the entries begin, if there are any.
+class Segments:
+    """Letters that follow one another in a table of format 4: the first and the last one of each
+    segment, what is added to a letter or its entry, and how far its entries are from the place that
+    says so, if there are any.
     """
 
-    first: int
-    last: int
-    delta: int
-    start: int
-    table: bytes
+    def __init__(self, table: bytes) -> None:
+        (start,) = struct.unpack_from(">I", table, 8)
+        kind, _, _, double = struct.unpack_from(">HHHH", table, start)
+        count = double // 2 if kind == 4 else 0
+        row = f">{count}H"
+        self.table = table
+        self.start = start + 16 + 3 * double
+        self.lasts = struct.unpack_from(row, table, start + 14)
+        self.firsts = struct.unpack_from(row, table, start + 16 + double)
+        self.deltas: tuple[int, ...] = struct.unpack_from(row, table, start + 16 + 2 * double)
+        self.offsets = struct.unpack_from(row, table, self.start)
 
     def glyph(self, letter: int) -> int:
         """Returns the glyph of a letter; 0 for the one of letters that are not there."""
+        number = bisect_left(self.lasts, letter)
+        if number == len(self.lasts) or letter < self.firsts[number]:
+            return 0
         glyph = letter
-        if self.start:
-            (glyph,) = struct.unpack_from(">H", self.table, self.start + 2 * (letter - self.first))
-        return (glyph + self.delta) & 0xFFFF if glyph else 0
-
-
-def spans_of(table: bytes) -> list[Span]:
-    """Returns the letters of a table of format 4."""
-    (start,) = struct.unpack_from(">I", table, 8)
-    kind, _, _, double = struct.unpack_from(">HHHH", table, start)
-    if kind != 4:
-        return []
-    count = double // 2
-    row = f">{count}H"
-    lasts = struct.unpack_from(row, table, start + 14)
-    firsts = struct.unpack_from(row, table, start + 16 + double)
-    deltas = struct.unpack_from(row, table, start + 16 + 2 * double)
-    at = start + 16 + 3 * double
-    offsets = struct.unpack_from(row, table, at)
-    starts = [offset and at + 2 * number + offset for number, offset in enumerate(offsets)]
-    return [Span(*sides, table) for sides in zip(firsts, lasts, deltas, starts)]
+        if self.offsets[number]:
+            first = self.start + 2 * number + self.offsets[number]
+            place = first + 2 * (letter - self.firsts[number])
+            (glyph,) = struct.unpack_from(">H", self.table, place)
+        return (glyph + self.deltas[number]) & 0xFFFF if glyph else 0

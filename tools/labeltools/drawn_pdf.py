@@ -7,54 +7,55 @@ its pictures and letters, and what is between them is read once for each place w
 import re
 import zlib
 from dataclasses import dataclass, field
-from functools import lru_cache
-from typing import Iterator, NamedTuple, Optional
+from functools import cached_property, lru_cache
+from typing import Any, Callable, Iterable, Iterator, Mapping, NamedTuple, Optional, Sequence
 
 from labeltools.decode import NotDecoded
-from labeltools.drawn_codes import PLAIN, POINTS, DrawnCode, DrawnPage, Ink, Matrix, ink_of
-from labeltools.drawn_letters import Extent, Font, font_of
+from labeltools.drawn_codes import (
+    EVERYWHERE,
+    NO_ROOM,
+    PLAIN,
+    POINTS,
+    DrawnCode,
+    DrawnPage,
+    Frame,
+    Ink,
+    Matrix,
+    Symbols,
+    ink_of,
+)
+from labeltools.drawn_letters import Extent, Font, Shape, font_of
+from labeltools.kept import Found
 from labeltools.text import Text
 
-N = rb"[-0-9.]++"
-PLAIN_TEXT = rb"[^\\()]*(?:\\.[^\\()]*)*"
+PLAIN_TEXT = rb"[^\\()]*+(?:\\.[^\\()]*+)*+"
 # an object that a page draws, and letters that it shows: several strings, or one
 DIFFERENT = re.compile(
-    rb"/x([0-9]+) Do\b|\[((?:\(%b\)|<[0-9A-Fa-f]*>|[-0-9.\s]+)*)\]TJ\b"
-    rb"|\((%b)\)\s*Tj\b|<([0-9A-Fa-f]*)>\s*Tj\b" % (PLAIN_TEXT, PLAIN_TEXT),
+    rb"/x([0-9]++) Do\b"
+    rb"|\[((?:[-0-9.\s]*+(?:\(%b\)|<[0-9A-Fa-f]*+>))*+[-0-9.\s]*+)\]TJ\b"
+    rb"|\((%b)\)\s*Tj\b|<([0-9A-Fa-f]*+)>\s*Tj\b" % (PLAIN_TEXT, PLAIN_TEXT),
     re.DOTALL,
 )
-# what a page does between them: keeps and brings back its matrix, moves, begins a line of text,
-# names its font, fills or strokes a path
-STEP = re.compile(
-    rb"\b(?P<kept>[qQ])\s"
-    rb"|(?P<six>(?:%b\s+){6})(?P<matrix>cm|Tm)\b"
-    rb"|(?P<two>(?:%b\s+){2})Td\b"
-    rb"|/(?P<font>f-[0-9]+-[0-9]+) 1 Tf\b"
-    rb"|(?P<path>(?:(?:%b\s+)+(?:m|l|c|v|y|re)\s+|h\s+)+)(?P<how>[fFSsBb]\*?|W\*? n|n)\s"
-    % (N, N, N)
-)
-PART = re.compile(rb"((?:%b\s+)+)(m|l|c|v|y|re)\b" % N)
+GROUPS = (None,) * DIFFERENT.groups  # behind the last part
 PAGE = re.compile(
-    rb"[^>]*/MediaBox \[ 0 0 [0-9.]+ (?P<high>[0-9.]+) \][^>]*/Contents (?P<content>[0-9]+) 0 R"
+    rb"[^>]*/MediaBox \[ 0 0 [0-9.]+ ([0-9.]+) \][^>]*/Contents ([0-9]+) 0 R"  # its height
 )
 MASK = re.compile(
     rb"[^>]*/ImageMask true\s+/Width ([0-9]+)\s+/Height ([0-9]+)[^>]*"
     rb"/Decode \[1 0\][^>]*>>\s*stream\n"  # a bit of 1 is dark
 )
 FORM = re.compile(rb"/Subtype /Form\s+/BBox \[ ?([-0-9.]+) ([-0-9.]+) ([-0-9.]+) ([-0-9.]+) ?\]")
-FONTS = re.compile(rb"/(f-[0-9]+-[0-9]+) ([0-9]+) 0 R")
-KIDS = re.compile(rb"/Kids \[([^\]]*)\]")
-KID = re.compile(rb"([0-9]+) 0 R")
+FONT = re.compile(rb"/f-[0-9]+-[0-9]+ ([0-9]+) 0 R")
+KIDS = b"/Kids ["
 PLACE = re.compile(rb"startxref\s+([0-9]+)\s+%%EOF\s*$")
 TABLE = re.compile(rb"xref\s+0 ([0-9]+)\s+")
 ENTRY = 20  # bytes of an object in the table
 STREAM = b"stream\n"
 END_OF_STREAM = b"\nendstream"
+LENGTH_END = b" R\n"  # of the length of a stream, which is an object, right at the begin
+LENGTH_WITHIN = 64  # bytes
 END = b"endobj"
-KNOWN = 4096  # texts whose extent is kept: many labels have the same price
-
-
-Spans = tuple[tuple[float, float], ...]
+KNOWN = 4096  # places of pages that are kept, and what differs behind each of them
 
 
 class Picture(NamedTuple):
@@ -65,96 +66,92 @@ class Picture(NamedTuple):
     modules: bytes
 
 
-class Shown(NamedTuple):
-    """Letters that a page shows: what takes them to dots, their font, and themselves."""
-
-    matrix: Matrix
-    font: Font
-    letters: bytes
-
-    @property
-    def rough(self) -> tuple[Ink, ...]:
-        """Rectangles in which all of their ink is for certain."""
-        return inks_at(self.matrix, self.font.rough(self.letters))
-
-    @property
-    def behind(self) -> Matrix:
-        """Where letters behind them begin."""
-        return self.matrix.moved(self.font.advance(self.letters), 0)
-
-    def inks(self) -> tuple[Ink, ...]:
-        """Returns the rectangles in which their ink is."""
-        return tuple(self.matrix.ink(*extent) for extent in self.font.extents(self.letters))
-
-
-@lru_cache(KNOWN)
-def inks_at(matrix: Matrix, extents: tuple[Extent, ...]) -> tuple[Ink, ...]:
-    """Returns the rectangles in which ink is when it was moved."""
-    return tuple(matrix.ink(*extent) for extent in extents)
-
-
-@dataclass(eq=False)
-class Around:
-    """What is around a part of a page: the matrix that takes it to dots, and those that are kept.
-    Where a picture fills this place it has these corners and this ink. What was read here before is
-    known by its bytes.
+class Around(NamedTuple):
+    """What is around a part of a page: the matrix that takes it to dots, and those that are kept;
+    the line of text that was begun last, to dots; whether letters that follow begin it, or else are
+    behind those before; the name of their font.
     """
 
     matrix: Matrix
     kept: tuple[Matrix, ...] = ()
-    known: dict[bytes, "Steps"] = field(default_factory=dict)
-
-    def __post_init__(self) -> None:
-        self.corners = tuple(self.matrix.of(x, y) for x, y in ((0, 1), (1, 1), (0, 0)))
-        self.ink = self.matrix.ink(0, 0, 1, 1)
+    line: Matrix = PLAIN
+    is_begun: bool = False
+    font: bytes = b""
 
 
-class Steps(NamedTuple):
-    """What steps of a page do: what is around those that follow; the line of text that they begin,
-    to dots, or by how much they move the last one; the ink of their paths; the font that they name;
-    whether letters of a font that follow may be as high on the page as some codes.
+@dataclass(eq=False)
+class PlaceOfLetters:
+    """Where letters begin, to dots, and their font. Of the symbols that were looked at last, `room`
+    is what is free beside them, in sizes of letters; `clear` are shapes that do not meet them.
     """
 
-    around: Around
-    line: Optional[Matrix]
-    moves: tuple[tuple[float, float], ...]
-    inks: tuple[Ink, ...]
-    font: Optional[Font]
-    beside: dict[tuple[Font, Spans], bool]
+    matrix: Matrix
+    font: Font
+    symbols: Optional[Symbols] = None
+    room: tuple[float, float] = NO_ROOM
+    clear: set[Shape] = field(default_factory=set)
 
-    def begun(self, line: Matrix) -> Matrix:
-        """Returns the line of text that is begun where the one before begins at a place."""
-        found = self.line or line
-        for move in self.moves:
-            found = found.moved(*move)
-        return found
+    def is_clear_of(self, symbols: Symbols, letters: bytes) -> bool:
+        """Returns whether it is certain that letters which begin here do not meet symbols."""
+        if self.symbols is not symbols:
+            self.symbols = symbols
+            self.room = self.room_beside(symbols)
+            self.clear.clear()
+        room = self.room
+        if room is EVERYWHERE:
+            return True
+        shape = self.font.shape(letters)
+        if shape in self.clear:
+            return True
+        left, right, extents = self.font.roughs[shape]
+        if room[0] <= left and right <= room[1]:
+            return True
+        if not symbols.are_clear_of(self.inks_in(extents)):
+            return False
+        if len(self.clear) > KNOWN:
+            self.clear.clear()
+        self.clear.add(shape)
+        return True
 
-    def is_beside(self, letters: Shown, spans: Spans) -> bool:
-        """Returns whether letters that follow may be as high on a page as one of the spans."""
-        if self.line is None:
-            return is_beside(letters, spans)
-        key = letters.font, spans
-        found = self.beside.get(key)
-        if found is None:
-            found = self.beside[key] = is_beside(letters, spans)
-        return found
+    def room_beside(self, symbols: Symbols) -> tuple[float, float]:
+        """Returns from where to where letters meet no symbol, whatever they are."""
+        matrix = self.matrix
+        if matrix.b or matrix.c or matrix.a <= 0:
+            return NO_ROOM
+        high = matrix.f + matrix.d * self.font.top
+        low = matrix.f + matrix.d * self.font.bottom
+        found = symbols.room_at(matrix.e, min(high, low), max(high, low))
+        if found == EVERYWHERE:
+            return EVERYWHERE
+        left, right = found
+        return (left - matrix.e) / matrix.a, (right - matrix.e) / matrix.a
+
+    def inks_in(self, extents: Iterable[Extent]) -> tuple[Ink, ...]:
+        """Returns the rectangles in which ink of letters is."""
+        return tuple(self.matrix.ink(*extent) for extent in extents)
+
+    def inks(self, letters: bytes) -> tuple[Ink, ...]:
+        """Returns the rectangles in which the ink of letters is."""
+        return self.inks_in(self.font.extents(letters))
+
+    def behind(self, letters: bytes) -> Matrix:
+        """Returns where letters behind others, which begin here, begin."""
+        return self.matrix.moved(self.font.advance(letters), 0)
 
 
 class Pdf:
     """A PDF whose objects are found by its table."""
 
-    def __init__(self, data: bytes, dpi: float) -> None:
+    def __init__(self, data: bytes) -> None:
         """Raises `LookupError` and `ValueError` where it is not as Cairo writes it."""
         self.data = data
-        self.scale = dpi / POINTS
         place = PLACE.search(data, len(data) - 64)
         table = TABLE.match(data, int(place[1])) if place else None
         if table is None:
             raise ValueError("no table")
         self.table = table.end()
-        self.fonts = {name: int(number) for name, number in FONTS.findall(data)}
-        self.font = lru_cache(None)(self.new_font)
-        self.reader = Reader(self)
+        self.fonts = Found(self.new_font)
+        self.forms = Found(self.new_form)
 
     def start(self, number: int) -> int:
         """Returns where an object begins."""
@@ -174,33 +171,38 @@ class Pdf:
         return zlib.decompress(self.data[start : self.data.index(END_OF_STREAM, start)])
 
     def new_font(self, name: bytes) -> Font:
-        """Returns a font by its name."""
-        return font_of(self.dictionary, self.stream, self.fonts[name])
+        """Returns a font by its name, the same one on all pages."""
+        named = FONT.match(self.data, self.data.rindex(b"/%b " % name))
+        if named is None:
+            raise ValueError("no font")
+        return font_of(self.dictionary, self.stream, int(named[1]))
 
     def pages(self) -> list[int]:
         """Returns the objects that are pages."""
-        kids = KIDS.search(self.data)
-        return [int(kid) for kid in KID.findall(kids[1])] if kids else []
+        start = self.data.index(KIDS) + len(KIDS)
+        kids = self.data[start : self.data.index(b"]", start)]
+        return [int(kid) for kid in kids.split()[::3]]
 
-    def page(self, number: int) -> DrawnPage:
-        """Returns what is on a page."""
+    def page(self, number: int) -> tuple[bytes, bytes]:
+        """Returns how high a page is, and its content."""
         head = PAGE.match(self.data, self.start(number))
         if head is None:
             raise ValueError("a page without content")
-        high = self.scale * float(head["high"])
-        upright = Matrix(self.scale, 0, 0, -self.scale, 0, high)
-        return self.reader.page(upright, self.stream(int(head["content"])))
+        high, content = head.groups()
+        return high, self.stream(int(content))
 
     def picture(self, number: int) -> Optional[Picture]:
         """Returns the picture that an object is; None where it is another thing."""
-        mask = MASK.match(self.data, self.start(number))
-        if mask is None:
+        data = self.data
+        start = self.start(number)
+        start = data.index(LENGTH_END, start, start + LENGTH_WITHIN)
+        begin = data.index(STREAM, start) + len(STREAM)
+        size = size_of_mask(data[start:begin])
+        if size is None:
             return None
-        begin = mask.end()
-        packed = self.data[begin : self.data.index(END_OF_STREAM, begin)]
-        return Picture(int(mask[1]), int(mask[2]), zlib.decompress(packed))
+        return Picture(*size, zlib.decompress(data[begin : data.index(END_OF_STREAM, begin)]))
 
-    def form(self, number: int) -> tuple[float, float, float, float]:
+    def new_form(self, number: int) -> tuple[float, float, float, float]:
         """Returns in which rectangle an object draws."""
         found = FORM.search(self.dictionary(number))
         if found is None:
@@ -209,152 +211,247 @@ class Pdf:
         return left, top, right, bottom
 
 
+@lru_cache(KNOWN)
+def size_of_mask(head: bytes) -> Optional[tuple[int, int]]:
+    """Returns how many modules a picture of one bit a pixel has across and down, by what its object
+    says behind its length; None where it is another thing.
+    """
+    mask = MASK.match(head)
+    return (int(mask[1]), int(mask[2])) if mask else None
+
+
 def one_string(plain: Optional[bytes], coded: Optional[bytes]) -> Optional[bytes]:
     """Returns a string that is shown, with its brackets; None where none is."""
     if plain is not None:
         return b"(%b)" % plain
-    if coded is not None:
-        return b"<%b>" % coded
-    return None
+    return b"<%b>" % coded if coded else None
+
+
+class Place:
+    """A place in the content of pages: what is around it, and the ink of the paths right before it.
+    Pages go on from it to places that are known by the bytes between.
+    """
+
+    def __init__(self, around: Around, inks: tuple[Ink, ...]) -> None:
+        self.around = around
+        self.is_begun = around.is_begun
+        self.inks = inks
+        self.known: dict[bytes, Place] = {}
+
+    @cached_property
+    def frame(self) -> Frame:
+        """Where a picture is that is drawn here."""
+        matrix = self.around.matrix
+        corners = tuple(matrix.of(x, y) for x, y in ((0, 1), (1, 1), (0, 0)))
+        return Frame(corners, matrix.ink(0, 0, 1, 1))
+
+
+class Places:
+    """Places of pages, which all documents of a job share: their dots are so many an inch."""
+
+    def __init__(self, dpi: float) -> None:
+        self.scale = dpi / POINTS
+        self.places: dict[tuple[Around, tuple[Ink, ...]], Place] = {}
+        self.begins = Found(self.new_begin)
+
+    def new_begin(self, high: bytes) -> Place:
+        """Returns where pages begin that are so many points high: their points are taken to dots
+        from the upper left corner.
+        """
+        scale = self.scale
+        return self.place(Around(Matrix(scale, 0, 0, -scale, 0, scale * float(high))), ())
+
+    def place(self, around: Around, inks: tuple[Ink, ...]) -> Place:
+        """Returns a place of pages, the same one where the same is around it."""
+        found = self.places.get((around, inks))
+        if found is None:
+            if len(self.places) > KNOWN:
+                self.places.clear()
+                self.begins.clear()
+            found = self.places[around, inks] = Place(around, inks)
+        return found
+
+    def step(self, place: Place, part: bytes) -> Place:
+        """Returns the place behind a part of a page, and keeps it."""
+        walk = Walk(place.around)
+        walk.go(part)
+        if len(place.known) > KNOWN:
+            place.known.clear()
+        found = place.known[part] = self.place(walk.around, tuple(walk.inks))
+        return found
+
+    def pages(self, data: bytes, count: int) -> Iterator[DrawnPage]:
+        """Yields what is on each page of a document; raises `NotDecoded` where there are not so
+        many of them.
+        """
+        try:
+            pdf = Pdf(data)
+            pages = pdf.pages()
+            if len(pages) != count:
+                raise NotDecoded(Text("{} pages go out for {}", len(pages), count))
+            reader = Reader(pdf, self)
+            for number in pages:
+                yield reader.page(*pdf.page(number))
+        except (ValueError, LookupError, TypeError, zlib.error) as error:
+            raise NotDecoded(Text("no pdf of Cairo: {}", error)) from error
 
 
 class Reader:
-    """Reads pages."""
+    """Reads pages of a document."""
 
-    def __init__(self, pdf: Pdf) -> None:
+    def __init__(self, pdf: Pdf, places: Places) -> None:
         self.pdf = pdf
-        self.around: dict[tuple[Matrix, tuple[Matrix, ...]], Around] = {}
+        self.places = places
+        self.letters = Found(self.new_letters)
+        self.drawings: set[bytes] = set()  # objects that are no pictures of codes
 
-    def page(self, upright: Matrix, content: bytes) -> DrawnPage:
-        """Returns what a page has; `upright` takes its points to dots from the upper left
-        corner.
-        """
-        found = DrawnPage()
-        around = self.place(upright, ())
-        shown: list[tuple[Steps, Shown]] = []
-        line = PLAIN
-        font = None
-        parts = [*DIFFERENT.split(content), None, None, None, None]
-        columns = (parts[place::5] for place in range(5))
-        for part, number, strings, plain, coded in zip(*columns):
-            steps = around.known.get(part) or self.steps(around, part)
-            around = steps.around
-            font = steps.font or font
-            found.inks += steps.inks
-            is_new = steps.line is not None or steps.moves
-            line = steps.begun(line)
+    def page(self, high: bytes, content: bytes) -> DrawnPage:
+        """Returns what a page has that is so many points high."""
+        shown: list[tuple[PlaceOfLetters, bytes]] = []
+        found = DrawnPage([], shown, [])
+        place = self.places.begins[high]
+        parts: Iterator[Any] = iter([*DIFFERENT.split(content), *GROUPS])
+        for part, number, several, plain, coded in zip(parts, parts, parts, parts, parts):
+            place = place.known.get(part) or self.places.step(place, part)
+            if place.inks:
+                found.inks += place.inks
             if number:
-                self.draw(int(number), around, found)
+                self.draw(number, place, found)
                 continue
-            letters = strings or one_string(plain, coded)
-            if letters is None or font is None:
-                continue
-            at = line if is_new else shown[-1][1].behind
-            shown.append((steps, Shown(at, font, letters)))
-        spans = tuple({(code.ink.top, code.ink.bottom): None for code in found.codes})
-        found.letters += [letters for steps, letters in shown if steps.is_beside(letters, spans)]
+            letters = several or one_string(plain, coded)
+            if letters:
+                at = self.letters[place] if place.is_begun else self.behind(place, *shown[-1])
+                shown.append((at, letters))
         return found
 
-    def place(self, matrix: Matrix, kept: tuple[Matrix, ...]) -> Around:
-        """Returns what is around a part of a page, the same for the same matrices."""
-        found = self.around.get((matrix, kept))
-        if found is None:
-            if len(self.around) > KNOWN:
-                self.around.clear()
-            found = self.around[matrix, kept] = Around(matrix, kept)
-        return found
+    def new_letters(self, place: Place) -> PlaceOfLetters:
+        """Returns where letters are that begin at a place; raises `LookupError` where they have no
+        font.
+        """
+        return PlaceOfLetters(place.around.line, self.pdf.fonts[place.around.font])
 
-    def steps(self, around: Around, part: bytes) -> Steps:
-        """Returns what a part of a page does, and keeps it."""
-        matrix, kept = around.matrix, around.kept
-        line = None
-        moves: list[tuple[float, float]] = []
-        font = None
-        inks: list[Ink] = []
-        for step in STEP.finditer(part):
-            kind = step.lastgroup
-            if kind == "kept":
-                matrix, kept = kept_by(step["kept"], matrix, kept)
-            elif kind == "matrix":
-                moved = Matrix(*map(float, step["six"].split())).before(matrix)
-                if step["matrix"] == b"Tm":
-                    line = moved
-                    moves = []
-                else:
-                    matrix = moved
-            elif kind == "two":
-                x, y = map(float, step["two"].split())
-                moves.append((x, y))
-            elif kind == "font":
-                font = self.pdf.font(step["font"])
-            elif not step["how"].endswith(b"n"):
-                inks += inks_of_path(step["path"], matrix)
-        if len(around.known) > KNOWN:
-            around.known.clear()
-        place = self.place(matrix, kept)
-        found = Steps(place, line, tuple(moves), tuple(inks), font, {})
-        around.known[part] = found
-        return found
+    def behind(self, place: Place, before: PlaceOfLetters, letters: bytes) -> PlaceOfLetters:
+        """Returns where letters are that follow others; raises as `new_letters`."""
+        return PlaceOfLetters(before.behind(letters), self.pdf.fonts[place.around.font])
 
-    def draw(self, number: int, around: Around, found: DrawnPage) -> None:
+    def draw(self, number: bytes, place: Place, found: DrawnPage) -> None:
         """Draws an object: a picture of a code, or another one, such as the drawing of a design,
         which may be below codes and not over them.
         """
-        picture = self.pdf.picture(number)
+        picture = self.pdf.picture(int(number)) if number not in self.drawings else None
         if picture is not None:
-            found.codes.append(DrawnCode(*picture, around.corners, around.ink))
-        elif found.codes:
-            over = around.matrix.ink(*self.pdf.form(number))
-            found.inks += [code.ink for code in found.codes if over.meets(code.ink)]
+            found.codes.append(DrawnCode(*picture, place.frame))
+            return
+        self.drawings.add(number)
+        if found.codes:
+            over = place.around.matrix.ink(*self.pdf.forms[int(number)])
+            inks = [code.frame.ink for code in found.codes]
+            found.inks += [ink for ink in inks if over.meets(ink)]
 
 
-def kept_by(
-    operator: bytes, matrix: Matrix, kept: tuple[Matrix, ...]
-) -> tuple[Matrix, tuple[Matrix, ...]]:
-    """Returns the matrix and those that are kept when one is kept, or brought back."""
-    if operator == b"q":
-        return matrix, (*kept, matrix)
-    *rest, last = kept
-    return last, tuple(rest)
+class Walk:
+    """Goes over a part of a page, which has no letters: keeps and brings back its matrix, moves,
+    begins lines of text, names their font, fills or strokes paths.
+    """
+
+    def __init__(self, around: Around) -> None:
+        self.matrix, self.kept, self.line, _, self.font = around
+        self.is_begun = False
+        self.path: list[list[tuple[float, float]]] = []
+        self.inks: list[Ink] = []
+
+    @property
+    def around(self) -> Around:
+        """What is around what follows."""
+        return Around(self.matrix, self.kept, self.line, self.is_begun, self.font)
+
+    def go(self, part: bytes) -> None:
+        """Takes all operators of a part with what is before each of them; raises `ValueError` and
+        `LookupError`.
+        """
+        before: list[bytes] = []
+        for word in part.split():
+            if word[:1] in OPERANDS:
+                before.append(word)
+                continue
+            operator = OPERATORS.get(word)
+            if operator is not None:
+                operator(self, before)
+            before = []
+
+    def keep(self, _: Sequence[bytes]) -> None:
+        """Keeps the matrix."""
+        self.kept = *self.kept, self.matrix
+
+    def bring_back(self, _: Sequence[bytes]) -> None:
+        """Brings back the matrix that was kept last."""
+        *rest, self.matrix = self.kept
+        self.kept = tuple(rest)
+
+    def move(self, numbers: Sequence[bytes]) -> None:
+        """Moves what follows."""
+        self.matrix = matrix_of(numbers).before(self.matrix)
+
+    def begin_line(self, numbers: Sequence[bytes]) -> None:
+        """Begins a line of text."""
+        self.line = matrix_of(numbers).before(self.matrix)
+        self.is_begun = True
+
+    def move_line(self, numbers: Sequence[bytes]) -> None:
+        """Begins a line of text at a place of the last one."""
+        x, y = map(float, numbers)
+        self.line = self.line.moved(x, y)
+        self.is_begun = True
+
+    def name_font(self, words: Sequence[bytes]) -> None:
+        """Names the font of letters that follow."""
+        name, size = words
+        if float(size) != 1:
+            raise ValueError("letters in another size than 1")
+        self.font = name[1:]
+
+    def begin_path(self, numbers: Sequence[bytes]) -> None:
+        """Begins a part of a path."""
+        self.path.append([])
+        self.go_to(numbers)
+
+    def go_to(self, numbers: Sequence[bytes]) -> None:
+        """Goes on with a part of a path: a curve is within its points."""
+        places = [float(number) for number in numbers]
+        self.path[-1] += [self.matrix.of(*pair) for pair in zip(places[::2], places[1::2])]
+
+    def add_rectangle(self, numbers: Sequence[bytes]) -> None:
+        """Adds a rectangle to a path."""
+        left, top, width, height = map(float, numbers)
+        corners = (left, top), (left + width, top + height)
+        self.path.append([self.matrix.of(*corner) for corner in corners])
+
+    def paint(self, _: Sequence[bytes]) -> None:
+        """Fills or strokes a path: its ink is in rectangles around its parts."""
+        self.inks += [ink_of(points) for points in self.path if len(points) > 1]
+        self.path = []
+
+    def end_path(self, _: Sequence[bytes]) -> None:
+        """Ends a path that has no ink."""
+        self.path = []
 
 
-def is_beside(letters: Shown, spans: Spans) -> bool:
-    """Returns whether letters may be as high on a page as one of the spans."""
-    matrix, font, _ = letters
-    if matrix.b or matrix.c:
-        return True
-    high = matrix.f + matrix.d * font.top
-    low = matrix.f + matrix.d * font.bottom
-    top, bottom = (high, low) if high < low else (low, high)
-    for first, last in spans:
-        if top < last and bottom > first:
-            return True
-    return False
+def matrix_of(numbers: Sequence[bytes]) -> Matrix:
+    """Returns the matrix that six numbers are."""
+    return Matrix(*map(float, numbers))
 
 
-def inks_of_path(path: bytes, matrix: Matrix) -> Iterator[Ink]:
-    """Yields the rectangles in which the parts of a path are."""
-    points: list[tuple[float, float]] = []
-    for numbers, kind in PART.findall(path):
-        if kind in (b"m", b"re"):
-            yield from [ink_of(points)] if len(points) > 1 else []
-            points = []
-        values = [float(number) for number in numbers.split()]
-        if kind == b"re":
-            values[2] += values[0]
-            values[3] += values[1]
-        points += [matrix.of(*pair) for pair in zip(values[::2], values[1::2])]
-    yield from [ink_of(points)] if len(points) > 1 else []
-
-
-def pages_of_pdf(data: bytes, dpi: float, count: int) -> Iterator[DrawnPage]:
-    """Yields what is on each page; raises `NotDecoded` where there are not so many of them."""
-    try:
-        pdf = Pdf(data, dpi)
-        pages = pdf.pages()
-        if len(pages) != count:
-            raise NotDecoded(Text("{} pages go out for {}", len(pages), count))
-        for number in pages:
-            yield pdf.page(number)
-    except (ValueError, LookupError, TypeError, zlib.error) as error:
-        raise NotDecoded(Text("no pdf of Cairo: {}", error)) from error
+OPERANDS = {bytes([first]) for first in b"+-.0123456789/"}  # how numbers and names begin
+OPERATORS: Mapping[bytes, Callable[[Walk, Sequence[bytes]], None]] = {
+    b"q": Walk.keep,
+    b"Q": Walk.bring_back,
+    b"cm": Walk.move,
+    b"Tm": Walk.begin_line,
+    b"Td": Walk.move_line,
+    b"Tf": Walk.name_font,
+    b"m": Walk.begin_path,
+    b"re": Walk.add_rectangle,
+    **dict.fromkeys((b"l", b"c", b"v", b"y"), Walk.go_to),
+    **dict.fromkeys((b"f", b"F", b"f*", b"S", b"s", b"B", b"B*", b"b", b"b*"), Walk.paint),
+    b"n": Walk.end_path,
+}

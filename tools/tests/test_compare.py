@@ -15,8 +15,9 @@ from unittest import mock
 import support
 from labeltools import compare, decode, engine, own_layout, pen, press
 from labeltools.engine import Modules
+from labeltools.drawn_codes import Matrix
 from labeltools.drawn_letters import Extent, Font, Reach
-from labeltools.drawn_pdf import pages_of_pdf
+from labeltools.drawn_pdf import PlaceOfLetters, Places
 from labeltools.forms import dots, escpos, zpl
 from labeltools.forms.dots import Picture
 from labeltools.frames import Box
@@ -242,6 +243,46 @@ def without_row(picture: Picture) -> Picture:
     return replace(picture, packed=b"".join(rows))
 
 
+def drawn_as_it_is_read(symbol: Any, scale: int) -> tuple[list[str], list[str], int]:
+    """The dots of a symbol and those of them that are looked at, as rows of digits, and by how many
+    of these its guards are longer.
+    """
+    left, right, above = compare.ZONES[symbol.symbology]
+    digits = "".join(map(str, symbol.modules))
+    starts = range(0, len(digits), symbol.width)
+    rows = ["0" * left + digits[start : start + symbol.width] + "0" * right for start in starts]
+    wide = len(rows[0])
+    blank = ["0" * wide] * above
+    rows = ["".join(module * scale for module in row) for row in (*blank, *rows, *blank)]
+    if symbol.rows > 1:
+        rows = [row for row in rows for _ in range(scale)]
+        return rows, ["1" * wide * scale] * len(rows), 0
+    spans = compare.GUARDS.get(symbol.symbology, ())
+    longer = 5 * scale if spans else 0
+    guards = ["0"] * wide
+    for first, last in spans:
+        guards[left + first : left + last] = "1" * (last - first)
+    mask = "".join(module * scale for module in guards)
+    return rows * (HIGH + longer), ["1" * wide * scale] * HIGH + [mask] * longer, longer
+
+
+def rows_of_parts(parts: Any, high: int, stride: int) -> tuple[list[int], list[int]]:
+    """The dots that parts of a symbol have, and those that are looked at: a number for each row of
+    some bytes.
+    """
+    whole = [0] * high
+    masks = [0] * high
+    for part, found in parts:
+        mask = part.mask.to_bytes(len(found), "big")
+        behind = 8 * (stride - part.first - part.size)
+        for number in range(part.high):
+            at = slice(number * part.size, (number + 1) * part.size)
+            whole[part.top + number] |= int.from_bytes(found[at], "big") << behind
+            masks[part.top + number] |= int.from_bytes(mask[at], "big") << behind
+    return whole, masks
+
+
+HIGH = 12  # dots of bars
 RUN_LENGTHS = zpl.run_lengths
 DRAW_MODULES = pen.Pen.draw_modules
 RUN_LABELS = engine.run_labels
@@ -531,6 +572,9 @@ class Read(unittest.TestCase):
         rows = decode.new_dots((b"F0!J5,:,12345678,M9!", 4)).hex(" ", 4).upper()
         wanted = "F0FFFFFF 55550000 55550000 00000000 12345678 00000000 9999999F"
         self.assertEqual(rows, wanted)
+        for size, wanted in ((1, "f0f0f0"), (2, "f000f000f000")):  # parts that come again
+            for _ in range(2):
+                self.assertEqual(decode.new_dots((b"F,::", size)).hex(), wanted)
         for text in (
             b"F0F",
             b"12345678F",
@@ -573,10 +617,44 @@ class Read(unittest.TestCase):
                 highs = [high for _, high in packed]
                 self.assertEqual([row for row, n in zip(found, highs) for _ in range(n)], wanted)
 
+    def test_parts_of_symbols(self) -> None:
+        """They are all of a symbol in its place, but what is between longer guards."""
+        lines = (b"ean13 4006381333931", b"ean8 73513537", b"code128 LOT-7", b"qr X")
+        for line, scale, quarters, left in product(lines, (1, 3), range(4), (0, 5)):
+            symbol = engine.library().line(line, height=1)
+            rows, looked, longer = drawn_as_it_is_read(symbol, scale)
+            for _ in range(quarters):
+                rows = ["".join(column) for column in zip(*rows[::-1])]
+                looked = ["".join(column) for column in zip(*looked[::-1])]
+            box = Box(left, 0, len(rows[0]), len(rows))
+            bars = (
+                box._replace(height=box.height - longer),
+                box._replace(left=left + longer, width=box.width - longer),
+                box._replace(top=longer, height=box.height - longer),
+                box._replace(width=box.width - longer),
+            )[quarters]
+            first, last, _ = compare.ZONES[symbol.symbology]
+            guards = tuple(
+                (box, (first + start, first + end))
+                for start, end in compare.GUARDS.get(symbol.symbology, ())
+            )
+            high = (HIGH,) if symbol.rows == 1 else ()
+            bands = (*high, longer) if high else (scale,) * (box.height // scale)
+            wide = first + symbol.width + last
+            place = compare.Geometry(bars, guards, box, quarters, scale, wide, sum(bands), bands)
+            with self.subTest(line=line, scale=scale, quarters=quarters, left=left):
+                parts = compare.parts_of_symbol(compare.Wanted(symbol, place))
+                stride = (left + len(rows[0]) + 7) // 8
+                whole, masks = rows_of_parts(parts, len(rows), stride)
+                behind = 8 * stride - left - len(rows[0])
+                self.assertEqual(masks, [int(row, 2) << behind for row in looked])
+                wanted = [(int(row, 2) << behind) & mask for row, mask in zip(rows, masks)]
+                self.assertEqual([row & mask for row, mask in zip(whole, masks)], wanted)
+
     def test_a_picture_that_is_another_one(self) -> None:
         found = found_of(options_of("pdf"), PAIR[:1])
         comparison = found.press(Silence()).comparison
-        (page,) = pages_of_pdf(write(found)[0], 203, 1)
+        (page,) = Places(203).pages(write(found)[0], 1)
         (code,) = page.codes
         (spot,) = compare.spots_of(found.labels[0], comparison.area)
         wanted = comparison.wanted(spot, found.job.plan.places[0])
@@ -584,10 +662,10 @@ class Read(unittest.TestCase):
             {"width": code.width - 1},
             {"height": code.height - 1},
             {"modules": code.modules[:-1]},
-            {"corners": tuple((x + 0.5, y) for x, y in code.corners)},
+            {"frame": replace(code.frame, corners=[(x + 0.5, y) for x, y in code.frame.corners])},
         )
         for change in changes:
-            page.codes = [replace(code, **change)]
+            page.codes = [code._replace(**change)]
             with self.subTest(change=change), self.assertRaises(compare.Different):
                 compare.CodesOfPage(page, 0.125).check(wanted)
         page.codes = [code]
@@ -666,11 +744,33 @@ class Read(unittest.TestCase):
         """Rough ink has all of the exact one in it, whatever the letters are."""
         font = Font({48: Reach(0.6, 0.1, 0.2, 0.0, 0.7), 49: Reach(0.6, 0.15, 0.05, -0.1, 0.6)}, 1)
         for shown in (b"(01)Tj", b"(10)Tj"):
-            self.assert_near(font.rough(shown), [(0.05, -0.1, 1.15, 0.7)])
+            self.assert_near(font.rough(font.shape(shown)).extents, [(0.05, -0.1, 1.15, 0.7)])
         (ink,) = font.extents(b"(01)Tj")
         self.assert_near([ink], [(0.1, -0.1, 1.15, 0.7)])
-        apart = font.rough(b"[(0)-600(11)]TJ")
-        self.assert_near(apart, [(0.05, -0.1, 0.55, 0.7), (1.25, -0.1, 2.35, 0.7)])
+        apart = font.rough(font.shape(b"(0)-600(11)"))
+        self.assert_near(apart.extents, [(0.05, -0.1, 0.55, 0.7), (1.25, -0.1, 2.35, 0.7)])
+        self.assertEqual(font.shape(b"(0)-600(11)"), font.shape(b"(1)-600(10)"))
+
+    def test_letters_beside_symbols(self) -> None:
+        """Letters between two symbols may be as long as what is free there; above them, any."""
+        boxes = Box(0, 100, 50, 50), Box(150, 100, 50, 50)
+        symbols = compare.Regions(
+            [compare.Geometry(box, (), box, 0, 1, 50, 50, (50, 0)) for box in boxes]
+        )
+        font = Font({65: Reach(1.0, 0.1, 0.1, 0.0, 0.7), 66: Reach(2.0, 0.1, 0.1, 0.0, 0.7)}, 1)
+        for left, base, letters, is_clear in (
+            (60, 130, b"(AAAA)", True),
+            (60, 130, b"(AAAAA)", False),
+            (60, 130, b"(AA)-3000(A)", False),
+            (40, 130, b"(A)", False),
+            (60, 99, b"(AABBB)", True),
+            (60, 102, b"(AABBB)", False),
+            (210, 130, b"(AABBB)", True),
+        ):
+            place = PlaceOfLetters(Matrix(20, 0, 0, -20, left, base), font)
+            with self.subTest(left=left, base=base, letters=letters):
+                for _ in range(2):
+                    self.assertEqual(place.is_clear_of(symbols, letters), is_clear)
 
     def assert_near(self, extents: Sequence[Extent], wanted: Sequence[Sequence[float]]) -> None:
         """Extents are those that are wanted, but for their rounding."""

@@ -49,6 +49,7 @@ __all__ = [
     "version",
 ]
 __version__ = "1.1.0"
+_DIGITS = bytes.maketrans(b"\0\1", b"01")
 
 
 class Refused(ValueError):
@@ -109,10 +110,12 @@ class Symbol:
         left, right, top, bottom = self.quiet_zones if quiet_zones else (0, 0, 0, 0)
         size = (left + self.width + right + 7) // 8
         # All rows as one number: between two of them are the zones and the bits that fill a byte.
-        digits = self.modules.translate(bytes.maketrans(b"\0\1", b"01"))
-        starts = range(0, len(digits), self.width)
-        between = b"0" * (size * 8 - self.width)
-        number = int(between.join(digits[start : start + self.width] for start in starts), 2)
+        digits = self.modules.translate(_DIGITS)
+        if self.rows > 1:
+            between = b"0" * (size * 8 - self.width)
+            starts = range(0, len(digits), self.width)
+            digits = between.join([digits[start : start + self.width] for start in starts])
+        number = int(digits, 2)
         bits = (number << (size * 8 - left - self.width)).to_bytes(size * self.rows, "big")
         return bytes(size * top) + bits + bytes(size * bottom)
 
@@ -221,26 +224,43 @@ def _picture(call: Callable[..., int], room: int, *asked: object) -> bytes | Non
 
 def _symbol(call: Callable[..., int], *asked: object) -> Symbol | None:
     """The symbol that a call draws, or None for a line that is skipped."""
-    answer = _binding.Answer()
-    info = _binding.Info()
-    modules = ctypes.create_string_buffer(_binding.MAX_MODULES)
-    code = call(*asked, modules, _binding.MAX_MODULES, ctypes.byref(info), ctypes.byref(answer))
+    room = _binding.SymbolRoom()
+    code = call(*asked, *room.places())
     if code == _binding.SKIPPED:
         return None
-    _expect_drawn(answer)
-    is_qr = info.version > 0
-    return Symbol(
-        symbology=SYMBOLOGIES[info.symbology],
-        width=info.width,
-        rows=info.rows,
-        height=info.height,
-        quiet_zones=(info.left, info.right, info.top, info.bottom),
-        version=info.version if is_qr else None,
-        level=LEVELS[info.level] if is_qr else None,
-        mask=info.mask if is_qr else None,
-        modules=ctypes.string_at(modules, info.width * info.rows),
-        data=ctypes.string_at(info.data, info.data_length),
+    if code != _binding.OK:
+        _expect_drawn(room.answer)
+    (
+        symbology,
+        width,
+        rows,
+        height,
+        left,
+        right,
+        top,
+        bottom,
+        version,
+        level,
+        mask,
+        length,
+        data,
+        modules,
+    ) = room.drawn()
+    is_qr = version > 0
+    symbol = Symbol.__new__(Symbol)
+    vars(symbol).update(  # at once: __init__ of a frozen dataclass takes three times as long
+        symbology=SYMBOLOGIES[symbology],
+        width=width,
+        rows=rows,
+        height=height,
+        quiet_zones=(left, right, top, bottom),
+        version=version if is_qr else None,
+        level=LEVELS[level] if is_qr else None,
+        mask=mask if is_qr else None,
+        modules=modules,
+        data=data[:length],
     )
+    return symbol
 
 
 def _bitmap(call: Callable[..., int], *asked: object) -> Bitmap | None:

@@ -3,7 +3,10 @@
 import ctypes
 import operator
 import os
+import struct
+from ctypes import byref
 from functools import lru_cache
+from typing import Any
 
 Data = str | bytes | bytearray | memoryview
 
@@ -47,39 +50,33 @@ class Answer(ctypes.Structure):
     ]
 
 
-class Info(ctypes.Structure):
-    """labels_symbol_info."""
+# labels_symbol_info: eleven numbers, five spare words, the length of the data, and room for it.
+INFO = struct.Struct("@11I20xN656s")
+_INFO_AT = ctypes.sizeof(Answer)
+_MODULES_AT = _INFO_AT + INFO.size
+_WIDTH, _ROWS = 1, 2
 
-    symbology: int
-    width: int
-    rows: int
-    height: int
-    left: int
-    right: int
-    top: int
-    bottom: int
-    version: int
-    level: int
-    mask: int
-    data_length: int
-    data: ctypes.Array[ctypes.c_ubyte]
+
+class SymbolRoom(ctypes.Structure):
+    """What a call puts a symbol into, as one object, which is made in a quarter of the time of three."""
+
+    answer: Answer
 
     _fields_ = [
-        ("symbology", ctypes.c_uint32),
-        ("width", ctypes.c_uint32),
-        ("rows", ctypes.c_uint32),
-        ("height", ctypes.c_uint32),
-        ("left", ctypes.c_uint32),
-        ("right", ctypes.c_uint32),
-        ("top", ctypes.c_uint32),
-        ("bottom", ctypes.c_uint32),
-        ("version", ctypes.c_uint32),
-        ("level", ctypes.c_uint32),
-        ("mask", ctypes.c_uint32),
-        ("reserved", ctypes.c_uint32 * 5),
-        ("data_length", ctypes.c_size_t),
-        ("data", ctypes.c_ubyte * 656),
+        ("answer", Answer),
+        ("info", ctypes.c_ubyte * INFO.size),
+        ("modules", ctypes.c_ubyte * MAX_MODULES),
     ]
+
+    def places(self) -> tuple[object, int, object, object]:
+        """Returns the last arguments of the call: where modules go, their room, and the places of what it says."""
+        return byref(self, _MODULES_AT), MAX_MODULES, byref(self, _INFO_AT), byref(self)
+
+    def drawn(self) -> tuple[Any, ...]:
+        """Returns what was put there: the eleven numbers of INFO, the length of the data, its room; the modules."""
+        written = memoryview(self).cast("B")
+        info = INFO.unpack_from(written, _INFO_AT)
+        return *info, written[_MODULES_AT : _MODULES_AT + info[_WIDTH] * info[_ROWS]].tobytes()
 
 
 class Dots(ctypes.Structure):
