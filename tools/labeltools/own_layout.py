@@ -124,15 +124,14 @@ class Room:
     fits: dict[str, Fit] = field(default_factory=dict)
     signs: dict[str, Sign] = field(default_factory=dict)  # of lines
     changing: set[str] = field(default_factory=set)  # lines whose letters change beside others
+    texts: dict[str, OwnText] = field(default_factory=dict)
 
     def __post_init__(self) -> None:
         self.wide, self.high = self.box.width, self.box.height  # as it is read
         if self.place.quarters % 2:
             self.wide, self.high = self.high, self.wide
-        self.largest = cache(self.new_largest)
-        self.text = cache(self.new_text)
 
-    def new_largest(self, lines: int) -> int:
+    def largest(self, lines: int) -> int:
         """Returns the largest letters of a number of lines."""
         size = int(self.high / ((lines - 1) * LINE + self.bottom - self.top))
         wished = int(self.place.size / self.dot)
@@ -221,8 +220,17 @@ class Room:
         """Whether its texts are never cut, and stay on one line."""
         return self.place.part in PRICES
 
+    def text(self, text: str) -> OwnText:
+        """Returns where a text is, which may come again; raises `NoRoom` for a price that would be
+        cut.
+        """
+        found = self.texts.get(text)
+        if found is None:
+            found = self.texts[text] = self.new_text(text)
+        return found
+
     def new_text(self, text: str) -> OwnText:
-        """Returns where a text is; raises `NoRoom` for a price that would be cut."""
+        """Returns where a text is, as `text` does."""
         fit = self.fits[text]
         if fit.is_cut and self.is_price:
             what = Text("{} has no room in the place {}", quoted(text), self.place.title)
