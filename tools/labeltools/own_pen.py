@@ -35,7 +35,7 @@ class OwnPen(Pen):
     def __init__(self, medium: Medium, fonts: Fonts, letters: Letters, design: OwnDesign) -> None:
         super().__init__(medium, fonts, letters)
         self.design = design
-        # dots of a unit of the drawing: that of a PDF, so that Cairo scales it once for all labels
+        # dots of a unit of the drawing: in points Cairo does not scale it for each label of a PDF
         self.unit = medium.dpi / POINTS if medium.is_pdf else 1.0
         self.drawing = cache(self.new_drawing)
         self.dark_rows = cache(self.new_dark_rows)
@@ -52,7 +52,7 @@ class OwnPen(Pen):
     def new_drawing(self, absent: frozenset[str]) -> Optional[cairo.SurfacePattern]:
         """Returns what is drawn on labels without some parts; None where there is none."""
         if not self.medium.is_dots:
-            return recorded(self.design, MILLIMETRES / self.medium.dpi * self.unit, absent)
+            return recorded(self.design, self.medium, absent)
         rows = self.dark_rows(absent)
         return mask_of(rows, self.size[0]) if any(map(any, rows)) else None
 
@@ -151,17 +151,19 @@ def own_layout(item: LaidOut) -> OwnLayout:
 
 
 def recorded(
-    design: OwnDesign, unit: float, absent: frozenset[str]
+    design: OwnDesign, medium: Medium, absent: frozenset[str]
 ) -> Optional[cairo.SurfacePattern]:
-    """Returns a drawing as it is in units of so many millimetres, which a file has once; None where
-    there is no ink.
+    """Returns a drawing as it is, which a file has once: for PDF in points, or else in dots; None
+    where there is no ink.
     """
-    area = cairo.Rectangle(0, 0, *(side / unit for side in design.label))
+    scale = (POINTS if medium.is_pdf else medium.dpi) / MILLIMETRES
+    area = cairo.Rectangle(0, 0, *(side * scale for side in design.label))
     surface = cairo.RecordingSurface(cairo.CONTENT_COLOR_ALPHA, area)
     canvas = cairo.Context(surface)
-    canvas.rectangle(*area)
-    canvas.clip()
-    design.draw(canvas, 1 / unit, absent)
+    if medium.is_pdf:  # it would end at a whole point
+        canvas.rectangle(*area)
+        canvas.clip()
+    design.draw(canvas, scale, absent)
     _, _, width, height = surface.ink_extents()
     return cairo.SurfacePattern(surface) if min(width, height) > 0 else None
 
