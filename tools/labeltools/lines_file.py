@@ -17,7 +17,7 @@ import sys
 from dataclasses import dataclass, field
 from io import BytesIO
 from operator import methodcaller
-from typing import Any, Iterator, Sequence
+from typing import Any, Iterator, NamedTuple, Sequence
 
 from labeltools import VERSION
 from labeltools.text import NOTHING, Text
@@ -60,8 +60,7 @@ encode = json.JSONEncoder(ensure_ascii=False, separators=(",", ":")).encode
 decode = json.JSONDecoder().decode
 
 
-@dataclass(frozen=True, slots=True)
-class Label:
+class Label(NamedTuple):
     """What belongs to a line of labels(1). Texts may have several lines; what is not there is
     empty.
 
@@ -80,8 +79,7 @@ class Label:
     names: tuple[str, ...] = ()
 
 
-@dataclass(frozen=True, slots=True)
-class LineRecord:
+class LineRecord(NamedTuple):
     """A line of labels(1) with its label.
 
     `number` is that of the line in its file, from 1; `data` has the check digit, and no escapes any
