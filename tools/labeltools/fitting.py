@@ -121,32 +121,24 @@ class Fitter:
         """Returns a text as it fits a box: smaller where its ink would leave it."""
         known = self.known(style)
         found = None
-        if style.base is not None:
-            found = self.on_base(known, text, style, width)
-        elif known.glyphs is not None:
+        if known.glyphs is not None and style.base is None:
             fit = wrapped if style.lines else in_line
             found = fit(known.glyphs, known, text, style, width, height)
         return found or self.by_pango(text, style, width, height)
 
-    def on_base(self, known: Known, text: str, style: Style, width: int) -> Optional[Fitted]:
-        """Returns a line of text on its base line by the widths of its letters, which Pango takes
-        long to say; None in dots, where their shapes are others.
-        """
-        if style.lines or self.is_dots or style.family != self.letters.family or "\n" in text:
-            return None
-        sign = self.letters.line(text, style.is_bold)
-        if sign is None:
-            return None
+    def on_base(self, text: str, style: Style, left: int) -> Fitted:
+        """Returns a line of text on its base line, of which it is known where it begins."""
+        glyphs, base, high = self.known(style)
         size = style.size
-        ink = (sign.advance - sign.left - sign.right) * size
-        x = round((width - ink) * (style.across + 1) / 2 - sign.left * size)
-        y = (style.base or 0) - math.floor(known.base)
-        row = known.glyphs.line(text, size) if known.glyphs else None
-        if known.glyphs is None or row is None:
-            layout = self.laid_out(text, style, width, size)
-            return Fitted(size, None, (), layout, x, y, known.high)
-        lines = (Line(row, 0.0, known.base),)
-        return Fitted(size, known.glyphs.face, lines, None, x, y, known.high)
+        top = (style.base or 0) - math.floor(base)
+        row = glyphs.line(text, size) if glyphs else None
+        if glyphs and row:
+            return Fitted(size, glyphs.face, (Line(row, 0.0, base),), None, left, top, high)
+
+        def laid_out(_: Hashable) -> Fitted:
+            return Fitted(size, None, (), self.laid_out(text, style, 0, size), left, top, high)
+
+        return self.kept.get((text, style, left), laid_out, copied)
 
     def by_pango(self, text: str, style: Style, width: int, height: int) -> Fitted:
         """Returns a text as Pango fits it."""

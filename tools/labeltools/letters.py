@@ -46,8 +46,14 @@ NOTHING = Extent(0.0, 0.0)
 
 def together(signs: Sequence[Sign], spaces: float = 0.0) -> Sign:
     """Returns letters or words as one, with spaces between them."""
-    advances, lefts, rights, tops, bottoms = zip(*signs)
-    return Sign(sum(advances) + spaces, lefts[0], rights[-1], min(tops), max(bottoms))
+    advance, left, right, top, bottom = signs[0]
+    for further, _, right, above, below in signs[1:]:
+        advance += further
+        if above < top:
+            top = above
+        if below > bottom:
+            bottom = below
+    return Sign(advance + spaces, left, right, top, bottom)
 
 
 def extent_of(sign: Sign) -> Extent:

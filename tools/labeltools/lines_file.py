@@ -16,7 +16,8 @@ import re
 import sys
 from dataclasses import dataclass, field
 from io import BytesIO
-from typing import Any, Iterator, Sequence
+from operator import methodcaller
+from typing import Any, Iterator, NamedTuple, Sequence
 
 from labeltools import VERSION
 from labeltools.text import NOTHING, Text
@@ -56,10 +57,10 @@ UNPRINTABLE = re.compile("[\x00-\x09\x0b-\x1f\x7f-\x9f\u2028\u2029\ud800-\udfff]
 ESCAPE = re.compile(rb"\\(?:x([0-9A-Fa-f]{2})|([n\\]))")
 ESCAPED = {b"n": b"\n", b"\\": b"\\"}
 encode = json.JSONEncoder(ensure_ascii=False, separators=(",", ":")).encode
+decode = json.JSONDecoder().decode
 
 
-@dataclass(frozen=True, slots=True)
-class Label:
+class Label(NamedTuple):
     """What belongs to a line of labels(1). Texts may have several lines; what is not there is
     empty.
 
@@ -78,8 +79,7 @@ class Label:
     names: tuple[str, ...] = ()
 
 
-@dataclass(frozen=True, slots=True)
-class LineRecord:
+class LineRecord(NamedTuple):
     """A line of labels(1) with its label.
 
     `number` is that of the line in its file, from 1; `data` has the check digit, and no escapes any
@@ -114,7 +114,7 @@ class LinesFile:
 
 def lines_of(data: bytes) -> Iterator[bytes]:
     """Yields the lines of a file as labels(1) counts them."""
-    return (line.removesuffix(b"\n") for line in BytesIO(data))
+    return map(methodcaller("removesuffix", b"\n"), BytesIO(data))
 
 
 def first_remark(table: str) -> str:
@@ -199,7 +199,7 @@ class _Reader:
 
     def take_object(self, number: int, line: bytes) -> None:
         """Takes a remark that is an object."""
-        found = object_of(line, Text("{}: line {}", self.name, number))
+        found = object_of(line, self.name, number)
         is_open = self.part.first >= 0
         count = len(self.records) - self.part.first if is_open else -1
         is_early = "labels" in found and is_open
@@ -246,24 +246,27 @@ class _Reader:
         return LinesFile(tuple(self.records), tuple(self.left_out), self.left_out_count)
 
 
-def object_of(line: bytes, where: Text) -> dict[str, Any]:
+def object_of(line: bytes, name: str, number: int) -> dict[str, Any]:
     """Returns the object of a remark, all of which is understood; raises `ToolError`."""
     try:
-        found: dict[str, Any] = json.loads(line[1:])
+        found: dict[str, Any] = decode(line[1:].decode("utf-8", "surrogatepass"))
     except (ValueError, RecursionError) as error:
+        where = Text("{}: line {}", name, number)
         raise ToolError(
             Text("{}: the remark is no JSON object: the file is cut off or changed", where)
         ) from error
     wrong = [key for key, value in found.items() if key not in KEYS or not is_of(value, KEYS[key])]
-    if found.get("labels", found.get("end", VERSION)) != VERSION:
+    wrong += [key for key in ONE_LINE if "\n" in str(found.get(key, ""))]
+    is_known = found.get("labels", found.get("end", VERSION)) == VERSION
+    if is_known and found and not wrong and found.get("copies", 0) <= MOST_COPIES:
+        return found
+    where = Text("{}: line {}", name, number)
+    if not is_known:
         raise ToolError(
             Text("{}: the file is of another version of label-table", where), Text("make it again")
         )
-    wrong += [key for key in ONE_LINE if "\n" in str(found.get(key, ""))]
-    if wrong or not found or found.get("copies", 0) > MOST_COPIES:
-        listed = ", ".join(map(quoted, wrong)) or quoted(line.decode("utf-8", "replace"))
-        raise ToolError(Text("{}: not understood: {}", where, listed))
-    return found
+    listed = ", ".join(map(quoted, wrong)) or quoted(line.decode("utf-8", "replace"))
+    raise ToolError(Text("{}: not understood: {}", where, listed))
 
 
 def is_of(value: object, kind: Any) -> bool:

@@ -8,7 +8,7 @@ from bisect import bisect_left
 from collections import Counter
 from dataclasses import dataclass, field
 from functools import cache
-from operator import neg
+from operator import itemgetter, neg
 from typing import Iterable, Iterator, Mapping, NamedTuple, Optional, Sequence
 
 from labeltools.area import LARGEST_MODULE, TINY, Area
@@ -33,10 +33,9 @@ ENLARGE = Text("enlarge it")
 NO_FRAME = Frame("own", {}, {}, 0, 0, 0, 0, 0, 0, True, 0.0)
 
 
-@dataclass(frozen=True, slots=True)
-class OwnText:
+class OwnText(NamedTuple):
     """A text in a place: its letters and lines, and its base line from the top of its box; whether
-    it is cut.
+    it is cut; where it begins if it is one line and the widths of its letters say so.
     """
 
     place: Place
@@ -46,6 +45,7 @@ class OwnText:
     lines: int
     base: int
     is_cut: bool
+    left: Optional[int]
 
 
 class OwnSymbol(NamedTuple):
@@ -73,6 +73,7 @@ class OwnLayout(Layout):
     absent: frozenset[str]
 
 
+Row = tuple[str, ...]  # the texts of a label in all places
 # symbols by their places and texts: their modules and data, or why they are refused
 Made = dict[tuple[Place, str], tuple[Modules, bytes] | Text]
 
@@ -122,16 +123,13 @@ class Room:
     common: int = 0
     fits: dict[str, Fit] = field(default_factory=dict)
     signs: dict[str, Sign] = field(default_factory=dict)  # of lines
+    changing: set[str] = field(default_factory=set)  # lines whose letters change beside others
+    texts: dict[str, OwnText] = field(default_factory=dict)
 
-    @property
-    def wide(self) -> int:
-        """Its width as it is read."""
-        return self.box.height if self.place.quarters % 2 else self.box.width
-
-    @property
-    def high(self) -> int:
-        """Its height as it is read."""
-        return self.box.width if self.place.quarters % 2 else self.box.height
+    def __post_init__(self) -> None:
+        self.wide, self.high = self.box.width, self.box.height  # as it is read
+        if self.place.quarters % 2:
+            self.wide, self.high = self.high, self.wide
 
     @property
     def is_small(self) -> bool:
@@ -150,9 +148,12 @@ class Room:
 
     def take(self, counts: Counter[str]) -> None:
         """Finds the letters of all texts that come here, which are given with how often."""
-        is_bold = self.place.is_bold
-        lines = {line for text in counts for line in text.split("\n")}
-        self.signs = {line: sign_of(self.letters, line, is_bold) for line in lines}
+        for line in {line for text in counts for line in text.split("\n")}:
+            sign = self.letters.line(line, self.place.is_bold) if line.strip() else BLANK
+            if sign is None:
+                self.changing.add(line)
+                sign = self.letters.whole_sign(line, self.place.is_bold)
+            self.signs[line] = sign
         self.top = min(sign.top for sign in self.signs.values())
         self.bottom = max(sign.bottom for sign in self.signs.values())
         if self.bottom - self.top <= 0:
@@ -229,7 +230,16 @@ class Room:
         return self.place.part in PRICES
 
     def text(self, text: str) -> OwnText:
-        """Returns where a text is; raises `NoRoom` for a price that would be cut."""
+        """Returns where a text is, which may come again; raises `NoRoom` for a price that would be
+        cut.
+        """
+        found = self.texts.get(text)
+        if found is None:
+            found = self.texts[text] = self.new_text(text)
+        return found
+
+    def new_text(self, text: str) -> OwnText:
+        """Returns where a text is, as `text` does."""
         fit = self.fits[text]
         if fit.is_cut and self.is_price:
             what = Text("{} has no room in the place {}", quoted(text), self.place.title)
@@ -241,7 +251,15 @@ class Room:
             lines = found.lines if found else lines
         tall = ((lines - 1) * LINE + self.bottom - self.top) * size
         base = (self.high - tall) * self.place.down - self.top * size
-        return OwnText(self.place, text, self.box, size, lines, round(base), fit.is_cut)
+        is_line = lines == 1 and not fit.is_cut and text not in self.changing
+        left = self.left_of(text, size) if is_line else None
+        return OwnText(self.place, text, self.box, size, lines, round(base), fit.is_cut, left)
+
+    def left_of(self, line: str, size: int) -> int:
+        """Returns where a line begins in letters of a size."""
+        sign = self.signs[line]
+        ink = (sign.advance - sign.left - sign.right) * size
+        return round((self.wide - ink) * (self.place.across + 1) / 2 - sign.left * size)
 
 
 def sign_of(letters: Letters, line: str, is_bold: bool) -> Sign:
@@ -305,8 +323,9 @@ def values_of(label: PrintLabel, note: str, own: frozenset[str]) -> Values:
         texts["note"] = names["note"] = note
     elif note:
         rest.append(("note", note))
-    texts["text"] = short("\n".join(text for _, text in rest))
-    names["text"] = ", ".join(dict.fromkeys(name or "text" for name, _ in rest))
+    if rest:
+        texts["text"] = short("\n".join(text for _, text in rest))
+        names["text"] = ", ".join(dict.fromkeys(name or "text" for name, _ in rest))
     return Values({key: text for key, text in texts.items() if text}, names)
 
 
@@ -343,14 +362,17 @@ class OwnLayouts:
         """Returns labels with their layouts, why others are left out, and what is said of all."""
         values = [values_of(label, self.note, self.own) for label in labels]
         self.keys = self.keys_of_places(values)
-        symbols = self.second_symbols(values, talk)
-        rooms = self.rooms(values)
+        keys = [self.keys[place] for place in self.places]
+        rows = [tuple([value.texts.get(key, "") for key in keys]) for value in values]
+        symbols = self.second_symbols(rows, talk)
+        rooms = self.rooms(rows)
         placed = []
         for number, label in enumerate(labels):
             if number % ASKED == 0:
                 talk.go_on(number, 0)
+            absent = self.design.groups.difference(values[number].texts)
             try:
-                layout = self.layout(label, values[number], rooms, symbols)
+                layout = self.layout(label, rows[number], absent, rooms, symbols)
             except NoRoom as problem:
                 self.left_out[label.record.number] = problem.reason
             else:
@@ -369,37 +391,31 @@ class OwnLayouts:
         """Returns the text of a label in a place."""
         return values.texts.get(self.keys[place], "")
 
-    def rooms(self, values: Iterable[Values]) -> dict[Place, Room]:
+    def rooms(self, rows: Sequence[Row]) -> dict[Place, Room]:
         """Returns the rooms of texts."""
-        counts: dict[Place, Counter[str]] = {}
-        for place in self.places:
-            if not place.is_symbol:
-                counts[place] = Counter()
-        for value in values:
-            for place, counter in counts.items():
-                if text := self.text_at(place, value):
-                    counter[text] += 1
         rooms = {}
         known = {"": self.letters}
-        for place, counter in counts.items():
+        for number, place in enumerate(self.places):
+            if place.is_symbol:
+                continue
             if place.font not in known:
                 known[place.font] = Letters(Fonts(place.font))
+            counter = Counter(map(itemgetter(number), rows))
+            del counter[""]
             if counter:
                 rooms[place] = Room(place, self.boxes[place], known[place.font], self.area.dot)
                 rooms[place].take(counter)
         return rooms
 
-    def second_symbols(self, values: Iterable[Values], talk: Talk) -> Made:
+    def second_symbols(self, rows: Sequence[Row], talk: Talk) -> Made:
         """Returns the symbols that are made of texts, or why they are refused."""
         wanted: dict[tuple[Place, str], int] = {}
         lines: list[bytes] = []
-        made = [place for place in self.places if place.symbology]
-        for value in values:
-            for place in made:
-                text = self.text_at(place, value)
-                if text and (place, text) not in wanted:
-                    lines.append(line_of(place, text))
-                    wanted[place, text] = len(lines)
+        for number, place in enumerate(self.places):
+            texts = dict.fromkeys(row[number] for row in rows) if place.symbology else {}
+            for text in filter(None, texts):
+                lines.append(line_of(place, text))
+                wanted[place, text] = len(lines)
         if not lines:
             return {}
         words = self.words if "--escapes" in self.words else (*self.words, "--escapes")
@@ -414,15 +430,15 @@ class OwnLayouts:
     def layout(
         self,
         label: PrintLabel,
-        values: Values,
+        row: Row,
+        absent: frozenset[str],
         rooms: Mapping[Place, Room],
         made: Made,
     ) -> OwnLayout:
-        """Returns the layout of a label; raises `NoRoom`."""
+        """Returns the layout of a label whose texts are those of a row; raises `NoRoom`."""
         texts = []
         symbols = []
-        for place in self.places:
-            text = self.text_at(place, values)
+        for place, text in zip(self.places, row):
             if not text:
                 continue
             if place.symbology:
@@ -437,7 +453,6 @@ class OwnLayouts:
                 texts.append(rooms[place].text(text))
         finest = min(symbols, key=lambda one: (one.symbology.nominal > 0, one.module))
         found = (finest.symbology, finest.module, finest.boxes, False)
-        absent = self.design.groups.difference(values.texts)
         return OwnLayout(NO_FRAME, *found, tuple(texts), tuple(symbols), absent)
 
     def symbol(

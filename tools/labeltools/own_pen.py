@@ -9,6 +9,7 @@ import cairo
 from labeltools.area import MILLIMETRES, Dots
 from labeltools.engine import bytes_a_row
 from labeltools.fitting import Style
+from labeltools.forms.pdf import POINTS
 from labeltools.layout import LaidOut
 from labeltools.letters import Fonts, Letters
 from labeltools.messages import ToolError
@@ -34,6 +35,8 @@ class OwnPen(Pen):
     def __init__(self, medium: Medium, fonts: Fonts, letters: Letters, design: OwnDesign) -> None:
         super().__init__(medium, fonts, letters)
         self.design = design
+        # dots of a unit of the drawing: in points Cairo does not scale it for each label of a PDF
+        self.unit = medium.dpi / POINTS if medium.is_pdf else 1.0
         self.drawing = cache(self.new_drawing)
         self.dark_rows = cache(self.new_dark_rows)
         self.packed = cache(self.new_packed)
@@ -49,7 +52,7 @@ class OwnPen(Pen):
     def new_drawing(self, absent: frozenset[str]) -> Optional[cairo.SurfacePattern]:
         """Returns what is drawn on labels without some parts; None where there is none."""
         if not self.medium.is_dots:
-            return recorded(self.design, MILLIMETRES / self.medium.dpi, absent)
+            return recorded(self.design, self.medium, absent)
         rows = self.dark_rows(absent)
         return mask_of(rows, self.size[0]) if any(map(any, rows)) else None
 
@@ -67,7 +70,7 @@ class OwnPen(Pen):
 
     def draw_below(self, canvas: Any, page: Page, is_turned: bool) -> None:
         """Draws what is alike on the labels of a page."""
-        if is_turned or not self.is_begun(canvas, page):
+        if is_turned or not self.medium.is_dots or not self.is_begun(canvas, page):
             for item, place in page:
                 self.draw_drawing(canvas, item, place)
 
@@ -76,7 +79,7 @@ class OwnPen(Pen):
         for all else. Returns whether it did so.
         """
         is_alone = [place for _, place in page] == [(0, 0)] and canvas.get_matrix() == UPRIGHT
-        if not self.medium.is_dots or not is_alone:
+        if not is_alone:
             return False
         surface = canvas.get_target()
         if self.size[0] > surface.get_width():
@@ -93,6 +96,7 @@ class OwnPen(Pen):
         if drawing:
             canvas.save()
             canvas.translate(*place)
+            canvas.scale(self.unit, self.unit)
             if self.medium.is_dots:  # which takes a quarter of the time of a mask
                 canvas.set_operator(cairo.Operator.ADD)
             canvas.set_source(drawing)
@@ -106,10 +110,14 @@ class OwnPen(Pen):
     def texts(self, item: LaidOut) -> Iterator[Placed]:
         """Yields the texts of a label, each of which is drawn before the next one is fitted."""
         for text in own_layout(item).texts:
-            found = self.in_room(text)
             place = text.place
+            style = self.style_of(text)
+            if text.left is None or self.medium.is_dots or style.family != self.fonts.texts:
+                fitted = self.fitter.found(*self.in_room(text))
+            else:
+                fitted = self.fitter.on_base(text.text, style, text.left)
             colour = None if place.colour == BLACK else place.colour
-            yield Placed(self.fitter.found(*found), found[1], text.box, place.quarters, colour)
+            yield Placed(fitted, style, text.box, place.quarters, colour)
 
     def lines_of(self, item: LaidOut) -> Iterator[tuple[str, Style, int, int]]:
         """Yields the texts of a label that may be cut, with their room."""
@@ -143,12 +151,19 @@ def own_layout(item: LaidOut) -> OwnLayout:
 
 
 def recorded(
-    design: OwnDesign, dot: float, absent: frozenset[str]
+    design: OwnDesign, medium: Medium, absent: frozenset[str]
 ) -> Optional[cairo.SurfacePattern]:
-    """Returns a drawing as it is, which a file has once; None where there is no ink."""
-    extents = tuple(side / dot for side in design.label)
-    surface = cairo.RecordingSurface(cairo.CONTENT_COLOR_ALPHA, cairo.Rectangle(0, 0, *extents))
-    design.draw(cairo.Context(surface), 1 / dot, absent)
+    """Returns a drawing as it is, which a file has once: for PDF in points, or else in dots; None
+    where there is no ink.
+    """
+    scale = (POINTS if medium.is_pdf else medium.dpi) / MILLIMETRES
+    area = cairo.Rectangle(0, 0, *(side * scale for side in design.label))
+    surface = cairo.RecordingSurface(cairo.CONTENT_COLOR_ALPHA, area)
+    canvas = cairo.Context(surface)
+    if medium.is_pdf:  # it would end at a whole point
+        canvas.rectangle(*area)
+        canvas.clip()
+    design.draw(canvas, scale, absent)
     _, _, width, height = surface.ink_extents()
     return cairo.SurfacePattern(surface) if min(width, height) > 0 else None
 

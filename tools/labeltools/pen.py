@@ -83,6 +83,11 @@ class Medium:
     is_smooth: bool = False
     outlines: frozenset[str] = frozenset()
 
+    @property
+    def is_pdf(self) -> bool:
+        """Whether it is a page of PDF."""
+        return not self.is_dots and not self.is_smooth
+
 
 class Pen:
     """Draws labels on a medium, in a built-in design."""
@@ -153,26 +158,25 @@ class Pen:
         frame = layout.frame
         box = layout.boxes["title"]
         has_text = bool(label.text) and "text" not in layout.boxes
-        is_middle = frame.kind == "beside" and "price" not in frame.boxes
-        lines = label.text.count("\n") + 1 if has_text else 0
-        below = math.ceil(lines * LINE * frame.sizes["text"])
+        room = box.height
+        if has_text:
+            room -= math.ceil((label.text.count("\n") + 1) * LINE * frame.sizes["text"])
         used = 0
-        title = self.title(label, layout, box.height - below) if label.title else None
-        if title is not None and (has_text or is_middle):
-            used = min(title.text.height, box.height - below)
-        top = box.top + (box.height - below - used) // 2 if is_middle else box.top
+        title = None
+        if label.title:
+            text, style = self.text_of("title", label, layout)
+            most = math.ceil(frame.lines * LINE * style.size)
+            fitted = self.fitter.fitted(text, style, box.width, min(most, room))
+            title = Placed(fitted, style, box)
+            used = min(fitted.height, room)
+        top = box.top
+        if frame.kind == "beside" and "price" not in frame.boxes:
+            top += (room - used) // 2
         if title is not None:
-            yield Placed(title.text, title.style, Box(box.left, top, box.width, box.height))
+            yield title if top == box.top else title._replace(box=box._replace(top=top))
         if has_text:
             rest = box._replace(top=top + used, height=box.bottom - top - used)
             yield self.placed(*self.text_of("text", label, layout), rest)
-
-    def title(self, label: PrintLabel, layout: Layout, room: int) -> Placed:
-        """Returns the title of a label in a height."""
-        text, style = self.text_of("title", label, layout)
-        box = layout.boxes["title"]
-        most = math.ceil(layout.frame.lines * LINE * style.size)
-        return self.placed(text, style, Box(box.left, box.top, box.width, min(most, room)))
 
     def placed(self, text: str, style: Style, box: Box) -> Placed:
         """Returns a text as it fits a box; those of one line often come again."""
@@ -285,7 +289,8 @@ class Pen:
             for (numbers, places), across, down in text.lines:
                 x = left + text.x + across
                 y = top + text.y + down
-                found += [(number, x + place, y) for number, place in zip(numbers, places)]
+                for number, place in zip(numbers, places):  # in less time than a list of them
+                    found.append((number, x + place, y))
             return
         canvas.move_to(left + text.x, top + text.y)
         if style.family in self.medium.outlines:
@@ -414,12 +419,12 @@ def bits_of(row: bytes) -> str:
 
 
 @cache
-def guard_bits(symbology: str, width: int) -> int:
-    """Returns the modules of guards as bits of a row."""
-    places: set[int] = set()
-    for span in SYMBOLOGIES[symbology].guards:
-        places.update(range(span.left, span.right))
-    return sum(1 << (width - 1 - place) for place in places)
+def guard_bits(symbology: str, size: int, stride: int) -> int:
+    """Returns the modules of guards as the number that a row of Cairo is."""
+    spans = SYMBOLOGIES[symbology].guards
+    places = {place for span in spans for place in range(span.left, span.right)}
+    bits = sum(1 << (8 * size - 1 - place) for place in places)
+    return int.from_bytes(padded(bits.to_bytes(size, "big"), size, stride), "big")
 
 
 def bars_mask(modules: Modules, symbology: Symbology, high: int) -> Any:
@@ -430,10 +435,9 @@ def bars_mask(modules: Modules, symbology: Symbology, high: int) -> Any:
     stride = size + -size % 4
     rows = padded(modules.packed, size, stride)
     if len(rows) == stride:
-        rows *= high
-        if symbology.guards:
-            bits = int.from_bytes(modules.packed, "big") & guard_bits(symbology.name, 8 * size)
-            rows += padded(bits.to_bytes(size, "big"), size, stride) * GUARD
+        guards = int.from_bytes(rows, "big") & guard_bits(symbology.name, size, stride)
+        longer = GUARD if symbology.guards else 0
+        rows = rows * high + guards.to_bytes(stride, "big") * longer
     data = memoryview(bytearray(rows))
     picture = cairo.ImageSurface.create_for_data(
         data, cairo.FORMAT_A1, modules.width, len(rows) // stride, stride

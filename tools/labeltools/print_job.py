@@ -385,8 +385,10 @@ def faults(
 
 def several(items: Sequence[LaidOut], only: Optional[Selection]) -> Iterable[Remark]:
     """Yields that rows that are asked for are in several tables of the file."""
+    if only is None:
+        return
     named = [item.label.record.place for item in items]
-    places = [place for place in named if only is not None and only.has_row(place)]
+    places = [place for place in named if only.has_row(place)]
     counts = Counter(place.number for place in places)
     rows = sorted(number for number, count in counts.items() if count > 1)
     if rows:

@@ -6,12 +6,14 @@ import os
 import tempfile
 import unittest
 from pathlib import Path
+from typing import Any, Dict
 
 import numpy
 
 import designs
 import jobs
 import support
+from labeltools.messages import Silence
 from labeltools.own_layout import OwnLayout
 from labeltools.read_back import own_fault_in
 from test_forms import dots_of_svg, rendered
@@ -49,6 +51,25 @@ def is_same(one: jobs.Dots, other: jobs.Dots) -> bool:
     """Whether dots are the same; paper that is wider than them is white."""
     wide = other.shape[1]
     return numpy.array_equal(one[:, :wide], other) and not one[:, wide:].any()
+
+
+class Drawings(unittest.TestCase):
+    def test_a_drawing_ends_at_the_edge_of_its_label(self) -> None:
+        """What a PDF of a sheet has beyond it would be on the next label."""
+        sheet: Dict[str, Any] = {"cell": (60.0, 40.0), "margin": (10.0, 10.0), "paper": None}
+        with tempfile.TemporaryDirectory() as folder:
+            path = designs.written(
+                Path(folder, "own.svg"), f'<path d="M50 1H90V9H50Z"/>{designs.CODE}'
+            )
+            found = designs.prepared(
+                path, [("code128 A", {})], to="pdf", dpi=600, columns=2, rows=2, **sheet
+            )
+            (file,) = found.press(Silence()).documents(found.prints)
+        with file:
+            dots = rendered(["pdftoppm", "-r", "600", "-mono", "FILE", "out"], file.read())
+        (across,) = numpy.nonzero(dots[int(15 / 25.4 * 600)])
+        for end, wanted in ((across.min(), 60.0), (across.max() + 1, 70.0)):
+            self.assertAlmostEqual(float(end) / 600 * 25.4, wanted, delta=0.1)
 
 
 class Shipped(unittest.TestCase):

@@ -1,9 +1,9 @@
 """Pictures of a symbol in the formats of others: SVG and PNG."""
 
+import html
 import struct
 import zlib
 from collections.abc import Iterable
-from xml.sax.saxutils import quoteattr
 
 Rectangle = tuple[int, int, int, int]
 
@@ -45,7 +45,7 @@ def svg_of(
     left, top = corner
     width, height = size
     path = "".join(f"M{left + x} {top + y}h{w}v{h}h-{w}z" for x, y, w, h in bars)
-    behind = "" if light is None else f'<path fill={quoteattr(light)} d="M0 0h{width}v{height}h-{width}z"/>'
+    behind = "" if light is None else f'<path fill="{html.escape(light)}" d="M0 0h{width}v{height}h-{width}z"/>'
     return (
         f'<svg xmlns="http://www.w3.org/2000/svg" width="{width * module:g}{unit}" height="{height * module:g}{unit}"'
         f' viewBox="0 0 {width} {height}" shape-rendering="crispEdges">{behind}<path d="{path}"/></svg>'
