@@ -3,7 +3,7 @@ ghost use Rattle.std.specs.Prelude.{◌≡◌, ℕ, ◌+◌, ◌-◌, ◌*◌, �
 ghost use Rattle.std.specs.List.{list_all};
 ghost use Rattle.picture.specs.Reading.{raster, sample};
 ghost use Rattle.picture.specs.Text.{below};
-ghost use Rattle.reading.specs.Private.{AreEqualTo, IsRowAgain, are_whole_cells, is_of_cell, is_row_of_cells};
+ghost use Rattle.reading.specs.Private.{AreEqualTo, IsLikeBefore, IsRowAgain, are_whole_cells, is_of_cell, is_row_of_cells};
 ghost use Rattle.reading.specs.Private.{modules_in};
 
 use picture::{Grid, QuietZone};
@@ -49,10 +49,10 @@ fn is_of_cell<G: Grid>(
     ensures { result ≡ is_of_cell (G.picture dots.now) scale zone.now x y }
 {
     let column = x / scale;
-    let wanted = is_inner
-        && is_between(zone.left, zone.right, columns, column)
-        && dots.dark(column * scale, y / scale * scale);
-    dots.dark(x, y) == wanted
+    let is_module = is_inner && is_between(zone.left, zone.right, columns, column);
+    // A module of one dot has its colour.
+    (scale == 1 && is_module)
+        || dots.dark(x, y) == (is_module && dots.dark(column * scale, y / scale * scale))
 }
 
 /// Returns whether each dot of the row `y` has the colour of its cell.
@@ -63,37 +63,23 @@ fn is_row_of_cells<G: Grid>(dots: &G, scale: usize, zone: &QuietZone, y: usize) 
 {
     let columns = dots.width() / scale;
     let is_inner = is_between(zone.top, zone.bottom, dots.height() / scale, y / scale);
-    for x in 0..dots.width() {
-        if !is_of_cell(dots, scale, zone, columns, is_inner, x, y) {
-            return false;
-        }
-    }
-    true
+    (0..dots.width()).all(|x| is_of_cell(dots, scale, zone, columns, is_inner, x, y))
 }
 
-/// Returns whether each dot of the row `y` has the colour of its cell, as those of the row before have; before `equal` it
-/// has the pixels of that row. It is not looked at then where both are of the same cells, nor where no quiet zone is above
-/// and below.
-#[inline(always)]
-fn is_next_row_of_cells<G: Grid>(
-    dots: &G,
-    scale: usize,
-    zone: &QuietZone,
-    equal: usize,
-    y: usize,
-) -> bool
+/// Returns the next row after `y` that has to be looked at where the row `y` has the colours of its cells. The rows between
+/// are before `equal`, and of the same cells as the row before them; those of bars, which have no quiet zone above and
+/// below, need not be.
+fn next_row(scale: usize, zone: &QuietZone, equal: usize, y: usize) -> usize
     requires some { 0 < scale }
-    requires whole { (G.picture dots.now).height % scale ≡ 0 }
-    requires high { y < (G.picture dots.now).height }
-    requires same { 0 < y → y < equal → IsRowAgain (G.picture dots.now) y }
-    requires before { 0 < y → is_row_of_cells (G.picture dots.now) scale zone.now (y - 1) ≡ true }
-    ensures { result ≡ is_row_of_cells (G.picture dots.now) scale zone.now y }
+    requires later { y < equal }
+    ensures later { y < result }
+    ensures before { result ≤ equal }
+    ensures same { (k : ℕ) → y < k → k < result → IsLikeBefore scale zone.now k }
 {
-    let are_bars = zone.top == 0 && zone.bottom == 0;
-    if y > 0 && y < equal && (are_bars || y % scale != 0) {
-        return true;
+    if zone.top == 0 && zone.bottom == 0 {
+        return equal;
     }
-    is_row_of_cells(dots, scale, zone, y)
+    y + (scale - y % scale).min(equal - y)
 }
 
 /// Returns the row up to which the rows after `y` are known to have the pixels of the row before them; they are before
@@ -103,7 +89,8 @@ fn equal_until<G: Grid>(dots: &G, equal: usize, y: usize) -> usize
     requires fits { (G.picture dots.now).height < 2 ^ 64 }
     requires high { y < (G.picture dots.now).height }
     requires same { (k : ℕ) → y < k → k < equal → IsRowAgain (G.picture dots.now) k }
-    ensures { (k : ℕ) → y < k → k < result → IsRowAgain (G.picture dots.now) k }
+    ensures later { y < result }
+    ensures same { (k : ℕ) → y < k → k < result → IsRowAgain (G.picture dots.now) k }
 {
     if y < equal {
         equal
@@ -131,11 +118,13 @@ fn are_cells<G: Grid>(dots: &G, scale: usize, zone: &QuietZone, equal: usize) ->
     ensures { result ≡ list_all (is_row_of_cells (G.picture dots.now) scale zone.now) (below (G.picture dots.now).height) }
 {
     let mut equal = equal;
-    for y in 0..dots.height() {
-        if !is_next_row_of_cells(dots, scale, zone, equal, y) {
+    let mut y = 0;
+    while y < dots.height() {
+        if !is_row_of_cells(dots, scale, zone, y) {
             return false;
         }
         equal = equal_until(dots, equal, y);
+        y = next_row(scale, zone, equal, y);
     }
     true
 }

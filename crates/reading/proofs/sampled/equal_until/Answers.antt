@@ -1,11 +1,11 @@
 use Rattle.std.proofs.Common.{◌≡◌, ◌<◌, ◌+◌, ◌-◌, ℕ, ap, sym, ◌∙◌, arith}
 use Rattle.reading.proofs.sampled.equal_until.Goals as goal
 
-pub returns-then-y-equal : goal.returns-then-y-equal
-returns-then-y-equal g c = λ k after early. c.requires.same k (omega (arith, after)) early
+pub returns-then-y-equal-clause-same : goal.returns-then-y-equal-clause-same
+returns-then-y-equal-clause-same g c = λ k after early. c.requires.same k (omega (arith, after)) early
 
-pub returns-else-y-equal : goal.returns-else-y-equal
-returns-else-y-equal g c = λ k after early.
+pub returns-else-y-equal-clause-same : goal.returns-else-y-equal-clause-same
+returns-else-y-equal-clause-same g c = λ k after early.
     let p = g.G.Grid.picture c.args.dots.now in
     let y = c.args.y in
     let here : y + (k - y) ≡ k = omega (arith, after) in
