@@ -29,19 +29,22 @@ fn is_between(before: usize, after: usize, cells: usize, cell: usize) -> bool
 }
 
 /// Returns whether the dot at `x` and `y` has the colour of its cell, a square of dots: light in the quiet zone, and
-/// else that of the cell's first dot. `is_inner`: no cell of the row is of the zone above or below.
+/// else that of the cell's first dot. `top` is the first row of the cell. `is_inner`: no cell of the row is of the zone
+/// above or below.
 #[inline(always)]
 fn is_of_cell<G: Grid>(
     dots: &G,
     scale: usize,
     zone: &QuietZone,
     columns: usize,
+    top: usize,
     is_inner: bool,
     x: usize,
     y: usize,
 ) -> bool
     requires some { 0 < scale }
     requires columns { columns ≡ (G.picture dots.now).width / scale }
+    requires top { top ≡ y / scale * scale }
     requires inner { is_inner ≡ (nat_le zone.now.top (y / scale)
         && nat_lt (y / scale + zone.now.bottom) ((G.picture dots.now).height / scale)) }
     requires wide { x < (G.picture dots.now).width }
@@ -49,10 +52,11 @@ fn is_of_cell<G: Grid>(
     ensures { result ≡ is_of_cell (G.picture dots.now) scale zone.now x y }
 {
     let column = x / scale;
-    let is_module = is_inner && is_between(zone.left, zone.right, columns, column);
+    if !is_inner || !is_between(zone.left, zone.right, columns, column) {
+        return !dots.dark(x, y);
+    }
     // A module of one dot has its colour.
-    (scale == 1 && is_module)
-        || dots.dark(x, y) == (is_module && dots.dark(column * scale, y / scale * scale))
+    scale == 1 || dots.dark(x, y) == dots.dark(column * scale, top)
 }
 
 /// Returns whether each dot of the row `y` has the colour of its cell.
@@ -62,8 +66,9 @@ fn is_row_of_cells<G: Grid>(dots: &G, scale: usize, zone: &QuietZone, y: usize) 
     ensures { result ≡ is_row_of_cells (G.picture dots.now) scale zone.now y }
 {
     let columns = dots.width() / scale;
+    let top = y / scale * scale;
     let is_inner = is_between(zone.top, zone.bottom, dots.height() / scale, y / scale);
-    (0..dots.width()).all(|x| is_of_cell(dots, scale, zone, columns, is_inner, x, y))
+    (0..dots.width()).all(|x| is_of_cell(dots, scale, zone, columns, top, is_inner, x, y))
 }
 
 /// Returns the next row after `y` that has to be looked at where the row `y` has the colours of its cells. The rows between

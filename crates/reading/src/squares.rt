@@ -15,9 +15,6 @@ fn row_word<G: Grid>(modules: &G, y: usize) -> u64
     requires high { y < (G.picture modules.now).height }
     ensures { (x : ℕ) → bit result x ≡ (nat_lt x (G.picture modules.now).width && (G.picture modules.now).dark x y) }
 {
-    if let Some(row) = modules.row_bits(y) {
-        return row;
-    }
     let mut row = 0;
     for x in 0..modules.width() {
         row |= u64::from(modules.dark(x, y)) << x;
