@@ -13,7 +13,7 @@ use Rattle.reading.specs.Labels.{ModulesAreRead, read_dots, read_short}
 use Rattle.reading.proofs.WidthLaws.{read_if_short}
 
 pub modules_read : ModulesAreRead
-modules_read symbology p scale high short some =
+modules_read symbology p scale short some =
     ap (option_and_then (read_short (read_modules symbology))) (sample-raster p (quiet_zone symbology) scale some)
     ∙ read_if_short (read_modules symbology) p short
 
@@ -21,7 +21,7 @@ readable_read : (symbol : Symbol) (scale : ℕ) → 0 < scale → IsReadable sym
     → read_dots symbol.symbology scale
     (raster (enlargement (with_quiet_zone symbol.modules (quiet_zone symbol.symbology)) scale)) ≡ Some symbol.full
 readable_read symbol scale some is =
-    modules_read symbol.symbology symbol.modules scale is.some_rows is.columns some ∙ is.read
+    modules_read symbol.symbology symbol.modules scale is.columns some ∙ is.read
 
 pub drawn_read : (found : Result Symbol Fault) (scale : ℕ) → 0 < scale → IfOk found IsReadable
     → IfOk found (λ symbol. read_dots symbol.symbology scale
