@@ -15,7 +15,7 @@ use Rattle.picture.specs.Reading.{are_cells, cell, is_module, raster, sample}
 use Rattle.picture.specs.Text.{below, pixel_row}
 use Rattle.picture.specs.declared.quiet_zone.QuietZone.{QuietZone}
 use Rattle.picture.proofs.SampleLaws.{map-range, value_at-raster}
-use Rattle.reading.specs.Private.{IsLikeBefore, IsRowAgain, are_whole_cells, is_of_cell, is_row_of_cells, modules_in}
+use Rattle.reading.specs.Private.{AreAlike, IsLikeBefore, are_whole_cells, is_of_cell, is_row_of_cells, modules_in}
 
 -- a cell that is there begins inside
 pub begins : (length scale cell : ℕ) → 0 < scale → cell < length / scale → cell * scale < length
@@ -139,12 +139,12 @@ module _ (p : Picture) (scale : ℕ) (zone : QuietZone) (some : 0 < scale) where
         ]
       ]
 
-  -- the rows after one, each with the pixels of the one before it
+  -- the rows after one that have its pixels
   pub rows_again : (y end : ℕ) → y < end → p.height % scale ≡ 0 → true ≡ is_row_of_cells p scale zone y
-      → ((k : ℕ) → y < k → k < end → IsRowAgain p k) → ((k : ℕ) → y < k → k < end → IsLikeBefore scale zone k)
+      → AreAlike p y end → ((k : ℕ) → y < k → k < end → IsLikeBefore scale zone k)
       → list_all (is_row_of_cells p scale zone) (range_with_len y (p.height - y))
       ≡ list_all (is_row_of_cells p scale zone) (range_with_len end (p.height - end))
-  rows_again y end later whole is again like =
+  rows_again y end later whole is alike like =
       let all = pass_all (is_row_of_cells p scale zone) (end - y) y p.height (λ k after early high.
       let place : y + (k - y) ≡ k = omega (arith, after) in
       ap (is_row_of_cells p scale zone) (sym place) ∙ row (k - y) (omega (arith, after, early)) (omega (arith, after, high))) in
@@ -154,7 +154,8 @@ module _ (p : Picture) (scale : ℕ) (zone : QuietZone) (some : 0 < scale) where
       row : (k : ℕ) → y + k < end → y + k < p.height → is_row_of_cells p scale zone (y + k) ≡ true
       row zero early high = simp unary_clauses (sym is)
       row (suc k) early high =
-          let after : y < y + suc k = omega arith in
           let before : y + suc k - 1 ≡ y + k = omega arith in
-          cells_again (y + suc k) (omega arith) high whole (again (y + suc k) after early).same (like (y + suc k) after early)
+          cells_again (y + suc k) (omega arith) high whole (λ x wide.
+          alike x (y + suc k) wide (omega arith) early ∙ sym (alike x (y + k) wide (omega arith) (omega (arith, early)))
+          ∙ ap (p.dark x) (sym before)) (like (y + suc k) (omega arith) early)
           (ap (is_row_of_cells p scale zone) before ∙ row k (omega (arith, early)) (omega (arith, high)))

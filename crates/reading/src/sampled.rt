@@ -3,7 +3,7 @@ ghost use Rattle.std.specs.Prelude.{◌≡◌, ℕ, ◌+◌, ◌-◌, ◌*◌, �
 ghost use Rattle.std.specs.List.{list_all};
 ghost use Rattle.picture.specs.Reading.{raster, sample};
 ghost use Rattle.picture.specs.Text.{below};
-ghost use Rattle.reading.specs.Private.{AreEqualTo, IsLikeBefore, IsRowAgain, are_whole_cells, is_of_cell, is_row_of_cells};
+ghost use Rattle.reading.specs.Private.{AreAlike, IsLikeBefore, are_whole_cells, is_of_cell, is_row_of_cells};
 ghost use Rattle.reading.specs.Private.{modules_in};
 
 use picture::{Grid, QuietZone};
@@ -16,7 +16,7 @@ pub struct Sampled<'a, G: Grid> {
     zone: QuietZone,
     are_equal: bool,
     ghost some: { 0 < scale },
-    ghost equal: { are_equal ≡ true → AreEqualTo (G.picture dots.now) (G.picture dots.now).height },
+    ghost equal: { are_equal ≡ true → AreAlike (G.picture dots.now) 0 (G.picture dots.now).height },
     ghost wide: { zone.left + zone.right ≤ (G.picture dots.now).width / scale },
     ghost high: { zone.top + zone.bottom ≤ (G.picture dots.now).height / scale },
 }
@@ -87,15 +87,14 @@ fn next_row(scale: usize, zone: &QuietZone, equal: usize, y: usize) -> usize
     y + (scale - y % scale).min(equal - y)
 }
 
-/// Returns the row up to which the rows after `y` are known to have the pixels of the row before them; they are before
-/// `equal`.
+/// Returns the row up to which the rows from `y` on are known to have its pixels; those before `equal` have them.
 #[inline(always)]
 fn equal_until<G: Grid>(dots: &G, equal: usize, y: usize) -> usize
     requires fits { (G.picture dots.now).height < 2 ^ 64 }
     requires high { y < (G.picture dots.now).height }
-    requires same { (k : ℕ) → y < k → k < equal → IsRowAgain (G.picture dots.now) k }
+    requires same { AreAlike (G.picture dots.now) y equal }
     ensures later { y < result }
-    ensures same { (k : ℕ) → y < k → k < result → IsRowAgain (G.picture dots.now) k }
+    ensures same { AreAlike (G.picture dots.now) y result }
 {
     if y < equal {
         equal
@@ -106,7 +105,7 @@ fn equal_until<G: Grid>(dots: &G, equal: usize, y: usize) -> usize
 
 /// Returns how many rows are known to equal the first, itself among them.
 fn equal_to_first<G: Grid>(dots: &G) -> usize
-    ensures { AreEqualTo (G.picture dots.now) result }
+    ensures { AreAlike (G.picture dots.now) 0 result }
 {
     if dots.height() == 0 {
         0
@@ -119,7 +118,7 @@ fn equal_to_first<G: Grid>(dots: &G) -> usize
 fn are_cells<G: Grid>(dots: &G, scale: usize, zone: &QuietZone, equal: usize) -> bool
     requires some { 0 < scale }
     requires whole { (G.picture dots.now).height % scale ≡ 0 }
-    requires same { AreEqualTo (G.picture dots.now) equal }
+    requires same { AreAlike (G.picture dots.now) 0 equal }
     ensures { result ≡ list_all (is_row_of_cells (G.picture dots.now) scale zone.now) (below (G.picture dots.now).height) }
 {
     let mut equal = equal;

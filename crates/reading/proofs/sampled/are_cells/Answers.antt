@@ -15,11 +15,14 @@ returns-then-not-is_row_of_cells g c =
 pub loop-y-preserved : goal.loop-y-preserved
 loop-y-preserved g c =
     let next = c.next_row-y.ensures in
+    let alike = c.equal_until-equal.ensures.same in
     record {
       decide = c.loop-y.invariant.decide
           ∙ rows_again (g.G.Grid.picture c.args.dots.now) c.args.scale c.args.zone.now c.requires.some c.loop-y.y
           c.next_row-y.result next.later c.requires.whole
           (sym c.if-not-is_row_of_cells.false ∙ c.is_row_of_cells.ensures)
-          (λ k after early. c.equal_until-equal.ensures.same k after (omega (arith, early, next.before))) next.same;
-      same = λ k after early. c.equal_until-equal.ensures.same k (omega (arith, after, next.later)) early;
+          (λ x k wide after early. alike x k wide after (omega (arith, early, next.before))) next.same;
+      same = λ x k wide after early.
+          alike x k wide (omega (arith, after, next.later)) early
+          ∙ sym (alike x c.next_row-y.result wide (omega (arith, next.later)) (omega (arith, after, early)));
     }

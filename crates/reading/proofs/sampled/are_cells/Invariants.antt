@@ -1,7 +1,7 @@
-use Rattle.std.proofs.Common.{◌≡◌, ◌-◌, ◌<◌, ℕ}
+use Rattle.std.proofs.Common.{◌≡◌, ◌-◌}
 use Rattle.std.specs.List.{list_all, range_with_len}
 use Rattle.picture.specs.Text.{below}
-use Rattle.reading.specs.Private.{IsRowAgain, is_row_of_cells}
+use Rattle.reading.specs.Private.{AreAlike, is_row_of_cells}
 use Rattle.reading.proofs.sampled.are_cells.Given as goal
 
 -- the rows to come decide
@@ -11,7 +11,7 @@ invariant-loop-y g l =
     let test = is_row_of_cells p l.scale l.zone in
     record {
       decide : list_all test (below p.height) ≡ list_all test (range_with_len l.y (p.height - l.y));
-      same : (k : ℕ) → l.y < k → k < l.equal → IsRowAgain p k;
+      same : AreAlike p l.y l.equal;
     }
 
 abbrev pub decreases-loop-y : goal.decreases-loop-y
