@@ -4,7 +4,8 @@
 use Rattle.std.specs.Prelude.{◌≡◌, ℕ, ◌==◌, true, List, [], ◌∷◌, None, Some, Option, Result, Ok, Err, if◌then◌else◌, length}
 use Rattle.std.specs.Bool.{then_some}
 use Rattle.labelcore.specs.declared.symbology.Symbology.{Symbology}
-use Rattle.picture.specs.Reading.{Raster, raster, raster_of}
+use Rattle.picture.specs.Picture.{Picture}
+use Rattle.picture.specs.Reading.{Raster, raster}
 use Rattle.filter.specs.Reading.{read_modules}
 use Rattle.qrdata.specs.Steps.{◌>>=◌}
 use Rattle.reading.specs.Dots.{bits_picture, bytes_read, is_inside}
@@ -17,25 +18,22 @@ use Rattle.capi.specs.declared.numbers.Answer.{Answer}
 use Rattle.capi.specs.declared.numbers.CallRegion.{CallRegion}
 use Rattle.capi.specs.declared.numbers.FoundInfo.{FoundInfo}
 
--- what is read, or the code of why nothing can be: the number of the symbology
-abbrev pub reading_of : Option Symbology → ℕ → Option Raster → Result (Option (List ℕ)) ℕ
-reading_of None scale found = Err 3
-reading_of (Some symbology) scale found = Ok (found >>= read_dots symbology scale)
+-- what a picture is read as by the rule of a symbology, or the code of why it cannot be: the number of the symbology
+abbrev pub reading_of : Option Symbology → (Symbology → Raster → Option (List ℕ)) → Option Picture → Result (Option (List ℕ)) ℕ
+reading_of None rule found = Err 3
+reading_of (Some symbology) rule found = Ok (found >>= λ p. rule symbology (raster p))
 
--- what the numbers and the dots of a call are read as
+-- what the numbers and the dots of a call are read as, digits 0 and 1
 unfoldable pub read_asked : (symbology scale width height : ℕ) → List ℕ → Result (Option (List ℕ)) ℕ
 read_asked symbology scale width height dots =
-    if scale == 0 then Err 2 else reading_of (symbology_numbered symbology) scale (raster_of width height dots)
+    if scale == 0 then Err 2
+    else reading_of (symbology_numbered symbology) (λ symbology. read_dots symbology scale) (bytes_read 48 49 width height dots)
 
--- what modules are read as, bytes 0 and 1, or the code of why they cannot be
-abbrev pub modules_as : Option Symbology → (width rows : ℕ) → List ℕ → Result (Option (List ℕ)) ℕ
-modules_as None width rows modules = Err 3
-modules_as (Some symbology) width rows modules =
-    Ok (bytes_read 0 1 width rows modules >>= λ p. read_short (read_modules symbology) (raster p).rows)
-
--- what the numbers and the modules of a call are read as
+-- what the numbers and the modules of a call are read as, bytes 0 and 1
 unfoldable pub modules_asked : (symbology width rows : ℕ) → List ℕ → Result (Option (List ℕ)) ℕ
-modules_asked symbology width rows modules = modules_as (symbology_numbered symbology) width rows modules
+modules_asked symbology width rows modules =
+    reading_of (symbology_numbered symbology) (λ symbology r. read_short (read_modules symbology) r.rows)
+    (bytes_read 0 1 width rows modules)
 
 -- the region that the numbers of a call mean
 abbrev pub region_numbered : CallRegion → Option BitRegion

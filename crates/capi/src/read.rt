@@ -3,7 +3,7 @@ ghost use Rattle.std.specs.Prelude.{◌≡◌, ◌<◌, Ok, option_and_then, opt
 ghost use Rattle.capi.specs.Calls.{PutsWhole};
 ghost use Rattle.capi.specs.Read.{AnswersRead, modules_asked, read_asked, room_alone};
 ghost use Rattle.filter.specs.Reading.{read_modules};
-ghost use Rattle.picture.specs.Reading.{raster, raster_of};
+ghost use Rattle.picture.specs.Reading.{raster};
 ghost use Rattle.reading.specs.Dots.{bytes_read};
 ghost use Rattle.reading.specs.Labels.{read_dots, read_short};
 
@@ -46,9 +46,9 @@ fn read_picture(
 ) -> Option<SymbolData>
     requires { 0 < scale }
     ensures { option_map (λ bytes. bytes.items) result
-        ≡ option_and_then (read_dots symbology scale) (raster_of width height digits.now) }
+        ≡ option_and_then (λ p. read_dots symbology scale (raster p)) (bytes_read 48 49 width height digits.now) }
 {
-    let dots = Dots::new(width, height, digits)?;
+    let dots = Dots::new(b'0', b'1', width, height, digits)?;
     reading::read(symbology, &dots, scale)
 }
 
@@ -62,7 +62,7 @@ fn read_module_bytes(
     ensures { option_map (λ bytes. bytes.items) result ≡ option_and_then
         (λ p. read_short (read_modules symbology) (raster p).rows) (bytes_read 0 1 width rows bytes.now) }
 {
-    let modules = Dots::of_modules(width, rows, bytes)?;
+    let modules = Dots::new(0, 1, width, rows, bytes)?;
     reading::read_modules(symbology, &modules)
 }
 

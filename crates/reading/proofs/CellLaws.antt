@@ -1,20 +1,21 @@
 -- Pixels of cells, and the modules that they show.
-use Rattle.std.proofs.Common.{None, ◌≡◌, ◌≢◌, ℕ, suc, ◌+◌, ◌-◌, ◌*◌, ◌/◌, ◌%◌, ◌<◌, ◌≤◌, ◌⊎◌, Bool, true, false, ◌&&◌}
-use Rattle.std.proofs.Common.{refl, ap, ◌∙◌, arith, inl, inr, nat_le, nat_lt, map}
+use Rattle.std.proofs.Common.{None, ◌≡◌, ◌≢◌, ℕ, zero, suc, ◌+◌, ◌-◌, ◌*◌, ◌/◌, ◌%◌, ◌<◌, ◌≤◌, ◌⊎◌, Bool, true, false, ◌&&◌}
+use Rattle.std.proofs.Common.{refl, sym, ap, ◌∙◌, arith, inl, inr, nat_le, nat_lt, map}
 use Rattle.std.specs.Bool.{beq, then_some}
-use Rattle.std.specs.List.{list_all}
+use Rattle.std.specs.List.{list_all, range_with_len}
 use Rattle.std.specs.Cmp.{booleans_Decides}
-use Rattle.std.proofs.lemmas.Bool.{cases_eq}
+use Rattle.std.proofs.lemmas.Bool.{cases_eq, cases_lt}
 use Rattle.std.proofs.lemmas.Bool.Decides.{nat_tests}
 use Rattle.std.proofs.lemmas.Nat.{div-add-mod'}
 use Rattle.std.proofs.Math.Nat.{div-mul-le_self, div-lt_iff_lt-mul, le-div_iff_mul-le, mul-div_cancel}
-use Rattle.qrmatrix.proofs.ComputedLaws.{passes, same_tests}
+use native.Mathlib.Numerals.{unary_clauses}
+use Rattle.qrmatrix.proofs.ComputedLaws.{passes, passes_on, same_tests}
 use Rattle.picture.specs.Picture.{Picture}
 use Rattle.picture.specs.Reading.{are_cells, cell, is_module, raster, sample}
 use Rattle.picture.specs.Text.{below, pixel_row}
 use Rattle.picture.specs.declared.quiet_zone.QuietZone.{QuietZone}
 use Rattle.picture.proofs.SampleLaws.{map-range, value_at-raster}
-use Rattle.reading.specs.Private.{are_whole_cells, is_of_cell, is_row_of_cells, modules_in}
+use Rattle.reading.specs.Private.{AreAlike, IsLikeBefore, are_whole_cells, is_of_cell, is_row_of_cells, modules_in}
 
 -- a cell that is there begins inside
 pub begins : (length scale cell : ℕ) → 0 < scale → cell < length / scale → cell * scale < length
@@ -31,6 +32,30 @@ same_cell scale y some inner =
     let most : (y - 1) / scale < y / scale + 1 =
     (div-lt_iff_lt-mul some).1 (omega (arith, (div-lt_iff_lt-mul some).0 next)) in
     omega (arith, least, most)
+
+-- the numbers after one, up to the end of its cell
+pub within_cell : (scale y k : ℕ) → 0 < scale → y < k → k < y + (scale - y % scale) → k % scale ≢ 0
+within_cell scale y k some after early first =
+    let here = div-add-mod' y scale in
+    let cell : k / scale < y / scale + 1 = (div-lt_iff_lt-mul some).1 (omega (arith, early, here)) in
+    let before : y / scale < k / scale = (div-lt_iff_lt-mul some).1 (omega (arith, after, div-add-mod' k scale, first)) in
+    omega (arith, cell, before)
+
+-- numbers that pass do not decide
+pub pass_all : (test : ℕ → Bool) (m a n : ℕ) → ((k : ℕ) → a ≤ k → k < a + m → k < n → test k ≡ true)
+    → list_all test (range_with_len a (n - a)) ≡ list_all test (range_with_len (a + m) (n - (a + m)))
+pass_all test zero a n each = simp unary_clauses refl
+pass_all test (suc m) a n each = elim (cases_lt a n) [
+  | inl more ↦
+      let next : a + 1 + m ≡ a + suc m = omega arith in
+      passes_on test a (a + 1) (n - a) (n - (a + 1)) (omega (arith, more)) refl (sym (each a (omega arith) (omega arith) more))
+      ∙ pass_all test m (a + 1) n (λ k after early. each k (omega (arith, after)) (omega (arith, early)))
+      ∙ ap (λ b. list_all test (range_with_len b (n - b))) next
+  | inr past ↦
+      let none : n - a ≡ 0 = omega (arith, past) in
+      let none_after : n - (a + suc m) ≡ 0 = omega (arith, past) in
+      rw (none, none_after) refl
+]
 
 twice : (a b : Bool) → (a && (a && b)) ≡ (a && b)
 twice true b = refl
@@ -113,3 +138,24 @@ module _ (p : Picture) (scale : ℕ) (zone : QuietZone) (some : 0 < scale) where
           | inr inner ↦ absurd (inner first)
         ]
       ]
+
+  -- the rows after one that have its pixels
+  pub rows_again : (y end : ℕ) → y < end → p.height % scale ≡ 0 → true ≡ is_row_of_cells p scale zone y
+      → AreAlike p y end → ((k : ℕ) → y < k → k < end → IsLikeBefore scale zone k)
+      → list_all (is_row_of_cells p scale zone) (range_with_len y (p.height - y))
+      ≡ list_all (is_row_of_cells p scale zone) (range_with_len end (p.height - end))
+  rows_again y end later whole is alike like =
+      let all = pass_all (is_row_of_cells p scale zone) (end - y) y p.height (λ k after early high.
+      let place : y + (k - y) ≡ k = omega (arith, after) in
+      ap (is_row_of_cells p scale zone) (sym place) ∙ row (k - y) (omega (arith, after, early)) (omega (arith, after, high))) in
+      let last : y + (end - y) ≡ end = omega (arith, later) in
+      all ∙ ap (λ b. list_all (is_row_of_cells p scale zone) (range_with_len b (p.height - b))) last
+    where
+      row : (k : ℕ) → y + k < end → y + k < p.height → is_row_of_cells p scale zone (y + k) ≡ true
+      row zero early high = simp unary_clauses (sym is)
+      row (suc k) early high =
+          let before : y + suc k - 1 ≡ y + k = omega arith in
+          cells_again (y + suc k) (omega arith) high whole (λ x wide.
+          alike x (y + suc k) wide (omega arith) early ∙ sym (alike x (y + k) wide (omega arith) (omega (arith, early)))
+          ∙ ap (p.dark x) (sym before)) (like (y + suc k) (omega arith) early)
+          (ap (is_row_of_cells p scale zone) before ∙ row k (omega (arith, early)) (omega (arith, high)))

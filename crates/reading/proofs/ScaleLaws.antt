@@ -17,7 +17,7 @@ use Rattle.linear.specs.Code128Reading.{read_code128}
 use Rattle.linear.specs.Ean.{ean13_row}
 use Rattle.linear.specs.EanReading.{read_ean13, read_ean8, read_upca}
 use Rattle.linear.specs.declared.limits.TheConstants.{MAX_MODULES}
-use Rattle.linear.proofs.OneReadingLaws.{IsBounded, code128_bounded, ean13_bounded, ean8_bounded, upca_bounded}
+use Rattle.linear.proofs.OneReadingLaws.{code128_bounded, ean13_bounded, ean8_bounded, upca_bounded}
 use Rattle.linear.proofs.ReadRowLaws.{ean13_drawn, ean8_drawn, upca_drawn}
 use Rattle.qrdata.specs.Reading.{data_in}
 use Rattle.qrdata.specs.Versions.{side_of}
@@ -38,13 +38,14 @@ use Rattle.reading.proofs.CellLaws.{begins, same_cell}
 
 -- ---- the first module
 
-row_dark : (reading : List Bool → Option (List ℕ))
-    → ((row : List Bool) (full : List ℕ) → reading row ≡ Some full → IsBounded row) → (rows : List (List Bool))
-    (full : List ℕ) → option_and_then reading (common_row rows) ≡ Some full → value_at rows 0 0 ≡ true
-row_dark reading bounded rows full read =
+-- a module of the first row, as each row that is read has it
+row_has : (k : ℕ) (dark : Bool) (reading : List Bool → Option (List ℕ))
+    → ((row : List Bool) (full : List ℕ) → reading row ≡ Some full → get_or row k false ≡ dark) → (rows : List (List Bool))
+    (full : List ℕ) → option_and_then reading (common_row rows) ≡ Some full → value_at rows k 0 ≡ dark
+row_has k dark reading has rows full read =
     option_and_then_some reading (common_row rows) full read (λ row is after.
     let lines = common_rows rows row is in
-    ap (λ (l : List Bool). get_or l 0 false) (lines.1 0 lines.0) ∙ (bounded row full after).first)
+    ap (λ (l : List Bool). get_or l k false) (lines.1 0 lines.0) ∙ has row full after)
 
 square_dark : (n : ℕ) (m : ℕ → ℕ → Bool) (full : List ℕ) → read_square n m ≡ Some full → m 0 0 ≡ true
 unfolding role finder fixed_module
@@ -58,10 +59,10 @@ square_dark n m full read =
 
 corner_dark : (symbology : Symbology) (rows : List (List Bool)) (full : List ℕ)
     → read_modules symbology rows ≡ Some full → value_at rows 0 0 ≡ true
-corner_dark Ean13 rows full read = row_dark read_ean13 ean13_bounded rows full read
-corner_dark Ean8 rows full read = row_dark read_ean8 ean8_bounded rows full read
-corner_dark UpcA rows full read = row_dark read_upca upca_bounded rows full read
-corner_dark Code128 rows full read = row_dark read_code128 code128_bounded rows full read
+corner_dark Ean13 rows full read = row_has 0 true read_ean13 (λ row full is. (ean13_bounded row full is).first) rows full read
+corner_dark Ean8 rows full read = row_has 0 true read_ean8 (λ row full is. (ean8_bounded row full is).first) rows full read
+corner_dark UpcA rows full read = row_has 0 true read_upca (λ row full is. (upca_bounded row full is).first) rows full read
+corner_dark Code128 rows full read = row_has 0 true read_code128 (λ row full is. (code128_bounded row full is).first) rows full read
 corner_dark Qr rows full read =
     option_and_then_some (λ n. read_square n (value_at rows)) (then_some _ (length rows)) full read (λ n is after.
     square_dark n (value_at rows) full after)
@@ -73,14 +74,6 @@ is_ean Code128 = false
 is_ean Qr = false
 is_ean other = true
 
-row_light : (reading : List Bool → Option (List ℕ))
-    → ((row : List Bool) (full : List ℕ) → reading row ≡ Some full → get_or row 1 false ≡ false) → (rows : List (List Bool))
-    (full : List ℕ) → option_and_then reading (common_row rows) ≡ Some full → value_at rows 1 0 ≡ false
-row_light reading light rows full read =
-    option_and_then_some reading (common_row rows) full read (λ row is after.
-    let lines = common_rows rows row is in
-    ap (λ (l : List Bool). get_or l 1 false) (lines.1 0 lines.0) ∙ light row full after)
-
 ean13_light : (full : List ℕ) → get_or (ean13_row full) 1 false ≡ false
 ean13_light [] = refl
 ean13_light (first ∷ rest) = refl
@@ -88,11 +81,11 @@ ean13_light (first ∷ rest) = refl
 second_light : (symbology : Symbology) → is_ean symbology ≡ true → (rows : List (List Bool)) (full : List ℕ)
     → read_modules symbology rows ≡ Some full → value_at rows 1 0 ≡ false
 unfolding is_ean
-second_light Ean13 is rows full read = row_light read_ean13 (λ row full read.
+second_light Ean13 is rows full read = row_has 1 false read_ean13 (λ row full read.
     ap (λ (l : List Bool). get_or l 1 false) (ean13_drawn row full read).0 ∙ ean13_light full) rows full read
-second_light Ean8 is rows full read = row_light read_ean8 (λ row full read.
+second_light Ean8 is rows full read = row_has 1 false read_ean8 (λ row full read.
     ap (λ (l : List Bool). get_or l 1 false) (ean8_drawn row full read).0) rows full read
-second_light UpcA is rows full read = row_light read_upca (λ row full read.
+second_light UpcA is rows full read = row_has 1 false read_upca (λ row full read.
     ap (λ (l : List Bool). get_or l 1 false) (upca_drawn row full read).0) rows full read
 second_light Code128 is rows full read = absurd (false≢true is)
 second_light Qr is rows full read = absurd (false≢true is)
@@ -250,15 +243,13 @@ module _ (r : Raster) where
         ],
       )
 
-  same_left : (a b : Symbology) (s u : ℕ) → 0 < s → 0 < u → IsRead a r s → IsRead b r u
-      → (quiet_zone a).left * s ≡ (quiet_zone b).left * u
-  same_left a b s u some also is too =
-      omega (arith, (not_before a b s u some also is too).0, (not_before b a u s also some too is).0)
-
-  same_top : (a b : Symbology) (s u : ℕ) → 0 < s → 0 < u → IsRead a r s → IsRead b r u
-      → (quiet_zone a).top * s ≡ (quiet_zone b).top * u
-  same_top a b s u some also is too =
-      omega (arith, (not_before a b s u some also is too).1, (not_before b a u s also some too is).1)
+  -- so that it is at the same place
+  same_corner : (a b : Symbology) (s u : ℕ) → 0 < s → 0 < u → IsRead a r s → IsRead b r u
+      → ((quiet_zone a).left * s ≡ (quiet_zone b).left * u) × ((quiet_zone a).top * s ≡ (quiet_zone b).top * u)
+  same_corner a b s u some also is too =
+      let first = not_before a b s u some also is too in
+      let other = not_before b a u s also some too is in
+      (omega (arith, first.0, other.0), omega (arith, first.1, other.1))
 
   -- the module right of the first one
   second_at : (a : Symbology) (s : ℕ) → 0 < s → is_ean a ≡ true → IsRead a r s
@@ -287,7 +278,7 @@ module _ (r : Raster) where
         let m = s / u in
         let size : m * u ≡ s = omega (arith, whole, div-add-mod' s u) in
         let left : (quiet_zone a).left * m * u ≡ (quiet_zone b).left * u =
-        omega arith ∙ ap (λ n. (quiet_zone a).left * n) size ∙ same_left a b s u some also is too in
+        omega arith ∙ ap (λ n. (quiet_zone a).left * n) size ∙ (same_corner a b s u some also is too).0 in
         other m (sym (mul-div_cancel ((quiet_zone a).left * m) also) ∙ ap (λ n. n / u) left
         ∙ mul-div_cancel (quiet_zone b).left also)
     | inr inner ↦
@@ -296,7 +287,7 @@ module _ (r : Raster) where
         let y = (quiet_zone a).top * s in
         let start = (quiet_zone a).left * s in
         let x = ((quiet_zone a).left + 1) * s in
-        let from : x ≡ (quiet_zone b).left * u + s = omega (arith, same_left a b s u some also is too) in
+        let from : x ≡ (quiet_zone b).left * u + s = omega (arith, (same_corner a b s u some also is too).0) in
         let not_first : x % u ≢ 0 = λ e. inner (sym (ap (λ n. n % u) from
         ∙ mul-add-mod_self_right (quiet_zone b).left u s) ∙ e) in
         let before : x - 1 < r.width = omega (arith, second.0) in
@@ -316,33 +307,37 @@ module _ (r : Raster) where
   ]
 
   module _ (s u : ℕ) (some : 0 < s) (also : 0 < u) where
+    corners : (a b : Symbology) → IsRead a r s → IsRead b r u
+        → ((quiet_zone a).left * s ≡ (quiet_zone b).left * u) × ((quiet_zone a).top * s ≡ (quiet_zone b).top * u)
+    corners a b = same_corner a b s u some also
+
     one : (a b : Symbology) → IsRead a r s → IsRead b r u → (a ≡ b) × (s ≡ u)
     unfolding is_ean
-    one Ean13 Ean13 f g = (refl, omega (arith, same_left Ean13 Ean13 s u some also f g))
+    one Ean13 Ean13 f g = (refl, omega (arith, (corners Ean13 Ean13 f g).0))
     one Ean13 Ean8 f g = absurd (apart Ean13 Ean8 s u some also refl (λ m e. omega (arith, e)) f g)
     one Ean13 UpcA f g = absurd (apart Ean13 UpcA s u some also refl (λ m e. omega (arith, e)) f g)
     one Ean13 Code128 f g = absurd (apart Ean13 Code128 s u some also refl (λ m e. omega (arith, e)) f g)
-    one Ean13 Qr f g = absurd (omega (arith, also, same_top Ean13 Qr s u some also f g))
-    one Ean8 Ean8 f g = (refl, omega (arith, same_left Ean8 Ean8 s u some also f g))
+    one Ean13 Qr f g = absurd (omega (arith, also, (corners Ean13 Qr f g).1))
+    one Ean8 Ean8 f g = (refl, omega (arith, (corners Ean8 Ean8 f g).0))
     one Ean8 Ean13 f g = absurd (apart Ean8 Ean13 s u some also refl (λ m e. omega (arith, e)) f g)
     one Ean8 UpcA f g = absurd (apart Ean8 UpcA s u some also refl (λ m e. omega (arith, e)) f g)
     one Ean8 Code128 f g = absurd (apart Ean8 Code128 s u some also refl (λ m e. omega (arith, e)) f g)
-    one Ean8 Qr f g = absurd (omega (arith, also, same_top Ean8 Qr s u some also f g))
-    one UpcA UpcA f g = (refl, omega (arith, same_left UpcA UpcA s u some also f g))
+    one Ean8 Qr f g = absurd (omega (arith, also, (corners Ean8 Qr f g).1))
+    one UpcA UpcA f g = (refl, omega (arith, (corners UpcA UpcA f g).0))
     one UpcA Ean13 f g = absurd (apart UpcA Ean13 s u some also refl (λ m e. omega (arith, e)) f g)
     one UpcA Ean8 f g = absurd (apart UpcA Ean8 s u some also refl (λ m e. omega (arith, e)) f g)
     one UpcA Code128 f g = absurd (apart UpcA Code128 s u some also refl (λ m e. omega (arith, e)) f g)
-    one UpcA Qr f g = absurd (omega (arith, also, same_top UpcA Qr s u some also f g))
-    one Code128 Code128 f g = (refl, omega (arith, same_left Code128 Code128 s u some also f g))
+    one UpcA Qr f g = absurd (omega (arith, also, (corners UpcA Qr f g).1))
+    one Code128 Code128 f g = (refl, omega (arith, (corners Code128 Code128 f g).0))
     one Code128 Ean13 f g = absurd (apart Ean13 Code128 u s also some refl (λ m e. omega (arith, e)) g f)
     one Code128 Ean8 f g = absurd (apart Ean8 Code128 u s also some refl (λ m e. omega (arith, e)) g f)
     one Code128 UpcA f g = absurd (apart UpcA Code128 u s also some refl (λ m e. omega (arith, e)) g f)
-    one Code128 Qr f g = absurd (omega (arith, also, same_top Code128 Qr s u some also f g))
-    one Qr Qr f g = (refl, omega (arith, same_left Qr Qr s u some also f g))
-    one Qr Ean13 f g = absurd (omega (arith, some, same_top Qr Ean13 s u some also f g))
-    one Qr Ean8 f g = absurd (omega (arith, some, same_top Qr Ean8 s u some also f g))
-    one Qr UpcA f g = absurd (omega (arith, some, same_top Qr UpcA s u some also f g))
-    one Qr Code128 f g = absurd (omega (arith, some, same_top Qr Code128 s u some also f g))
+    one Code128 Qr f g = absurd (omega (arith, also, (corners Code128 Qr f g).1))
+    one Qr Qr f g = (refl, omega (arith, (corners Qr Qr f g).0))
+    one Qr Ean13 f g = absurd (omega (arith, some, (corners Qr Ean13 f g).1))
+    one Qr Ean8 f g = absurd (omega (arith, some, (corners Qr Ean8 f g).1))
+    one Qr UpcA f g = absurd (omega (arith, some, (corners Qr UpcA f g).1))
+    one Qr Code128 f g = absurd (omega (arith, some, (corners Qr Code128 f g).1))
 
   pub one_reading : (a b : Symbology) (s u : ℕ) (full more : List ℕ) → 0 < s → 0 < u
       → read_dots a s r ≡ Some full → read_dots b u r ≡ Some more → (a ≡ b) × (s ≡ u)

@@ -1,9 +1,10 @@
--- Modules that are wider than any symbol are not read.
-use Rattle.std.proofs.Common.{◌≡◌, ℕ, zero, suc, ◌<◌, Bool, true, false, Option, None, List, length, map, refl, arith}
-use Rattle.std.specs.Prelude.{nat_le, option_and_then}
+-- Modules that are wider than any symbol are not read, and others are read by their rule.
+use Rattle.std.proofs.Common.{◌≡◌, ℕ, zero, suc, ◌<◌, ◌≤◌, Bool, true, false, Option, None, List, [], length, map, refl, arith}
+use Rattle.std.specs.Prelude.{if◌then◌else◌, nat_le, option_and_then, slice_index_or}
 use Rattle.std.specs.Bool.{beq, then_some}
 use Rattle.std.specs.Cmp.Lexicographic.{pointwise}
 use Rattle.std.specs.List.{list_all, range_with_len}
+use Rattle.std.proofs.lemmas.Bool.{le-leb}
 use Rattle.std.proofs.lemmas.Bool.Decides.{nat_tests}
 use Rattle.std.proofs.lemmas.List.FromFn.{length-map-range_with_len}
 use Rattle.linear_reading.specs.Reading.{read_row}
@@ -11,6 +12,7 @@ use Rattle.linear.specs.declared.limits.TheConstants.{MAX_MODULES}
 use Rattle.picture.specs.Picture.{Picture}
 use Rattle.picture.specs.Reading.{common_row, raster}
 use Rattle.picture.specs.Text.{pixel_row}
+use Rattle.reading.specs.Labels.{read_short}
 
 too_long : (n : ℕ) → MAX_MODULES < n → nat_le n MAX_MODULES ≡ false
 too_long n long = grind (arith, nat_tests)
@@ -36,3 +38,25 @@ too_wide reading p wide = at p.height
     at : (n : ℕ) → option_and_then (read_row reading) (common_row (map (pixel_row p) (range_with_len 0 n))) ≡ None
     at zero = refl
     at (suc n) = case (list_all (pointwise beq (pixel_row p 0)) (map (pixel_row p) (range_with_len 1 n)))
+
+-- the first row of modules that are no wider than the widest symbol
+first_short : (p : Picture) → p.width ≤ MAX_MODULES → length (slice_index_or (raster p).rows 0 []) ≤ MAX_MODULES
+first_short p short = at p.height
+  where
+    at : (n : ℕ) → length (slice_index_or (map (pixel_row p) (range_with_len 0 n)) 0 []) ≤ MAX_MODULES
+    at zero = omega arith
+    at (suc n) = omega (arith, short, length-map-range_with_len (λ x. p.dark x 0) 0 p.width)
+
+-- they are read by their rule
+pub read_if_short : (reading : List (List Bool) → Option (List ℕ)) (p : Picture) → p.width ≤ MAX_MODULES
+    → read_short reading (raster p).rows ≡ reading (raster p).rows
+read_if_short reading p short = rw (le-leb _ MAX_MODULES (first_short p short)) refl
+
+-- what a rule does not read is not read
+pub none_if_short : (reading : List (List Bool) → Option (List ℕ)) (rows : List (List Bool)) → reading rows ≡ None
+    → read_short reading rows ≡ None
+none_if_short reading rows none = at (nat_le (length (slice_index_or rows 0 [])) MAX_MODULES)
+  where
+    at : (b : Bool) → (if b then reading rows else None) ≡ None
+    at true = none
+    at false = refl

@@ -1,5 +1,5 @@
 -- Dots that are read as pixels: bytes, of which one is dark, and bits.
--- Why: `bytes_picture`, `bytes_read`, `bits_picture`: what `raster_of` finds in digits, and the bits of PBM and PNG.
+-- Why: `bytes_picture`, `bytes_read`, `bits_picture`: the digits of plain PBM, and the bits of PBM and PNG.
 use Rattle.std.specs.Prelude.{ℕ, ◌+◌, ◌-◌, ◌*◌, ◌/◌, ◌%◌, ◌==◌, ◌&&◌, ◌||◌, Bool, List, Option, length, nat_le, slice_index}
 use Rattle.std.specs.Bool.{beq, then_some}
 use Rattle.std.specs.Int.{div_ceil}

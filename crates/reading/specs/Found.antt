@@ -29,7 +29,7 @@ found_of reading = record {
   full = reading.data.items;
 }
 
--- the first answer
+-- the first answer that any of these gives
 abbrev pub first_some : {A B : Type 0} → (A → Option B) → List A → Option B
 first_some ask [] = None
 first_some ask (x ∷ xs) = option_or (ask x) (first_some ask xs)
@@ -38,7 +38,7 @@ first_some ask (x ∷ xs) = option_or (ask x) (first_some ask xs)
 abbrev pub quarter : Picture → Picture
 quarter p = record { width = p.height; height = p.width; dark = λ x y. p.dark y (p.height - 1 - x) }
 
--- and by this many
+-- a picture turned clockwise by this many quarter turns
 abbrev pub turned : ℕ → Picture → Picture
 turned zero p = p
 turned (suc n) p = quarter (turned n p)
@@ -53,15 +53,15 @@ reading_as turns p scale symbology =
     option_map (λ full. record { symbology = symbology; scale = scale; turns = turns; full = full })
     (read_dots symbology scale (raster p))
 
--- by the first of the symbologies that reads it
+-- what a picture is read as at a scale by the first of the symbologies that reads it
 abbrev pub reading_at : ℕ → Picture → ℕ → Option Found
 reading_at turns p scale = first_some (reading_as turns p scale) symbologies
 
--- at the first scale at which it is read
+-- what a picture is read as, as it lies, at the first scale at which it is read
 abbrev pub upright_reading : ℕ → Picture → Option Found
 upright_reading turns p = first_some (λ k. reading_at turns p (k + 1)) (below (min p.width p.height))
 
--- turned as little as it is read
+-- what a picture is read as after as few quarter turns as it is read after
 abbrev pub any_reading : Picture → Option Found
 any_reading p = first_some (λ turns. upright_reading turns (turned turns p)) (below 4)
 

@@ -21,6 +21,6 @@ read_dots symbology scale r = sample r scale (quiet_zone symbology) >>= read_sho
 -- modules in the quiet zone of a symbology, drawn at any scale, are read as these modules
 abbrev pub ModulesAreRead : Type 0
 ModulesAreRead =
-    (symbology : Symbology) (p : Picture) (scale : ℕ) → 0 < p.height → p.width ≤ MAX_MODULES → 0 < scale
+    (symbology : Symbology) (p : Picture) (scale : ℕ) → p.width ≤ MAX_MODULES → 0 < scale
     → read_dots symbology scale (raster (enlargement (with_quiet_zone p (quiet_zone symbology)) scale))
     ≡ read_modules symbology (raster p).rows

@@ -1,5 +1,5 @@
 -- Definitions that only the contracts of private functions cite: nothing here has to be believed.
-use Rattle.std.specs.Prelude.{◌≡◌, ◌<◌, ℕ, ◌+◌, ◌-◌, ◌*◌, ◌/◌, ◌%◌, ◌==◌, ◌&&◌, nat_le, Bool}
+use Rattle.std.specs.Prelude.{◌≡◌, ◌≢◌, ◌⊎◌, ◌<◌, ◌≤◌, ℕ, ◌+◌, ◌-◌, ◌*◌, ◌/◌, ◌%◌, ◌==◌, ◌&&◌, nat_le, Bool}
 use Rattle.std.specs.Bool.{beq}
 use Rattle.std.specs.List.{list_all}
 use Rattle.picture.specs.Picture.{Picture}
@@ -7,14 +7,13 @@ use Rattle.picture.specs.Reading.{is_module}
 use Rattle.picture.specs.Text.{below}
 use Rattle.picture.specs.declared.quiet_zone.QuietZone.{QuietZone}
 
--- a row that has the pixels of the row before it
-pub record IsRowAgain (p : Picture) (y : ℕ) : Type 0 where
-  pub later : 0 < y
-  pub same : (x : ℕ) → x < p.width → p.dark x y ≡ p.dark x (y - 1)
+-- the rows from one on and before another have its pixels
+abbrev pub AreAlike : Picture → ℕ → ℕ → Type 0
+AreAlike p y end = (x k : ℕ) → x < p.width → y ≤ k → k < end → p.dark x k ≡ p.dark x y
 
--- the rows before one that have the pixels of the first row
-abbrev pub AreEqualTo : Picture → ℕ → Type 0
-AreEqualTo p end = (x k : ℕ) → x < p.width → k < end → p.dark x k ≡ p.dark x 0
+-- a row of the same cells as the row before it, or no quiet zone is above and below
+abbrev pub IsLikeBefore : ℕ → QuietZone → ℕ → Type 0
+IsLikeBefore scale zone y = ((zone.top ≡ 0) × (zone.bottom ≡ 0)) ⊎ (y % scale ≢ 0)
 
 -- whether a pixel has the colour of its cell, which is light in the quiet zone
 abbrev pub is_of_cell : Picture → ℕ → QuietZone → ℕ → ℕ → Bool
@@ -22,7 +21,7 @@ is_of_cell p scale zone x y = beq (p.dark x y)
     (is_module zone (p.width / scale) (p.height / scale) (x / scale) (y / scale)
     && p.dark (x / scale * scale) (y / scale * scale))
 
--- whether each pixel of a row has
+-- whether each pixel of a row has the colour of its cell
 abbrev pub is_row_of_cells : Picture → ℕ → QuietZone → ℕ → Bool
 is_row_of_cells p scale zone y = list_all (λ x. is_of_cell p scale zone x y) (below p.width)
 

@@ -1,16 +1,28 @@
 //! Modules read as bars.
-ghost use Rattle.std.specs.Prelude.{◌≡◌, option_map, option_and_then};
+ghost use Rattle.std.specs.Prelude.{◌≡◌, ◌≤◌, length, option_map, option_and_then};
 ghost use Rattle.linear_reading.specs.Reading.{read_row};
 ghost use Rattle.picture.specs.Reading.{common_row, raster};
 
 use crate::one_row::common_row;
 use linear::MAX_MODULES;
-use linear_reading::{FullData, LinearReading};
+use linear_reading::LinearReading;
 use picture::Grid;
+use qr_reading::SymbolData;
+
+/// Returns the same data with more room after it.
+fn data_of(full: &[u8]) -> SymbolData
+    requires { length full.now ≤ 320 }
+    ensures { result.items ≡ full.now }
+{
+    let mut data = SymbolData::new();
+    // There is space for it, so that it cannot fail.
+    let _ = data.try_extend_from_slice(full);
+    data
+}
 
 /// Reads modules as bars: the row that all rows are equal to.
-pub fn read_bars<L: LinearReading, G: Grid>(modules: &G) -> Option<FullData>
-    ensures { option_map (λ full. full.items) result
+pub fn read_bars<L: LinearReading, G: Grid>(modules: &G) -> Option<SymbolData>
+    ensures { option_map (λ bytes. bytes.items) result
         ≡ option_and_then (read_row L.reading) (common_row (raster (G.picture modules.now)).rows) }
 {
     let width = modules.width();
@@ -22,5 +34,5 @@ pub fn read_bars<L: LinearReading, G: Grid>(modules: &G) -> Option<FullData>
     if !common_row(modules, row) {
         return None;
     }
-    L::read(row)
+    Some(data_of(&L::read(row)?))
 }

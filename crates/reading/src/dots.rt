@@ -1,7 +1,6 @@
 //! Dots that are bytes.
 ghost use Rattle.std.specs.Prelude.{◌≡◌, ◌*◌, ◌==◌, ◌||◌, length, option_map};
 ghost use Rattle.std.specs.List.{list_all};
-ghost use Rattle.picture.specs.Reading.{raster, raster_of};
 ghost use Rattle.reading.specs.Dots.{bytes_picture, bytes_read};
 
 use crate::equal_rows::equal_rows;
@@ -30,26 +29,9 @@ fn are_dots(light: u8, dark: u8, bytes: &[u8]) -> bool
 }
 
 impl<'a> Dots<'a> {
-    /// Returns a picture of `width` by `height` digits, `1` where dark and `0` where light, or `None` where that is not
-    /// what the digits are.
-    #[tactic(auto, using(crate::proofs::DotLaws::digits_read))]
-    pub fn new(width: usize, height: usize, digits: &'a [u8]) -> Option<Self>
-        ensures { option_map (λ dots. raster (⟦<Dots<'a> as Grid>⟧.picture dots)) result
-            ≡ raster_of width height digits.now }
-    {
-        Dots::of_bytes(b'0', b'1', width, height, digits)
-    }
-
-    /// Returns a picture of `width` by `height` modules, 1 where dark and 0 where light, or `None` where that is not what
-    /// the bytes are.
-    pub fn of_modules(width: usize, height: usize, modules: &'a [u8]) -> Option<Self>
-        ensures { option_map ⟦<Dots<'a> as Grid>⟧.picture result ≡ bytes_read 0 1 width height modules.now }
-    {
-        Dots::of_bytes(0, 1, width, height, modules)
-    }
-
-    /// Returns a picture of two bytes.
-    fn of_bytes(light: u8, dark: u8, width: usize, height: usize, bytes: &'a [u8]) -> Option<Self>
+    /// Returns a picture of `width` by `height` bytes, each `dark` or `light`, or `None` where that is not what the bytes
+    /// are.
+    pub fn new(light: u8, dark: u8, width: usize, height: usize, bytes: &'a [u8]) -> Option<Self>
         ensures { option_map ⟦<Dots<'a> as Grid>⟧.picture result ≡ bytes_read light dark width height bytes.now }
     {
         if width.checked_mul(height) != Some(bytes.len()) || !are_dots(light, dark, bytes) {

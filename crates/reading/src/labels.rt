@@ -1,11 +1,10 @@
 //! Labels read from modules and from dots, by their symbology.
-ghost use Rattle.std.specs.Prelude.{◌≡◌, ◌≢◌, ◌<◌, ◌≤◌, ℕ, [], IfOk, Some, length, option_and_then, option_map};
+ghost use Rattle.std.specs.Prelude.{◌≡◌, ◌≢◌, ◌<◌, ℕ, [], IfOk, Some, option_map};
 ghost use Rattle.filter.specs.Private.{beside};
 ghost use Rattle.filter.specs.Reading.{read_modules};
 ghost use Rattle.filter.specs.Symbol.{quiet_zone, symbol_of};
-ghost use Rattle.linear_reading.specs.Reading.{read_row};
 ghost use Rattle.picture.specs.Picture.{enlargement, with_quiet_zone};
-ghost use Rattle.picture.specs.Reading.{common_row, raster};
+ghost use Rattle.picture.specs.Reading.{raster};
 ghost use Rattle.reading.specs.Labels.{ModulesAreRead, read_dots, read_short};
 
 use crate::bars::read_bars;
@@ -13,30 +12,9 @@ use crate::sampled::Sampled;
 use crate::squares::read_square;
 use labelcore::{Options, Symbology};
 use linear::{Code128, Ean8, Ean13, Linear, UpcA};
-use linear_reading::LinearReading;
 use picture::{Grid, QuietZone};
 use qr_reading::SymbolData;
 use qrmatrix::QUIET_ZONE;
-
-/// Returns the same data with more room after it.
-fn data_of(full: &[u8]) -> SymbolData
-    requires { length full.now ≤ 320 }
-    ensures { result.items ≡ full.now }
-{
-    let mut data = SymbolData::new();
-    // There is space for it, so that it cannot fail.
-    let _ = data.try_extend_from_slice(full);
-    data
-}
-
-/// Reads modules as a linear symbol.
-fn read_linear<L: LinearReading, G: Grid>(modules: &G) -> Option<SymbolData>
-    ensures { option_map (λ bytes. bytes.items) result
-        ≡ option_and_then (read_row L.reading) (common_row (raster (G.picture modules.now)).rows) }
-{
-    let full = read_bars::<L, G>(modules)?;
-    Some(data_of(&full))
-}
 
 /// Reads modules, without quiet zones, as a symbol of a symbology: its full data. There is no correction: each module has
 /// to have its colour.
@@ -45,10 +23,10 @@ pub fn read_modules<G: Grid>(symbology: Symbology, modules: &G) -> Option<Symbol
         ≡ read_short (read_modules symbology) (raster (G.picture modules.now)).rows }
 {
     match symbology {
-        Symbology::Ean13 => read_linear::<Ean13, G>(modules),
-        Symbology::Ean8 => read_linear::<Ean8, G>(modules),
-        Symbology::UpcA => read_linear::<UpcA, G>(modules),
-        Symbology::Code128 => read_linear::<Code128, G>(modules),
+        Symbology::Ean13 => read_bars::<Ean13, G>(modules),
+        Symbology::Ean8 => read_bars::<Ean8, G>(modules),
+        Symbology::UpcA => read_bars::<UpcA, G>(modules),
+        Symbology::Code128 => read_bars::<Code128, G>(modules),
         Symbology::Qr => read_square(modules),
     }
 }

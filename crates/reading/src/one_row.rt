@@ -1,7 +1,8 @@
 //! The row that all rows of a picture are equal to.
-ghost use Rattle.std.specs.Prelude.{◌≡◌, ◌<◌, length};
+ghost use Rattle.std.specs.Prelude.{◌≡◌, ◌<◌, ◌-◌, length};
 ghost use Rattle.std.specs.Bool.{beq, then_some};
 ghost use Rattle.std.specs.Cmp.Lexicographic.{pointwise};
+ghost use Rattle.std.specs.List.{list_all, range_with_len};
 ghost use Rattle.picture.specs.Reading.{common_row, raster};
 ghost use Rattle.picture.specs.Text.{pixel_row};
 
@@ -21,23 +22,23 @@ fn has_row<G: Grid>(grid: &G, row: &[bool], y: usize) -> bool
     true
 }
 
+/// Returns whether all rows from one on have the pixels of `row`.
+fn have_row<G: Grid>(grid: &G, row: &[bool], from: usize) -> bool
+    requires { length row.now ≡ (G.picture grid.now).width }
+    ensures { result ≡ list_all (λ y. pointwise beq row.now (pixel_row (G.picture grid.now) y))
+        (range_with_len from ((G.picture grid.now).height - from)) }
+{
+    (from..grid.height()).all(|y| has_row(grid, row, y))
+}
+
 /// Returns whether there are rows and all of them are equal, and puts the first of them into `row`, which is as long.
 pub fn common_row<G: Grid>(grid: &G, row: &mut [bool]) -> bool
     requires { length row.old ≡ (G.picture grid.now).width }
     ensures { common_row (raster (G.picture grid.now)).rows ≡ then_some result row.new }
 {
-    let height = grid.height();
-    if height == 0 {
+    if grid.height() == 0 {
         return false;
     }
     grid.read_row(0, row);
-    if grid.equal_rows(0) == height {
-        return true;
-    }
-    for y in 1..height {
-        if !has_row(grid, row, y) {
-            return false;
-        }
-    }
-    true
+    have_row(grid, row, grid.equal_rows(0))
 }

@@ -1,9 +1,9 @@
 //! Modules that dots show.
-ghost use Rattle.std.specs.Prelude.{◌≡◌, ℕ, ◌+◌, ◌-◌, ◌*◌, ◌/◌, ◌%◌, ◌^◌, ◌<◌, ◌≤◌, ◌&&◌, nat_le, nat_lt, true, Some, None, MatchOption};
+ghost use Rattle.std.specs.Prelude.{◌≡◌, ℕ, ◌+◌, ◌*◌, ◌/◌, ◌%◌, ◌^◌, ◌<◌, ◌≤◌, ◌&&◌, nat_le, nat_lt, true, Some, None, MatchOption};
 ghost use Rattle.std.specs.List.{list_all};
 ghost use Rattle.picture.specs.Reading.{raster, sample};
 ghost use Rattle.picture.specs.Text.{below};
-ghost use Rattle.reading.specs.Private.{AreEqualTo, IsRowAgain, are_whole_cells, is_of_cell, is_row_of_cells};
+ghost use Rattle.reading.specs.Private.{AreAlike, IsLikeBefore, are_whole_cells, is_of_cell, is_row_of_cells};
 ghost use Rattle.reading.specs.Private.{modules_in};
 
 use picture::{Grid, QuietZone};
@@ -16,7 +16,7 @@ pub struct Sampled<'a, G: Grid> {
     zone: QuietZone,
     are_equal: bool,
     ghost some: { 0 < scale },
-    ghost equal: { are_equal ≡ true → AreEqualTo (G.picture dots.now) (G.picture dots.now).height },
+    ghost equal: { are_equal ≡ true → AreAlike (G.picture dots.now) 0 (G.picture dots.now).height },
     ghost wide: { zone.left + zone.right ≤ (G.picture dots.now).width / scale },
     ghost high: { zone.top + zone.bottom ≤ (G.picture dots.now).height / scale },
 }
@@ -29,19 +29,22 @@ fn is_between(before: usize, after: usize, cells: usize, cell: usize) -> bool
 }
 
 /// Returns whether the dot at `x` and `y` has the colour of its cell, a square of dots: light in the quiet zone, and
-/// else that of the cell's first dot. `is_inner`: no cell of the row is of the zone above or below.
+/// else that of the cell's first dot. `top` is the first row of the cell. `is_inner`: no cell of the row is of the zone
+/// above or below.
 #[inline(always)]
 fn is_of_cell<G: Grid>(
     dots: &G,
     scale: usize,
     zone: &QuietZone,
     columns: usize,
+    top: usize,
     is_inner: bool,
     x: usize,
     y: usize,
 ) -> bool
     requires some { 0 < scale }
     requires columns { columns ≡ (G.picture dots.now).width / scale }
+    requires top { top ≡ y / scale * scale }
     requires inner { is_inner ≡ (nat_le zone.now.top (y / scale)
         && nat_lt (y / scale + zone.now.bottom) ((G.picture dots.now).height / scale)) }
     requires wide { x < (G.picture dots.now).width }
@@ -49,10 +52,11 @@ fn is_of_cell<G: Grid>(
     ensures { result ≡ is_of_cell (G.picture dots.now) scale zone.now x y }
 {
     let column = x / scale;
-    let wanted = is_inner
-        && is_between(zone.left, zone.right, columns, column)
-        && dots.dark(column * scale, y / scale * scale);
-    dots.dark(x, y) == wanted
+    if !is_inner || !is_between(zone.left, zone.right, columns, column) {
+        return !dots.dark(x, y);
+    }
+    // A module of one dot has its colour.
+    scale == 1 || dots.dark(x, y) == dots.dark(column * scale, top)
 }
 
 /// Returns whether each dot of the row `y` has the colour of its cell.
@@ -62,48 +66,35 @@ fn is_row_of_cells<G: Grid>(dots: &G, scale: usize, zone: &QuietZone, y: usize) 
     ensures { result ≡ is_row_of_cells (G.picture dots.now) scale zone.now y }
 {
     let columns = dots.width() / scale;
+    let top = y / scale * scale;
     let is_inner = is_between(zone.top, zone.bottom, dots.height() / scale, y / scale);
-    for x in 0..dots.width() {
-        if !is_of_cell(dots, scale, zone, columns, is_inner, x, y) {
-            return false;
-        }
-    }
-    true
+    (0..dots.width()).all(|x| is_of_cell(dots, scale, zone, columns, top, is_inner, x, y))
 }
 
-/// Returns whether each dot of the row `y` has the colour of its cell, as those of the row before have; before `equal` it
-/// has the pixels of that row. It is not looked at then where both are of the same cells, nor where no quiet zone is above
-/// and below.
-#[inline(always)]
-fn is_next_row_of_cells<G: Grid>(
-    dots: &G,
-    scale: usize,
-    zone: &QuietZone,
-    equal: usize,
-    y: usize,
-) -> bool
+/// Returns the next row after `y` that has to be looked at where the row `y` has the colours of its cells. The rows between
+/// are before `equal`, and of the same cells as the row before them; those of bars, which have no quiet zone above and
+/// below, need not be.
+fn next_row(scale: usize, zone: &QuietZone, equal: usize, y: usize) -> usize
     requires some { 0 < scale }
-    requires whole { (G.picture dots.now).height % scale ≡ 0 }
-    requires high { y < (G.picture dots.now).height }
-    requires same { 0 < y → y < equal → IsRowAgain (G.picture dots.now) y }
-    requires before { 0 < y → is_row_of_cells (G.picture dots.now) scale zone.now (y - 1) ≡ true }
-    ensures { result ≡ is_row_of_cells (G.picture dots.now) scale zone.now y }
+    requires later { y < equal }
+    ensures later { y < result }
+    ensures before { result ≤ equal }
+    ensures same { (k : ℕ) → y < k → k < result → IsLikeBefore scale zone.now k }
 {
-    let are_bars = zone.top == 0 && zone.bottom == 0;
-    if y > 0 && y < equal && (are_bars || y % scale != 0) {
-        return true;
+    if zone.top == 0 && zone.bottom == 0 {
+        return equal;
     }
-    is_row_of_cells(dots, scale, zone, y)
+    y + (scale - y % scale).min(equal - y)
 }
 
-/// Returns the row up to which the rows after `y` are known to have the pixels of the row before them; they are before
-/// `equal`.
+/// Returns the row up to which the rows from `y` on are known to have its pixels; those before `equal` have them.
 #[inline(always)]
 fn equal_until<G: Grid>(dots: &G, equal: usize, y: usize) -> usize
     requires fits { (G.picture dots.now).height < 2 ^ 64 }
     requires high { y < (G.picture dots.now).height }
-    requires same { (k : ℕ) → y < k → k < equal → IsRowAgain (G.picture dots.now) k }
-    ensures { (k : ℕ) → y < k → k < result → IsRowAgain (G.picture dots.now) k }
+    requires same { AreAlike (G.picture dots.now) y equal }
+    ensures later { y < result }
+    ensures same { AreAlike (G.picture dots.now) y result }
 {
     if y < equal {
         equal
@@ -114,7 +105,7 @@ fn equal_until<G: Grid>(dots: &G, equal: usize, y: usize) -> usize
 
 /// Returns how many rows are known to equal the first, itself among them.
 fn equal_to_first<G: Grid>(dots: &G) -> usize
-    ensures { AreEqualTo (G.picture dots.now) result }
+    ensures { AreAlike (G.picture dots.now) 0 result }
 {
     if dots.height() == 0 {
         0
@@ -127,15 +118,17 @@ fn equal_to_first<G: Grid>(dots: &G) -> usize
 fn are_cells<G: Grid>(dots: &G, scale: usize, zone: &QuietZone, equal: usize) -> bool
     requires some { 0 < scale }
     requires whole { (G.picture dots.now).height % scale ≡ 0 }
-    requires same { AreEqualTo (G.picture dots.now) equal }
+    requires same { AreAlike (G.picture dots.now) 0 equal }
     ensures { result ≡ list_all (is_row_of_cells (G.picture dots.now) scale zone.now) (below (G.picture dots.now).height) }
 {
     let mut equal = equal;
-    for y in 0..dots.height() {
-        if !is_next_row_of_cells(dots, scale, zone, equal, y) {
+    let mut y = 0;
+    while y < dots.height() {
+        if !is_row_of_cells(dots, scale, zone, y) {
             return false;
         }
         equal = equal_until(dots, equal, y);
+        y = next_row(scale, zone, equal, y);
     }
     true
 }

@@ -1,12 +1,7 @@
-use Rattle.std.proofs.Common.{◌+◌, ◌*◌, ◌/◌, ◌<◌, ◌≤◌, ℕ, suc, arith}
-use Rattle.std.proofs.Math.Nat.{le-div_iff_mul-le, div-le_self}
+use Rattle.std.proofs.Common.{◌+◌, ◌/◌, ◌<◌, ℕ, arith}
+use Rattle.std.proofs.Math.Nat.{div-le_self}
+use Rattle.reading.proofs.CellLaws.{begins}
 use Rattle.reading.proofs.sampled.first_dot.Goals as goal
-
--- a cell that is there begins inside
-begins : (length scale cell : ℕ) → 0 < scale → cell < length / scale → cell * scale < length
-begins length scale cell some inside =
-    let whole : suc cell * scale ≤ length = (le-div_iff_mul-le some).0 inside in
-    omega (arith, whole, some)
 
 few : (length scale cell : ℕ) → cell < length / scale → cell < length
 few length scale cell inside = omega (arith, inside, div-le_self length scale)
