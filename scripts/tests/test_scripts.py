@@ -246,13 +246,14 @@ class Outcomes(InFolder):
     def test_controls(self) -> None:
         """Beside a copy with the function's proof is one as it is, and beside a text one that calls the function."""
         text, change = "refused: one\nbody: one() + 1\n", EDIT.format("2")
-        for bodies, wanted in (
+        cases: tuple[tuple[list[str], list[str]], ...] = (
             ([text], ["calling_itself"]),
             ([text, "refused: one\nbody: one() + 2\n"], ["calling_itself"]),
             ([change, EDIT.format("3")], ["as_it_is"]),
             ([text, change], ["as_it_is", "calling_itself"]),
             ([change], []),
-        ):
+        )
+        for bodies, wanted in cases:
             with self.subTest(bodies):
                 for number, body in enumerate(bodies):
                     self.edit(body, name=f"body_{number}")
