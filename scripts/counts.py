@@ -37,7 +37,12 @@ IN_PAGES = (
     ("README.md", r"read all ([\d,]+) labels back", "compare_symbols.py", r"(\d+) read back"),
     ("README.md", r"drew the same ([\d,]+) symbols", "compare_symbols.py", r"(\d+) of \1 as zint"),
     ("README.md", r"each of ([\d,]+)\s+simulated out-of-memory", "refuse_each_growth.py", r"^(\d+) growths"),
-    ("docs/BENCHMARKS.md", r"read all ([\d,]+) symbols of five programs", "read_foreign.py", r"(\d+) read as asked"),
+    (
+        "docs/BENCHMARKS.md",
+        r"read all ([\d,]+) symbols of five programs",
+        "read_foreign.py --built",
+        r"(\d+) read as asked",
+    ),
     ("docs/PROOF.md", r"operator of ([\d,]+) believed definitions", "believed_rows.py", r"of (\d+) definitions"),
     ("docs/PROOF.md", r"one at a time: ([\d,]+)\s+changes", "believed_rows.py", r"^(\d+) changes"),
 )

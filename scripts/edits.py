@@ -332,8 +332,9 @@ def calling_itself(copy: Copy, folder: str) -> Copy | None:
 
 
 def copies_of(bodies: Sequence[Body], folder: str) -> Iterator[Copy]:
-    """Yields copies of the functions that several bodies change, or one that is a text, and one
-    of each as it is; of one that has a text also one that calls the function.
+    """Yields copies of the functions that several bodies change, or one that is a text. Beside
+    them it yields a copy of the function as it is where one has the function's proof, and one
+    that calls the function where one is a text: each is a control of its kind.
     """
     groups: dict[str, list[Copy]] = {}
     for number, body in enumerate(bodies):
@@ -342,7 +343,9 @@ def copies_of(bodies: Sequence[Body], folder: str) -> Iterator[Copy]:
             groups.setdefault(copy.function, []).append(copy)
     for copies in groups.values():
         if len(copies) > 1 or copies[0].body.text:
-            controls = [as_it_is(copies[0], folder)]
+            controls = []
+            if any(copy.has_proof for copy in copies):
+                controls.append(as_it_is(copies[0], folder))
             if any(copy.body.text for copy in copies):
                 controls.append(calling_itself(copies[0], folder))
             yield from (*copies, *filter(None, controls))

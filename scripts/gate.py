@@ -39,7 +39,7 @@ BUILT = (
     "run_tests.py lib/tests",
     "compare_symbols.py",
     "scan_damaged.py",
-    "read_foreign.py",
+    "read_foreign.py --built",
     "refuse_each_growth.py",
     "run_recipes.py",
     "instructions.py --check",

@@ -9,10 +9,11 @@ A few hundred are damaged too: one to seven modules are turned, in a linear symb
 data or not at all. In each run the comparison is shown three wrong cases, which it has to report: a symbol of other
 data, a damaged one that is read as other data, and one that is not read.
 
-READER is the program that reads (scripts/foreign_reader.txt). Where none is named it is made, by `rt run` in a copy of
-the crates, which begins with what the checks of this machine kept. The last line is `N symbols: R read as asked; M
-damaged: D data or nothing`. Any other symbol is printed, and the status is then 1. Status 2: bad arguments, no kit, a
-program missing."""
+READER is the program that reads (scripts/foreign_reader.txt). Where none is named it is made in a copy of the crates,
+as `rt run` does: it proves them from nothing, which takes minutes. With --built it takes the libraries that `rt ci`
+proved. The last line is `N symbols: R read as asked; M damaged: D data or nothing`. Any other symbol is printed, and
+the status is then 1. Status 2: bad arguments, no kit, a program missing.
+"""
 
 import json
 import os
@@ -30,6 +31,7 @@ import numpy.typing
 import segno
 import zxingcpp
 
+import libraries
 import sources
 from compare_symbols import ALPHANUMERIC, LETTERS, capacity
 from pictures import DIGITS, with_check_digit
@@ -245,24 +247,34 @@ def not_seen(reader: str, symbol: Symbol) -> Iterator[str]:
         yield "a symbol that is not read passes"
 
 
-def reader_made(folder: str) -> str:
-    """The reader, made in a copy of the crates."""
+def copy_crates(folder: str, as_left: bool) -> None:
+    """Copies the crates that the reader needs, with their libraries where these are taken as they are, and adds the
+    reader's own crate."""
     for crate in CRATES:
-        source = os.path.join(sources.TOP, "crates", crate)
-        shutil.copytree(source, os.path.join(folder, "crates", crate), ignore=shutil.ignore_patterns("out"))
-    own = os.path.join(folder, "crates", "foreign")
-    os.makedirs(os.path.join(own, "src"))
-    shutil.copy(TEXT, os.path.join(own, "src", "main.rt"))
+        source, copy = (os.path.join(top, "crates", crate) for top in (sources.TOP, folder))
+        shutil.copytree(source, copy, ignore=shutil.ignore_patterns("out"))
+        if as_left and os.path.isdir(os.path.join(source, "out", "rlib")):
+            shutil.copytree(os.path.join(source, "out", "rlib"), os.path.join(copy, "out", "rlib"))
+    sources.write(os.path.join(folder, "crates", "foreign", "src", "main.rt"), sources.read(TEXT))
     shutil.copy(os.path.join(sources.TOP, "HANDLES"), folder)
     lines = sources.read(os.path.join(sources.TOP, "crates.txt")).splitlines()
     kept = [line for line in lines if line.split(":")[0].split(" ")[0] in CRATES]
-    with open(os.path.join(folder, "crates.txt"), "w", encoding="utf-8") as file:
-        file.write("\n".join([*kept, READER, ""]))
-    status, said = sources.run(["rt", "run"], own)
-    if status:
-        print(said, file=sys.stderr)
-        sys.exit(2)
-    return os.path.join(own, "out", "foreign")
+    sources.write(os.path.join(folder, "crates.txt"), "\n".join([*kept, READER, ""]))
+
+
+def reader_made(folder: str, as_left: bool) -> str:
+    """The reader, made in a copy of the crates, over the libraries that `rt ci` left or over its own."""
+    copy_crates(folder, as_left)
+    reader = next(it for it in libraries.kit().crates_below(folder) if it.name == "foreign")
+    with open(os.path.join(folder, "said"), "w+", encoding="utf-8") as said:
+        for one in [*reader.below(), reader]:
+            one.out = said
+        not_built = libraries.build(reader.below(), as_left)
+        if not_built or reader.run(["--jobs", "1"], [], input=b"", stdout=subprocess.PIPE):
+            said.seek(0)
+            print(said.read(), file=sys.stderr)
+            sys.exit(2)
+    return os.path.join(str(reader.folder), "out", "foreign")
 
 
 def main() -> int:
@@ -270,11 +282,13 @@ def main() -> int:
     parser.add_argument(
         "reader", nargs="?", metavar="READER", help="the program that reads (made where none is named)"
     )
-    given = parser.parse_args().reader
-    if given and not os.access(given, os.X_OK):
-        parser.error(f"{given} is no program")
+    built = "take the libraries that `rt ci` left as they are; else prove them for the reader"
+    parser.add_argument("--built", action="store_true", help=built)
+    given = parser.parse_args()
+    if given.reader and not os.access(given.reader, os.X_OK):
+        parser.error(f"{given.reader} is no program")
     with tempfile.TemporaryDirectory() as folder:
-        reader = os.path.abspath(given) if given else reader_made(folder)
+        reader = os.path.abspath(given.reader) if given.reader else reader_made(folder, given.built)
         symbols = all_symbols()
         turned = damaged(symbols, 450)
         wrong, torn = faults(reader, symbols, False), faults(reader, turned, True)

@@ -226,25 +226,43 @@ class Outcomes(InFolder):
         self.edit(f"refused: one\nbody: {text}\n", name=name)
 
     def test_a_body_as_a_text(self) -> None:
-        """It is always a copy, beside the function that it can call, and two controls."""
+        """It is always a copy, beside the function that it can call, and a control that calls it."""
         self.whole("one() + 1")
-        (copy, control, calling) = edits.copies_of(edits.bodies_of(self.folder), self.folder)
+        (copy, calling) = edits.copies_of(edits.bodies_of(self.folder), self.folder)
         self.assertEqual(
             copy.text, ONE.partition("\n")[2].partition("{\n")[0].replace("one(", "one_0(") + "{ one() + 1 }"
         )
         # The proof of the function would refuse it for its form.
-        self.assertEqual((copy.has_proof, control.has_proof, calling.has_proof), (False, True, False))
+        self.assertEqual((copy.has_proof, calling.has_proof), (False, False))
         self.assertEqual(
             calling.text, copy.text.replace("one_0(", "one_calling_itself(").replace("one() + 1", "one()")
         )
-        self.assertEqual(edits.code_of(control.text), edits.code_of(ONE.replace("one(", "one_as_it_is(")))
         control_says = "one calling itself: it is right, and not reported as not refused"
-        said = (
-            "fn small::one_0: {}\nfn small::one_as_it_is: proved\nfn small::one_calling_itself: {}\nonly=3 proved=2\n"
+        said = "fn small::one_0: {}\nfn small::one_calling_itself: {}\nonly=2 proved=1\n"
+        self.assertEqual(self.tried(said.format("not proved", "proved")), (1, 1, []))
+        self.assertEqual(self.tried(said.format("proved", "proved")), (0, 1, ["one: NOT REFUSED"]))
+        self.assertEqual(self.tried(said.format("not proved", "not proved")), (1, 0, [control_says]))
+
+    def test_controls(self) -> None:
+        """Beside a copy with the function's proof is one as it is, and beside a text one that calls the function."""
+        text, change = "refused: one\nbody: one() + 1\n", EDIT.format("2")
+        cases: tuple[tuple[list[str], list[str]], ...] = (
+            ([text], ["calling_itself"]),
+            ([text, "refused: one\nbody: one() + 2\n"], ["calling_itself"]),
+            ([change, EDIT.format("3")], ["as_it_is"]),
+            ([text, change], ["as_it_is", "calling_itself"]),
+            ([change], []),
         )
-        self.assertEqual(self.tried(said.format("not proved", "proved")), (1, 2, []))
-        self.assertEqual(self.tried(said.format("proved", "proved")), (0, 2, ["one: NOT REFUSED"]))
-        self.assertEqual(self.tried(said.format("not proved", "not proved")), (1, 1, [control_says]))
+        for bodies, wanted in cases:
+            with self.subTest(bodies):
+                for number, body in enumerate(bodies):
+                    self.edit(body, name=f"body_{number}")
+                copies = [*edits.copies_of(edits.bodies_of(self.folder), self.folder)]
+                names = [copy.body.functions[0].removeprefix("one_") for copy in copies]
+                self.assertEqual([name for name in names if not name.isdigit()], wanted)
+                proved = [copy.has_proof for copy in copies if copy.body.is_control]
+                self.assertEqual(proved, [True] * ("as_it_is" in wanted))
+                shutil.rmtree(self.path("wrong-bodies"))
 
     def test_calls_of_a_function_by_itself(self) -> None:
         for number, (head, is_method, wanted) in enumerate(
@@ -299,9 +317,9 @@ class Outcomes(InFolder):
         ):
             with self.subTest(text):
                 self.whole(text, "second")
-                controls = "fn small::one_as_it_is: proved\nfn small::one_calling_itself: proved\n"
-                tried = self.tried(SAID.format("not proved") + f"fn small::one_0: not proved\n{controls}")
-                self.assertEqual(tried, (1, 2, [f"second: {said}"]))
+                control = "fn small::one_calling_itself: proved\n"
+                tried = self.tried(SAID.format("not proved") + f"fn small::one_0: not proved\n{control}")
+                self.assertEqual(tried, (1, 1, [f"second: {said}"]))
         self.edit("refused: other\nbody: 2\n", name="second")
         self.assertIn(
             "second: other is no function that can be there twice: write old: and new:", self.tried("only=1\n")[2]

@@ -53,6 +53,11 @@ def is_same(one: jobs.Dots, other: jobs.Dots) -> bool:
     return numpy.array_equal(one[:, :wide], other) and not one[:, wide:].any()
 
 
+def rows_of(dots: jobs.Dots) -> list[str]:
+    """The rows of dots, as texts of 0 and 1."""
+    return [row.tobytes().decode() for row in (dots + ord("0")).astype(numpy.uint8)]
+
+
 class Drawings(unittest.TestCase):
     def test_a_drawing_ends_at_the_edge_of_its_label(self) -> None:
         """What a PDF of a sheet has beyond it would be on the next label."""
@@ -98,7 +103,7 @@ class Shipped(unittest.TestCase):
                 for form in DOTS:
                     self.assertTrue(is_same(dots[form], dots["pbm"]), (name, dpi, form))
                 for form in ("pbm", "pdf", "svg"):
-                    rows = ["".join(map(str, row)) for row in dots[form].tolist()]
+                    rows = rows_of(dots[form])
                     self.assertIsNone(own_fault_in(rows, layout), (name, dpi, form))
                     self.assertEqual(
                         self.by_zbar(dots[form]), self.codes(layout), (name, dpi, form)
