@@ -71,7 +71,9 @@ fn page_of_reading(rt: HostRuntime) {
             == b"73513537".as_slice())
     );
     assert!(rt;
-        Dots::new(b'0', b'1', 9, 9, &[b'0'; 81]).is_some_and(|dots| reading::read_any(&dots).is_none())
+        Dots::new(b'0', b'1', 9, 9, &[b'0'; 81]).is_some_and(|dots| reading::read_any(
+            &dots
+        ).is_none())
     );
     assert!(rt;
         Dots::new(0, 1, 9, 9, &[0; 81]).is_some_and(|modules| read_modules(
