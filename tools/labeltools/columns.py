@@ -120,10 +120,15 @@ class Columns:
     where: tuple[tuple[Column, str], ...] = ()
 
     @property
+    def prices(self) -> tuple[Column, ...]:
+        """The columns of prices of all kinds."""
+        kinds = (self.price, self.unit_price, self.old_price)
+        return tuple(one for one in kinds if one is not None)
+
+    @property
     def shown(self) -> tuple[Column, ...]:
         """The columns whose cells are seen on a label."""
-        prices = (one for one in (self.price, self.unit_price, self.old_price) if one is not None)
-        return (self.code, *self.title, *self.text, *prices)
+        return (self.code, *self.title, *self.text, *self.prices)
 
     @property
     def asked(self) -> tuple[Column, ...]:

@@ -21,11 +21,25 @@ from labeltools.table_options import TableOptions
 
 DATE = re.compile(r"(?<![0-9.,])[0-9]{1,4}[./-][0-9]{1,2}(?:[./-](?:[0-9]{2,4})?)?(?![0-9,])")
 MARK = re.compile("[0-9][./-]")  # a text without one is like no date
+# a whole text that is a date: with its year, or its month in letters, or a point behind the month
+WHOLE_DATE = re.compile(
+    r"[0-9]{1,4}([./-])[0-9]{1,2}\1[0-9]{2,4}|[0-9]{1,2}\.[0-9]{1,2}\."
+    r"|[0-9]{1,2}[.-] ?[^\W\d_]{3,4}\.?|[^\W\d_]{3,4}[ -][0-9]{2}"
+)
+# a price that may be a day and its month, of which a spreadsheet has made a date before
+DAY_AND_MONTH = re.compile(r"(?:0?[1-9]|[12][0-9]|3[01])\.(?:0?[1-9]|1[0-2])")
+# what spreadsheets write for the answer to a question
+ANSWERS = frozenset(
+    "TRUE FALSE WAHR FALSCH VRAI FAUX VERO FALSO VERDADERO VERDADEIRO WAAR ONWAAR PRAWDA FAŁSZ"
+    " PRAVDA NEPRAVDA IGAZ HAMIS SANT FALSKT SAND FALSK TOSI EPÄTOSI DOĞRU YANLIŞ ИСТИНА"
+    " ЛОЖЬ".split()
+)
 OWN_TABLE = Text("make a table of its own of it")
 ZERO_HINT = Text("it is a zero, which its number format shows so")
 # a text without one of these has nothing that is looked at
 LOOKED_AT = re.compile(f"{LEFT.pattern}|{MARK.pattern}")
 LONGEST_SIGN = 3  # letters of a text that is no more than a sign
+LONGEST_DAY = 5  # letters of a day and its month
 HALF = Decimal("0.5")
 KIND_OF_CODES = re.compile(
     r"(?:EAN|GTIN|UPC|ISBN|JAN)(?:[- ]?(?:[0-9]{1,2}|code|A|E))?", re.IGNORECASE
@@ -102,7 +116,7 @@ class Noticed:
     def text(self, column: Column, row: Row, text: str) -> None:
         """Looks at a title or text; raises `RowError` for one that was encoded twice."""
         cell = row.cells[column.place]
-        if len(text) <= LONGEST_SIGN and is_sign(text):
+        if len(text) <= LONGEST_SIGN and is_sign(text) or text in ANSWERS:
             self.signs.setdefault(column, Found(row.number, text))
         is_odd = LOOKED_AT.search(text) or not (text.isascii() or BEHIND.isdisjoint(text))
         if isinstance(cell, str) and not is_odd:  # most texts, at once
@@ -119,6 +133,23 @@ class Noticed:
             return
         elif column.place not in self.like_dates and MARK.search(text) and DATE.search(text):
             self.like_dates[column.place] = Found(row.number, text)
+
+    def price(self, column: Column, row: Row, text: str) -> None:
+        """Looks at the text of a price: where another one of its column is a date, 3.12 may be."""
+        if len(text) <= LONGEST_DAY and column.place not in self.like_dates:
+            if DAY_AND_MONTH.fullmatch(text) and isinstance(row.cells[column.place], str):
+                self.like_dates[column.place] = Found(row.number, text)
+
+    def no_price(self, column: Column, row: Row) -> None:
+        """Looks at a cell that is no price: it may be a date."""
+        cell = row.cell(column.place)
+        try:
+            kind = Kind.TEXT if isinstance(cell, str) else cell.kind
+        except RowError:  # it is of no kind
+            return
+        is_text = isinstance(cell, str) and WHOLE_DATE.fullmatch(cell.strip())
+        if is_text or kind is Kind.MOMENT:
+            self.dates.setdefault(column.place, row.number)
 
     def doubtful(self, columns: Sequence[Column], row: Row) -> None:
         """Keeps the first row with a doubtful cell of each column."""
@@ -339,8 +370,21 @@ class RowReader:
 
     def price(self, column: Column | None, row: Row, currency: str | None) -> Price | None:
         """Returns the price of a column, None where there is none; raises `RowError`."""
-        text = column.price(row) if column else ""
-        if column is None or not text:
+        if column is None:
+            return None
+        try:
+            found = self.price_in(column, row, currency)
+        except RowError:
+            self.noticed.no_price(column, row)
+            raise
+        if found:
+            self.noticed.price(column, row, found.text)
+        return found
+
+    def price_in(self, column: Column, row: Row, currency: str | None) -> Price | None:
+        """Returns the price of a column, as `price` does."""
+        text = column.price(row)
+        if not text:
             return None
         try:
             is_unit = column is self.columns.unit_price

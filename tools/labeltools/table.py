@@ -10,7 +10,7 @@ from labeltools.text import NOTHING, Text, counted
 from labeltools.columns import Columns, Head, columns_of, names_of
 from labeltools.codes import is_in_brackets
 from labeltools.csv_table import csv_table
-from labeltools.drafts import RowReader
+from labeltools.drafts import ANSWERS, RowReader
 from labeltools.line_writer import LineWriter, contents_of
 from labeltools.messages import BAD_ARGUMENTS, Place, RowError, Talk, ToolError, quoted
 from labeltools.prices import is_of_cents, is_of_many
@@ -304,7 +304,9 @@ class TableRun:
             )
         for column, found in noticed.signs.items():
             text = Text("row {} has {} as text, in {}", found.row, quoted(found.text), column.title)
-            self.talk.say(text, Text("does it stand for an empty cell?"))
+            of_formula = Text("is it the answer of a formula?")
+            of_empty = Text("does it stand for an empty cell?")
+            self.talk.say(text, of_formula if found.text in ANSWERS else of_empty)
         for place, row in noticed.dates.items():
             if like := noticed.like_dates.get(place):
                 text = Text(
@@ -313,7 +315,10 @@ class TableRun:
                     quoted(like.text),
                     row,
                 )
-                self.talk.say(text, Text("are its day and month in the same order?"))
+                is_price = any(column.place == place for column in self.columns.prices)
+                of_price = Text("is it a date, too, of which a spreadsheet made a number?")
+                in_order = Text("are its day and month in the same order?")
+                self.talk.say(text, of_price if is_price else in_order)
         for (column, wanted), like in noticed.like_values.items():
             text = counted(
                 "row {1} has {2} in {3}, which looks like {4}, and is not printed ({0} row)",

@@ -588,6 +588,28 @@ class Texts(CellTest):
             self.assertEqual((titles, said), (["Tea", sign, sign, "7"], [wanted]))
         self.assertEqual(self.ran(f"EAN;Name\n{PENCIL};▼\n".encode(), *PRICED[:4]), (["▼"], []))
 
+    def test_the_answer_of_a_formula_as_text_is_said(self) -> None:
+        for answer in ("TRUE", "WAHR", "FAUX", "ЛОЖЬ"):
+            data = f"EAN;Name\n{PENCIL};{answer}\n{SMALL};True\n".encode()
+            titles, said = self.ran(data, *PRICED[:4])
+            wanted = f'row 2 has "{answer}" as text, in column 2 ("Name"): '
+            wanted += "is it the answer of a formula?"
+            self.assertEqual((titles, said), ([answer, "True"], [wanted]))
+
+    def test_a_day_and_its_month_beside_a_date_is_said(self) -> None:
+        """What a spreadsheet makes of 3.12 is a date, and of a column of them a few numbers."""
+        for date in ("2026-12-03", "03.12.2026", "03.12.", "03. Dez", "3-Dec", "Dez 12"):
+            data = f"EAN;Name;Price\n{PENCIL};A;9,99\n{SMALL};B;3.12\n{BOOK};C;{date}\n".encode()
+            prices, said = self.ran(data, *PRICED)
+            self.assertEqual(prices, ["9,99", "3.12"], date)
+            wanted = 'row 3 has the text "3.12" where row 4 has a date: '
+            wanted += "is it a date, too, of which a spreadsheet made a number?"
+            self.assertIn(wanted, said)
+        for other in ("9.99-", "1.50 2.50", "gratis"):
+            data = f"EAN;Name;Price\n{PENCIL};A;3.12\n{BOOK};C;{other}\n".encode()
+            prices, said = self.ran(data, *PRICED)
+            self.assertEqual((prices, len(said)), (["3.12"], 1), other)
+
     def test_what_a_program_writes_without_a_value(self) -> None:
         for text in ("(NULL)", "[none]", "\\N", "NA", "5,9E+12"):
             data = f"EAN;Name\n{PENCIL};{text}\n{SMALL};Na\n".encode()
