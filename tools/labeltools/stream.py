@@ -87,8 +87,9 @@ class Fifo(RawIOBase):
         """
         if self.is_idle:
             self.wait_for_writer()
-        self.poll.poll()
-        size = os.readv(self.source, [buffer])
+        ((_, event),) = self.poll.poll()
+        # without bytes it is at its end, though another writer may have come since
+        size = os.readv(self.source, [buffer]) if event & select.POLLIN else 0
         self.is_idle = size == 0
         return size
 

@@ -62,6 +62,13 @@ class Folder(unittest.TestCase):
         self.assertEqual(done.returncode, status, text)
         self.assertRegex(text, pattern)
 
+    def answer(self, stream: "subprocess.Popen[bytes]", line: bytes) -> str:
+        """The answer to a line."""
+        assert stream.stdin and stream.stderr
+        stream.stdin.write(line)
+        stream.stdin.flush()
+        return stream.stderr.readline().decode()
+
 
 class Chosen(Folder):
     """--only, --only-code and --unique; the library; a line that is cut off."""

@@ -304,13 +304,6 @@ class Streams(Folder):
         self.addCleanup(ended, stream)
         return stream
 
-    def answer(self, stream: "subprocess.Popen[bytes]", line: bytes) -> str:
-        """The answer to a line."""
-        assert stream.stdin and stream.stderr
-        stream.stdin.write(line)
-        stream.stdin.flush()
-        return stream.stderr.readline().decode()
-
     def test_a_label_in_doubt_stays_so(self) -> None:
         """Until it is printed by another command, while the stream goes on."""
         printer = Printer(hangs_up=True).start()

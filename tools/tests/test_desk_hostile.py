@@ -16,7 +16,7 @@ from typing import Callable
 from unittest import mock
 
 import support
-from labeltools import files, sending
+from labeltools import files, sending, stream
 from labeltools.journal import Journal
 from labeltools.network import Broken, NetworkPrinter
 from printers import LABEL, Printer
@@ -104,13 +104,6 @@ class Starts(Folder):
         self.addCleanup(ended, stream)
         self.addCleanup(stream.kill)
         return stream
-
-    def answer(self, stream: "subprocess.Popen[bytes]", line: bytes) -> str:
-        """The answer to a line."""
-        assert stream.stdin and stream.stderr
-        stream.stdin.write(line)
-        stream.stdin.flush()
-        return stream.stderr.readline().decode()
 
 
 class Connections(Starts):
@@ -333,6 +326,25 @@ class Ends(Folder):
 
 class Streams(Starts):
     """Answers, FIFOs and objects of a stream."""
+
+    def test_a_writer_that_comes_when_another_one_has_gone(self) -> None:
+        """The end of the first one counts, and nothing is read of the next one before it writes."""
+        path = f"{self.folder}/fifo"
+        os.mkfifo(path)
+        source = stream.Fifo(path)
+        self.addCleanup(os.close, source.source)
+        os.close(os.open(path, os.O_WRONLY))
+        source.is_idle = False
+        poll = source.poll.poll
+
+        def late(*given: float) -> list[tuple[int, int]]:
+            """Looks, and only then the next writer comes."""
+            found = poll(*given)
+            self.addCleanup(os.close, os.open(path, os.O_WRONLY))
+            return found
+
+        with mock.patch.object(source, "poll", mock.Mock(poll=late)):
+            self.assertEqual(source.readinto(bytearray(9)), 0)
 
     def test_what_libraries_say_is_no_answer(self) -> None:
         """Fontconfig warns of this locale, which a ssh from another system may set."""
