@@ -186,6 +186,9 @@ def check_elements(name: str, root: Element) -> None:
         tag = tag_of(element)
         if tag in FLOWS and (tag != "flowRoot" or words_of(element) or not len(element)):
             raise ToolError(Text("{}: text that flows ({}) is not drawn", name, tag), FLOWS_HINT)
+        if "}" not in element.tag:
+            what = Text("{}: {} is not drawn", name, tag)
+            raise ToolError(what, Text("take {} away", 'xmlns=""'))
         if tag not in DRAWN and element.tag.startswith(SPACE):
             hint = PATH_HINT if tag in LETTERS else PICTURE_HINT
             raise ToolError(Text("{}: {} is not drawn", name, tag), hint)
