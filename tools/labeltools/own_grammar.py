@@ -96,9 +96,7 @@ GRAMMAR = (
     ),
 )
 RIGHT = {
-    name: re.compile(f"(?:{pattern}|inherit)", re.IGNORECASE)
-    for names, pattern in GRAMMAR
-    for name in names.split()
+    name: f"(?i:{pattern}|inherit)" for names, pattern in GRAMMAR for name in names.split()
 }
 OTHERS = re.compile(f"(?:{USUAL}|inherit)", re.IGNORECASE)
 # properties of CSS that change nothing here, whatever they are
@@ -126,6 +124,7 @@ OTHER = re.compile(r"[^-+.,\de\s]", re.IGNORECASE)  # than numbers
 GEOMETRY = frozenset("cx cy height r rx ry width x y".split())
 SIZED = ("circle", "ellipse", "image", "rect")  # by properties of CSS
 SERVERS = ("linearGradient", "pattern", "radialGradient")
+UNMOVED = (*SERVERS, "svg")  # by properties of CSS
 # what is drawn otherwise in an element, by whatever it is set
 NOWHERE = {
     "mask": {"mask"},
@@ -221,7 +220,7 @@ def is_alike(key: str, value: str, is_style: bool) -> bool:
         value = f"{value[:word.start()]}currentcolor"
     right = RIGHT.get(f":{key}") if is_style else None
     if right := right or RIGHT.get(key):
-        return bool(right.fullmatch(value))
+        return bool(re.fullmatch(right, value))
     return not is_style or bool(FREE.fullmatch(key) or OTHERS.fullmatch(value))
 
 
@@ -255,7 +254,7 @@ def moved(element: Element, styles: Mapping[str, str]) -> Iterator[str]:
     tag = tag_of(element)
     if tag not in SIZED:
         yield from (key for key in GEOMETRY if styles.get(key, "auto") != "auto")
-    if "transform" in styles and (tag in SERVERS or "transform" in element.attrib):
+    if "transform" in styles and (tag in UNMOVED or "transform" in element.attrib):
         yield "transform"
     if is_set(styles, "transform") or is_set(element.attrib, "transform"):
         yield from ORIGINS & {*styles, *element.attrib}
