@@ -95,9 +95,7 @@ GRAMMAR = (
         USUAL,
     ),
 )
-RIGHT = {
-    name: f"(?i:{pattern}|inherit)" for names, pattern in GRAMMAR for name in names.split()
-}
+RIGHT = {name: f"(?i:{pattern}|inherit)" for names, pattern in GRAMMAR for name in names.split()}
 OTHERS = re.compile(f"(?:{USUAL}|inherit)", re.IGNORECASE)
 # properties of CSS that change nothing here, whatever they are
 FREE = re.compile(
