@@ -18,6 +18,7 @@ from labeltools.pango import library
 from labeltools.text import Text
 
 SPACE = "{http://www.w3.org/2000/svg}"
+NO_SPACE = 'xmlns=""'
 BEGIN = '<svg xmlns="http://www.w3.org/2000/svg"'
 LINKS = ("href", "{http://www.w3.org/1999/xlink}href")
 CONDITIONS = ("requiredFeatures", "systemLanguage")
@@ -202,7 +203,7 @@ def check_elements(name: str, root: Element) -> None:
             raise ToolError(Text("{}: text that flows ({}) is not drawn", name, tag), FLOWS_HINT)
         if "}" not in element.tag:
             what = Text("{}: {} is not drawn", name, tag)
-            raise ToolError(what, Text("take {} away", 'xmlns=""'))
+            raise ToolError(what, Text("take {} away", NO_SPACE))
         if tag not in DRAWN and element.tag.startswith(SPACE):
             hint = PATH_HINT if tag in LETTERS else PICTURE_HINT
             raise ToolError(Text("{}: {} is not drawn", name, tag), hint)
