@@ -44,12 +44,17 @@ def make_alike(root: Element) -> None:
     """Writes in other words what librsvg would draw otherwise: blanks of texts that are kept by
     `white-space`, line ends, which are blanks, and letters that have a place each, as programs
     write what they read from PDF; colours that are mixed with those below, but not with paper; the
-    size of letters that have none.
+    size of letters that have none; symbols, which librsvg cuts where they show all, and only there.
     """
     root.set(SIZE, root.get(SIZE, "16px"))  # librsvg takes 12
     if any(key == BLEND for one in root.iter() for key, _ in properties_of(one)):
         root.set("style", f"{root.get('style', '')};isolation:isolate")  # of the white page
-    for element, is_preserved in [*texts_in(root, sheets_of(root), False)]:
+    sheets = sheets_of(root)
+    for symbol in root.iter(f"{SPACE}symbol"):
+        found = {**symbol.attrib, **styles_of(symbol, sheets)}.get("overflow")
+        other = "hidden" if found in ("auto", "visible") else "visible"
+        symbol.set("style", f"{symbol.get('style', '')};overflow:{other}")
+    for element, is_preserved in [*texts_in(root, sheets, False)]:
         if is_preserved:
             element.set(SPACES, PRESERVE)
         else:

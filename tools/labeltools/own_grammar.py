@@ -129,7 +129,7 @@ NOWHERE = {
     "svg": {"clip-path"},
     "symbol": {"height", "width", "x", "y"},
     "text": {"baseline-shift"},
-    "tspan": {"clip-path", "filter", "mask", "opacity"},
+    "tspan": {"clip-path", "filter", "mask", "mix-blend-mode", "opacity"},
 }
 ELEMENTS = frozenset(
     "animate animateColor animateMotion animateTransform feDiffuseLighting feImage"
@@ -275,7 +275,8 @@ def misused(element: Element, values: Mapping[str, str], ids: Mapping[str, str])
         yield "r" if "r" in values else "x2"
     is_visible = values.get("overflow") == "visible"
     is_cut = values.get("preserveAspectRatio", "").endswith("slice")
-    if (tag == "symbol" and (is_cut or (is_visible and "viewBox" in values))) or (
+    is_open = "viewBox" not in values  # a symbol that shows all has been made to hide it, and so on
+    if (tag == "symbol" and (is_cut or is_visible and is_open)) or (
         tag == "image" and is_cut and is_visible
     ):
         yield "overflow"

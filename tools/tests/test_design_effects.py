@@ -57,7 +57,11 @@ BOMBS = (
     nested("mask", MASKED * 10, MASKED),
     nested("marker", MARKED, MARKED),
 )
-# texts that browsers draw alike: as SVG 2 says
+SHOWN = (
+    '<symbol id="s" viewBox="0 0 9 9" overflow="{}"><path d="M-5 -5H5V5H-5Z"/></symbol>'
+    '<use href="#s" x="9" y="9" width="9" height="9"/>'
+)
+# what browsers draw alike: as SVG 2 says
 ALIKE = (
     (
         f'<text {WORDS} x="2 14 24" y="8 9">ABCD</text>',
@@ -100,6 +104,8 @@ ALIKE = (
         f'<path d="M2 2H22V12H2Z"/>{BLEND}',
         '<path d="M2 2H22V12H2Z"/><path d="M12 4H22V9H12Z" fill="#fff"/>',
     ),
+    (SHOWN.format("hidden"), '<path d="M9 9H14V14H9Z"/>'),
+    (SHOWN.format("visible"), '<path d="M4 4H14V14H4Z"/>'),
     (f"<style>/* @import 'a.css'; */</style>{BOX}", BOX),
     (f"<style>@namespace url(http://www.w3.org/2000/svg);</style>{BOX}", BOX),
 )
@@ -174,7 +180,8 @@ SAID = (
         "<clipPath clip-path>",
     ),
     (SYMBOL.format('width="6"'), "<symbol width>"),
-    (SYMBOL.format('overflow="visible"'), "<symbol overflow>"),
+    (SYMBOL.format('preserveAspectRatio="xMidYMid slice"'), "<symbol overflow>"),
+    ('<symbol id="s"><path d="M0 0H9V9Z"/></symbol>', "<symbol overflow>"),
     ('<defs><svg id="v" width="6"/></defs><use href="#v" width="9"/>', "<use width>"),
     (
         '<defs><path id="v"/></defs><use href="#v" width="0" height="9"/>',
