@@ -6,7 +6,7 @@
 import re
 import unicodedata
 from collections import defaultdict
-from typing import Iterator, Mapping, Optional, Sequence
+from typing import Iterator, Mapping, Optional
 from xml.etree.ElementTree import Element
 
 from labeltools.own_drawing import SPACE, declared, properties_of, sheet_of, tag_of
@@ -22,8 +22,8 @@ BLEND = "mix-blend-mode"
 KEPT = ("break-spaces", "pre", "pre-wrap")
 SIZE = "font-size"
 NAME = re.compile(r"[#.]?[\w-]+")
-ASIDE = re.compile(r"\[[^]]*\]|:.*|[>+~]")  # of a selector: what no name is
-Sheets = Mapping[str, Sequence[tuple[str, str]]]
+ASIDE = re.compile(r"\[[^]]*\]|:[\w-]+(?:\([^)]*\))?|[>+~]")  # of a selector: what no name is
+Sheets = Mapping[str, Mapping[str, str]]
 
 
 def places_in(element: Element, key: str) -> list[str]:
@@ -82,23 +82,24 @@ def rules_of(sheet: str) -> Iterator[tuple[str, str]]:
 
 
 def sheets_of(root: Element) -> Sheets:
-    """Returns the properties that style sheets give to elements of a tag, a class or an id."""
-    found: dict[str, list[tuple[str, str]]] = defaultdict(list)
+    """Returns the properties that style sheets may give to elements of a tag, a class or an id."""
+    found: dict[str, dict[str, str]] = defaultdict(dict)
     for selector, styles in (rule for one in root.iter() for rule in rules_of(sheet_of(one))):
         for one in selector.split(",") if styles else ():
-            last = ASIDE.sub("", one).split()[-1:]
+            last = ASIDE.sub(" ", one).split()[-1:]
             names = NAME.findall(last[0]) if last else []
-            found[names[-1] if names else "*"] += declared(styles)
+            found[names[-1] if names else "*"].update(declared(styles))
     return found
 
 
 def styles_of(element: Element, sheets: Sheets) -> dict[str, str]:
     """Returns the properties that an element may have by style sheets and has by its style."""
     classes = [f".{name}" for name in element.get("class", "").split()]
-    names = ("*", tag_of(element), *classes, f"#{element.get('id')}")
-    found = [one for name in names for one in sheets.get(name, ())]
-    own = declared(element.get("style", ""))
-    return {key: value.strip() for key, value in (*found, *own)}
+    found: dict[str, str] = {}
+    for name in ("*", tag_of(element), *classes, f"#{element.get('id')}"):
+        found.update(sheets.get(name, {}))
+    found.update(declared(element.get("style", "")))
+    return {key: value.strip() for key, value in found.items()}
 
 
 def texts_in(

@@ -135,7 +135,7 @@ ELEMENTS = frozenset(
     "animate animateColor animateMotion animateTransform feDiffuseLighting feImage"
     " feSpecularLighting feTile set {http://www.w3.org/1999/xhtml}style".split()
 )
-ORIGINS = {"transform-box", "transform-origin"}  # they change what is moved alone
+ORIGINS = ("transform-box", "transform-origin")  # they change what is moved alone
 SIDES = ("height", "width")
 NO_EFFECT = re.compile("|0(?:px|em)?|baseline|inherit|none|normal")
 LONGEST = 40  # letters that are said of a value or a selector
@@ -255,7 +255,8 @@ def moved(element: Element, styles: Mapping[str, str]) -> Iterator[str]:
     if "transform" in styles and (tag in UNMOVED or "transform" in element.attrib):
         yield "transform"
     if is_set(styles, "transform") or is_set(element.attrib, "transform"):
-        yield from ORIGINS & {*styles, *element.attrib}
+        origins = {key: styles.get(key, element.get(key, "0")) for key in ORIGINS}
+        yield from (key for key, value in origins.items() if not OTHERS.fullmatch(value))
 
 
 def misused(element: Element, values: Mapping[str, str], ids: Mapping[str, str]) -> Iterator[str]:

@@ -85,7 +85,7 @@ ALIKE = (
         f'<text {WORDS} x="2" y="8" {PRESERVE}>A   B</text>',
     ),
     (
-        f'<style>.a{{white-space: pre}}</style><text class="a" {WORDS} x="2" y="8">A  B</text>',
+        f'<style>:root>.a{{white-space: pre}}</style><text class="a" {WORDS} x="2" y="8">A  B</text>',
         f'<text {WORDS} x="2" y="8" {PRESERVE}>A  B</text>',
     ),
     (
