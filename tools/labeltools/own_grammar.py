@@ -9,7 +9,8 @@ each year: one that is not listed is named where its value is more than usual.
 
 import re
 from functools import lru_cache
-from typing import Iterable, Iterator, Mapping
+from math import isclose
+from typing import Iterable, Iterator, Mapping, Optional
 from xml.etree.ElementTree import Element
 
 from labeltools.own_drawing import LINKS, NO_RULES, WITH_FONTS, declared, sheet_of, tag_of, walked
@@ -138,6 +139,7 @@ ELEMENTS = frozenset(
 ORIGINS = ("transform-box", "transform-origin")  # they change what is moved alone
 SIDES = ("height", "width")
 NO_EFFECT = re.compile("|0(?:px|em)?|baseline|inherit|none|normal")
+ALIKE = 0.01  # by which proportions may differ
 LONGEST = 40  # letters that are said of a value or a selector
 KEPT = 1024  # values that are known
 
@@ -145,7 +147,7 @@ KEPT = 1024  # values that are known
 def unlike(root: Element) -> Iterator[str]:
     """Yields what may be drawn otherwise in other programs, by its name and value."""
     sheets = sheets_of(root)
-    ids = {f"#{one.get('id')}": tag_of(one) for one in root.iter()}
+    ids = {f"#{one.get('id')}": one for one in root.iter()}
     for parent, element, _ in [(root, root, 0), *walked(root)]:
         tag = tag_of(element)
         if tag in ELEMENTS:
@@ -259,14 +261,16 @@ def moved(element: Element, styles: Mapping[str, str]) -> Iterator[str]:
         yield from (key for key, value in origins.items() if not OTHERS.fullmatch(value))
 
 
-def misused(element: Element, values: Mapping[str, str], ids: Mapping[str, str]) -> Iterator[str]:
+def misused(
+    element: Element, values: Mapping[str, str], ids: Mapping[str, Element]
+) -> Iterator[str]:
     """Yields the attributes that are drawn otherwise by their values, or where they are not
     there.
     """
     tag = tag_of(element)
     link = next(filter(None, map(values.get, LINKS)), "")
     sides = {side: values.get(side, "auto") for side in SIDES}
-    if tag == "use" and ("0" in sides.values() or ids.get(link) == "svg"):
+    if tag == "use" and ("0" in sides.values() or is_resized(ids.get(link), sides)):
         yield from (side for side in SIDES if sides[side] != "auto")
     if tag == "image":
         yield from (side for side in SIDES if sides[side] == "auto")
@@ -288,6 +292,19 @@ def misused(element: Element, values: Mapping[str, str], ids: Mapping[str, str])
         yield from (key for key in LISTS if len(places_in(element, key)) > 1)
     if tag == "filter":
         yield from unread(element)
+
+
+def is_resized(shown: Optional[Element], sides: Mapping[str, str]) -> bool:
+    """Returns whether the sides of a clone are not drawn: those of a page, or of a symbol that is
+    cut by a box of other proportions.
+    """
+    if shown is None or tag_of(shown) != "symbol":
+        return shown is not None and tag_of(shown) == "svg"
+    box = [float(one) for one in re.findall(NUMBER, shown.get("viewBox", ""))]
+    high, wide = (re.match(NUMBER, sides[side]) for side in SIDES)
+    if len(box) != 4 or not high or not wide or shown.get("preserveAspectRatio") == "none":
+        return False
+    return not isclose(float(high[0]) * box[2], float(wide[0]) * box[3], rel_tol=ALIKE)
 
 
 def is_point(values: Mapping[str, str]) -> bool:
