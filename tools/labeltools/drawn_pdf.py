@@ -252,6 +252,7 @@ class Places:
     def __init__(self, dpi: float) -> None:
         self.scale = dpi / POINTS
         self.places: dict[tuple[Around, tuple[Ink, ...]], Place] = {}
+        self.anew: dict[tuple[object, ...], Place] = {}  # behind parts that begin a line anew
         self.begins = Found(self.new_begin)
 
     def new_begin(self, high: bytes) -> Place:
@@ -267,17 +268,27 @@ class Places:
         if found is None:
             if len(self.places) > KNOWN:
                 self.places.clear()
+                self.anew.clear()
                 self.begins.clear()
             found = self.places[around, inks] = Place(around, inks)
         return found
 
     def step(self, place: Place, part: bytes) -> Place:
-        """Returns the place behind a part of a page, and keeps it."""
-        walk = Walk(place.around)
-        walk.go(part)
+        """Returns the place behind a part of a page, and keeps it. Where a line of text is begun
+        anew, it is the same wherever the last one was: that differs on most pages.
+        """
         if len(place.known) > KNOWN:
             place.known.clear()
-        found = place.known[part] = self.place(walk.around, tuple(walk.inks))
+        matrix, kept, _, _, font = place.around
+        key = part, matrix, kept, font
+        found = self.anew.get(key)
+        if found is None:
+            walk = Walk(place.around)
+            walk.go(part)
+            found = self.place(walk.around, tuple(walk.inks))
+            if b" Tm" in part and b" Td" not in part:
+                self.anew[key] = found
+        place.known[part] = found
         return found
 
     def pages(self, data: bytes, count: int) -> Iterator[DrawnPage]:

@@ -40,7 +40,8 @@ from labeltools.own_drawing import (
     walked,
     words_of,
 )
-from labeltools.own_effects import lost_in, make_alike
+from labeltools.own_effects import make_alike
+from labeltools.own_grammar import unlike
 from labeltools.stock import Size, size_text
 from labeltools.symbologies import SYMBOLOGIES
 from labeltools.text import Text
@@ -62,6 +63,8 @@ PX = 25.4 / DPI  # millimetres
 UNITS = {"px": 1.0, "mm": 1 / PX, "cm": 10 / PX, "in": DPI, "pt": DPI / 72, "pc": DPI / 6}
 NEAR = 1.0  # millimetres by which a page may differ from a label
 ALIKE = 0.015  # by which the proportions of a page without millimetres may
+MOST_SAID = 9  # of what may be drawn otherwise
+PLAIN_HINT = Text("write a plain style, such as fill:#000 or 2px, or make it a path or a picture")
 MOST_KNOWN = 1024  # names whose keys are kept
 THIN = 1e-7  # the height of what shows the upper edge of a place
 TINY = 0.01  # millimetres
@@ -237,10 +240,12 @@ def read_design(name: str, cell: Size, white: Edges, turn: Optional[bool]) -> Ow
 
 
 def remarks_on(name: str, root: Element) -> Iterator[Text]:
-    """Yields what is said of a drawing that other programs draw otherwise."""
-    for lost in lost_in(root):
-        what = Text("{}: {} is not drawn as in other programs", name, ", ".join(lost.names))
-        yield Text("{}: {}", what, lost.hint)
+    """Yields what is said of a drawing that other programs may draw otherwise."""
+    if names := [*dict.fromkeys(unlike(root))]:
+        more = [".."] * (len(names) > MOST_SAID)
+        listed = ", ".join([*names[:MOST_SAID], *more])
+        what = Text("{}: {} may not be drawn as in other programs", name, listed)
+        yield Text("{}: {}", what, PLAIN_HINT)
 
 
 def size_of_page(name: str) -> Size:

@@ -4,6 +4,7 @@ What it would leave out is refused, and what it draws otherwise than other progr
 """
 
 import re
+import zlib
 from base64 import b64decode, b64encode
 from contextlib import suppress
 from pathlib import Path
@@ -17,11 +18,13 @@ from labeltools.pango import library
 from labeltools.text import Text
 
 SPACE = "{http://www.w3.org/2000/svg}"
+NO_SPACE = 'xmlns=""'
 BEGIN = '<svg xmlns="http://www.w3.org/2000/svg"'
 LINKS = ("href", "{http://www.w3.org/1999/xlink}href")
 CONDITIONS = ("requiredFeatures", "systemLanguage")
 DPI = 96.0  # of CSS, in which lengths without a unit are; librsvg takes 90 where nothing is said
 MOST_BYTES = 8_000_000
+GZIP = b"\x1f\x8b"  # the begin of .svgz
 MOST_DEPTH = 200  # of elements in one another
 PICTURES = {"png": b"IEND", "jpeg": b"\xff\xd9"}  # and what is at the end of each
 MOST_PIXELS = 50_000_000  # of a picture
@@ -45,6 +48,7 @@ FLOWS = ("flowRoot", "foreignObject")
 FLOWS_HINT = Text(
     "make it plain text, in Inkscape by Text, Convert to Text, in draw.io without Formatted Text"
 )
+ORDER = re.compile(r"\s*[1-9](?:[\s,]+[1-9])?\s*")  # of a matrix: librsvg ends at larger ones
 LETTERS = ("altGlyph", "textPath", "tref")
 PICTURE_HINT = Text("make it a picture, in Inkscape by Edit, Make a Bitmap Copy")
 PATH_HINT = Text("make it a path, in Inkscape by Path, Object to Path or Stroke to Path")
@@ -67,6 +71,8 @@ def root_of(name: str) -> Element:
             data = file.read(MOST_BYTES + 1)
     except OSError as error:
         raise ToolError(Text("--design {}: {}", name, error.strerror)) from error
+    if data.startswith(GZIP):
+        data = unpacked(data)
     check_bytes(name, data)
     try:
         root = ElementTree.fromstring(data)
@@ -82,6 +88,15 @@ def root_of(name: str) -> Element:
             raise ToolError(what)
         make_plain(element)
     return root
+
+
+def unpacked(data: bytes) -> bytes:
+    """Returns what is packed as .svgz, but no more than makes it too large; nothing of what is
+    broken.
+    """
+    with suppress(zlib.error):
+        return zlib.decompressobj(zlib.MAX_WBITS + 16).decompress(data, MOST_BYTES + 1)
+    return b""
 
 
 def make_plain(element: Element) -> None:
@@ -186,9 +201,14 @@ def check_elements(name: str, root: Element) -> None:
         tag = tag_of(element)
         if tag in FLOWS and (tag != "flowRoot" or words_of(element) or not len(element)):
             raise ToolError(Text("{}: text that flows ({}) is not drawn", name, tag), FLOWS_HINT)
+        if "}" not in element.tag:
+            what = Text("{}: {} is not drawn", name, tag)
+            raise ToolError(what, Text("take {} away", NO_SPACE))
         if tag not in DRAWN and element.tag.startswith(SPACE):
             hint = PATH_HINT if tag in LETTERS else PICTURE_HINT
             raise ToolError(Text("{}: {} is not drawn", name, tag), hint)
+        if tag == "feConvolveMatrix" and not ORDER.fullmatch(element.get("order", "3")):
+            raise ToolError(Text("{}: {} is not drawn", name, tag), PICTURE_HINT)
         check_links(name, element)
 
 

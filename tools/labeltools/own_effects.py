@@ -1,46 +1,16 @@
-"""What librsvg draws otherwise than other programs: it is drawn alike where that can be, or named.
+"""What librsvg draws otherwise than other programs is written so that it is drawn alike.
 
     <tspan x="0 4 9">PDF</tspan>        each letter gets a text of its own
-    style="fill:var(--ink)"             named, since librsvg takes no notice of it
 """
 
 import re
 import unicodedata
-from typing import Iterator, NamedTuple, Optional
+from collections import defaultdict
+from typing import Iterator, Mapping, Optional
 from xml.etree.ElementTree import Element
 
-from labeltools.own_drawing import PATH_HINT, SPACE, declared, properties_of, sheet_of, tag_of
-from labeltools.text import Text
+from labeltools.own_drawing import SPACE, declared, properties_of, sheet_of, tag_of
 
-# what librsvg takes no notice of, and its values that mean what is drawn then
-WITHOUT_EFFECT = frozenset(
-    "alignment-baseline background background-color dominant-baseline font-feature-settings"
-    " font-kerning font-variant font-variant-caps font-variant-ligatures font-variant-numeric"
-    " mask-image pathLength rotate text-shadow text-transform textLength transform-box"
-    " transform-origin vector-effect word-spacing".split()
-)
-ONLY_MOVED = frozenset(("transform-box", "transform-origin"))  # they change what is moved alone
-ONLY_IN_STYLES = frozenset(("scale", "translate"))  # as attributes they are others
-USUAL = frozenset(
-    "0 0px #fff #ffffff alphabetic auto baseline inherit none normal rgb(255,255,255) transparent"
-    " white".split()
-)
-# the attributes whose values may have functions and units of CSS
-VALUED = frozenset(
-    "clip-path color cx cy fill flood-color font-size height lighting-color r rx ry stop-color"
-    " stroke stroke-dasharray stroke-width width x x1 x2 y y1 y2".split()
-)
-NEWER = re.compile(
-    r"(?<![\w-])((?:calc|circle|clamp|color|color-mix|ellipse|env|hwb|inset|lab|lch|light-dark|max"
-    r"|min|oklab|oklch|path|polygon|var)\()|(?<![\w#.-])[\d.]+(ch|ex|lh|q|rem|vh|vmax|vmin|vw)\b"
-    r"|^\s*(initial|revert|unset)\s*$",
-    re.IGNORECASE,
-)
-NEWER_SELECTOR = re.compile(r":(?:has|is|where)\(")
-AT_RULE = re.compile(r"@[\w-]+")
-# those that change nothing on paper, or are looked at elsewhere
-KNOWN_RULES = ("@charset", "@font-face", "@import", "@keyframes", "@namespace", "@page")
-STYLE_HINT = Text("write a plain style, such as fill:#000 or 2px")
 MOVES = ("dx", "dy")
 LISTS = ("x", "y", *MOVES)  # of a text: a number for each letter
 ZERO = re.compile(r"-?0*\.?0*[a-z]*")
@@ -50,91 +20,10 @@ SPACES = "{http://www.w3.org/XML/1998/namespace}space"
 PRESERVE = "preserve"
 BLEND = "mix-blend-mode"
 KEPT = ("break-spaces", "pre", "pre-wrap")
-
-
-class Lost(NamedTuple):
-    """The names of what is not drawn as in other programs, and what to do."""
-
-    names: tuple[str, ...]
-    hint: Text
-
-
-def lost_in(root: Element) -> Iterator[Lost]:
-    """Yields what would change a drawing in other programs, but does not here."""
-    for names, hint in ((without_effect(root), PATH_HINT), (newer_styles(root), STYLE_HINT)):
-        if found := tuple(dict.fromkeys(names)):
-            yield Lost(found, hint)
-
-
-def without_effect(root: Element) -> Iterator[str]:
-    """Yields the names of properties that have no effect here, and of places of single letters."""
-    is_moving = any("transform" in element.attrib for element in root.iter())
-    for element in root.iter():
-        sheet = sheet_of(element)
-        styles = declared(f"{element.get('style', '')};{sheet}")
-        keys = {key for key, value in styles if not is_usual(value)}
-        yield from sorted(ONLY_IN_STYLES & keys)
-        keys |= {key for key, value in element.items() if not is_usual(value)}
-        is_moved = "transform" in keys or (bool(sheet) and is_moving)
-        yield from sorted(WITHOUT_EFFECT & (keys if is_moved else keys - ONLY_MOVED))
-        if tag_of(element) in TEXTS:
-            yield from (key for key in LISTS if len(places_in(element, key)) > 1)
-        if tag_of(element) == "clipPath" and any(map(is_clipped, element.iter())):
-            yield "clip-path in clipPath"
-
-
-def is_clipped(element: Element) -> bool:
-    """Returns whether an element is clipped by its attribute or its style."""
-    return not is_usual(dict(properties_of(element)).get("clip-path", ""))
-
-
-def is_usual(value: str) -> bool:
-    """Returns whether a value is what is drawn without it."""
-    return USUAL.issuperset(value.lower().replace(", ", ",").split())
-
-
-def newer_styles(root: Element) -> Iterator[str]:
-    """Yields the functions, units and words of values, the rules and the selectors that librsvg
-    does not know.
-    """
-    for element in root.iter():
-        attributes = [(key, value) for key, value in element.items() if key in VALUED]
-        yield from newer_values([*attributes, *declared(element.get("style", ""))])
-        if sheet := sheet_of(element):
-            yield from newer_rules(sheet, element.get("media", "all"))
-
-
-def newer_rules(sheet: str, media: str) -> Iterator[str]:
-    """Yields what librsvg does not know in a style sheet, which is for some media."""
-    if media not in ("all", "screen"):
-        yield f'media="{media}"'
-    yield from (rule for rule in AT_RULE.findall(sheet) if rule not in KNOWN_RULES)
-    yield from (f"{selector})" for selector in NEWER_SELECTOR.findall(sheet))
-    for block in sheet.split("}"):
-        yield from newer_values(declared(block.partition("{")[2]))
-
-
-def newer_values(properties: list[tuple[str, str]]) -> Iterator[str]:
-    """Yields what librsvg does not know in properties, but for those that are given before in a way
-    that it knows: programs write both.
-    """
-    known = set()
-    for key, value in properties:
-        found = [*newer_in(value)]
-        if not found:
-            known.add(key)
-        elif key not in known and not key.startswith("--"):
-            yield from found
-
-
-def newer_in(value: str) -> Iterator[str]:
-    """Yields the functions, units and words of a value that librsvg does not know.
-
-    >>> [*newer_in("calc(2rem + 1px)")], [*newer_in("url(#path) 2em")]
-    (['calc()', 'rem'], [])
-    """
-    for function, unit, word in NEWER.findall(value):
-        yield f"{function})" if function else unit or word
+SIZE = "font-size"
+NAME = re.compile(r"[#.]?[\w-]+")
+ASIDE = re.compile(r"\[[^]]*\]|:[\w-]+(?:\([^)]*\))?|[>+~]")  # of a selector: what no name is
+Sheets = Mapping[str, Mapping[str, str]]
 
 
 def places_in(element: Element, key: str) -> list[str]:
@@ -154,11 +43,18 @@ def places_in(element: Element, key: str) -> list[str]:
 def make_alike(root: Element) -> None:
     """Writes in other words what librsvg would draw otherwise: blanks of texts that are kept by
     `white-space`, line ends, which are blanks, and letters that have a place each, as programs
-    write what they read from PDF; colours that are mixed with those below, but not with paper.
+    write what they read from PDF; colours that are mixed with those below, but not with paper; the
+    size of letters that have none; symbols, which librsvg cuts where they show all, and only there.
     """
+    root.set(SIZE, root.get(SIZE, "16px"))  # librsvg takes 12
     if any(key == BLEND for one in root.iter() for key, _ in properties_of(one)):
         root.set("style", f"{root.get('style', '')};isolation:isolate")  # of the white page
-    for element, is_preserved in [*texts_in(root, False)]:
+    sheets = sheets_of(root)
+    for symbol in root.iter(f"{SPACE}symbol"):
+        found = {**symbol.attrib, **styles_of(symbol, sheets)}.get("overflow")
+        other = "hidden" if found in ("auto", "visible") else "visible"
+        symbol.set("style", f"{symbol.get('style', '')};overflow:{other}")
+    for element, is_preserved in [*texts_in(root, sheets, False)]:
         if is_preserved:
             element.set(SPACES, PRESERVE)
         else:
@@ -173,15 +69,50 @@ def with_blanks(text: Optional[str]) -> Optional[str]:
     return text and text.replace("\n", " ")
 
 
-def texts_in(element: Element, is_preserved: bool) -> Iterator[tuple[Element, bool]]:
+def rules_of(sheet: str) -> Iterator[tuple[str, str]]:
+    """Yields the selectors and the properties of each rule of a style sheet; what is no plain rule
+    is with the selectors.
+
+    >>> [*rules_of("a, b {fill: red} g {.c {fill: red}}")]
+    [('a, b', 'fill: red'), ('g {.c', 'fill: red'), ('', ''), ('', '')]
+    """
+    for block in sheet.split("}"):
+        selector, _, styles = block.rpartition("{")
+        yield selector.strip(), styles
+
+
+def sheets_of(root: Element) -> Sheets:
+    """Returns the properties that style sheets may give to elements of a tag, a class or an id."""
+    found: dict[str, dict[str, str]] = defaultdict(dict)
+    for selector, styles in (rule for one in root.iter() for rule in rules_of(sheet_of(one))):
+        for one in selector.split(",") if styles else ():
+            last = ASIDE.sub(" ", one).split()[-1:]
+            names = NAME.findall(last[0]) if last else []
+            found[names[-1] if names else "*"].update(declared(styles))
+    return found
+
+
+def styles_of(element: Element, sheets: Sheets) -> dict[str, str]:
+    """Returns the properties that an element may have by style sheets and has by its style."""
+    classes = [f".{name}" for name in element.get("class", "").split()]
+    found: dict[str, str] = {}
+    for name in ("*", tag_of(element), *classes, f"#{element.get('id')}"):
+        found.update(sheets.get(name, {}))
+    found.update(declared(element.get("style", "")))
+    return {key: value.strip() for key, value in found.items()}
+
+
+def texts_in(
+    element: Element, sheets: Sheets, is_preserved: bool
+) -> Iterator[tuple[Element, bool]]:
     """Yields the parts of texts, and whether their blanks are kept."""
     usual = PRESERVE if is_preserved else ""
-    style = dict(declared(element.get("style", ""))).get("white-space", "").strip()
+    style = styles_of(element, sheets).get("white-space")
     is_preserved = style in KEPT or element.get(SPACES, usual) == PRESERVE
     if tag_of(element) in TEXTS:
         yield element, is_preserved
     for child in element:
-        yield from texts_in(child, is_preserved)
+        yield from texts_in(child, sheets, is_preserved)
 
 
 def part_letters(element: Element, is_preserved: bool) -> None:

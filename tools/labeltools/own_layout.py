@@ -13,7 +13,9 @@ from typing import Iterable, Iterator, Mapping, NamedTuple, Optional, Sequence
 
 from labeltools.area import LARGEST_MODULE, TINY, Area
 from labeltools.engine import Modules, run_labels
+from labeltools.fitting import Style
 from labeltools.frames import DIGITS_ROOM, HINTING, LEAST_TEXT, LINE, LOWEST, Box, Frame, share
+from labeltools.kept import Found
 from labeltools.layout import ASKED, LaidOut, LaidOutFile, Layout, PrintLabel, short
 from labeltools.letters import BLANK, Fonts, Letters, Sign, extent_of, font_for, reasons_of
 from labeltools.lines_file import symbology_and_data
@@ -34,8 +36,8 @@ NO_FRAME = Frame("own", {}, {}, 0, 0, 0, 0, 0, 0, True, 0.0)
 
 
 class OwnText(NamedTuple):
-    """A text in a place: its letters and lines, and its base line from the top of its box; whether
-    it is cut; where it begins if it is one line and the widths of its letters say so.
+    """A text in a place: its letters and lines, and how they are written; where it begins if it is
+    one line and the widths of its letters say so.
     """
 
     place: Place
@@ -43,8 +45,7 @@ class OwnText(NamedTuple):
     box: Box
     size: int
     lines: int
-    base: int
-    is_cut: bool
+    style: Style
     left: Optional[int]
 
 
@@ -124,9 +125,11 @@ class Room:
     fits: dict[str, Fit] = field(default_factory=dict)
     signs: dict[str, Sign] = field(default_factory=dict)  # of lines
     changing: set[str] = field(default_factory=set)  # lines whose letters change beside others
-    texts: dict[str, OwnText] = field(default_factory=dict)
 
     def __post_init__(self) -> None:
+        self.texts: Found[str, OwnText] = Found(self.new_text)
+        self.largest = cache(self.new_largest)
+        self.style = cache(self.new_style)
         self.wide, self.high = self.box.width, self.box.height  # as it is read
         if self.place.quarters % 2:
             self.wide, self.high = self.high, self.wide
@@ -140,7 +143,7 @@ class Room:
             return True
         return self.wide < self.least and any(fit.is_cut for fit in self.fits.values())
 
-    def largest(self, lines: int) -> int:
+    def new_largest(self, lines: int) -> int:
         """Returns the largest letters of a number of lines."""
         size = int(self.high / ((lines - 1) * LINE + self.bottom - self.top))
         wished = int(self.place.size / self.dot)
@@ -154,8 +157,8 @@ class Room:
                 self.changing.add(line)
                 sign = self.letters.whole_sign(line, self.place.is_bold)
             self.signs[line] = sign
-        self.top = min(sign.top for sign in self.signs.values())
-        self.bottom = max(sign.bottom for sign in self.signs.values())
+        *_, tops, bottoms = zip(*self.signs.values())
+        self.top, self.bottom = min(tops), max(bottoms)
         if self.bottom - self.top <= 0:
             self.top, self.bottom = -1.0, 0.0
         self.least = max(1, min(math.ceil(LEAST_TEXT / self.dot), self.largest(1)))
@@ -229,17 +232,8 @@ class Room:
         """Whether its texts are never cut, and stay on one line."""
         return self.place.part in PRICES
 
-    def text(self, text: str) -> OwnText:
-        """Returns where a text is, which may come again; raises `NoRoom` for a price that would be
-        cut.
-        """
-        found = self.texts.get(text)
-        if found is None:
-            found = self.texts[text] = self.new_text(text)
-        return found
-
     def new_text(self, text: str) -> OwnText:
-        """Returns where a text is, as `text` does."""
+        """Returns where a text is; raises `NoRoom` for a price that would be cut."""
         fit = self.fits[text]
         if fit.is_cut and self.is_price:
             what = Text("{} has no room in the place {}", quoted(text), self.place.title)
@@ -251,9 +245,18 @@ class Room:
             lines = found.lines if found else lines
         tall = ((lines - 1) * LINE + self.bottom - self.top) * size
         base = (self.high - tall) * self.place.down - self.top * size
-        is_line = lines == 1 and not fit.is_cut and text not in self.changing
-        left = self.left_of(text, size) if is_line else None
-        return OwnText(self.place, text, self.box, size, lines, round(base), fit.is_cut, left)
+        is_parted = lines > 1 or fit.is_cut or "\n" in text
+        struck = len(text.encode()) if self.place.part == "was" else 0
+        style = self.style(size, lines * is_parted, struck, round(base))
+        left = None if is_parted or text in self.changing else self.left_of(text, size)
+        return OwnText(self.place, text, self.box, size, lines, style, left)
+
+    def new_style(self, size: int, lines: int, struck: int, base: int) -> Style:
+        """Returns how texts are written."""
+        place = self.place
+        return Style(
+            self.letters.family, place.is_bold, size, lines, place.across, 0.0, struck, base
+        )
 
     def left_of(self, line: str, size: int) -> int:
         """Returns where a line begins in letters of a size."""
@@ -441,17 +444,19 @@ class OwnLayouts:
         for place, text in zip(self.places, row):
             if not text:
                 continue
-            if place.symbology:
+            if place in rooms:
+                texts.append(rooms[place].texts[text])
+            elif place.symbology:
                 second = made[place, text]
                 if isinstance(second, Text):
                     raise NoRoom(Text("place {}: {}", place.title, second))
                 symbols.append(self.symbol(place, SYMBOLOGIES[place.symbology], *second))
-            elif place.is_symbol:
+            else:
                 data = label.record.data
                 symbols.append(self.symbol(place, label.symbology, label.modules, data))
-            else:
-                texts.append(rooms[place].text(text))
-        finest = min(symbols, key=lambda one: (one.symbology.nominal > 0, one.module))
+        finest = symbols[0]
+        if len(symbols) > 1:
+            finest = min(symbols, key=lambda one: (one.symbology.nominal > 0, one.module))
         found = (finest.symbology, finest.module, finest.boxes, False)
         return OwnLayout(NO_FRAME, *found, tuple(texts), tuple(symbols), absent)
 

@@ -40,7 +40,6 @@ class OwnPen(Pen):
         self.drawing = cache(self.new_drawing)
         self.dark_rows = cache(self.new_dark_rows)
         self.packed = cache(self.new_packed)
-        self.own_style = cache(self.new_own_style)
 
     @property
     def size(self) -> tuple[int, int]:
@@ -110,10 +109,9 @@ class OwnPen(Pen):
     def texts(self, item: LaidOut) -> Iterator[Placed]:
         """Yields the texts of a label, each of which is drawn before the next one is fitted."""
         for text in own_layout(item).texts:
-            place = text.place
-            style = self.style_of(text)
+            place, style = text.place, text.style
             if text.left is None or self.medium.is_dots or style.family != self.fonts.texts:
-                fitted = self.fitter.found(*self.in_room(text))
+                fitted = self.fitter.found(*in_room(text))
             else:
                 fitted = self.fitter.on_base(text.text, style, text.left)
             colour = None if place.colour == BLACK else place.colour
@@ -122,26 +120,15 @@ class OwnPen(Pen):
     def lines_of(self, item: LaidOut) -> Iterator[tuple[str, Style, int, int]]:
         """Yields the texts of a label that may be cut, with their room."""
         for text in own_layout(item).texts:
-            yield self.in_room(text)
+            yield in_room(text)
 
-    def in_room(self, text: OwnText) -> tuple[str, Style, int, int]:
-        """Returns a text, how it is written, and its room as it is read."""
-        wide, high = text.box.width, text.box.height
-        if text.place.quarters % 2:
-            wide, high = high, wide
-        return text.text, self.style_of(text), wide, high
 
-    def style_of(self, text: OwnText) -> Style:
-        """Returns how a text is written."""
-        place = text.place
-        struck = len(text.text.encode()) if place.part == "was" else 0
-        is_parted = text.lines > 1 or text.is_cut or "\n" in text.text
-        return self.own_style(place, text.size, text.lines * is_parted, struck, text.base)
-
-    def new_own_style(self, place: Place, size: int, lines: int, struck: int, base: int) -> Style:
-        """Returns how texts of a place are written."""
-        family = place.font or self.fonts.texts
-        return Style(family, place.is_bold, size, lines, place.across, 0.0, struck, base)
+def in_room(text: OwnText) -> tuple[str, Style, int, int]:
+    """Returns a text, how it is written, and its room as it is read."""
+    wide, high = text.box.width, text.box.height
+    if text.place.quarters % 2:
+        wide, high = high, wide
+    return text.text, text.style, wide, high
 
 
 def own_layout(item: LaidOut) -> OwnLayout:

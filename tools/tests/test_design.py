@@ -1,6 +1,7 @@
 """Designs of a user's own: how labels look in them, and what is refused."""
 
 import base64
+import gzip
 import os
 import struct
 import tempfile
@@ -102,6 +103,11 @@ REFUSED = (
         f'<text><textPath href="#a">Door 2</textPath></text>{CODE}',
         "textPath is not drawn; make it a",
     ),
+    (f'<g xmlns=""/>{CODE}', 'g is not drawn; take xmlns="" away'),
+    (
+        f'<filter><feConvolveMatrix order="99"/></filter>{CODE}',
+        "feConvolveMatrix is not drawn; mak",
+    ),
     (f"<filter><feDropShadow/></filter>{CODE}", "feDropShadow is not drawn; make it a picture, in"),
     (TITLE.format(WIDE) + '<use href="#title" y="9"/>', "a clone shows the place title; unlink it"),
     (f'<g id="a">{TITLE.format(WIDE)}</g><use href="#a"/>', "a clone shows the place title; unli"),
@@ -185,7 +191,9 @@ FILES = (
         b'<?xml version="1.0" encoding="GB2312"?><svg>\xbb\xf5</svg>',
         "has entities, or is not in UTF-8; save it as plain",
     ),
-    (b"\x1f\x8b\x08\x00" + bytes(9), "has entities, or is not in UTF-8; save it as plain SVG"),
+    (b"\x1f\x8b\x08\x00" + bytes(9), "is no SVG: no element found"),
+    (gzip.compress(f"<svg {designs.SPACE}>".encode()), "is no SVG: no element found"),
+    (gzip.compress(bytes(9_000_000)), "has more than 8 MB; make its pictures smaller"),
 )
 
 
@@ -623,11 +631,11 @@ class Drawings(OwnPages):
             ("<style>path{dominant-baseline: middle}</style>", "dominant-baseline"),
             (
                 '<path transform="rotate(90)" transform-origin="30 9" d="M2 2H9"/>',
-                "transform-origin",
+                "<path transform-origin>",
             ),
         ):
             (said,) = self.said(self.found(what + CODE, [("code128 A", {})]))
-            self.assertRegex(said, f"^: {name} is not drawn as in other programs: make it a path")
+            self.assertRegex(said, f"^: {name}.* may not be drawn as in other programs: write a")
         for what in (
             '<text rotate="0 0" style="word-spacing:0px" x="2" y="9" font-size="4">a</text>',
             '<path transform-origin="30 9" d="M2 2H9"/>',
@@ -698,6 +706,19 @@ class Drawings(OwnPages):
         page = 'width="60mm" height="40mm" inkscape:version="0.48.5 r10040"'
         usual = self.ink(self.found(TITLE.format(WIDE)))
         self.assertEqual(self.ink(self.found(scaled, page=page)), usual)
+
+    def test_a_page_that_is_packed(self) -> None:
+        """Inkscape writes .svgz; its name may be another one."""
+        usual = self.ink(self.found(TITLE.format(WIDE)))
+        path = self.path.with_name("own.svgz")
+        path.write_bytes(gzip.compress(self.path.read_bytes()))
+        self.assertEqual(self.ink(designs.prepared(path, [ONE])), usual)
+
+    def test_letters_without_a_size_have_that_of_browsers(self) -> None:
+        word = '<text x="2" y="16" font-family="DejaVu Sans" {}>A</text>' + CODE
+        usual = self.ink(self.found(word.format('font-size="16"'), [("code128 A", {})]))
+        for size in ("", 'style="font-size:100%"'):
+            self.assertEqual(self.ink(self.found(word.format(size), [("code128 A", {})])), usual)
 
     def test_a_page_whose_sides_are_in_its_style(self) -> None:
         page = 'style="width:60mm;height:40mm" viewBox="0 0 60 40"'

@@ -11,7 +11,7 @@ import jobs
 import support
 from designs import CODE, Label, dots_of
 from labeltools.messages import ToolError
-from test_design import OwnPages
+from test_design import BLACK, OwnPages
 
 PLAIN: Label = ("code128 A", {})
 WORDS = 'font-family="DejaVu Sans" font-size="5"'
@@ -21,8 +21,7 @@ DIFFERENCE = 'style="mix-blend-mode:difference"'  # white on black is black, on 
 BLEND = f'<path d="M12 4H39V9H12Z" fill="#fff" {DIFFERENCE}/>'
 FIGMA = "fill:#D9D9D9;fill:color(display-p3 0.85 0.85 0.85)"  # it writes a colour in two ways
 COPIED = "clones and patterns repeat too many shapes; make it a picture, in Inkscape by Edit, Make"
-STYLES = " is not drawn as in other programs: write a plain style, such as fill:#000 or 2px"
-PATHS = " is not drawn as in other programs: make it a path, in Inkscape by Path, Object to Path"
+OTHERWISE = " may not be drawn as in other programs: write a plain style, such as fill:#000 or 2px"
 
 
 def setUpModule() -> None:
@@ -58,7 +57,11 @@ BOMBS = (
     nested("mask", MASKED * 10, MASKED),
     nested("marker", MARKED, MARKED),
 )
-# texts that browsers draw alike: as SVG 2 says
+SHOWN = (
+    '<symbol id="s" viewBox="0 0 9 9" overflow="{}"><path d="M-5 -5H5V5H-5Z"/></symbol>'
+    '<use href="#s" x="9" y="9" width="9" height="9"/>'
+)
+# what browsers draw alike: as SVG 2 says
 ALIKE = (
     (
         f'<text {WORDS} x="2 14 24" y="8 9">ABCD</text>',
@@ -82,6 +85,10 @@ ALIKE = (
         f'<text {WORDS} x="2" y="8" {PRESERVE}>A   B</text>',
     ),
     (
+        f'<style>:root>.a{{white-space: pre}}</style><text class="a" {WORDS} x="2" y="8">A  B</text>',
+        f'<text {WORDS} x="2" y="8" {PRESERVE}>A  B</text>',
+    ),
+    (
         f'<text {WORDS} x="2" y="8">A\nB<tspan>C</tspan>\nD</text>',
         f'<text {WORDS} x="2" y="8">A B<tspan>C</tspan> D</text>',
     ),
@@ -97,44 +104,102 @@ ALIKE = (
         f'<path d="M2 2H22V12H2Z"/>{BLEND}',
         '<path d="M2 2H22V12H2Z"/><path d="M12 4H22V9H12Z" fill="#fff"/>',
     ),
+    (SHOWN.format("hidden"), '<path d="M9 9H14V14H9Z"/>'),
+    (SHOWN.format("visible"), '<path d="M4 4H14V14H4Z"/>'),
     (f"<style>/* @import 'a.css'; */</style>{BOX}", BOX),
     (f"<style>@namespace url(http://www.w3.org/2000/svg);</style>{BOX}", BOX),
 )
-# what is drawn, and the names of what is said of it, with what to do
+SYMBOL = '<symbol id="s" viewBox="0 0 9 9" {}><path d="M0 0H9V9Z"/></symbol>'
+DOT = f"data:image/png;base64,{BLACK}"
+# what Chromium draws otherwise, and what is said of it
 SAID = (
-    (f"<style>:root{{--ink:#fff}}</style>{BOX.format('fill:var(--ink)')}", "var()", STYLES),
-    (BOX.format("stroke:#000;stroke-width:calc(1px + 1px)"), "calc()", STYLES),
-    (BOX.format("fill:oklch(100% 0 0)"), "oklch()", STYLES),
-    (BOX.format("clip-path:circle(4px)"), "circle()", STYLES),
-    (BOX.format("fill:initial"), "initial", STYLES),
-    ('<path fill="light-dark(#fff,#000)" d="M2 2H9V9Z"/>', "light-dark()", STYLES),
-    ('<rect x="2" y="2" width="1rem" height="1rem"/>', "rem", STYLES),
-    ('<rect x="2" y="2" width="9vw" height=".5vh"/>', "vw, vh", STYLES),
-    ("<style>.a{font-size:2rem}</style>", "rem", STYLES),
-    ("<style>:is(.a){fill:none}</style>", ":is()", STYLES),
-    ("<style>@media print {path {fill: red}}</style>", "@media", STYLES),
-    ("<style>@supports (fill:red){path{fill:red}}</style>", "@supports", STYLES),
-    ('<style media="print">path{fill:red}</style>', 'media="print"', STYLES),
-    (BOX.format("translate:9px 0"), "translate", PATHS),
-    (f'<text {WORDS} x="2" y="9" style="text-shadow:1px 1px #000">a</text>', "text-shadow", PATHS),
-    (f'<text {WORDS} x="2" y="9" font-variant="small-caps">a</text>', "font-variant", PATHS),
+    (f"<style>:root{{--ink:#fff}}</style>{BOX.format('fill:var(--ink)')}", "fill:var(--ink)"),
+    (BOX.format("fill:none;fill:var(--ink)"), "fill:var(--ink)"),
+    (BOX.format("stroke:#000;stroke-width:calc(1px + 1px)"), "stroke-width:calc(1px + 1px)"),
+    (BOX.format("fill:oklch(100% 0 0)"), "fill:oklch(100% 0 0)"),
+    (BOX.format("fill:CanvasText"), "fill:CanvasText"),
+    (BOX.format("fill:rgb(from red r g b)"), "fill:rgb(from red r g b)"),
+    (BOX.format("FILL:#fff"), "FILL:#fff"),
+    (BOX.format("clip-path:circle(4px)"), "clip-path:circle(4px)"),
+    (BOX.format("fill:initial"), "fill:initial"),
+    (BOX.format("filter:invert(1)"), "filter:invert(1)"),
+    (BOX.format("mix-blend-mode:plus-lighter"), "mix-blend-mode:plus-lighter"),
+    (BOX.format("d:path('M2 2H9V9Z')"), "d:path('M2 2H9V9Z')"),
+    (BOX.format("content-visibility:hidden"), "content-visibility:hidden"),
+    (BOX.format("translate:9px 0"), "translate:9px 0"),
+    (BOX.format("transform:translate(9px, 10%)"), "transform:translate(9px, 10%)"),
+    (BOX.format("transform:translate(9,5)"), "transform:translate(9,5)"),
+    (BOX.format("transform:none!important"), "transform:none!important"),
+    ('<path fill="light-dark(#fff,#000)" d="M2 2H9V9Z"/>', 'fill="light-dark(#fff,#000)"'),
+    ('<path fill="ButtonFace" d="M2 2H9V9Z"/>', 'fill="ButtonFace"'),
+    ('<path transform="translate(9 9" d="M2 2H9V9Z"/>', 'transform="translate(9 9"'),
     (
-        '<path stroke="#000" stroke-dasharray="1" pathLength="9" d="M2 2H9"/>',
-        "pathLength",
-        PATHS,
+        '<path transform="scale(2)" style="transform:scale(1)" d="M2 2H9V9Z"/>',
+        "<path transform>",
     ),
+    ('<rect x="2" y="2" width="1rem" height="1rem"/>', 'width="1rem", height="1rem"'),
+    ('<rect x="2" y="2" width="9" height="9" rx="4" ry="auto"/>', 'ry="auto"'),
+    ('<ellipse cx="9" cy="9" rx="1dvw" ry="5"/>', 'rx="1dvw"'),
+    ('<polygon points="2,2 9,2 9,9 2"/>', "<polygon points>"),
+    ('<polygon points="2px 2px 9px 9px"/>', "<polygon points>"),
+    ('<rect systemLanguage="xx" x="2" y="2" width="9" height="9"/>', 'systemLanguage="xx"'),
+    (
+        '<path d="M2 2H9V9Z"><animate attributeName="x" from="20" to="30" dur="1s"/></path>',
+        "animate",
+    ),
+    ("<style>.a{font-size:2rem}</style>", "font-size:2rem"),
+    ("<style>:is(.a){fill:none}</style>", ":is(.a)"),
+    ("<style>g{fill:#fff; &amp; path{fill:#000}}</style>", "g{fill:#fff; & path"),
+    ("<style>g{fill:#fff; .a{fill:#000}}</style>", "g{fill:#fff; .a"),
+    ("<style>@media print {path {fill: red}}</style>", "@media print {path"),
+    ("<style>@supports (fill:red){path{fill:red}}</style>", "@supports (fill:red){path"),
+    ("<style>path:nth-child(1 of .a){fill:red}</style>", "path:nth-child(1 of .a)"),
+    ('<style media="print">path{fill:red}</style>', 'media="print"'),
+    ('<style type="text/less">path{fill:red}</style>', 'type="text/less"'),
+    (f'<text {WORDS} x="2" y="9" style="text-shadow:1px 1px #000">a</text>', "text-shadow:1px"),
+    (f'<text {WORDS} x="2" y="9" font-variant="small-caps">a</text>', 'font-variant="small-caps"'),
+    (f'<text {WORDS} x="2" y="9" style="font-kerning:none">a</text>', "font-kerning:none"),
+    (f'<text {WORDS} x="2" y="9" baseline-shift="2">a</text>', "<text baseline-shift>"),
+    (f'<text {WORDS} x="9" y="9"><tspan text-anchor="end">a</tspan></text>', "<tspan text-anc"),
+    (f'<text {WORDS} x="9" y="9"><tspan opacity=".3">a</tspan></text>', "<tspan opacity>"),
+    (f'<text {WORDS} x="9" y="9" letter-spacing="1" text-anchor="end">ab</text>', "<text letter-"),
+    (f'<style>.b{{opacity:.3}}</style><text {WORDS}><tspan class="b"/></text>', "<tspan opacity>"),
+    ('<path stroke="#000" stroke-dasharray="1" pathLength="9" d="M2 2H9"/>', 'pathLength="9"'),
     (
         '<style>.a{transform-origin:9px 9px}</style><path class="a" transform="rotate(9)"/>',
-        "transform-origin",
-        PATHS,
+        "<path transform-origin>",
     ),
-    (f'<text {WORDS} x="2 9" y="9">A<tspan>B</tspan></text>', "x", PATHS),
+    (f'<text {WORDS} x="2 9" y="9">A<tspan>B</tspan></text>', "<text x>"),
+    (f'<text {WORDS} x="20 9" y="9">س2</text>', "<text x>"),
     (
         '<clipPath id="b"><path clip-path="url(#a)" d="M2 2H9V9Z"/></clipPath>',
-        "clip-path in clipPath",
-        PATHS,
+        "<clipPath clip-path>",
     ),
-    (f'<text {WORDS} x="20 9" y="9">س2</text>', "x", PATHS),
+    (
+        '<style>.k{clip-path:url(#a)}</style><clipPath id="b"><path class="k"/></clipPath>',
+        "<clipPath clip-path>",
+    ),
+    (SYMBOL.format('width="6"'), "<symbol width>"),
+    (SYMBOL.format('preserveAspectRatio="xMidYMid slice"'), "<symbol overflow>"),
+    ('<symbol id="s"><path d="M0 0H9V9Z"/></symbol>', "<symbol overflow>"),
+    ('<defs><svg id="v" width="6"/></defs><use href="#v" width="9"/>', "<use width>"),
+    (
+        '<defs><path id="v"/></defs><use href="#v" width="0" height="9"/>',
+        "<use height>, <use width>",
+    ),
+    ('<defs><path id="v"/></defs><use href="#v" style="x:9px"/>', "<use x>"),
+    ('<linearGradient style="transform:rotate(90deg)"/>', "<linearGradient transform>"),
+    ('<linearGradient href="#nothing"/>', "<linearGradient href>"),
+    ('<linearGradient x1="1" x2="1"/>', "<linearGradient x2>"),
+    ('<linearGradient color-interpolation="linearRGB"/>', 'color-interpolation="linearRGB"'),
+    ('<linearGradient gradientUnits="userspaceonuse"/>', 'gradientUnits="userspaceonuse"'),
+    ('<linearGradient><stop offset="50px"/></linearGradient>', 'offset="50px"'),
+    (f'<image height="4" href="{DOT}"/>', "<image width>"),
+    (f'<image width="4" height="4" preserveAspectRatio="left" href="{DOT}"/>', "preserveAspect"),
+    (f'<image width="4" height="4" image-rendering="pixelated" href="{DOT}"/>', "image-rendering"),
+    ('<filter id="f"><feImage href="#a"/></filter>', "feImage"),
+    ('<filter id="f"><feOffset in="BackgroundImage"/></filter>', "<filter in>"),
+    ('<filter id="f"><feColorMatrix values="0 0"/></filter>', 'values="0 0"'),
 )
 # styles that librsvg draws as browsers do, or that have no effect
 NOT_SAID = (
@@ -143,10 +208,17 @@ NOT_SAID = (
     "<style>:root{--ink:oklch(1 0 0)} path:not(.a):nth-child(2){fill:#000 !important}</style>",
     "<style>@font-face{font-family:a;src:url(data:,)} @page{size:9cm}</style>",
     BOX.format("fill:rgb(0 0 0 / 50%);stroke:hsla(0,0%,0%,1);transform:rotate(1deg)"),
-    BOX.format("font-variant:normal;font-variant-caps:normal;filter:invert(1);scale:none"),
+    BOX.format("font-variant:normal;font-variant-caps:normal;filter:blur(1px);scale:none"),
     '<pattern id="path"/><path style="fill:url(#path) #000" id="2rem" d="M2 2H9V9Z"/>',
     "<filter id='f'><feDisplacementMap scale='9'/></filter>",
     '<clipPath id="b"><path clip-path="none" d="M2 2H9V9Z"/></clipPath>',
+    '<style>.k{clip-path:url(#b)}</style><clipPath id="b"><path/></clipPath><g class="k"/>',
+    '<g style="-inkscape-stroke:none;line-height:1.25;text-align:center;color-scheme:light dark"/>',
+    '<g data-cell-id="1" aria-label="a" role="img" p-id="9" foo="var(--a)"/>',
+    '<path style="font-size:medium;font-variant-ligatures:normal" d="M2 2H9"/>',
+    '<polygon points="2-2.5.5,9e-1 "/>',
+    '<rect x="2" y="2" width="3.5e1%" height=" 9PX" fill="REBECCAPURPLE"/>',
+    '<path transform=" rotate(9-1,2)\n,scale(.5)" style="fill:HSL(120DEG 100% 25% / .5)"/>',
     f'<text {WORDS} x="2" y="9" dx="0 0 0">a<tspan>b</tspan>c</text>',
 )
 
@@ -165,9 +237,11 @@ class Effects(OwnPages):
             self.assertTrue(numpy.array_equal(one, wanted), body)
 
     def test_what_other_programs_draw_otherwise_is_said(self) -> None:
-        for body, name, hint in SAID:
-            (said,) = self.said(self.found(body + CODE, [PLAIN]))
-            self.assertTrue(said.startswith(f": {name}{hint}"), said)
+        for body, names in SAID:
+            with self.subTest(body=body):
+                (said,) = self.said(self.found(body + CODE, [PLAIN]))
+                self.assertTrue(said.startswith(f": {names}"), said)
+                self.assertIn(OTHERWISE, said)
 
     def test_what_is_drawn_as_elsewhere_is_not_said(self) -> None:
         for body in NOT_SAID:

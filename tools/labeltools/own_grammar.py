@@ -1,0 +1,321 @@
+"""What librsvg draws as other programs do: values, selectors, and where they stand.
+
+    fill="#f00" style="stroke-width:2px"       drawn alike
+    fill="CanvasText" style="fill:var(--ink)"  named: librsvg takes no notice of them
+
+All else is named. Other attributes are of no drawing: SVG has no more of them. CSS gets properties
+each year: one that is not listed is named where its value is more than usual.
+"""
+
+import re
+from functools import lru_cache
+from math import isclose
+from typing import Iterable, Iterator, Mapping, Optional
+from xml.etree.ElementTree import Element
+
+from labeltools.own_drawing import LINKS, NO_RULES, WITH_FONTS, declared, sheet_of, tag_of, walked
+from labeltools.own_effects import LISTS, TEXTS, places_in, rules_of, sheets_of, styles_of
+from labeltools.pango import Pango
+
+NUMBER = r"[-+]?(?:\d+(?:\.\d*)?|\.\d+)(?:e[-+]?\d+)?"
+SHARE = f"{NUMBER}%?"
+FIXED = f"{NUMBER}(?:px|pt|pc|mm|cm|in|em)?"
+LENGTH = f"(?:{FIXED}|{NUMBER}%)"
+UNSIGNED = r"\+?(?:\d+(?:\.\d*)?|\.\d+)(?:e[-+]?\d+)?(?:px|pt|pc|mm|cm|in|em|%)?"
+LENGTHS = rf"{LENGTH}(?:[\s,]+{LENGTH})*[\s,]*"
+FONT_SIZE = f"{NUMBER}(?:px|pt|pc|mm|cm|in|em|%)"
+PIXELS = f"(?:{NUMBER}px|0)"
+ANGLE = f"(?:{NUMBER}(?:deg|rad|grad)|0)"
+COLOUR = (
+    rf"(?:currentcolor|transparent|#(?:[\da-f]{{3,4}}|[\da-f]{{6}}|[\da-f]{{8}})|(?:rgba?\({SHARE}"
+    rf"(?:[, ]{SHARE}){{2}}|hsla?\({NUMBER}(?:deg|grad|rad|turn)?(?:[, ]{NUMBER}%){{2}})"
+    rf"(?:[,/]{SHARE})?\))"
+)
+LINK = r"url\([\"']?#[^%()\"']+[\"']?\)"
+EFFECT = rf"(?:{LINK}|(?:blur|drop-shadow|opacity)\((?:[^()]|\([^()]*\))*\))"
+WEIGHTS = r"normal|bold|bolder|lighter|\d+"
+USUAL = r"(?:(?:0|0px|alphabetic|auto|baseline|normal|none|transparent)[\s,]*)*"
+WHITE = r"(?:(?:#fff|#ffffff|none|rgb\(255,255,255\)|transparent|white)\s*)+"  # as paper
+# names of attributes and properties, and their values that are drawn alike
+GRAMMAR = (
+    ("fill stroke", f"none|context-fill|context-stroke|{COLOUR}|{LINK}(?: ?(?:none|{COLOUR}))?"),
+    ("color flood-color lighting-color stop-color", COLOUR),
+    ("fill-opacity flood-opacity offset opacity stop-opacity stroke-opacity", SHARE),
+    ("cx cy fr fx fy r rx ry stroke-dashoffset stroke-width x1 x2 y1 y2", LENGTH),
+    ("height width", f"auto|{UNSIGNED}"),
+    ("dx dy x y", LENGTHS),
+    ("stroke-dasharray", f"none|{LENGTHS}"),
+    ("stroke-miterlimit", NUMBER),
+    ("clip-path marker marker-end marker-mid marker-start mask", f"none|{LINK}"),
+    ("filter", rf"none|{EFFECT}(?: ?{EFFECT})*"),
+    (
+        "mix-blend-mode",
+        "normal|multiply|screen|overlay|darken|lighten|color-(?:dodge|burn)|(?:hard|soft)-light"
+        "|difference|exclusion|hue|saturation|color|luminosity",
+    ),
+    ("clip-rule fill-rule stroke-linecap", "butt|round|square|nonzero|evenodd"),
+    ("color-interpolation font-style", "auto|srgb|normal|italic|oblique"),
+    ("stroke-linejoin text-anchor", "miter|round|bevel|start|middle|end"),
+    ("image-rendering", "auto|high-quality|optimizequality|optimizespeed|smooth"),
+    ("preserveAspectRatio", "(?-i:none|xM(?:in|id|ax)YM(?:in|id|ax)(?: (?:meet|slice))?)"),
+    (
+        "clipPathUnits filterUnits gradientUnits markerUnits maskContentUnits maskUnits"
+        " patternContentUnits patternUnits primitiveUnits spreadMethod",
+        "(?-i:userSpaceOnUse|objectBoundingBox|strokeWidth|pad|reflect|repeat)",
+    ),
+    ("markerHeight markerWidth refX refY", FIXED),
+    ("radius stdDeviation", rf"{UNSIGNED}(?:[ ,]+{UNSIGNED})?"),
+    ("orient", rf"(?-i:auto|auto-start-reverse)|{NUMBER}(?:deg|rad|grad)?"),
+    ("viewBox", rf"{NUMBER}(?:[\s,]+{NUMBER}){{3}}"),
+    ("operator", "over|in|out|atop|xor|arithmetic|erode|dilate"),
+    ("values", rf"{NUMBER}(?:(?:[\s,]+{NUMBER}){{19}}[\s,]*)?"),
+    ("font-size", f"{FONT_SIZE}|{NUMBER}"),
+    ("font-weight", WEIGHTS),
+    ("font", rf"(?:(?:italic|oblique|{WEIGHTS}) )*{FONT_SIZE}(?:/\S+)? .+"),
+    ("font-kerning font-variant-ligatures", "auto|normal"),
+    ("letter-spacing", f"normal|{FIXED}"),
+    ("baseline-shift", f"baseline|{LENGTH}"),
+    ("display font-stretch isolation mask-type paint-order visibility", "[a-z -]+"),
+    ("white-space", "normal|nowrap|pre|pre-(?:line|wrap)|break-spaces"),
+    ("writing-mode", "horizontal-tb|lr|lr-tb"),
+    (
+        "gradientTransform patternTransform transform",
+        r"none|(?:(?:matrix|translate|scale|rotate|skew[xy])\([-+.\de,\s]*\)[\s,]*)*",
+    ),
+    (":d", "inherit"),
+    (
+        ":transform",  # of a style
+        rf"none|(?:(?:translate[xy]?\({PIXELS}(?:,{PIXELS})?|(?:rotate|skew[xy]?)\({ANGLE}"
+        rf"(?:,{ANGLE})?|(?:matrix|scale[xy]?)\({NUMBER}(?:,{NUMBER})*)\)\s*)+",
+    ),
+    ("background background-color", WHITE),
+    (
+        "alignment-baseline dominant-baseline filterRes font-variant pathLength requiredExtensions"
+        " requiredFeatures rotate systemLanguage text-decoration textLength vector-effect"
+        " word-spacing",
+        USUAL,
+    ),
+)
+RIGHT = {name: f"(?i:{pattern}|inherit)" for names, pattern in GRAMMAR for name in names.split()}
+OTHERS = re.compile(f"(?:{USUAL}|inherit)", re.IGNORECASE)
+# properties of CSS that change nothing here, whatever they are
+FREE = re.compile(
+    r"-.*|(?:color|shape|text)-rendering|color-interpolation-filters|color-scheme|cursor|direction"
+    r"|box-sizing|enable-background|font-(?:family|optical-sizing|synthesis)|inline-size"
+    r"|line-height|max-(?:height|width)|overflow|pointer-events"
+    r"|shape-(?:inside|margin|padding|subtract)|solid-(?:color|opacity)|text-(?:align|indent)"
+    r"|text-decoration-(?:color|style)|text-orientation|transform-(?:box|origin)|transition"
+    r"|unicode-bidi|user-select|vertical-align|will-change"
+)
+COLOURED = ("color", "fill", "flood-color", "lighting-color", "stop-color", "stroke")
+WORD = re.compile("[a-z]+$", re.IGNORECASE)
+AROUND = re.compile(r" ?([(),/]) ?")
+IMPORTANT = re.compile(" ?!important$", re.IGNORECASE)
+BOTH = re.compile(r"(?:color|light-dark)\(")  # what programs write behind a known value
+NAMED = r"[\w\s.#*>+~,-]|\[[^]]*\]"
+PSEUDO = (
+    r":(?:(?:first|last|only)-(?:child|of-type)|active|empty|focus|hover|link|root|visited"
+    r"|nth-(?:last-)?(?:child|of-type)\((?:even|odd|[\dn+\s-]+)\))"
+)
+SELECTOR = re.compile(rf"(?:{NAMED}|{PSEUDO}|:(?:lang|not)\((?:{NAMED}|{PSEUDO})*\))*")
+AT_RULE = re.compile(r"@(?:font-face|page)\b[^{]*|@keyframes\b.*", re.DOTALL)  # without effect
+OTHER = re.compile(r"[^-+.,\de\s]", re.IGNORECASE)  # than numbers
+GEOMETRY = frozenset("cx cy height r rx ry width x y".split())
+SIZED = ("circle", "ellipse", "image", "rect")  # by properties of CSS
+SERVERS = ("linearGradient", "pattern", "radialGradient")
+UNMOVED = (*SERVERS, "svg")  # by properties of CSS
+# what is drawn otherwise in an element, by whatever it is set
+NOWHERE = {
+    "mask": {"mask"},
+    "svg": {"clip-path"},
+    "symbol": {"height", "width", "x", "y"},
+    "text": {"baseline-shift"},
+    "tspan": {"clip-path", "filter", "mask", "mix-blend-mode", "opacity"},
+}
+ELEMENTS = frozenset(
+    "animate animateColor animateMotion animateTransform feDiffuseLighting feImage"
+    " feSpecularLighting feTile set {http://www.w3.org/1999/xhtml}style".split()
+)
+ORIGINS = ("transform-box", "transform-origin")  # they change what is moved alone
+SIDES = ("height", "width")
+NO_EFFECT = re.compile("|0(?:px|em)?|baseline|inherit|none|normal")
+ALIKE = 0.01  # by which proportions may differ
+LONGEST = 40  # letters that are said of a value or a selector
+KEPT = 1024  # values that are known
+
+
+def unlike(root: Element) -> Iterator[str]:
+    """Yields what may be drawn otherwise in other programs, by its name and value."""
+    sheets = sheets_of(root)
+    ids = {f"#{one.get('id')}": one for one in root.iter()}
+    for parent, element, _ in [(root, root, 0), *walked(root)]:
+        tag = tag_of(element)
+        if tag in ELEMENTS:
+            yield tag.rpartition("}")[2]
+        yield from unlike_values(element)
+        yield from unlike_rules(element)
+        styles = styles_of(element, sheets)
+        values = {**element.attrib, **styles}
+        above = {**parent.attrib, **styles_of(parent, sheets)} if tag in TEXTS else {}
+        names = {*misplaced(tag, values, above), *moved(element, styles)}
+        names |= {*misused(element, values, ids)}
+        yield from (f"<{tag} {name}>" for name in sorted(names))
+        if tag == "clipPath":
+            inner = ({**one.attrib, **styles_of(one, sheets)} for one in element.iter())
+            yield from ("<clipPath clip-path>" for one in inner if is_set(one, "clip-path"))
+
+
+def unlike_values(element: Element) -> Iterator[str]:
+    """Yields the attributes and the properties of an element that may be drawn otherwise."""
+    known = set()
+    for key, value in element.items():
+        is_read = key in RIGHT and is_read_in(element, key)
+        if is_read and is_alike(key, value, False):
+            known.add(key)
+        elif is_read:
+            yield f'{key}="{shortened(value)}"'
+    styles = declared(NO_RULES.sub(" ", element.get("style", "")))
+    yield from unlike_styles((one for one in styles if is_read_in(element, one[0])), known)
+
+
+def is_read_in(element: Element, key: str) -> bool:
+    """Returns whether a property counts in an element: its font does only where letters are."""
+    return not key.startswith("font") or tag_of(element) in WITH_FONTS
+
+
+def unlike_styles(styles: Iterable[tuple[str, str]], known: set[str]) -> Iterator[str]:
+    """Yields the properties that may be drawn otherwise. Some programs write a newer colour behind
+    one that is known.
+    """
+    for key, value in styles:
+        if is_alike(key, value, True):
+            known.add(key)
+        elif key not in known or not BOTH.match(value):
+            yield f"{key}:{shortened(value)}"
+
+
+def unlike_rules(element: Element) -> Iterator[str]:
+    """Yields what may be drawn otherwise in a style sheet."""
+    for key, usual in (("media", ("all", "screen")), ("type", ("", "text/css"))):
+        if tag_of(element) == "style" and element.get(key, usual[0]) not in usual:
+            yield f'{key}="{element.get(key)}"'
+    for selector, how in rules_of(sheet_of(element)):
+        if not AT_RULE.fullmatch(selector):
+            yield from () if SELECTOR.fullmatch(selector) else (shortened(selector),)
+            yield from unlike_styles(declared(how), set())
+
+
+@lru_cache(KEPT)
+def is_alike(key: str, value: str, is_style: bool) -> bool:
+    """Returns whether a value is drawn as in other programs.
+
+    >>> is_alike("fill", "url(#a) red", True), is_alike("fill", "CanvasText", True)
+    (True, False)
+    """
+    value = AROUND.sub(r"\1", " ".join(value.split()))
+    if key != "transform":
+        value = IMPORTANT.sub("", value)
+    word = WORD.search(value) if key in COLOURED else None
+    if word and Pango.Color().parse(word[0]):
+        value = f"{value[:word.start()]}currentcolor"
+    right = RIGHT.get(f":{key}") if is_style else None
+    if right := right or RIGHT.get(key):
+        return bool(re.fullmatch(right, value))
+    return not is_style or bool(FREE.fullmatch(key) or OTHERS.fullmatch(value))
+
+
+def shortened(text: str) -> str:
+    """Returns a text, but for the end of a long one."""
+    words = " ".join(text.split())
+    return words if len(words) <= LONGEST else f"{words[:LONGEST]}.."
+
+
+def is_set(values: Mapping[str, str], key: str) -> bool:
+    """Returns whether a property has an effect."""
+    return not NO_EFFECT.fullmatch(values.get(key, ""))
+
+
+def misplaced(tag: str, values: Mapping[str, str], above: Mapping[str, str]) -> Iterator[str]:
+    """Yields the properties that are drawn otherwise in such an element; `above` are those of the
+    one that a text is in.
+    """
+    wrong = (key for key in NOWHERE.get(tag, ()) if is_set(values, key))
+    yield from (key for key in wrong if (key, values[key]) != ("opacity", "1"))
+    anchor = values.get("text-anchor", above.get("text-anchor", "start"))
+    if tag in TEXTS and anchor in ("middle", "end") and is_set(values, "letter-spacing"):
+        yield "letter-spacing"
+    is_placed = "x" in values or "y" in values
+    if tag == "tspan" and not is_placed and anchor != above.get("text-anchor", "start"):
+        yield "text-anchor"
+
+
+def moved(element: Element, styles: Mapping[str, str]) -> Iterator[str]:
+    """Yields what moves an element otherwise by properties of CSS."""
+    tag = tag_of(element)
+    if tag not in SIZED:
+        yield from (key for key in GEOMETRY if styles.get(key, "auto") != "auto")
+    if "transform" in styles and (tag in UNMOVED or "transform" in element.attrib):
+        yield "transform"
+    if is_set(styles, "transform") or is_set(element.attrib, "transform"):
+        origins = {key: styles.get(key, element.get(key, "0")) for key in ORIGINS}
+        yield from (key for key, value in origins.items() if not OTHERS.fullmatch(value))
+
+
+def misused(
+    element: Element, values: Mapping[str, str], ids: Mapping[str, Element]
+) -> Iterator[str]:
+    """Yields the attributes that are drawn otherwise by their values, or where they are not
+    there.
+    """
+    tag = tag_of(element)
+    link = next(filter(None, map(values.get, LINKS)), "")
+    sides = {side: values.get(side, "auto") for side in SIDES}
+    if tag == "use" and ("0" in sides.values() or is_resized(ids.get(link), sides)):
+        yield from (side for side in SIDES if sides[side] != "auto")
+    if tag == "image":
+        yield from (side for side in SIDES if sides[side] == "auto")
+    if tag in SERVERS and link and link not in ids:
+        yield "href"
+    if tag in SERVERS and (values.get("r") == "0" or is_point(values)):
+        yield "r" if "r" in values else "x2"
+    is_visible = values.get("overflow") == "visible"
+    is_cut = values.get("preserveAspectRatio", "").endswith("slice")
+    is_open = "viewBox" not in values  # a symbol that shows all has been made to hide it, and so on
+    if (tag == "symbol" and (is_cut or is_visible and is_open)) or (
+        tag == "image" and is_cut and is_visible
+    ):
+        yield "overflow"
+    points = values.get("points", "")
+    if len(re.findall(NUMBER, points)) % 2 or OTHER.search(points):
+        yield "points"
+    if tag in TEXTS:
+        yield from (key for key in LISTS if len(places_in(element, key)) > 1)
+    if tag == "filter":
+        yield from unread(element)
+
+
+def is_resized(shown: Optional[Element], sides: Mapping[str, str]) -> bool:
+    """Returns whether the sides of a clone are not drawn: those of a page, or of a symbol that is
+    cut by a box of other proportions.
+    """
+    if shown is None or tag_of(shown) != "symbol":
+        return shown is not None and tag_of(shown) == "svg"
+    box = [float(one) for one in re.findall(NUMBER, shown.get("viewBox", ""))]
+    high, wide = (re.match(NUMBER, sides[side]) for side in SIDES)
+    if len(box) != 4 or not high or not wide or shown.get("preserveAspectRatio") == "none":
+        return False
+    return not isclose(float(high[0]) * box[2], float(wide[0]) * box[3], rel_tol=ALIKE)
+
+
+def is_point(values: Mapping[str, str]) -> bool:
+    """Returns whether a gradient ends where it begins."""
+    x1, y1 = values.get("x1", "0%"), values.get("y1", "0%")
+    return (x1, y1) == (values.get("x2", "100%"), values.get("y2", y1))
+
+
+def unread(element: Element) -> Iterator[str]:
+    """Yields the parts that a filter reads and has not."""
+    known = {"SourceAlpha", "SourceGraphic"}
+    for one in element.iter():
+        yield from (key for key in ("in", "in2") if one.get(key, "SourceAlpha") not in known)
+        known.add(one.get("result", "SourceAlpha"))
