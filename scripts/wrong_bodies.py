@@ -77,7 +77,7 @@ def is_of_form(function: str, said: str) -> bool:
 
 
 def outcome(crate: str, body: Body, said: str) -> Outcome:
-    """Returns what a check says of a body. A control that fails only by what it calls is as good
+    """Returns what a check says of a body. A right one that fails only by what it calls is as good
     as proved, if all its goals were tried.
     """
     found = [
@@ -93,7 +93,7 @@ def outcome(crate: str, body: Body, said: str) -> Outcome:
         is_alone = any(is_of_form(it, said) for it in body.functions)
         return Outcome.OF_FORM if is_alone else Outcome.REFUSED
     are_tried = not any(NOT_TRIED.format(crate, it) in said for it in body.functions)
-    return Outcome.PROVED if body.is_control and are_tried else Outcome.UNKNOWN
+    return Outcome.PROVED if body.is_right and are_tried else Outcome.UNKNOWN
 
 
 @dataclass

@@ -240,6 +240,7 @@ class Outcomes(InFolder):
         control_says = "one calling itself: it is right, and not reported as not refused"
         said = "fn small::one_0: {}\nfn small::one_calling_itself: {}\nonly=2 proved=1\n"
         self.assertEqual(self.tried(said.format("not proved", "proved")), (1, 1, []))
+        self.assertEqual(self.tried(said.format("not proved", CALLS)), (1, 1, []))
         self.assertEqual(self.tried(said.format("proved", "proved")), (0, 1, ["one: NOT REFUSED"]))
         self.assertEqual(self.tried(said.format("not proved", "not proved")), (1, 0, [control_says]))
 
