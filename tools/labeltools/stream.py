@@ -14,12 +14,15 @@ it, as in the file of label-table; its first and last remarks are skipped.
 
 import os
 import select
+import signal
 import stat
 import sys
 from io import BufferedReader, RawIOBase
+from queue import Queue
+from threading import Thread
 from typing import Any, BinaryIO, Iterator, NamedTuple, NoReturn, Optional
 
-from labeltools.command_line import hold_signals
+from labeltools.command_line import ENDING, hold_signals
 from labeltools.engine import LABELS_FAILED, Engine, run_labels
 from labeltools.letters import Letters
 from labeltools.lines_file import OBJECT, LineRecord, read_lines
@@ -32,6 +35,7 @@ from labeltools.text import NOTHING, Text, translated
 
 SKIPPED = (b'#{"labels"', b'#{"end"')
 LONGEST = 65_536  # bytes of a line
+MOST_AHEAD = 1000  # lines of a FIFO that wait to be printed
 LOOK = 5.0  # seconds between two looks whether a FIFO has its name still
 CUT_OFF = Text("cut off before its line end")
 TOO_LONG = Text("longer than {} bytes", LONGEST)
@@ -113,18 +117,53 @@ class Fifo(RawIOBase):
             raise ToolError(Text("{}: another program has changed it", self.path))
 
 
-def source_of(path: Optional[str]) -> BinaryIO:
+class Ahead:
+    """The lines of a FIFO, which a thread reads while labels go out: the end of a writer has to be
+    seen before the next one comes.
+    """
+
+    def __init__(self, fifo: Fifo) -> None:
+        """Begins to read."""
+        self.fifo = BufferedReader(fifo)
+        self.found: Queue[bytes | Exception] = Queue(MOST_AHEAD)
+        Thread(target=self.read, daemon=True).start()
+
+    def read(self) -> None:
+        """Reads lines, and the ends of writers, until there is an error, which `readline` raises;
+        signals are for the thread that prints.
+        """
+        signal.pthread_sigmask(signal.SIG_BLOCK, ENDING)
+        try:
+            while True:
+                self.found.put(self.fifo.readline(LONGEST))
+        except Exception as error:
+            self.found.put(error)
+
+    def readline(self, _: int) -> bytes:
+        """Returns a line, or as much of it as a line may have; nothing at the end of a writer.
+        Raises `ToolError` and `OSError`.
+        """
+        found = self.found.get()
+        if isinstance(found, Exception):
+            raise found
+        return found
+
+
+Source = BinaryIO | Ahead
+
+
+def source_of(path: Optional[str]) -> Source:
     """Returns what lines come from; raises `ToolError` and `OSError`."""
     if path is None or path == "-":
         if sys.stdin is None:
             raise ToolError(Text("standard input is closed"))
         return sys.stdin.buffer
     if stat.S_ISFIFO(os.stat(path).st_mode):
-        return BufferedReader(Fifo(path))
+        return Ahead(Fifo(path))
     return open(path, "rb")
 
 
-def next_line(source: BinaryIO) -> bytes:
+def next_line(source: Source) -> bytes:
     """Returns a line, or as much of it as a line may have; nothing at the end. Raises `ToolError`
     where it cannot be read.
     """
@@ -134,7 +173,7 @@ def next_line(source: BinaryIO) -> bytes:
         raise ToolError(Text("the lines cannot be read: {}", error.strerror)) from error
 
 
-def fault_of(line: bytes, source: BinaryIO) -> Text:
+def fault_of(line: bytes, source: Source) -> Text:
     """Returns what is wrong with a line that is not whole; the rest of a long one is read."""
     if line.endswith(b"\n"):
         return NOTHING
@@ -145,15 +184,14 @@ def fault_of(line: bytes, source: BinaryIO) -> Text:
     return TOO_LONG
 
 
-def jobs(source: BinaryIO) -> Iterator[Job]:
+def jobs(source: Source) -> Iterator[Job]:
     """Yields each line with data as soon as it is there; of a FIFO, for ever. A line whose object
     is too long is not printed without it.
     """
     remark = b""
     waiting = NOTHING  # what is wrong with the object before a line
     number = 0
-    is_fifo = isinstance(getattr(source, "raw", None), Fifo)
-    while (line := next_line(source)) or is_fifo:
+    while (line := next_line(source)) or isinstance(source, Ahead):
         if not line:
             remark = b""
             waiting = NOTHING

@@ -124,7 +124,7 @@ class Connections(Starts):
 
     def test_one_that_a_printer_has_broken_off_is_not(self) -> None:
         """It says that bytes were thrown away, which may be those of the label before."""
-        printer = Printer(cut=1).start()
+        printer = Printer(cut=1, slow=0.2).start()  # its system has taken the label by then
         outlet = NetworkPrinter(printer.name)
         label = labels_in(printed(input=TICKETS[:10]))[0]
         outlet.open()
@@ -345,6 +345,31 @@ class Streams(Starts):
 
         with mock.patch.object(source, "poll", mock.Mock(poll=late)):
             self.assertEqual(source.readinto(bytearray(9)), 0)
+
+    def test_a_writer_that_goes_while_a_label_is_on_its_way(self) -> None:
+        """Its half line is not one with the line of the next writer."""
+        fifo = f"{self.folder}/till"
+        os.mkfifo(fifo)
+        stream = self.start("--print", Printer(slow=0.6).start().name, fifo)
+        for line in (b"qr A\n", b"qr T000", b"qr B\n"):
+            Path(fifo).write_bytes(line)
+            time.sleep(0.3)  # the next writer comes when that one has gone
+        assert stream.stderr
+        for pattern in (b"^taken 1 ", b"^refused 2 cut off before its line end$", b"^taken 3 "):
+            self.assertRegex(stream.stderr.readline(), pattern)
+
+    def test_what_goes_wrong_while_lines_are_read_ahead(self) -> None:
+        """It ends the stream, once the lines before it are printed."""
+        path = f"{self.folder}/fifo"
+        os.mkfifo(path)
+        for error in (MemoryError(), ValueError("bad")):
+            reads = [b"qr A\n", error]
+            with mock.patch("labeltools.stream.BufferedReader") as reader:
+                reader.return_value.readline.side_effect = reads
+                lines = stream.Ahead(stream.Fifo(path))
+                self.assertEqual(lines.readline(9), b"qr A\n")
+                with self.assertRaises(type(error)):
+                    lines.readline(9)
 
     def test_what_libraries_say_is_no_answer(self) -> None:
         """Fontconfig warns of this locale, which a ssh from another system may set."""
