@@ -25,7 +25,7 @@ from codecs import BOM_UTF8
 from contextlib import contextmanager, suppress
 from itertools import count
 from pathlib import Path
-from typing import Iterator, NamedTuple, Optional
+from typing import Iterator, Mapping, NamedTuple, Optional
 
 from labeltools.lines_file import LineRecord
 from labeltools.messages import ToolError
@@ -125,19 +125,23 @@ class Journal:
         """Returns the last that is known of the code of a line."""
         return self.entries.get(code_of(record))
 
-    def is_doubtful(self, record: LineRecord) -> bool:
-        """Returns whether a label was sent by a lane that has ended before it was taken. That lane
-        may have ended since the journal was read, and several may look at it: so it is read again
-        while no other one does.
+    def doubtful(self) -> Mapping[bytes, Entry]:
+        """Returns what was sent by lanes that ended before it was taken, by its code. A lane may
+        have ended since the journal was read, and several may look at it: so it is read again while
+        no other one does.
         """
-        found = self.entry(record)
-        if found is None or found.event != SENDING:
-            return False
         with suppress(ToolError), self.locked():  # where it cannot be read, what is known counts
             self.read()
-            found = self.entries[code_of(record)]
-            return found.event == SENDING and not self.is_alive(found)
-        return not self.is_alive(found)
+            return self.left()
+        return self.left()
+
+    def left(self) -> Mapping[bytes, Entry]:
+        """Returns what is sent, and not by a lane that goes on."""
+        return {
+            code: entry
+            for code, entry in self.entries.items()
+            if entry.event == SENDING and not self.is_alive(entry)
+        }
 
     def is_alive(self, entry: Entry) -> bool:
         """Returns whether the lane of an entry is sending it now."""

@@ -47,7 +47,7 @@ from labeltools.print_job import (
 from labeltools.printer import check_queue, lp_words, print_by, typed
 from labeltools.report import report
 from labeltools.selection import ROWS, selection_of
-from labeltools.sending import OUTPUT, Outlet, Sender, StandardOutput
+from labeltools.sending import OUTPUT, Outlet, Sender, StandardOutput, doubts
 from labeltools.stock import forget, list_stock
 
 TOOL = "label-print"
@@ -57,7 +57,7 @@ MOST_LABELS = 1_000_000  # of one run, with copies
 QUIET = 2.0
 BETWEEN = 0.2
 NUMBER = r"-?\d{1,4}(?:\.\d{1,4})?"
-MOST_NAMED = 10  # labels that a summary, or a message of doubtful ones, names
+MOST_NAMED = 10  # labels that a summary names
 NUMBERED = re.compile(r"%(0?\d?)d|%s")
 
 
@@ -535,23 +535,22 @@ def send_each(arguments: argparse.Namespace, press: Press, found: Prepared) -> i
     try:
         sender.send_all(press, prints)
     finally:
-        doubtful = list(sender.doubtful(prints))
-        for start in range(0, len(doubtful), MOST_NAMED):  # each of them is named
-            for message in report(doubtful[start : start + MOST_NAMED], found.tables):
-                write_message(TOOL, message)
+        doubtful = sender.doubtful()
+        for message in doubts(doubtful, found.records, len(found.tables) > 1):
+            write_message(TOOL, message)
     text = counted("{} label", "{} labels", sender.taken)
     is_printer = sender.outlet.name != OUTPUT
     if is_printer:
         text = Text("{} taken by {}", text, sender.outlet.name)
     if arguments.rows_only or arguments.codes:
         text = with_names(text, sender.sent)
-    known = sender.known - len(doubtful)
-    if known > 0:
+    known = len(sender.known - doubtful.keys())
+    if known:
         there = counted(
             "{} label in {} already", "{} labels in {} already", known, arguments.journal
         )
         text = joined("; ", (text, there))
-    if known > 0 or is_printer or arguments.summary or sys.stderr.isatty():
+    if known or is_printer or arguments.summary or sys.stderr.isatty():
         write_message(TOOL, text)
     return 1 if found.left_out or doubtful else 0
 

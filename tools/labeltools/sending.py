@@ -7,20 +7,20 @@ import shlex
 import stat
 from contextlib import suppress
 from io import BytesIO
-from typing import Iterable, Iterator, Optional, Protocol, Sized
+from typing import Any, Iterable, Iterator, Mapping, Optional, Protocol, Sequence, Sized
 
 from labeltools.command_line import hold_signals, standard_output
 from labeltools.files import send
 from labeltools.forms import ZPL
-from labeltools.journal import Journal
+from labeltools.journal import MOST_NAMED, SENDING, Entry, Journal, code_of
 from labeltools.layout import LaidOut
 from labeltools.lines_file import LineRecord
 from labeltools.messages import ToolError, sentence
 from labeltools.network import Broken
 from labeltools.press import Press, Prints
-from labeltools.report import LeftOut
+from labeltools.report import places_text
 from labeltools.selection import words_of_rest
-from labeltools.text import NOTHING, Text, counted
+from labeltools.text import NOTHING, Text, counted, joined
 
 OUTPUT = "standard output"
 
@@ -91,7 +91,7 @@ class Sender:
         self.is_chosen = is_chosen
         self.sent: list[LaidOut] = []
         self.taken = 0
-        self.known = 0
+        self.known: set[bytes] = set()  # the codes that the journal had
         self.is_at_end = False  # whether standard output takes no more
 
     def send_all(self, press: Press, prints: Prints) -> None:
@@ -143,12 +143,12 @@ class Sender:
         """
         record = item.label.record
         if self.journal is not None and self.is_known(item):
-            self.known += 1
+            self.known.add(code_of(record))
             return 0
         documents = list(written(press, item, copies, is_first))
         self.outlet.open()
         if not self.claim(record, is_last):
-            self.known += 1
+            self.known.add(code_of(record))
             return 0
         self.give(record, documents, is_last)
         self.taken += copies
@@ -247,24 +247,65 @@ class Sender:
         return Text("look at the last one on paper, and print what is missing by {}", words)
 
     def doubt(self, record: LineRecord) -> Text:
-        """Returns what to do about a label of which it is not known whether it is on paper, as its
-        lane has ended; nothing where that is known.
+        """Returns what to do about a label that was sent, but is not known to be taken; nothing
+        where it is.
         """
-        if self.journal is None or not self.journal.is_doubtful(record):
-            return NOTHING
-        entry = self.journal.entry(record)
-        printer = entry.printer.decode("utf-8", "replace") if entry else ""
-        reason = Text("may be on paper, from {}: look for it", printer)
-        hint = Text("if it is not there, give --only-code CODE --again {}", typed(printer))
-        return sentence(reason, hint)
+        printer = self.sent_to(record)
+        if printer and code_of(record) in self.doubtful():
+            return may_be_on_paper(printer)
+        if printer := self.sent_to(record):  # it was not taken meanwhile
+            what = Text("{} is sending it", printer)
+            return sentence(what, Text("send the line again to see whether it was taken"))
+        return NOTHING
 
-    def doubtful(self, prints: Prints) -> Iterator[LeftOut]:
-        """Yields labels of which it is not known whether they are on paper."""
-        for item in prints.items:
-            record = item.label.record
-            if reason := self.doubt(record):
-                data = record.data.decode("utf-8", "backslashreplace")
-                yield LeftOut(record.place, data, reason)
+    def sent_to(self, record: LineRecord) -> str:
+        """Returns the printer of a label that the journal has as sent and not as taken, or
+        nothing.
+        """
+        entry = self.journal.entry(record) if self.journal else None
+        return name_of(entry) if entry and entry.event == SENDING else ""
+
+    def doubtful(self) -> Mapping[bytes, Entry]:
+        """Returns the codes of labels of which it is not known whether they are on paper."""
+        return self.journal.doubtful() if self.journal else {}
+
+
+def doubts(
+    doubtful: Mapping[bytes, Entry], records: Sequence[LineRecord], has_tables: bool
+) -> Iterator[Text]:
+    """Yields messages that name all labels in doubt: those of a file of lines by their places."""
+    printers: dict[str, list[bytes]] = {}
+    for code, entry in doubtful.items():
+        printers.setdefault(name_of(entry), []).append(code)
+    places = {code_of(record): record.place for record in reversed(records)} if printers else {}
+    for printer, codes in printers.items():
+        there = sorted(places[code] for code in codes if code in places)
+        for some in parts_of(there):
+            yield Text("{}: {}", places_text(some, has_tables), may_be_on_paper(printer))
+        for others in parts_of([code.decode() for code in codes if code not in places]):
+            yield Text(
+                "{}: may be on paper, from {}, and not in the input: look for it; if it is there, "
+                "make sending taken in its line of the journal",
+                joined("; ", others),
+                printer,
+            )
+
+
+def parts_of(found: Sequence[Any]) -> Iterator[Sequence[Any]]:
+    """Yields what was found, as much of it as a message names."""
+    return (found[start : start + MOST_NAMED] for start in range(0, len(found), MOST_NAMED))
+
+
+def may_be_on_paper(printer: str) -> Text:
+    """Returns what to do about labels that were sent to a printer, and may be on paper."""
+    reason = Text("may be on paper, from {}: look for it", printer)
+    hint = Text("if it is not there, give --only-code CODE --again {}", typed(printer))
+    return sentence(reason, hint)
+
+
+def name_of(entry: Entry) -> str:
+    """Returns the name of the printer of an entry, which another program may have written."""
+    return entry.printer.decode("utf-8", "replace")
 
 
 def typed(printer: str) -> str:

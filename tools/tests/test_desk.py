@@ -13,7 +13,7 @@ from typing import Optional
 from unittest import mock
 
 import support
-from labeltools.journal import Journal, escaped
+from labeltools.journal import Journal, code_of, escaped
 from labeltools.lines_file import read_lines
 from labeltools.messages import Silence, ToolError
 from labeltools.network import NetworkPrinter
@@ -61,6 +61,10 @@ class Folder(unittest.TestCase):
         text = done.stderr.decode()
         self.assertEqual(done.returncode, status, text)
         self.assertRegex(text, pattern)
+
+    def is_doubtful(self, journal: Journal, number: int) -> bool:
+        """Whether the label of a line of TICKETS, from 0, is in doubt."""
+        return code_of(self.records[number]) in journal.doubtful()
 
     def answer(self, stream: "subprocess.Popen[bytes]", line: bytes) -> str:
         """The answer to a line."""
@@ -242,10 +246,10 @@ class Journals(Folder):
             self.assertEqual(other.stdout.readline(), b"2\n")
             self.assertEqual(other.stdout.readline(), b"[False, True]\n")
             self.assertFalse(ours.claim(self.records[1]))
-            self.assertFalse(ours.is_doubtful(self.records[1]))
+            self.assertFalse(self.is_doubtful(ours, 1))
             other.kill()
             other.wait()
-            self.assertTrue(ours.is_doubtful(self.records[1]))
+            self.assertTrue(self.is_doubtful(ours, 1))
 
     def test_a_lane_that_is_killed_while_another_one_waits(self) -> None:
         script = (
@@ -275,7 +279,7 @@ class Journals(Folder):
             Path(self.path).write_bytes(whole[:end])
             again = Journal(self.path, "tcp://a")
             self.assertTrue(again.mended)
-            self.assertEqual(again.is_doubtful(self.records[1]), end == len(whole) - 1)
+            self.assertEqual(self.is_doubtful(again, 1), end == len(whole) - 1)
             self.assertTrue(again.entry(self.records[0]))
             self.assertTrue(Path(self.path).read_bytes().startswith(whole[:start]))
             Journal(self.path, "tcp://a")  # it is whole now

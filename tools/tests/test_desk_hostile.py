@@ -178,8 +178,8 @@ class Doubts(Starts):
         taken = Path(self.path).read_text().replace("sending", "taken").splitlines()[1]
         with open(self.path, "a") as file:
             file.write(f"{taken}\n")
-        self.assertFalse(ours.is_doubtful(self.records[0]))
-        self.assertTrue(ours.is_doubtful(self.records[1]))
+        self.assertFalse(self.is_doubtful(ours, 0))
+        self.assertTrue(self.is_doubtful(ours, 1))
 
     def test_it_is_looked_at_while_no_other_lane_does(self) -> None:
         """Two that try the lock of a lane that has ended would each take the other for that one."""
@@ -193,8 +193,56 @@ class Doubts(Starts):
             return False
 
         with mock.patch.object(Journal, "is_alive", look):
-            self.assertTrue(ours.is_doubtful(self.records[0]))
+            self.assertTrue(self.is_doubtful(ours, 0))
         self.assertEqual(held, [True])
+
+    def test_those_outside_of_what_is_printed(self) -> None:
+        """Each run names all of a journal, until they are printed or their lines say `taken`."""
+        for words in (("--only", "3-"), ("--only-code", "T00002"), ()):
+            done = printed("--journal", self.waiting("tcp://a"), *words)
+            self.said(done, 1, r"line 1: may be on paper, from tcp://a: look for it; .* --again")
+        done = printed("--journal", self.path, "--only", "1", "--again", "tcp://a")
+        self.assertNotIn(b"may be on paper", done.stderr)
+        self.said(printed("--journal", self.path, "--only", "3-"), 0, "28 labels in .* already\n$")
+
+    def test_one_that_the_input_has_no_more(self) -> None:
+        """Its code is named, and its printer."""
+        for words in ((), ("--only", "2")):
+            done = printed("--journal", self.waiting("tcp://a"), *words, input=TICKETS[10:30])
+            pattern = (
+                r"^label-print: qr T00001: may be on paper, from tcp://a, and not in the input"
+            )
+            self.said(done, 1, f"{pattern}: look for it; if it is there, make sending taken in its")
+            self.assertNotIn(b"--again", done.stderr)
+
+    def test_those_of_many_printers(self) -> None:
+        """The printer of each is named, and those of one printer are together."""
+        names = [f"tcp://lane-{number % 12}" for number in range(1, 25)]
+        line = "2026-11-27T09:30:00Z\tsending\tlane {0}\t{1}\tline {0}\tqr T{0:05}\n"
+        lines = "".join(line.format(number, name) for number, name in enumerate(names, 1))
+        Path(self.path).write_text(f"#labels journal 1\n{lines}")
+        done = printed("--journal", self.path)
+        for number in range(12):
+            rows = f"{number or 12}, {(number or 12) + 12}"
+            self.said(done, 1, f"lines {rows}: may be on paper, from tcp://lane-{number}: look")
+
+    def test_one_that_another_lane_is_sending(self) -> None:
+        """That lane may break off: whoever is told `known` would tick it off."""
+        printer = Printer(stuck=1, slow=0.2).start()
+        busy = self.start("--print", printer.name, "--journal", self.path, "--dpi", "1200")
+        assert busy.stdin and busy.stderr
+        busy.stdin.write(b"qr T00001\nqr T00002\n")
+        busy.stdin.flush()
+        self.assertRegex(busy.stderr.readline(), b"^taken 1 ")
+        while self.events() != ["sending", "taken", "sending"]:
+            time.sleep(0.01)
+        other = self.start("--journal", self.path)
+        self.assertEqual(self.answer(other, b"qr T00001\n"), "known 1 qr T00001\n")
+        text = "is sending it: send the line again to see whether it was taken"
+        self.assertEqual(self.answer(other, b"qr T00002\n"), f"doubtful 2 {printer.name} {text}\n")
+        busy.kill()
+        busy.wait()
+        self.assertRegex(self.answer(other, b"qr T00002\n"), "^doubtful 3 may be on paper, from")
 
     def test_what_can_be_typed(self) -> None:
         done = printed("--journal", self.waiting("standard output"), input=TICKETS[:10])
