@@ -412,7 +412,7 @@ def check_journal(arguments: argparse.Namespace, journal: Journal) -> None:
     """Says what was wrong with a journal, and that a file has lost what it had before; raises
     `ToolError` where labels cannot be printed by it.
     """
-    if journal.mended and not arguments.is_stream:  # each line of which is an answer
+    if journal.mended:
         write_message(TOOL, Text("{}: {}", arguments.journal, journal.mended))
     if arguments.again and arguments.again not in journal.printers():
         names = ", ".join(sorted(journal.printers())) or Text("nothing")

@@ -12,13 +12,13 @@ from typing import Any, Iterable, Iterator, Mapping, Optional, Protocol, Sequenc
 from labeltools.command_line import hold_signals, standard_output
 from labeltools.files import send
 from labeltools.forms import ZPL
-from labeltools.journal import MOST_NAMED, SENDING, Entry, Journal, code_of
+from labeltools.journal import SENDING, Entry, Journal, code_of
 from labeltools.layout import LaidOut
 from labeltools.lines_file import LineRecord
 from labeltools.messages import ToolError, sentence
 from labeltools.network import Broken
 from labeltools.press import Press, Prints
-from labeltools.report import places_text
+from labeltools.report import MOST_RANGES, places_text
 from labeltools.selection import words_of_rest
 from labeltools.text import NOTHING, Text, counted, joined
 
@@ -293,7 +293,7 @@ def doubts(
 
 def parts_of(found: Sequence[Any]) -> Iterator[Sequence[Any]]:
     """Yields what was found, as much of it as a message names."""
-    return (found[start : start + MOST_NAMED] for start in range(0, len(found), MOST_NAMED))
+    return (found[start : start + MOST_RANGES] for start in range(0, len(found), MOST_RANGES))
 
 
 def may_be_on_paper(printer: str) -> Text:

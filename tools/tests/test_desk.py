@@ -297,6 +297,40 @@ class Journals(Folder):
         Path(self.path).write_bytes(whole[:-5])
         self.said(printed("--journal", self.path), 1, "line 1: may be on paper, from tcp://a")
 
+    def test_what_is_said_of_a_mark_that_is_cut_off(self) -> None:
+        """Its label was sent, and is named; that of another lane is not, once the lane is read."""
+        journal = Journal(self.path, "tcp://a")
+        journal.claim(self.records[1])
+        journal.give_up()
+        journal.claim(self.records[0])
+        journal.take(self.records[0])
+        os.close(journal.file)
+        whole = Path(self.path).read_bytes()
+        start = whole[:-1].rfind(b"\n") + 1
+        lane = whole.rfind(b"lane 2") + 6
+        first, second = r"line 1 \(qr T00001\)", r"line 2 \(qr T00002\)"
+        for end in range(start + 1, len(whole) - 1):
+            Path(self.path).write_bytes(whole[:end])
+            again = Journal(self.path, "tcp://a")
+            both = "" if end >= lane else f"{second}, "
+            self.assertRegex(again.mended, f"taken out: {both}{first} may be on paper$")
+            self.assertTrue(self.is_doubtful(again, 0))
+            self.assertEqual(Path(self.path).read_bytes(), whole[:start])
+            os.close(again.file)
+
+    def test_a_mark_that_is_cut_to_another_code(self) -> None:
+        """It is the mark of no label but the one that waits for it."""
+        line = "2026-11-27T09:30:00Z\t{}\tlane {}\ttcp://a\trow {}\tqr {}\n"
+        sent = line.format("sending", 1, 12, "T00012")
+        other = line.format("sending", 2, 1, "T0001")
+        cut = line.format("taken", 1, 12, "T0001")[:-1]
+        for before in (sent, other + sent):
+            Path(self.path).write_text(f"#labels journal 1\n{before}{cut}")
+            done = printed("--journal", self.path, input=b"qr T0001\nqr T00012\n")
+            self.said(done, 1, r"was taken out: row 12 \(qr T00012\) may be on paper")
+            self.said(done, 1, "lines? (1-)?2: may be on paper, from tcp://a: look for it")
+            self.assertEqual(len(labels_in(done)), int(before == sent))
+
     def test_other_files_are_kept(self) -> None:
         for data in (b"Code;Name\n", b"#labels journal 2\n", b"#labels journal 1 x\n", b"\0" * 99):
             Path(self.path).write_bytes(data)

@@ -182,7 +182,7 @@ class Editors(Folder):
             last = lines[-1].replace(b"sending", word) + end
             journal.write_bytes(b"\n".join([*lines[:-1], last]))
             done = self.done_again()
-            self.said(done, 1, "its last line had no end, so its label may be on paper")
+            self.said(done, 1, r"its last line had no end: line 30 \(qr T00030\) may be on paper")
             self.said(done, 1, "line 30: may be on paper, from standard output")
             self.said(self.done_again(), 1, "line 30: may be on paper")
 
@@ -460,14 +460,15 @@ class Streams(Folder):
         done = support.run(*words, input=TICKETS, LABELS_LIBRARY="/no/such.so")
         self.said(done, 1, r"\Alabel-print: the library liblabels is not there: .*\n\Z")
 
-    def test_a_line_that_was_cut_off_is_no_answer(self) -> None:
-        """What is said of a journal would be taken for the answer to the first line."""
+    def test_a_line_that_was_cut_off_is_said_before_the_answers(self) -> None:
+        """It begins as no answer does."""
         journal = Journal(self.path, "tcp://a")
         journal.claim(self.records[0])
         os.close(journal.file)
         Path(self.path).write_bytes(Path(self.path).read_bytes()[:-20])
         done = printed("--stream", "--journal", self.path, input=TICKETS[:10])
-        self.said(done, 0, r"\Ataken 1 .*\n\Z")
+        said = "its last line was cut off, and was taken out: its label was not sent"
+        self.said(done, 0, rf"\Alabel-print: .*/journal: {said}\ntaken 1 .*\n\Z")
 
 
 def stream_size(stream: "subprocess.Popen[bytes]", fifo: str, lines: bytes) -> int:
