@@ -20,7 +20,7 @@ import sys
 from io import BufferedReader, RawIOBase
 from queue import Queue
 from threading import Thread
-from typing import Any, BinaryIO, Iterator, NamedTuple, NoReturn, Optional
+from typing import Any, BinaryIO, Iterator, NamedTuple, NoReturn, Optional, Sequence
 
 from labeltools.command_line import ENDING, hold_signals
 from labeltools.engine import LABELS_FAILED, Engine, run_labels
@@ -39,6 +39,7 @@ MOST_AHEAD = 1000  # lines of a FIFO that wait to be printed
 LOOK = 5.0  # seconds between two looks whether a FIFO has its name still
 CUT_OFF = Text("cut off before its line end")
 TOO_LONG = Text("longer than {} bytes", LONGEST)
+TWO_OBJECTS = Text("there are two objects before it")
 LONG_OBJECT = Text("the object before it is longer than {} bytes", LONGEST)
 TAKEN = "taken"
 REFUSED = "refused"
@@ -59,13 +60,24 @@ class Known(Exception):
     """A line whose code was sent before."""
 
 
-class Job(NamedTuple):
-    """A line with its number and the object before it; what is wrong with it where something is."""
+class Part(NamedTuple):
+    """A line with its number, and what is wrong with it where something is."""
 
     number: int
-    remark: bytes
     line: bytes
     fault: Text = NOTHING
+
+
+class Job(NamedTuple):
+    """A line of labels(1), and the object before it where there is one."""
+
+    part: Part
+    before: Optional[Part]
+
+    @property
+    def parts(self) -> Sequence[Part]:
+        """What is read."""
+        return [self.before, self.part] if self.before else [self.part]
 
 
 class Fifo(RawIOBase):
@@ -152,15 +164,15 @@ class Ahead:
 Source = BinaryIO | Ahead
 
 
-def source_of(path: Optional[str]) -> Source:
-    """Returns what lines come from; raises `ToolError` and `OSError`."""
+def source_of(path: Optional[str]) -> tuple[str, Source]:
+    """Returns what lines come from, with its name; raises `ToolError` and `OSError`."""
     if path is None or path == "-":
         if sys.stdin is None:
             raise ToolError(Text("standard input is closed"))
-        return sys.stdin.buffer
+        return Text("standard input"), sys.stdin.buffer
     if stat.S_ISFIFO(os.stat(path).st_mode):
-        return Ahead(Fifo(path))
-    return open(path, "rb")
+        return path, Ahead(Fifo(path))
+    return path, open(path, "rb")
 
 
 def next_line(source: Source) -> bytes:
@@ -185,35 +197,35 @@ def fault_of(line: bytes, source: Source) -> Text:
 
 
 def jobs(source: Source) -> Iterator[Job]:
-    """Yields each line with data as soon as it is there; of a FIFO, for ever. A line whose object
-    is too long is not printed without it.
+    """Yields each line with data as soon as it is there; of a FIFO, for ever. What is wrong with
+    the object before a line is wrong with the line.
     """
-    remark = b""
-    waiting = NOTHING  # what is wrong with the object before a line
+    before: Optional[Part] = None
     number = 0
     while (line := next_line(source)) or isinstance(source, Ahead):
         if not line:
-            remark = b""
-            waiting = NOTHING
+            before = None
             continue
         number += 1
         fault = fault_of(line, source)
         data = line.removesuffix(b"\n")
         if data.startswith(OBJECT) and fault is not CUT_OFF:
-            remark = b"" if fault or data.startswith(SKIPPED) else line
-            waiting = LONG_OBJECT if fault else NOTHING
+            wrong = LONG_OBJECT if fault else TWO_OBJECTS if before else NOTHING
+            before = None if data.startswith(SKIPPED) else Part(number, data, wrong)
         elif data and (fault is CUT_OFF or not data.startswith(b"#")):
-            yield Job(number, remark, data, fault or waiting)
-            remark = b""
-            waiting = NOTHING
+            yield Job(Part(number, data, fault), before)
+            before = None
 
 
 class Stream:
     """Prints lines one by one."""
 
-    def __init__(self, options: PrintOptions, job: PrintJob, sender: Sender) -> None:
-        """Takes how lines are printed; raises `ToolError` where none can be."""
+    def __init__(self, name: str, options: PrintOptions, job: PrintJob, sender: Sender) -> None:
+        """Takes what lines come from, and how they are printed; raises `ToolError` where none can
+        be.
+        """
         Engine(options.words)
+        self.name = name
         self.options = options
         self.job = job
         self.sender = sender
@@ -224,7 +236,7 @@ class Stream:
 
     def answer(self, job: Job) -> tuple[str, Text]:
         """Prints a line, and returns the word and the text of its answer."""
-        text = job.line.decode("utf-8", "backslashreplace")
+        text = job.part.line.decode("utf-8", "backslashreplace")
         try:
             return TAKEN, Text("{} {}", self.print(job), text)
         except Known:
@@ -251,8 +263,9 @@ class Stream:
         """Prints a label and returns how many bytes it has; raises `Refused`, `Known`,
         `Unreachable` and `Broken`.
         """
-        if job.fault:
-            raise Refused(job.fault)
+        for part in reversed(job.parts):
+            if part.fault:
+                raise Refused(part.fault)
         record, found = self.laid_out(job)
         code = record.symbology, record.data
         if self.options.is_unique and code in self.seen:
@@ -278,10 +291,11 @@ class Stream:
 
     def laid_out(self, job: Job) -> tuple[LineRecord, Prepared]:
         """Returns a line with its label; raises `Refused`."""
-        data = job.remark + job.line + b"\n"
+        data = b"".join(part.line + b"\n" for part in job.parts)
+        numbers = [part.number for part in job.parts]
         try:
-            lines = read_lines(data, Text("the line"), "--escapes" in self.options.words)
-            drawn = run_labels(data, self.options.words, Silence())
+            lines = read_lines(data, self.name, "--escapes" in self.options.words, numbers)
+            drawn = run_labels(data, self.options.words, Silence(), numbers)
             found = DrawnLines(lines, drawn)
             done = prepared(self.options, self.job, found, Silence(), self.letters, False)
         except ToolError as error:
@@ -311,13 +325,14 @@ def run(options: PrintOptions, job: PrintJob, path: Optional[str], sender: Sende
     if sys.__stderr__ is None:
         return 1
     status = 0
-    stream = Stream(options, job, sender)
-    for one in jobs(source_of(path)):
+    name, source = source_of(path)
+    stream = Stream(name, options, job, sender)
+    for one in jobs(source):
         with hold_signals():
             word, text = stream.answer(one)
             status = status if word == TAKEN else 1
             try:
-                print(word, one.number, visible(translated(text)), file=sys.stderr, flush=True)
+                print(word, one.part.number, visible(translated(text)), file=sys.stderr, flush=True)
             except OSError:
                 return 1
         if stream.is_at_end:

@@ -441,6 +441,29 @@ class Streams(Starts):
         self.assertEqual(refused, "refused 2 the object before it is longer than 65536 bytes")
         self.assertRegex(taken, "^taken 4 .* qr B$")
 
+    def test_two_objects_before_a_line(self) -> None:
+        """One of them is that of a line which got lost: a plain run refuses such a file, too."""
+        lines = b'#{"title":"A"}\n#{"title":"B"}\nqr A\n#{"title":"C"}\nqr C\n'
+        done = printed("--stream", input=lines)
+        refused, taken = done.stderr.decode().splitlines()
+        self.assertEqual(refused, "refused 3 there are two objects before it")
+        self.assertRegex(taken, "^taken 5 .* qr C$")
+        self.assertEqual(labels_in(done), labels_in(printed(input=b'#{"title":"C"}\nqr C\n')))
+        self.said(printed(input=lines), 1, "something is missing before line 2")
+
+    def test_what_is_wrong_with_an_object_names_its_line(self) -> None:
+        lines = b'qr A\n#{"title":1}\n\n# remark\nqr B\n'
+        Path(self.folder, "lines").write_bytes(lines)
+        for name, path in (("standard input", "-"), ("lines", f"{self.folder}/lines")):
+            done = printed("--stream", path, input=lines)
+            self.said(done, 1, f"\nrefused 5 (.*/)?{name}: line 2: not understood: .title.\n")
+
+    def test_the_places_in_a_journal_are_those_of_the_lines(self) -> None:
+        lines = b'qr A\n\n#{"row":7}\nqr B\n#{"title":"C"}\n# remark\nqr C\n'
+        printed("--stream", "--journal", self.path, input=lines)
+        places = [line.split("\t")[4] for line in Path(self.path).read_text().splitlines()[1:]]
+        self.assertEqual(places[::2], ["line 1", "row 7", "line 7"])
+
     def test_a_fifo_that_another_file_has_replaced(self) -> None:
         """Nobody can write to it any more."""
         fifo = Path(self.folder, "till")
