@@ -10,7 +10,7 @@ from io import BytesIO
 from typing import Any, Iterable, Iterator, Mapping, Optional, Protocol, Sequence, Sized
 
 from labeltools.command_line import hold_signals, standard_output
-from labeltools.files import send
+from labeltools.files import Unwritten, send
 from labeltools.forms import ZPL
 from labeltools.journal import SENDING, Entry, Journal, code_of
 from labeltools.layout import LaidOut
@@ -23,6 +23,10 @@ from labeltools.selection import words_of_rest
 from labeltools.text import NOTHING, Text, counted, joined
 
 OUTPUT = "standard output"
+
+
+class Untaken(ToolError):
+    """Standard output that took nothing of a label."""
 
 
 class Outlet(Protocol):
@@ -56,14 +60,15 @@ class StandardOutput:
         return standard_output()
 
     def send(self, data: bytes) -> None:
-        """Writes a whole label; raises `Broken` where it does not take it."""
+        """Writes a whole label; raises `Untaken` where nothing of it is there, and `Broken`."""
         output = standard_output().fileno()
         try:
             send(BytesIO(data), output)
             if self.is_synced and stat.S_ISREG(os.fstat(output).st_mode):
                 os.fdatasync(output)
         except OSError as error:
-            raise Broken(Text("{}: {}", OUTPUT, error.strerror)) from error
+            kind = Untaken if isinstance(error, Unwritten) else Broken
+            raise kind(Text("{}: {}", OUTPUT, error.strerror)) from error
 
     def close(self) -> None:
         """Does nothing: it is closed at the end of the tool."""
@@ -116,7 +121,7 @@ class Sender:
                 raise self.stopped(item, prints)
             try:
                 self.send(press, item, copies, not self.sent)
-            except Broken as error:
+            except (Broken, Untaken) as error:
                 what = Text("{}: {}", error.what, self.so_far())
                 raise ToolError(what, self.advice(error, item, prints)) from error
             except ToolError as error:
@@ -168,15 +173,21 @@ class Sender:
         return is_ours
 
     def give(self, record: LineRecord, documents: Iterable[bytes], is_last: bool) -> None:
-        """Gives a label to the printer, and writes that it was taken; raises `Broken`."""
+        """Gives a label to the printer, and writes that it was taken; raises `Broken`, and
+        `Untaken` where the journal has nothing of it either.
+        """
+        is_begun = self.journal is not None
         try:
             for document in documents:
                 self.outlet.send(document)
+                is_begun = True
             if is_last:
                 self.outlet.close()
-        except Broken:
+        except (Broken, Untaken) as error:
             self.is_at_end = self.outlet.name == OUTPUT
             self.give_up()
+            if is_begun:
+                raise Broken(error.what, error.hint) from error
             raise
         if self.journal is not None:
             try:
@@ -202,7 +213,7 @@ class Sender:
         """Returns how many labels went out whole."""
         return counted("it took {} label whole", "it took {} labels whole", self.taken)
 
-    def advice(self, error: Broken, item: LaidOut, prints: Prints) -> Text:
+    def advice(self, error: ToolError, item: LaidOut, prints: Prints) -> Text:
         """Returns what to do where a label went out in part."""
         place = item.label.record.place
         if error.hint:

@@ -557,7 +557,7 @@ class Streams(Folder):
         stream.stdout.close()
         stream.stdin.write(b"qr A\nqr B\n")
         stream.stdin.close()
-        self.assertEqual(stream.stderr.read(), b"doubtful 1 standard output: Broken pipe\n")
+        self.assertEqual(stream.stderr.read(), b"unsent 1 standard output: Broken pipe\n")
         self.assertEqual(stream.wait(), 1)
 
     def test_nobody_reads_the_answers(self) -> None:
