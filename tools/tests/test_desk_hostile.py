@@ -7,6 +7,7 @@ import os
 import signal
 import socket
 import subprocess
+import threading
 import time
 import unittest
 from contextlib import suppress
@@ -16,7 +17,7 @@ from typing import Callable
 from unittest import mock
 
 import support
-from labeltools import files, sending, stream
+from labeltools import files, network, sending, stream
 from labeltools.journal import Journal
 from labeltools.network import Broken, NetworkPrinter
 from printers import LABEL, Printer
@@ -135,6 +136,27 @@ class Connections(Starts):
         with self.assertRaises(Broken):
             outlet.send(label)
         self.assertEqual(printer.labels, [label])
+
+    def test_one_that_a_printer_ends_first_and_then_breaks_off(self) -> None:
+        """It says goodbye, and throws bytes away: only while we have not ended it is that seen."""
+        for is_read in (True, False):
+            with socket.create_server(("127.0.0.1", 0)) as server:
+                outlet = NetworkPrinter(f"tcp://127.0.0.1:{server.getsockname()[1]}")
+                line = outlet.open()
+                printer, _ = server.accept()
+            outlet.send(b"label")
+            printer.recv(5 if is_read else 1)
+            printer.shutdown(socket.SHUT_WR)
+            while not network.has_ended(line):
+                time.sleep(0.001)
+            late = threading.Timer(0.02, printer.close)  # it breaks off with something unread
+            late.start()
+            if is_read:
+                outlet.close()
+                continue
+            with mock.patch("labeltools.network.REGRET", 5.0, create=True):
+                self.assertRaises(Broken, outlet.close)
+            late.join()
 
     def test_a_stream_leaves_a_printer_to_the_lane_that_has_the_label(self) -> None:
         """It has connected, and finds that another lane was first."""
@@ -343,10 +365,10 @@ class Ends(Folder):
         self.assertEqual(Path(path).read_bytes(), label)
         copies = b'#{"copies":2}\nqr A\n'
         size = len(printed("--to", "escpos", input=b"qr A\n").stdout)
-        found = self.answers(path, size + 9, copies, "--to", "escpos")
-        self.assertRegex(found, b"^doubtful 2 standard output: File too large\n$")
-        found = self.answers("/dev/full", 999, b"qr A\n", "--journal", self.path)
-        self.assertRegex(found, b"^doubtful 1 standard output: No space left on device\n$")
+        answer = self.answers(path, size + 9, copies, "--to", "escpos")
+        self.assertRegex(answer, b"^doubtful 2 standard output: File too large\n$")
+        answer = self.answers("/dev/full", 999, b"qr A\n", "--journal", self.path)
+        self.assertRegex(answer, b"^doubtful 1 standard output: No space left on device\n$")
 
     def test_what_is_on_the_disk_when_the_power_fails(self) -> None:
         """The name of a new journal, each label of a file before its mark."""
