@@ -364,7 +364,8 @@ def on_paper(found: Sequence[tuple[bytes, Entry]]) -> Text:
 
 def code_of(record: LineRecord) -> bytes:
     """Returns the code of a line as it stands in a journal."""
-    return record.symbology.encode("utf-8", "replace") + b" " + escaped(record.data)
+    symbology, data = record.key
+    return symbology.encode("utf-8", "replace") + b" " + escaped(data)
 
 
 def escaped(data: bytes) -> bytes:

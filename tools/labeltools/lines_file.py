@@ -95,6 +95,15 @@ class LineRecord(NamedTuple):
     line: bytes
 
     @property
+    def key(self) -> tuple[str, bytes]:
+        """The symbology and the data of its code; the bars of UPC-A are those of the EAN-13 with a
+        zero before it.
+        """
+        if self.symbology == "upca":
+            return "ean13", b"0" + self.data
+        return self.symbology, self.data
+
+    @property
     def place(self) -> Place:
         """What messages name: the row of the table, or else the line."""
         if self.label.row:

@@ -116,7 +116,9 @@ def design_of(argument: str) -> str:
 def rows(argument: str) -> str:
     """Returns rows such as 2,7-9 or 7-."""
     ranges = re.findall(r"(\d+)-(\d+)", argument)
-    if not ROWS.fullmatch(argument) or any(int(first) > int(last) for first, last in ranges):
+    is_backward = any(int(first) > int(last) for first, last in ranges)
+    has_zero = 0 in map(int, re.findall(r"\d+", argument))
+    if not ROWS.fullmatch(argument) or is_backward or has_zero:
         raise wrong_argument(Text("{!r} is not as 2,7-9 or 7-", argument))
     return argument
 
@@ -128,16 +130,21 @@ def filled(argument: str) -> str:
     return argument
 
 
+def outlet_of(argument: str) -> str:
+    """Returns the name of a printer as a journal has it."""
+    scheme, colon, rest = filled(argument).partition("://")
+    return f"{scheme.lower()}{colon}{rest}" if colon else argument
+
+
 def printer_of(argument: str) -> str:
     """Returns the name of a queue of CUPS, or of a printer in the network."""
-    scheme, colon, rest = filled(argument).partition("://")
-    name = f"{scheme.lower()}{colon}{rest}"
+    name = outlet_of(argument)
     if name.startswith(SCHEME):
         try:
             address_of(name)
         except ToolError as error:
             raise wrong_argument(error.what) from error
-    elif colon:
+    elif "://" in name:
         raise wrong_argument(Text("{!r} is not as tcp://HOST, or a queue of CUPS", argument))
     return name
 
@@ -212,7 +219,7 @@ def add_choice_options(parser: argparse.ArgumentParser) -> None:
     add("--first", metavar="N", type=count, default=PrintOptions.first, help=first)
     only = "print these rows of the table alone, such as 2,7-9 or 7- for all from 7 on"
     add("--only", metavar="ROWS", type=rows, dest="rows_only", help=only)
-    code = "print the label with this code alone, or those of @FILE, a code on each line"
+    code = "print the label with this code; with --only those of either. @FILE: a code on each line"
     add(
         "--only-code",
         metavar="CODE",
@@ -246,7 +253,7 @@ def add_output_options(parser: argparse.ArgumentParser) -> None:
     )
     add("--journal", metavar="FILE", type=filled, help=journal)
     again = "with --only or --only-code: print what the journal has of this printer once more"
-    add("--again", metavar="PRINTER", type=filled, help=again)
+    add("--again", metavar="PRINTER", type=outlet_of, help=again)
     stream = "print each label as soon as its line has come in, and answer on standard error"
     add("--stream", action="store_true", dest="is_stream", help=stream)
     dots = "escpos: dots across the paper (576)"

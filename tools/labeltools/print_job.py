@@ -317,7 +317,7 @@ def doubles(lines: LinesFile, refused: Mapping[int, Text]) -> Mapping[int, Text]
         if record.label.copies > 1:
             found[record.number] = Text("has copies, and each code is printed once")
             continue
-        earlier = first.setdefault((record.symbology, record.data), record.place)
+        earlier = first.setdefault(record.key, record.place)
         if earlier != record.place:
             found[record.number] = Text("has the code of {}", earlier.text)
     return found

@@ -138,7 +138,7 @@ class Sender:
             self.outlet.close()
         except Broken as error:
             what = Text("{}: {}", error.what, self.so_far())
-            raise ToolError(what, self.advice_at_end()) from error
+            raise ToolError(what, self.last_on_paper()) from error
 
     def send(
         self, press: Press, item: LaidOut, copies: int, is_first: bool, is_last: bool = False
@@ -224,11 +224,7 @@ class Sender:
             )
             if not self.sent:
                 return text
-            last = self.sent[-1].label.record.place.text
-            words = f"--only --again {typed(self.outlet.name)}"
-            return Text(
-                "look that {} is on paper, or print what is missing by {}; {}", last, words, text
-            )
+            return joined("; ", (self.last_on_paper(), text))
         return self.rest(item, prints)
 
     def rest(self, item: LaidOut, prints: Prints) -> Text:
@@ -251,11 +247,12 @@ class Sender:
             return ToolError(what, Text("the same command prints what is missing"))
         return ToolError(what, self.rest(item, prints))
 
-    def advice_at_end(self) -> Text:
-        """Returns what to do where the printer broke off after the last label."""
+    def last_on_paper(self) -> Text:
+        """Returns how labels are printed that a printer forgot which took them."""
+        last = self.sent[-1].label.record.place.text
         again = f" --again {typed(self.outlet.name)}" if self.journal is not None else ""
-        words = f"--only{again}"
-        return Text("look at the last one on paper, and print what is missing by {}", words)
+        words = f"--only ROWS{again}"
+        return Text("look that {} is on paper, or print what is missing by {}", last, words)
 
     def doubt(self, record: LineRecord) -> Text:
         """Returns what to do about a label that was sent, but is not known to be taken; nothing

@@ -267,8 +267,7 @@ class Stream:
             if part.fault:
                 raise Refused(part.fault)
         record, found = self.laid_out(job)
-        code = record.symbology, record.data
-        if self.options.is_unique and code in self.seen:
+        if self.options.is_unique and record.key in self.seen:
             raise Known
         size = 0
         for item in found.labels:
@@ -278,7 +277,7 @@ class Stream:
             if not size:
                 self.raise_known(record)
         if self.options.is_unique and self.sender.journal is None:
-            self.seen.add(code)
+            self.seen.add(record.key)
         return size
 
     def raise_known(self, record: LineRecord) -> NoReturn:

@@ -66,6 +66,12 @@ class Folder(unittest.TestCase):
         """Whether the label of a line of TICKETS, from 0, is in doubt."""
         return code_of(self.records[number]) in journal.doubtful()
 
+    def answers(self, input: bytes, *words: str) -> list[str]:
+        """The answers to lines."""
+        done = printed("--stream", *words, input=input)
+        self.assertEqual(done.stderr.count(b"\n"), len(done.stderr.splitlines()))
+        return done.stderr.decode().splitlines()
+
     def answer(self, stream: "subprocess.Popen[bytes]", line: bytes) -> str:
         """The answer to a line."""
         assert stream.stdin and stream.stderr
@@ -98,6 +104,7 @@ class Chosen(Folder):
         self.said(printed("--only-code", f"@{self.folder}/no"), 1, "no: No such file")
 
     def test_few_are_named(self) -> None:
+        """Rows and codes together are the labels of either."""
         done = printed("--only", "3", "--only-code", "T00007", "--summary")
         self.said(done, 0, "2 labels: line 3, T00003; line 7, T00007")
 
@@ -110,6 +117,21 @@ class Chosen(Folder):
         self.assertEqual(len(labels_in(done)), 3)
         copies = support.file_of([("qr A", {"copies": 2}), ("qr B", {})])
         self.said(printed("--unique", input=copies), 1, "row 2: has copies")
+
+    def test_the_bars_of_upca_are_those_of_an_ean13(self) -> None:
+        """A code is one, however its line has it."""
+        lines = b"upca 03600029145\nean13 003600029145\nean13 4006381333931\n"
+        self.said(printed("--unique", input=lines), 1, "line 2: has the code of line 1")
+        found = self.answers(lines, "--unique")
+        self.assertEqual([line.split()[0] for line in found], ["taken", "known", "taken"])
+        for line in lines.splitlines(keepends=True)[:2]:
+            for digits in ("0036000291452", "003600029145", "036000291452", "03600029145"):
+                done = printed("--only-code", digits, input=line)
+                self.assertEqual((done.returncode, len(labels_in(done))), (0, 1), done.stderr)
+            done = printed("--journal", self.path, input=line)
+            self.assertEqual(done.returncode, 0, done.stderr)
+        self.assertEqual(self.events(), ["sending", "taken"])
+        self.said(printed("--only-code", "00360002914", input=lines), 1, "but not in the input")
 
     def test_a_last_line_that_may_be_cut_off(self) -> None:
         done = printed(input=b"code128 PALLET-4711\ncode128 PALLET-47")
@@ -468,12 +490,6 @@ class Streams(Folder):
         self.addCleanup(ended, stream)
         return stream
 
-    def answers(self, input: bytes, *words: str) -> list[str]:
-        """The answers to lines."""
-        done = printed("--stream", *words, input=input)
-        self.assertEqual(done.stderr.count(b"\n"), len(done.stderr.splitlines()))
-        return done.stderr.decode().splitlines()
-
     def test_answers_and_bytes(self) -> None:
         lines = [
             b"qr A\n",
@@ -494,6 +510,12 @@ class Streams(Folder):
         stream.stdin.close()
         self.assertEqual(stream.stderr.read(), b"refused 6 cut off before its line end\n")
         self.assertEqual(stream.wait(), 1)
+
+    def test_the_status(self) -> None:
+        """Each line was taken, or one was not, though it is known."""
+        for status, word in ((0, "taken"), (1, "known")):
+            done = printed("--stream", "--journal", self.path, input=b"qr A\n")
+            self.said(done, status, f"^{word} 1 ")
 
     def test_lines_that_have_no_label(self) -> None:
         lines = {

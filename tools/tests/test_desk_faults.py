@@ -43,10 +43,12 @@ class Printers(Folder):
         """A connection that is reset says that bytes were thrown away."""
         printer = Printer(rude=True).start()
         done = printed("--print", printer.name)
-        self.said(done, 1, "the printer broke off at the end: it took 30 labels whole; look at")
-        self.said(done, 1, "print what is missing by --only\n")
+        self.said(done, 1, "the printer broke off at the end: it took 30 labels whole; look that")
+        self.said(
+            done, 1, "look that line 30 is on paper, or print what is missing by --only ROWS\n"
+        )
         done = printed("--print", printer.name, "--journal", self.path)
-        self.said(done, 1, f"what is missing by --only --again {printer.name}\n")
+        self.said(done, 1, f"line 30 is on .* is missing by --only ROWS --again {printer.name}\n")
 
     def test_a_stream_to_one_that_hangs_up(self) -> None:
         """Its system takes each label, and it reads none."""
@@ -77,6 +79,10 @@ class Printers(Folder):
         for name in (*names, " ", "socket://till-3", "ipp://till-3/ipp"):
             self.said(printed("--print", name), 2, "argument --print: ")
         self.said(printed("--print", "TCP://no.invalid"), 1, "line 1 and what follows it were not")
+        printer = Printer().start()
+        words = ("--print", printer.name.upper(), "--journal", self.path, "--only", "1")
+        for again in ((), ("--again", printer.name.upper())):
+            self.said(printed(*words, *again), 0, "1 label taken by tcp://127")
 
     def test_what_a_variable_without_a_value_leaves_empty(self) -> None:
         for word in ("--journal", "--again", "--only-code"):
@@ -133,7 +139,8 @@ class Rows(Folder):
         self.said(done, 1, "No space left on device: it took 0 labels whole; .* by --only 1-\n")
 
     def test_rows_that_no_table_has(self) -> None:
-        self.said(printed("--only", "9-7"), 2, "'9-7' is not as 2,7-9 or 7-")
+        for rows in ("9-7", "0-", "0", "2,0-3", "00"):
+            self.said(printed("--only", rows), 2, f"'{rows}' is not as 2,7-9 or 7-")
         done = printed("--only", "2,2000000")
         self.said(done, 1, "row 2000000: of --only, but not in the input")
         self.assertEqual(len(labels_in(done)), 1)
