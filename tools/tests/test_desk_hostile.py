@@ -339,7 +339,7 @@ class Ends(Folder):
         self.said(done, -signal.SIGTERM, "label-print: it is off: it took 0 labels whole; look at")
         self.said(done, -signal.SIGTERM, "then print from line 1 on by --only 1-\n")
 
-    def answers(self, path: str, room: int, lines: bytes, *words: str) -> bytes:
+    def limited_answers(self, path: str, room: int, lines: bytes, *words: str) -> bytes:
         """The answers of a stream to a file that takes so many bytes."""
         code = START.format(code=LIMIT.format(size=room))
         command = ["/usr/bin/python3", "-c", code, *ROLL, "--stream", *words]
@@ -359,15 +359,15 @@ class Ends(Folder):
         path = f"{self.folder}/labels"
         label = b"".join(labels_in(printed(input=b"qr A\n")))
         for name, room in (("/dev/full", 9), (path, len(label) - 1), (path, 2 * len(label) - 1)):
-            found = self.answers(name, room, b"qr A\nqr B\n").splitlines()
+            found = self.limited_answers(name, room, b"qr A\nqr B\n").splitlines()
             self.assertRegex(found[-1], rb"^unsent (1|2) standard output: (No space|File too)")
             self.assertEqual([line[:7] for line in found[:-1]], [b"taken 1"] * (room // len(label)))
         self.assertEqual(Path(path).read_bytes(), label)
         copies = b'#{"copies":2}\nqr A\n'
         size = len(printed("--to", "escpos", input=b"qr A\n").stdout)
-        answer = self.answers(path, size + 9, copies, "--to", "escpos")
+        answer = self.limited_answers(path, size + 9, copies, "--to", "escpos")
         self.assertRegex(answer, b"^doubtful 2 standard output: File too large\n$")
-        answer = self.answers("/dev/full", 999, b"qr A\n", "--journal", self.path)
+        answer = self.limited_answers("/dev/full", 999, b"qr A\n", "--journal", self.path)
         self.assertRegex(answer, b"^doubtful 1 standard output: No space left on device\n$")
 
     def test_what_is_on_the_disk_when_the_power_fails(self) -> None:
