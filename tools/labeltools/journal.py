@@ -33,6 +33,7 @@ from labeltools.selection import few
 from labeltools.text import NOTHING, Text
 
 HEAD = b"#labels journal 1\n"
+UPCA = b"upca "
 SENDING = b"sending"
 TAKEN = b"taken"
 MOST_LANES = 64
@@ -342,6 +343,8 @@ def entry_in(line: bytes, number: int) -> Optional[tuple[bytes, Entry]]:
     if found is None:
         return None
     event, lane, printer, place, code = found.groups()
+    if code.startswith(UPCA):  # as version 1.1.0 wrote it: see `LineRecord.key`
+        code = b"ean13 0" + code.removeprefix(UPCA)
     return code, Entry(number, event, int(lane), printer, place)
 
 

@@ -61,23 +61,11 @@ class Known(Exception):
 
 
 class Part(NamedTuple):
-    """A line with its number, and what is wrong with it where something is."""
+    """A line, or the object before it, with its number, and why it is refused where it is."""
 
     number: int
     line: bytes
     fault: Text = NOTHING
-
-
-class Job(NamedTuple):
-    """A line of labels(1), and the object before it where there is one."""
-
-    part: Part
-    before: Optional[Part]
-
-    @property
-    def parts(self) -> Sequence[Part]:
-        """What is read."""
-        return [self.before, self.part] if self.before else [self.part]
 
 
 class Fifo(RawIOBase):
@@ -196,25 +184,25 @@ def fault_of(line: bytes, source: Source) -> Text:
     return TOO_LONG
 
 
-def jobs(source: Source) -> Iterator[Job]:
-    """Yields each line with data as soon as it is there; of a FIFO, for ever. What is wrong with
-    the object before a line is wrong with the line.
+def jobs(source: Source) -> Iterator[Sequence[Part]]:
+    """Yields each line with data as soon as it is there, behind the object before it where there is
+    one; of a FIFO, for ever.
     """
-    before: Optional[Part] = None
+    before: list[Part] = []
     number = 0
     while (line := next_line(source)) or isinstance(source, Ahead):
         if not line:
-            before = None
+            before = []
             continue
         number += 1
         fault = fault_of(line, source)
         data = line.removesuffix(b"\n")
         if data.startswith(OBJECT) and fault is not CUT_OFF:
             wrong = LONG_OBJECT if fault else TWO_OBJECTS if before else NOTHING
-            before = None if data.startswith(SKIPPED) else Part(number, data, wrong)
+            before = [] if data.startswith(SKIPPED) else [Part(number, data, wrong)]
         elif data and (fault is CUT_OFF or not data.startswith(b"#")):
-            yield Job(Part(number, data, fault), before)
-            before = None
+            yield [*before, Part(number, data, fault)]
+            before = []
 
 
 class Stream:
@@ -234,11 +222,11 @@ class Stream:
         self.seen: set[tuple[str, bytes]] = set()
         self.status = 0
 
-    def answer(self, job: Job) -> tuple[str, Text]:
+    def answer(self, parts: Sequence[Part]) -> tuple[str, Text]:
         """Prints a line, and returns the word and the text of its answer."""
-        text = job.part.line.decode("utf-8", "backslashreplace")
+        text = parts[-1].line.decode("utf-8", "backslashreplace")
         try:
-            return TAKEN, Text("{} {}", self.print(job), text)
+            return TAKEN, Text("{} {}", self.print(parts), text)
         except Known:
             return KNOWN, Text("{}", text)
         except Refused as refused:
@@ -259,14 +247,14 @@ class Stream:
         is_lost = journal is not None and journal.is_lost
         return bool(self.status) or self.sender.is_at_end or is_lost
 
-    def print(self, job: Job) -> int:
-        """Prints a label and returns how many bytes it has; raises `Refused`, `Known`,
-        `Unreachable` and `Broken`.
+    def print(self, parts: Sequence[Part]) -> int:
+        """Prints a label and returns how many bytes it has; raises `Refused`, `Known`, `ToolError`
+        where nothing went out, and `Broken`.
         """
-        for part in reversed(job.parts):
+        for part in parts:
             if part.fault:
                 raise Refused(part.fault)
-        record, found = self.laid_out(job)
+        record, found = self.laid_out(parts)
         if self.options.is_unique and record.key in self.seen:
             raise Known
         size = 0
@@ -288,10 +276,10 @@ class Stream:
             raise Broken(reason)
         raise Known
 
-    def laid_out(self, job: Job) -> tuple[LineRecord, Prepared]:
+    def laid_out(self, parts: Sequence[Part]) -> tuple[LineRecord, Prepared]:
         """Returns a line with its label; raises `Refused`."""
-        data = b"".join(part.line + b"\n" for part in job.parts)
-        numbers = [part.number for part in job.parts]
+        data = b"".join(part.line + b"\n" for part in parts)
+        numbers = [part.number for part in parts]
         try:
             lines = read_lines(data, self.name, "--escapes" in self.options.words, numbers)
             drawn = run_labels(data, self.options.words, Silence(), numbers)
@@ -326,12 +314,13 @@ def run(options: PrintOptions, job: PrintJob, path: Optional[str], sender: Sende
     status = 0
     name, source = source_of(path)
     stream = Stream(name, options, job, sender)
-    for one in jobs(source):
+    for parts in jobs(source):
         with hold_signals():
-            word, text = stream.answer(one)
+            word, text = stream.answer(parts)
             status = status if word == TAKEN else 1
+            said = visible(translated(text))
             try:
-                print(word, one.part.number, visible(translated(text)), file=sys.stderr, flush=True)
+                print(word, parts[-1].number, said, file=sys.stderr, flush=True)
             except OSError:
                 return 1
         if stream.is_at_end:

@@ -171,6 +171,14 @@ class Editors(Folder):
             self.said(self.done_again(), 0, "30 labels in .* already")
             self.assertEqual(journal.read_bytes(), changed)
 
+    def test_a_journal_of_version_1_1_0(self) -> None:
+        """It has a UPC-A as its line has it."""
+        line = "2026-11-27T09:30:00Z\ttaken\tlane 1\ttcp://a\tline 1\tupca 036000291452\n"
+        Path(self.path).write_text(f"#labels journal 1\n{line}")
+        for code in (b"upca 03600029145", b"ean13 0036000291452"):
+            done = printed("--journal", self.path, input=code + b"\n")
+            self.said(done, 0, "^label-print: 0 labels; 1 label in .* already\n$")
+
     def test_blanks_at_the_end_of_a_code_are_its_own(self) -> None:
         lines = b"qr A\nqr A \nqr A  \n"
         for count in (3, 0):
