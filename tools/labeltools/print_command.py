@@ -219,7 +219,10 @@ def add_choice_options(parser: argparse.ArgumentParser) -> None:
     add("--first", metavar="N", type=count, default=PrintOptions.first, help=first)
     only = "print these rows of the table alone, such as 2,7-9 or 7- for all from 7 on"
     add("--only", metavar="ROWS", type=rows, dest="rows_only", help=only)
-    code = "print the label with this code; with --only those of either. @FILE: a code on each line"
+    code = (
+        "print the label with this code, or those of @FILE, a code on each line; with --only those "
+        "of either"
+    )
     add(
         "--only-code",
         metavar="CODE",
