@@ -5,7 +5,7 @@ without one.
 import os
 import shlex
 import stat
-from contextlib import suppress
+from contextlib import contextmanager, suppress
 from io import BytesIO
 from typing import Any, Iterable, Iterator, Mapping, Optional, Protocol, Sequence, Sized
 
@@ -134,8 +134,14 @@ class Sender:
 
     def end(self) -> None:
         """Ends the way out after what was sent; raises `ToolError` where it broke off before."""
-        try:
+        with self.nothing_begun():
             self.outlet.close()
+
+    @contextmanager
+    def nothing_begun(self) -> Iterator[None]:
+        """Raises `ToolError` in place of `Broken`: what broke off are the labels before."""
+        try:
+            yield
         except Broken as error:
             what = Text("{}: {}", error.what, self.so_far())
             raise ToolError(what, self.last_on_paper()) from error
@@ -151,7 +157,8 @@ class Sender:
             self.known.add(code_of(record))
             return 0
         documents = list(written(press, item, copies, is_first))
-        self.outlet.open()
+        with self.nothing_begun():
+            self.outlet.open()
         if not self.claim(record, is_last):
             self.known.add(code_of(record))
             return 0
@@ -222,9 +229,7 @@ class Sender:
             text = Text(
                 "{} may be on paper: look there, then give the same command again", place.text
             )
-            if not self.sent:
-                return text
-            return joined("; ", (self.last_on_paper(), text))
+            return joined("; ", filter(None, (self.last_on_paper(), text)))
         return self.rest(item, prints)
 
     def rest(self, item: LaidOut, prints: Prints) -> Text:
@@ -248,7 +253,11 @@ class Sender:
         return ToolError(what, self.rest(item, prints))
 
     def last_on_paper(self) -> Text:
-        """Returns how labels are printed that a printer forgot which took them."""
+        """Returns how labels are printed that a printer forgot which took them; nothing where it
+        took none.
+        """
+        if not self.sent:
+            return NOTHING
         last = self.sent[-1].label.record.place.text
         again = f" --again {typed(self.outlet.name)}" if self.journal is not None else ""
         words = f"--only ROWS{again}"

@@ -339,6 +339,21 @@ class Ends(Folder):
         self.said(done, -signal.SIGTERM, "label-print: it is off: it took 0 labels whole; look at")
         self.said(done, -signal.SIGTERM, "then print from line 1 on by --only 1-\n")
 
+    def test_a_way_out_that_breaks_off_before_a_label(self) -> None:
+        """As of a printer that has ended the connection: of that label nothing was sent."""
+        code = "StandardOutput.open = lambda outlet, left=[0, 0]: left.pop() if left else broken()"
+        done = self.changed(code, "--journal", self.path)
+        self.said(done, 1, "it is off: it took 2 labels whole: line 3 and what follows it were not")
+        self.said(done, 1, "not sent; look that line 2 is on paper, or print what is missing by")
+        self.assertEqual(self.events(), ["sending", "taken"] * 2)
+
+    def test_a_way_out_that_breaks_off_after_no_label(self) -> None:
+        """All labels are those of another lane, and the connection was made for the first one."""
+        code = "StandardOutput.close = lambda outlet: broken()"
+        printed("--journal", self.path)
+        done = self.changed(code, "--journal", self.path)
+        self.said(done, 1, "^label-print: it is off: it took 0 labels whole\n$")
+
     def limited_answers(self, path: str, room: int, lines: bytes, *words: str) -> bytes:
         """The answers of a stream to a file that takes so many bytes."""
         code = START.format(code=LIMIT.format(size=room))
