@@ -62,8 +62,8 @@ class Entry(NamedTuple):
     number: int
     event: bytes
     lane: int
-    printer: bytes
-    place: bytes
+    printer: str
+    place: str
 
 
 class Journal:
@@ -72,7 +72,7 @@ class Journal:
     def __init__(self, path: str, printer: str) -> None:
         """Opens a journal, or makes it; raises `ToolError` where it is none, and `OSError`."""
         self.path = path
-        self.printer = printer.replace("\t", " ").encode("utf-8", "replace")
+        self.printer = printer.replace("\t", " ")
         flags = os.O_RDWR | os.O_CREAT | os.O_CLOEXEC | os.O_NONBLOCK  # it waits for no FIFO
         self.file = os.open(path, flags, 0o644)
         if not stat.S_ISREG(os.fstat(self.file).st_mode):
@@ -99,8 +99,7 @@ class Journal:
             found = self.entries.get(code)
             if found is not None:
                 is_old = self.before.get(code) == found
-                is_again = again is not None and found.printer == again.encode("utf-8", "replace")
-                if not is_again or not is_old or self.is_alive(found):
+                if found.printer != again or not is_old or self.is_alive(found):
                     return False
             self.write(SENDING, record)
         try:
@@ -265,11 +264,7 @@ class Journal:
         with suppress(FileNotFoundError):
             lines = Path(self.path).read_bytes().split(b"\n")
             found = {read[0] for line in lines if (read := entry_in(line.rstrip(ENDS), 0))}
-        lost = [
-            entry.place.decode("utf-8", "replace")
-            for code, entry in self.entries.items()
-            if code not in found
-        ]
+        lost = [entry.place for code, entry in self.entries.items() if code not in found]
         if not lost:
             return Text("nothing more is printed: give the same command again")
         named = few(lost, len(lost))
@@ -277,7 +272,7 @@ class Journal:
 
     def printers(self) -> set[str]:
         """Returns the printers that it has labels of."""
-        return {entry.printer.decode("utf-8", "replace") for entry in self.entries.values()}
+        return {entry.printer for entry in self.entries.values()}
 
     def learn(self, line: bytes) -> None:
         """Takes a line."""
@@ -295,8 +290,7 @@ class Journal:
     def write(self, event: bytes, record: LineRecord) -> None:
         """Writes a line."""
         now = time.strftime("%Y-%m-%dT%H:%M:%SZ", time.gmtime()).encode()
-        place = str(record.place).encode()
-        entry = Entry(self.lines + 1, event, self.lane, self.printer, place)
+        entry = Entry(self.lines + 1, event, self.lane, self.printer, str(record.place))
         self.append_entry(now, code_of(record), entry)
 
     def append_entry(self, now: bytes, code: bytes, entry: Entry) -> None:
@@ -345,13 +339,14 @@ def entry_in(line: bytes, number: int) -> Optional[tuple[bytes, Entry]]:
     event, lane, printer, place, code = found.groups()
     if code.startswith(UPCA):  # as version 1.1.0 wrote it: see `LineRecord.key`
         code = b"ean13 0" + code.removeprefix(UPCA)
-    return code, Entry(number, event, int(lane), printer, place)
+    texts = (text.decode("utf-8", "replace") for text in (printer, place))
+    return code, Entry(number, event, int(lane), *texts)
 
 
 def fields_of(code: bytes, entry: Entry) -> bytes:
     """Returns the line of a code without its time and its end."""
-    lane = b"lane %d" % entry.lane
-    return b"\t".join((entry.event, lane, entry.printer, entry.place, code))
+    texts = f"lane {entry.lane}\t{entry.printer}\t{entry.place}".encode("utf-8", "replace")
+    return b"\t".join((entry.event, texts, code))
 
 
 def is_mark(rest: bytes, code: bytes, entry: Entry) -> bool:
@@ -361,7 +356,7 @@ def is_mark(rest: bytes, code: bytes, entry: Entry) -> bool:
 
 def on_paper(found: Sequence[tuple[bytes, Entry]]) -> Text:
     """Returns which labels may be on paper."""
-    names = [f"{entry.place.decode('utf-8', 'replace')} ({code.decode()})" for code, entry in found]
+    names = [f"{entry.place} ({code.decode()})" for code, entry in found]
     return Text("{} may be on paper", few(names, len(names)))
 
 

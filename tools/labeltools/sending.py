@@ -280,7 +280,7 @@ class Sender:
         nothing.
         """
         entry = self.journal.entry(record) if self.journal else None
-        return name_of(entry) if entry and entry.event == SENDING else ""
+        return entry.printer if entry and entry.event == SENDING else ""
 
     def doubtful(self) -> Mapping[bytes, Entry]:
         """Returns the codes of labels of which it is not known whether they are on paper."""
@@ -293,7 +293,7 @@ def doubts(
     """Yields messages that name all labels in doubt: those of a file of lines by their places."""
     printers: dict[str, list[bytes]] = {}
     for code, entry in doubtful.items():
-        printers.setdefault(name_of(entry), []).append(code)
+        printers.setdefault(entry.printer, []).append(code)
     places = {code_of(record): record.place for record in reversed(records)} if printers else {}
     for printer, codes in printers.items():
         there = sorted(places[code] for code in codes if code in places)
@@ -318,11 +318,6 @@ def may_be_on_paper(printer: str) -> Text:
     reason = Text("may be on paper, from {}: look for it", printer)
     hint = Text("if it is not there, give --only-code CODE --again {}", typed(printer))
     return sentence(reason, hint)
-
-
-def name_of(entry: Entry) -> str:
-    """Returns the name of the printer of an entry, which another program may have written."""
-    return entry.printer.decode("utf-8", "replace")
 
 
 def typed(printer: str) -> str:
