@@ -193,8 +193,7 @@ def main() -> int:
     for name in {**wanted, **found}:
         if wanted.get(name) != found.get(name):
             faults.append(f"{name}: {found.get(name, 'none')}, and {wanted.get(name, 'none')} in {gate.COUNTS}")
-    print(*faults, f"{len(found)} numbers, {len(faults)} faults", sep="\n")
-    return 1 if faults else 0
+    return sources.ended(faults, f"{len(found)} numbers, {len(faults)} faults")
 
 
 if __name__ == "__main__":

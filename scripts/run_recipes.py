@@ -195,8 +195,8 @@ def with_turned_pixel(picture: Path, folder: Path) -> Path:
     return folder / "turned.png"
 
 
-def unseen() -> Iterator[str]:
-    """The wrong cases that are not reported, by their names."""
+def wrong_cases() -> Iterator[tuple[str, bool]]:
+    """Wrong cases before, between and behind right ones, each with whether it is reported alone."""
     one, another = sorted(PICTURES.glob("*.png"))[:2]
     right = Commands("echo right\n", "right\n")
     with tempfile.TemporaryDirectory() as name:
@@ -213,10 +213,10 @@ def unseen() -> Iterator[str]:
             "no picture": fault_of_picture(one, folder / one.name),
         }
     for name, fault in cases.items():
-        with contextlib.redirect_stdout(io.StringIO()) as said:
-            counts = judged(name, [fault])
-        if counts != (1, 0) or fault not in said.getvalue():
-            yield name
+        for place in range(3):
+            with contextlib.redirect_stdout(io.StringIO()) as said:
+                counts = judged(name, [""] * place + [fault] + [""] * (2 - place))
+            yield f"{name}, number {place} of three", counts == (3, 2) and fault in said.getvalue()
 
 
 def main() -> int:
@@ -231,13 +231,11 @@ def main() -> int:
         commands = {page: [*commands_of(page, given.kit)] for page in pages.RUN}
         manuals = {f"man/{page.name}": examples_of(page) for page in sorted((TOP / "man").glob("*.1"))}
         commands |= {name: found for name, found in manuals.items() if found or name == "man/labels.1"}
-        passes = [*unseen()]
-        for name in passes:
-            print(f"this wrong case is not reported: {name}")
+        passes, shown = sources.unreported(wrong_cases())
         counts = [judged(name, faults_of(name, found, program, given.kit)) for name, found in commands.items()]
     count, good = map(sum, zip(*counts))
-    print(f"{good} of {count} as printed")
-    return 0 if good == count and not passes else 1
+    passes += [] if good == count else [f"{count - good} are not"]
+    return sources.ended(passes, f"{good} of {count} as printed; {shown}")
 
 
 if __name__ == "__main__":

@@ -142,8 +142,8 @@ def main() -> int:
     found += [f"{one.place}: nothing calls the function {one.name}" for one in functions]
     definition_count = sum(len(file.declarations) for file in logic)
     counts = f"{definition_count} definitions and lemmas, {sum(len(file.imports) for file in files)} imported names"
-    print(*found, f"{counts}, {function_count} functions: {len(found)} unused", sep="\n")
-    return 1 if found or not definition_count or not function_count else 0
+    found += [] if definition_count and function_count else ["nothing to look at"]
+    return sources.ended(found, f"{counts}, {function_count} functions: {len(found)} unused")
 
 
 if __name__ == "__main__":

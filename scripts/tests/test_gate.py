@@ -253,11 +253,12 @@ class TakenAway(InCopy):
             status, said = self.judged("run_tests.py", "lib/tests")
         self.assertEqual((status, said), (1, "a test that did not pass is counted as one that did\n"))
         lints = module("lints")
-        for name in ("silenced", "too_long"):
+        for name, count in (("silenced", 6), ("too_long", 3)):
             with mock.patch.object(lints, name, return_value=[]), mock.patch.object(
                 lints, "all_lints", return_value=()
             ):
-                self.assertIn("a look into files finds nothing in: ", self.judged("lints.py")[1])
+                status, said = self.judged("lints.py")
+                self.assertEqual((status, said.count("this wrong case is not reported: ")), (1, count), said)
 
     def test_step_that_did_nothing(self) -> None:
         self.replace("scripts/refuse_each_growth.py", "print('0 passed, 0 failed')\n")
@@ -267,7 +268,8 @@ class TakenAway(InCopy):
         text = read(self.path("scripts/compare_symbols.py"))
         self.replace("scripts/compare_symbols.py", text.replace("return [label for", "return [] and [label for"))
         found = run_command([PYTHON, self.path("scripts/compare_symbols.py"), "/bin/true"])
-        self.assertEqual(found, (1, "0 labels: 0 read back, 0 of 0 as zint draws them; of those read back none\n"))
+        last = "0 labels: 0 read back, 0 of 0 as zint draws them; 0 wrong cases shown; of those read back none"
+        self.assertEqual(found, (1, f"no label to compare\n{last}\n"))
 
     def test_step_that_looked_at_less(self) -> None:
         script = "scripts/refuse_each_growth.py"
