@@ -140,7 +140,8 @@ class Rows(InCopy):
         self.replace(reading, text.replace("-- the decimal number that", "-- the number that"))
         status, said = self.check()
         self.assertEqual(status, 0, said)
-        self.assertRegex(said, r"^\d{4} changes of \d{3} definitions are refused, \d+ mean the same\n$")
+        said_so = r"^\d{4} changes of \d{3} definitions are refused, \d+ mean the same, sum [\da-f]{8}\n$"
+        self.assertRegex(said, said_so)
 
     def test_changes(self) -> None:
         """Another definition or worked value, a file without a result, a result without a file."""
