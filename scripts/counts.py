@@ -166,7 +166,8 @@ def faults_of_pages(wanted: Mapping[str, str]) -> Iterator[str]:
         right = re.search(place, wanted.get(step, ""))
         said = re.search(sentence, sources.read(page))
         if not right or not said or said[1] != f"{int(right[1]):,}":
-            yield f"{page}: {said[0] if said else f'no {sentence}'}, and {gate.COUNTS} has {wanted.get(step)}"
+            found = " ".join(said[0].split()) if said else f"no {sentence}"
+            yield f"{page}: {found}, and {gate.COUNTS} has {wanted.get(step)}"
 
 
 def main() -> int:

@@ -192,6 +192,72 @@ class TakenAway(InCopy):
         for *_, wanted in CHANGED_SCRIPTS:
             self.assertIn(wanted, said)
 
+    def faults_of(self, name: str) -> list[str]:
+        """What a step says of the copy before its last line, each without the number of its line."""
+        status, said = self.judged(name)
+        *lines, _ = said.rstrip("\n").split("\n")
+        self.assertEqual(status, int(bool(lines)), said)
+        return sorted(re.sub(r":\d+: ", ": ", line) for line in lines)
+
+    def test_each_page_is_looked_at(self) -> None:
+        """What is wrong at its begin and at its end."""
+        pages = module("pages")
+        os.chdir(self.folder)
+        self.addCleanup(os.chdir, TOP)
+        wanted = list[str]()
+        for page, text in pages.texts().items():
+            wrong = ["[a](none.md)", "[a](#none)", "```bash\nlabels\n```"]
+            found = ["a link to no file: none.md", "a link to no heading: #none", "no script reads blocks of bash"]
+            if page in pages.NAMING:
+                wrong.append("`nought_of_all`")
+                found.append("no `nought_of_all` in the code")
+            if page in pages.QUOTING:
+                wrong.append("```rust\nnought_of_all\n```")
+                found.append("this code is in no file that the page names above it")
+            if page not in pages.RUN:
+                wrong.append("```sh\nlabels\n```")
+                found.append("nothing runs the commands of this page: write them as text")
+            self.replace(page, "\n\n".join([*wrong, text, *wrong, ""]))
+            wanted += 2 * [f"{page}: {it}" for it in found]
+        lines = [line for line in self.faults_of("pages.py") if " and at most " not in line]
+        self.assertEqual(lines, sorted(wanted))
+
+    def test_each_page_of_a_crate_is_looked_at(self) -> None:
+        """One without an example, and one that is too long."""
+        pages = module("pages")
+        names = module("sources").crates_of(self.folder)
+        for name in names:
+            page = f"crates/{name}/README.md"
+            text = read(self.path(page))
+            count = text.count("\n")
+            self.replace(page, text.replace("```rust\n", "```text\n") + "\n" * (pages.LONGEST + 1 - count))
+        wanted = [f"crates/{name}/README.md: 41 lines, and at most 40 are wanted" for name in names]
+        wanted += [f"crates/{name}/README.md: no example" for name in names if name not in pages.WITHOUT_EXAMPLE]
+        self.assertEqual(self.faults_of("pages.py"), sorted(wanted))
+
+    def test_each_number_is_looked_at(self) -> None:
+        """Each line of the file of counts, each sentence of a page that has a number, each crate's root file."""
+        counts, kept = module("counts"), module("gate").counts_kept()
+        os.chdir(TOP)
+        for wrong in ({}, {step: re.sub("[0-9]", "7", line) for step, line in kept.items()}):
+            self.assertEqual(len([*counts.faults_of_pages(wrong)]), len(counts.IN_PAGES))
+        self.assertEqual([*counts.faults_of_pages(kept)], [])
+        names = module("sources").crates_of(self.folder)
+        for name in names:
+            (root,) = (it for it in ("lib.rt", "main.rt") if os.path.exists(self.path("crates", name, "src", it)))
+            path = f"crates/{name}/src/{root}"
+            self.replace(path, read(self.path(path)).replace(f"{counts.AUTO}\n", ""))
+        text = read(self.path("scripts/counts.txt"))
+        self.replace("scripts/counts.txt", re.sub(r"(?m)^([^#:]+): .*", r"\1: x", text))
+        faults = self.faults_of("counts.py")
+        others = (*module("gate").COUNTED, *module("gate").TESTS)
+        wanted = [f"{name}: " for name in kept if name not in others]
+        wanted.append("scripts/counts.txt has no number of tests of scripts/tests, tools/tests, lib/tests")
+        wanted += [f"crates/{name}: no line {counts.AUTO} in its root file" for name in names]
+        wanted += [f"{page}: " for page, *_ in counts.IN_PAGES]
+        self.assertEqual([line for line in wanted if not any(it.startswith(line) for it in faults)], [])
+        self.assertEqual(len(faults), len(wanted), faults)
+
     def test_tests_that_cannot_be_read(self) -> None:
         self.move("lib/tests", "lib/tests-away")
         self.addCleanup(shutil.rmtree, self.path("lib/tests"))
