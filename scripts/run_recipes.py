@@ -48,6 +48,17 @@ CONTINUED = "> "
 EXAMPLE = re.compile(r"(?:^ {14}.*\n)+", re.MULTILINE)
 SHOWN_FILE = re.compile(r"cat ([\w.]+)\n")
 END = "END OF FILE"
+# What the last command of a page or a manual prints otherwise than these say, behind what is right.
+RIGHT = "```sh\necho right\n```\n\n```text\nright\n```\n\n"
+WRONG_PAGES = {
+    "a block and what it prints": "```sh\necho right\n```\n\n```text\nwrong\n```\n",
+    "a block that prints nothing": "```sh\necho wrong\n```\n",
+    "a session": "```console\n$ echo right\nright\n$ echo right\nwrong\n```\n",
+    "a session that goes on": "```console\n$ echo \\\n> right\nwrong\n```\n",
+    "a file that is shown": "```console\n$ cat one.csv\none\n$ cat one.csv\ntwo\n```\n",
+}
+IN_MANUAL = ".PP\n.RS\n.EX\n$ echo right\n{}\n.EE\n.RE\n"
+WRONG_MANUAL = f".TH WRONG 1\n.SH EXAMPLES\n{IN_MANUAL.format('right')}{IN_MANUAL.format('wrong')}.SH BUGS\nNone.\n"
 # zbar's warnings of its reader of another symbology, which are printed in some runs and not in others
 DATABAR = re.compile(r"WARNING: decoder/databar.*\n(?:\t.*\n)?")
 
@@ -195,6 +206,17 @@ def with_turned_pixel(picture: Path, folder: Path) -> Path:
     return folder / "turned.png"
 
 
+def faults_of_wrong_pages(folder: Path) -> Iterator[tuple[str, str]]:
+    """What is found of the last commands of WRONG_PAGES and of a manual; nothing where something is wrong before."""
+    texts = {what: ("wrong.md", RIGHT + text) for what, text in WRONG_PAGES.items()}
+    for what, (name, text) in {**texts, "a manual": ("wrong.1", WRONG_MANUAL)}.items():
+        page = folder / name
+        page.write_text(text, encoding="utf-8")
+        commands = examples_of(page) if name == "wrong.1" else commands_of(f"{page}", False)
+        first, *_, last = [one.fault(folder, {"PATH": os.defpath}) for one in commands]
+        yield what, "" if first else last
+
+
 def wrong_cases() -> Iterator[tuple[str, bool]]:
     """Wrong cases before, between and behind right ones, each with whether it is reported alone."""
     one, another = sorted(PICTURES.glob("*.png"))[:2]
@@ -211,6 +233,7 @@ def wrong_cases() -> Iterator[tuple[str, bool]]:
             "another picture": fault_of_picture(one, another),
             "another pixel": fault_of_picture(one, with_turned_pixel(one, folder)),
             "no picture": fault_of_picture(one, folder / one.name),
+            **dict(faults_of_wrong_pages(folder)),
         }
     for name, fault in cases.items():
         for place in range(3):

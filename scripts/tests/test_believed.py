@@ -6,6 +6,7 @@ Run by `python3 -m unittest discover -s scripts/tests`. The kit is needed, and n
 import contextlib
 import io
 import re
+import shutil
 import sys
 import unittest
 from typing import Any, Callable, Container, Iterable
@@ -88,6 +89,14 @@ class Believed(InCopy):
         )
         self.assert_changes_fail(changes, self.check)
 
+    def test_unknown_crate(self) -> None:
+        """One that no list of scripts/bases.py has."""
+        self.addCleanup(shutil.rmtree, self.path("crates/unknown"))
+        self.replace("crates.txt", read(self.path("crates.txt")) + "unknown:\n")
+        self.replace("crates/unknown/src/lib.rt", "")
+        status, said = self.check()
+        self.assertEqual((status, "crates.txt has unknown: scripts/bases.py has to name it" in said), (1, True), said)
+
     def test_show(self) -> None:
         """A list has what a clause rests on, with its comment, and says by which clause of a standard."""
         feed, penalty = "- LF: the line feed\n", "Why: `penalty`: in the manner of 7.8.3.\n"
@@ -159,6 +168,22 @@ class Rows(InCopy):
         )
         self.assert_changes_fail(changes, self.check)
 
+    def test_each_definition_is_looked_at(self) -> None:
+        """In each file the first and the last word that is changed, in its place, and then the sum of its line."""
+        every = changes.all_changes(changes.read_crates(self.folder))
+        for found in ({it.file: it for it in reversed(every)}, {it.file: it for it in every}):
+            for file, change in found.items():
+                self.replace(file.path, change.text())
+            status, said = self.check()
+            waiting = [file.title for file in found if f"{file.title}: no" not in said]
+            self.assertEqual((status, waiting), (1, []), said)
+            self.doCleanups()
+        text = read(self.path(RESULTS))
+        self.replace(RESULTS, re.sub(r"(?m)^(\w+/\w+ \d+) \w+", r"\1 0", text))
+        _, said = self.check()
+        self.assertEqual([file.title for file in found if f"{file.title}: not as it was judged" not in said], [])
+        self.assertIn("\n0 changes of 0 definitions", said)
+
 
 class Sample(unittest.TestCase):
     """Changes that are judged again, by a stand-in of the prover."""
@@ -167,7 +192,9 @@ class Sample(unittest.TestCase):
         """The status of --sample and its last line, where `refuses` says whether a change is refused."""
 
         def judge(_top: str, _as_left: bool, _crate: Any, changes: Iterable[Any], values: Container[str]) -> None:
-            for change in changes:
+            of_crate = [*changes]
+            self.assertEqual(len({*map(id, of_crate)}), len(of_crate), "one is judged twice")
+            for change in of_crate:
                 self.assertIn(change.file.title, values)
                 change.by = "value" if refuses(change) else ""
 

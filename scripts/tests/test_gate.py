@@ -399,6 +399,34 @@ class TakenAway(InCopy):
         self.assertEqual(status, 1)
 
 
+# Makefiles, which no lint reads.
+NOT_READ = {"debian/rules"}
+
+
+class FilesOfLints(unittest.TestCase):
+    """What the lints read is what there is."""
+
+    def test_each_program_is_read(self) -> None:
+        """Each file with an ending or a first line of a program, wherever it is, but for what is built and the crates."""
+        lints = module("lints")
+        os.chdir(TOP)
+        no_code = {"out", ".git", "crates", "__pycache__"}
+        wanted = set[str]()
+        for folder, folders, names in os.walk("."):
+            folders[:] = [name for name in folders if name not in no_code]
+            paths = [os.path.join(folder, name).removeprefix("./") for name in names]
+            wanted |= {path for path in paths if re.search(r"\.(py|sh|bash|[1-8])$", path) or is_program(path)}
+        files = lints.files_by_kind()
+        kinds = ("python", "shell", "completion", "manual")
+        self.assertEqual(wanted - {path for kind in kinds for path in files[kind]}, NOT_READ)
+        read_by = [path for lint in lints.all_lints(files) for path in lint.files]
+        self.assertEqual(wanted - NOT_READ - {*read_by}, set())
+        for path in files["python"]:
+            with self.subTest(path):
+                # One for its layout, one for its style, one for its types.
+                self.assertEqual(read_by.count(path), 3)
+
+
 class KeptLints(InFolder):
     """What a lint passed is not read again: but what is new, what failed, and all after a package changed."""
 
@@ -436,6 +464,12 @@ class KeptLints(InFolder):
                 write(self.path(changed), text)
             with self.subTest(changed=changed, names=names):
                 self.assertEqual(self.found_and_read(*names.split()), (found, are_read))
+
+
+def is_program(path: str) -> bool:
+    """Whether the first line of a file names what reads it."""
+    with open(path, "rb") as file:
+        return file.read(2) == b"#!"
 
 
 # Stands in for a part of the gate. Of gate.py `quick` runs one step, `built` two.
