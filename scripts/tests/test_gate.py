@@ -407,7 +407,7 @@ class FilesOfLints(unittest.TestCase):
     """What the lints read is what there is."""
 
     def test_each_program_is_read(self) -> None:
-        """Each file with an ending or a first line of a program, wherever it is, but for what is built and the crates."""
+        """Each file with an ending or a first line of a program, but for the crates and what is built."""
         lints = module("lints")
         os.chdir(TOP)
         no_code = {"out", ".git", "crates", "__pycache__"}
@@ -479,7 +479,7 @@ print(*(f"ok: {{step}}, 1.5 s, 1.4 of processor" for step in steps), sep="\\n")
 print("{name}", *sys.argv[1:], "ran")
 print({more!r}, end="")
 print({last!r})
-sys.exit({status})
+sys.exit({status} if {when!r} in sys.argv[-1] else 0)
 """
 REFUSED = "one: 2 refused, 1 accepted, in 1 checks\nrefused in one: low high\n"
 RT = "[ $1 != version ] || {{ echo 'kit-1 logic {version}'; exit; }}; echo rt ci ran; {then}"
@@ -491,8 +491,11 @@ def part(
     status: int = 0,
     built: tuple[str, ...] = ("two", "tests of three"),
     more: str = REFUSED,
+    when: str = "",
 ) -> dict[str, str]:
-    return {f"scripts/{name}.py": PART.format(name=name, last=last, status=status, built=built, more=more)}
+    """Stands in for a script: its last line, and its status where its last argument has a text."""
+    text = PART.format(name=name, last=last, status=status, built=built, more=more, when=when)
+    return {f"scripts/{name}.py": text}
 
 
 def program(name: str, text: str) -> dict[str, str]:
@@ -588,6 +591,27 @@ class Run(InFolder):
                 "did not run: tests of three",
                 "13 passed, 1 failed",
             ),
+            (
+                part("gate", "4 passed, 0 failed", 0, ("two more", "tests of three")),
+                {},
+                1,
+                parts,
+                "did not run: two",
+                "13 passed, 1 failed",
+            ),
+            (
+                {"scripts/counts.txt": "steps of quick: other\nsteps of built: two, tests of three\n"},
+                {},
+                1,
+                parts,
+                "did not run: other",
+                "15 passed, 1 failed",
+            ),
+            # A part that fails without a word on it.
+            (part("gate", "5 passed, 0 failed", 1, when="quick"), {}, 1, [quick], "5 passed", "5 passed, 1 failed"),
+            (part("gate", "5 passed, 0 failed", 1, when="built"), {}, 1, parts, "5 passed", "15 passed, 1 failed"),
+            (part("wrong_bodies", "2 passed, 0 failed", 1), {}, 1, parts, "2 passed", "15 passed, 1 failed"),
+            (kit("echo '3 passed, 0 failed'; exit 3"), {}, 3, parts[:2], "3 passed", "8 passed, 1 failed"),
             # The status is that of the proofs where these fail; what comes after the wrong bodies runs all the same.
             (
                 kit("echo '2 passed, 1 failed'; exit 3"),
@@ -614,7 +638,7 @@ class Run(InFolder):
             with self.subTest(said=said, status=status):
                 found = self.run_gate(changes, environment)
                 self.assertEqual((*found[:2], found[2][-1]), (status, ran, last), found)
-                self.assertIn(said, found[2] + ["built"])
+                self.assertTrue(any(line.startswith(said) for line in found[2] + ["built"]), found)
                 if len(ran) > 1:
                     self.assertRegex(found[2][-2], r"^\d+\.\d processor minutes$")
 
@@ -631,6 +655,18 @@ class Run(InFolder):
                 status, _, lines = self.run_gate(bent, {})
                 self.assertEqual((status, lines[-1]), (1, f"15 passed, {failed} failed"))
                 self.assertIn(said, lines)
+        for crate in ("another", "two"):
+            status, _, lines = self.run_gate({f"crates/{crate}/wrong-bodies/low.edit": ""}, {})
+            self.assertEqual((status, lines[-1]), (1, "15 passed, 1 failed"))
+            self.assertIn(f"not refused: {crate}/low", lines)
+
+    def test_each_package_is_wanted(self) -> None:
+        """The first and the last one of the list."""
+        os.chdir(TOP)
+        names = module("counts").names_of_packages()
+        for name in (names[0], names[-1], "zint"):
+            status, _, (said, *_) = self.run_gate({}, {"MISSING": name})
+            self.assertEqual((status, said.endswith(f" {name}")), (1, True), said)
 
 
 class Packages(unittest.TestCase):
@@ -668,7 +704,7 @@ class Packages(unittest.TestCase):
         gate = module("gate")
         run = read(os.path.join(TOP, ".ci/run"))
         names = {step.split()[0] for step in (*gate.QUICK, *gate.BUILT)}
-        names |= {*re.findall(r"(?m)^/usr/bin/python3 scripts/(\S+) ", run)}
+        names |= {*re.findall(r"(?m)^(?:part )?/usr/bin/python3 scripts/(\S+) ", run)}
         pages = [read(os.path.join(TOP, page)) for page in module("pages").RUN]
         names |= {name for page in pages for name in re.findall(r"(?m)^scripts/(\S+) ", page)}
         programs = {name for name in os.listdir(SCRIPTS) if os.access(os.path.join(SCRIPTS, name), os.X_OK)}
