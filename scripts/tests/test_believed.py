@@ -8,6 +8,7 @@ import io
 import re
 import shutil
 import sys
+import types
 import unittest
 from typing import Any, Callable, Container, Iterable
 from unittest import mock
@@ -15,6 +16,7 @@ from unittest import mock
 from support import TOP, InCopy, in_copy, module, read, write
 
 believed_rows = module("believed_rows")
+judging = module("judging")
 changes = module("changes")
 
 PAGE = "docs/DEFINITIONS.md"
@@ -183,6 +185,98 @@ class Rows(InCopy):
         _, said = self.check()
         self.assertEqual([file.title for file in found if f"{file.title}: not as it was judged" not in said], [])
         self.assertIn("\n0 changes of 0 definitions", said)
+
+
+# What a check says of copies of three changes, of which it refuses the first by a worked value, and the last as no
+# definition.
+SAID = """./proofs/V0/Examples.antt:1:2: error: `one`: 1 is not 2
+./proofs/V0/Examples.antt:3:2: error: `other`: 1 is not 2
+./proofs/V2/Field.antt:1:2: error: no such name
+"""
+
+
+class Judging(unittest.TestCase):
+    """What comes of copies, by a stand-in of the kit's check."""
+
+    def setUp(self) -> None:
+        (self.crate,) = [it for name, it in changes.read_crates(TOP).items() if name == "gf256"]
+        self.found = changes.all_changes({"gf256": self.crate})[:3]
+        self.rooms: list[dict[str, str]] = []
+
+    def judged(self, *said: str) -> int:
+        """How many copies are refused, where the check says this."""
+
+        def check(_kit: Any, room: str, _words: Any) -> str:
+            paths = module("sources").files_below(room, "")
+            self.rooms.append({path.removeprefix(f"{room}/"): read(path) for path in paths})
+            return "".join(said)
+
+        text = self.crate.examples["Examples"].text
+        with mock.patch.object(judging.libraries, "check", check):
+            copies = [(change, text) for change in self.found]
+            refused: int = judging.judge_copies(None, [], self.crate, "Examples", copies)
+            return refused
+
+    def test_what_a_check_says(self) -> None:
+        self.assertEqual(self.judged(SAID, "logic=refuted\n"), 2)
+        self.assertEqual([it.by for it in self.found], ["one", "", judging.NO_DEFINITION])
+        for said in (SAID, f"{SAID}./proofs/V3/Examples.antt:1:2: error: `one`: 1 is not 2\nlogic=refuted\n"):
+            with self.subTest(said), self.assertRaises(SystemExit):
+                self.judged(said)
+
+    def test_what_is_checked(self) -> None:
+        """Each copy has its own change, and the last one none."""
+        self.judged("logic=proved\n")
+        (room,) = self.rooms
+        folders = [f"proofs/V{number}/" for number in range(4)]
+        for folder, change in zip(folders, [*self.found, None]):
+            file = self.found[0].file
+            wanted = judging.with_imports(change.text(), change.new) if change else file.text
+            own = re.sub(
+                rf"Rattle\.judge\.proofs\.{folder[7:-1]}\b", "Rattle.gf256.specs", room[f"{folder}{file.module}.antt"]
+            )
+            self.assertEqual(own, wanted)
+            self.assertIn(f"Rattle.judge.proofs.{folder[7:-1]}.{file.module}", room[f"{folder}Examples.antt"])
+        self.assertEqual(
+            {path[:10] for path in room if path.startswith("proofs/V") and path.count("/") > 1}, {*folders}
+        )
+
+    def test_imports(self) -> None:
+        text = "-- a\n\nuse Rattle.a.specs.B.{◌+◌, c}\n"
+        for word, line in (
+            ("-", "use Rattle.std.specs.Prelude.{◌-◌}"),
+            ("=!=", "use Rattle.judge.proofs.Differ.{◌=!=◌}"),
+            ("list_any", "use Rattle.std.specs.List.{list_any}"),
+            ("itself", "use Rattle.judge.proofs.Differ.{itself}"),
+        ):
+            self.assertEqual(judging.with_imports(text, word), text.replace("\nuse", f"\n{line}\nuse", 1))
+        for word in ("+", "5", "c", "x"):
+            self.assertEqual(judging.with_imports(text, word), text)
+
+    def test_worked_values(self) -> None:
+        """Each that rests on the definition judges it, or of these just those that are named."""
+        seen: list[tuple[str, str]] = []
+
+        def judge_copies(_kit: Any, _words: Any, _crate: Any, name: str, copies: Any) -> int:
+            seen.extend((name, text) for _, text in copies)
+            return 0
+
+        kit = mock.Mock()
+        kit.crates_below.return_value = [types.SimpleNamespace(name="gf256")]
+        stands_in = mock.patch.multiple(judging, words_for=lambda *_: [], judge_copies=judge_copies)
+        with stands_in, mock.patch.object(judging.libraries, "kit", lambda: kit):
+            with contextlib.redirect_stdout(io.StringIO()):
+                file = self.crate.examples["Examples"]
+                resting = self.crate.resting_on(self.found[0].definition.name, file)
+                names = [one.name for one in file.declarations if changes.is_worked(one) and one.name in resting]
+                self.assertGreater(len(names), 1)
+                for values in (names, names[:1], names[-1:], []):
+                    judging.judge(TOP, True, self.crate, self.found[:1], {self.found[0].file.title: values})
+                judging.judge(TOP, True, self.crate, self.found[:1])
+                self.found[0].by = names[0]
+                judging.judge(TOP, True, self.crate, self.found[:1])
+        wanted = [changes.with_values(file, values) for values in (names, names[:1], names[-1:], names)]
+        self.assertEqual(seen, [("Examples", text) for text in wanted])
 
 
 class Sample(unittest.TestCase):
