@@ -127,7 +127,8 @@ class Believed(InCopy):
     def test_axioms(self) -> None:
         """The number of PROOF is that of the verdict on the program, and not one of another crate."""
         log = self.path("log")
-        for assumed, status, says in ((39, 0, "39 contracts"), (38, 1, "and docs/PROOF.md has 39")):
+        says_39 = "and docs/PROOF.md has 39"
+        for assumed, status, says in ((39, 0, "39 contracts"), (38, 1, says_39), (40, 1, says_39), (390, 1, says_39)):
             verdict = f"logic=proved functions=3 axioms={assumed} target=x86_64\n"
             other = "logic=proved functions=14 axioms=3 target=x86_64\n"
             write(log, f"== examples\n{other}\n== labels\n{verdict}\n== labels: its tests\n{other}")
@@ -225,7 +226,10 @@ class Judging(unittest.TestCase):
                 self.judged(said)
 
     def test_what_is_checked(self) -> None:
-        """Each copy has its own change, and the last one none."""
+        """Each copy has its own change, and the last one none. It has the files between too: gf256's values rest on
+        the products of its polynomials by its field."""
+        every = changes.all_changes({"gf256": self.crate})
+        self.found = [it for it in every if it.file.module == "BinaryPolynomial"][:3]
         self.judged("logic=proved\n")
         (room,) = self.rooms
         folders = [f"proofs/V{number}/" for number in range(4)]
@@ -237,9 +241,10 @@ class Judging(unittest.TestCase):
             )
             self.assertEqual(own, wanted)
             self.assertIn(f"Rattle.judge.proofs.{folder[7:-1]}.{file.module}", room[f"{folder}Examples.antt"])
-        self.assertEqual(
-            {path[:10] for path in room if path.startswith("proofs/V") and path.count("/") > 1}, {*folders}
-        )
+        between = ("BinaryPolynomial", "ErrorCorrection", "Examples", "Field", "Polynomial")
+        paths = {f"{folder}{module}.antt" for folder in folders for module in between}
+        self.assertEqual({path for path in room if path.count("/") > 1}, paths)
+        self.assertEqual([path for path in paths if "Rattle.gf256.specs" in room[path]], [])
 
     def test_imports(self) -> None:
         text = "-- a\n\nuse Rattle.a.specs.B.{◌+◌, c}\n"
