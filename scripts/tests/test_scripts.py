@@ -577,8 +577,13 @@ WRONG_PROGRAMS = (
     ("tools", "label-table", "echo ean13 4006381333931"),
     ("tools", "label-print", "echo %PDF-1.5"),
     ("tools", "label-print", "printf '^XA\\n^XA\\n'"),
-    ("tools", "man", "echo NAME"),
+    ("tools", "label-print", "[ $1 = --stock ] && echo %!PS || printf '^XA\\n^XA\\n'"),
+    *(
+        ("tools", "man", f"[ $3 = {name} ] && echo NAME || echo SYNOPSIS")
+        for name in ("labels", "label-table", "label-print")
+    ),
 )
+PAGES = ("README.md", "docs/INPUT.md", "docs/pictures/sheet.png")
 
 
 class PackageTests(InFolder):
@@ -599,7 +604,11 @@ class PackageTests(InFolder):
         for name, program, text in WRONG_PROGRAMS:
             with self.subTest(program=program, text=text):
                 self.assertFalse(self.passes(name, TOP, **{**RIGHT_PROGRAMS, program: text}))
-        self.assertFalse(self.passes("program", self.folder, **RIGHT_PROGRAMS))
+        for gone in PAGES:
+            for page in PAGES:
+                write(self.path(gone, page), "")
+            os.remove(self.path(gone, gone))
+            self.assertFalse(self.passes("program", self.path(gone), **RIGHT_PROGRAMS), gone)
 
     def test_nothing_installed(self) -> None:
         """Completions and the library are looked for where packages put them alone."""
