@@ -268,7 +268,7 @@ class Judging(unittest.TestCase):
 
         kit = mock.Mock()
         kit.crates_below.return_value = [types.SimpleNamespace(name="gf256")]
-        stands_in = mock.patch.multiple(judging, words_for=lambda *_: [], judge_copies=judge_copies)
+        stands_in = mock.patch.multiple(judging, words_for=lambda *_: [], judge_copies=judge_copies, AT_ONCE=2)
         with stands_in, mock.patch.object(judging.libraries, "kit", lambda: kit):
             with contextlib.redirect_stdout(io.StringIO()):
                 file = self.crate.examples["Examples"]
@@ -280,8 +280,14 @@ class Judging(unittest.TestCase):
                 judging.judge(TOP, True, self.crate, self.found[:1])
                 self.found[0].by = names[0]
                 judging.judge(TOP, True, self.crate, self.found[:1])
-        wanted = [changes.with_values(file, values) for values in (names, names[:1], names[-1:], names)]
-        self.assertEqual(seen, [("Examples", text) for text in wanted])
+                wanted = [changes.with_values(file, values) for values in (names, names[:1], names[-1:], names)]
+                self.assertEqual(seen, [("Examples", text) for text in wanted])
+                # All are judged, at most two of them in one check.
+                self.found[0].by = ""
+                for count in range(1, 4):
+                    seen.clear()
+                    judging.judge(TOP, True, self.crate, self.found[:count])
+                    self.assertEqual(len(seen), count)
 
 
 class Sample(unittest.TestCase):

@@ -248,6 +248,12 @@ class TakenAway(InCopy):
             path = f"crates/{name}/src/{root}"
             self.replace(path, read(self.path(path)).replace(f"{counts.AUTO}\n", ""))
         text = read(self.path("scripts/counts.txt"))
+        for name in kept:
+            twice = mock.patch.object(module("gate").sources, "read", return_value=f"{text}{name}: 0\n")
+            with self.subTest(name), twice, self.assertRaisesRegex(
+                SystemExit, f"two lines of the name {re.escape(name)}$"
+            ):
+                module("gate").counts_kept()
         self.replace("scripts/counts.txt", re.sub(r"(?m)^([^#:]+): .*", r"\1: x", text))
         faults = self.faults_of("counts.py")
         others = (*module("gate").COUNTED, *module("gate").TESTS)

@@ -298,6 +298,9 @@ class Outcomes(InFolder):
             (["`returns`: record `One`", no_name, follows], True),
             ([no_field, differs], False),
             ([follows], False),
+            ([f"it is wrong: {no_name}"], False),
+            ([f"it is wrong: {no_field}"], False),
+            ([no_field, f"it is wrong: {follows}"], False),
             (list[str](), False),
         ):
             said = "".join(f"{at}{error}\n" for error in errors)
