@@ -330,6 +330,16 @@ class Sample(unittest.TestCase):
         self.assertEqual(changes.with_values(file, worked), file.text)
         self.assertEqual(changes.with_values(file, ["gone"]), "")
 
+    def test_worked_values_by_their_text(self) -> None:
+        """One ends with refl or with omega arith; what is none stays in each copy."""
+        for crate in ("gf256", "labelcore"):
+            (file,) = module("reader").files_at(TOP, [f"{TOP}/crates/{crate}/proofs/Examples.antt"])
+            texts = {one.name: file.text_of(one.tokens) for one in file.declarations}
+            worked = [name for name, text in texts.items() if re.search(r"\b(refl|omega\s+arith)\b", text)]
+            self.assertEqual([one.name for one in file.declarations if changes.is_worked(one)], worked)
+            left = changes.with_values(file, worked[-1:])
+            self.assertEqual([name for name, text in texts.items() if text not in left], worked[:-1])
+
 
 if __name__ == "__main__":
     unittest.main()

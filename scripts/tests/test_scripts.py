@@ -546,6 +546,16 @@ class Judges(unittest.TestCase):
         labels = [pictures.Label(head, b"", b"", 1) for head in heads]
         self.assertEqual(pictures.kinds_of(labels), "2 ean13, 2 level L, 1 mask 3, 2 qr, 1 version 2")
 
+    def test_words_of_code(self) -> None:
+        """Each counts, but white space, comments and the commas that a formatter puts last."""
+        for code, words in (
+            ("f(a, b)", " f ( a , b ) "),
+            ("f(\n    a,\n    b,\n)", " f ( a , b ) "),
+            ("[1, 2], // three", " [ 1 , 2 ] "),
+            ('"a, b" http://c', ' "a, b" http : / / c '),
+        ):
+            self.assertEqual(pages.words_of(code), words)
+
     def test_lines_by_hand(self) -> None:
         """Each line counts, but of the tables that scripts make, and only of README.md and docs/*.md."""
         made = (
