@@ -6,7 +6,9 @@ const { createInterface } = require('node:readline')
 const words = '--stream --paper 60x40 --dpi 203 --to zpl --print tcp://localhost:9175'.split(' ')
 const printer = spawn('label-print', words, { stdio: ['pipe', 'ignore', 'pipe'] })
 const waiting = []
-createInterface({ input: printer.stderr }).on('line', (answer) => waiting.shift()?.(answer))
+createInterface({ input: printer.stderr }).on('line', (line) => {
+  if (!line.startsWith('label-print:')) waiting.shift()?.(line)
+})
 printer.on('close', () => waiting.forEach((answered) => answered('doubtful 0 label-print has ended')))
 
 function print(line) {

@@ -197,12 +197,11 @@ def compared(top: str, counts: Counts, base: Base, writes: bool) -> int:
             sources.write(path, text)
         else:
             wrong += differences(name, was, text)
-    print(*wrong, sep="\n", end="\n" if wrong else "")
     for what, lines in counts.rows:
         parts = f"{lines.definitions} of definitions, {lines.code} of code, {lines.names} names"
         print(f"{what}: {lines.all} lines, {parts}")
-    print(f"{len(wrong)} faults" + ("; see scripts/believed.py --write" if wrong else ""))
-    return 1 if wrong else 0
+    advice = "; see scripts/believed.py --write" if wrong else ""
+    return sources.ended(wrong, f"{len(wrong)} faults{advice}")
 
 
 # ---- lists

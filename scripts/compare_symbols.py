@@ -202,21 +202,20 @@ def with_other_bytes(data: bytes) -> tuple[bytes, bytes, bytes]:
     return bytes([data[0] ^ 1]) + data[1:], data[:-1] + bytes([data[-1] ^ 1]), data[:-1]
 
 
-def not_seen(program: str) -> Iterator[str]:
-    """The wrong cases that the comparisons do not report."""
+def wrong_cases(program: str) -> Iterator[tuple[str, bool]]:
+    """Cases of each symbology, wrong ones that the comparisons have to report and right ones that they must not: each
+    with whether they do so."""
     for label in SHOWN:
         (picture,) = pictures_of(program, [label])
-        if not is_as_zint(label, picture):
-            yield f"{label.head}: the right picture is not as zint draws it"
+        yield f"{label.head}: the right picture as zint's", is_as_zint(label, picture)
         for place in ("first", "middle", "last"):
-            if is_as_zint(label, with_turned_module(picture, place)):
-                yield f"{label.head}: a picture whose {place} module is turned passes as zint's"
+            is_same = is_as_zint(label, with_turned_module(picture, place))
+            yield f"{label.head}: a picture whose {place} module is turned as zint's", not is_same
         ((_, reading),) = readings(program, [label])
-        if not is_read_back(label, reading):
-            yield f"{label.head}: the right picture is not read back"
+        yield f"{label.head}: the right picture as read back", is_read_back(label, reading)
         for other in with_other_bytes(label.full):
-            if is_read_back(dataclasses.replace(label, full=other), reading):
-                yield f"{label.head}: a picture of {label.full!r} passes as read back as {other!r}"
+            is_read = is_read_back(dataclasses.replace(label, full=other), reading)
+            yield f"{label.head}: a picture of {label.full!r} as read back as {other!r}", not is_read
 
 
 def is_read_back(label: Label, reading: bytes) -> bool:
@@ -235,10 +234,10 @@ def main() -> int:
     faults += [
         f"{label.line()!r}: read as {reading!r}" for label, reading in found if not is_read_back(label, reading)
     ]
-    faults += [*not_seen(program)] if labels else []
+    passed, shown = sources.unreported(wrong_cases(program) if labels else [])
+    faults += passed if with_zint else ["no label to compare"]
     last = f"{len(labels)} labels: {len(read)} read back, {len(same)} of {len(with_zint)} as zint draws them"
-    print(*faults, f"{last}; of those read back {kinds_of(read) or 'none'}", sep="\n")
-    return 1 if faults or not len(read) == len(labels) or not len(same) == len(with_zint) > 0 else 0
+    return sources.ended(faults, f"{last}; {shown}; of those read back {kinds_of(read) or 'none'}")
 
 
 if __name__ == "__main__":

@@ -166,7 +166,8 @@ def faults_of_pages(wanted: Mapping[str, str]) -> Iterator[str]:
         right = re.search(place, wanted.get(step, ""))
         said = re.search(sentence, sources.read(page))
         if not right or not said or said[1] != f"{int(right[1]):,}":
-            yield f"{page}: {said[0] if said else f'no {sentence}'}, and {gate.COUNTS} has {wanted.get(step)}"
+            found = " ".join(said[0].split()) if said else f"no {sentence}"
+            yield f"{page}: {found}, and {gate.COUNTS} has {wanted.get(step)}"
 
 
 def main() -> int:
@@ -193,8 +194,7 @@ def main() -> int:
     for name in {**wanted, **found}:
         if wanted.get(name) != found.get(name):
             faults.append(f"{name}: {found.get(name, 'none')}, and {wanted.get(name, 'none')} in {gate.COUNTS}")
-    print(*faults, f"{len(found)} numbers, {len(faults)} faults", sep="\n")
-    return 1 if faults else 0
+    return sources.ended(faults, f"{len(found)} numbers, {len(faults)} faults")
 
 
 if __name__ == "__main__":

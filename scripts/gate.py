@@ -46,8 +46,8 @@ BUILT = (
 )
 # The steps of quick that run in forks of one process, which has read the files for all of them.
 FORKED = (*QUICK[:5], "run_tests.py scripts/tests")
-# The steps whose last line is in the file of counts: those that judge what is built, and one before.
-COUNTED = ("believed_rows.py", *(step for step in BUILT if not step.startswith("run_tests.py")))
+# The steps whose last line is in the file of counts: those that judge what is built, and two before.
+COUNTED = ("believed_rows.py", "lints.py", *(step for step in BUILT if not step.startswith("run_tests.py")))
 COUNTS = "scripts/counts.txt"
 # The folders of tests: as many have to run as the file of counts has.
 TESTS = ("scripts/tests", "tools/tests", "lib/tests")

@@ -9,12 +9,14 @@ run, one that prints its version. A call of a library is a tenth of ten calls, a
 instruction. Its time is the lowest of three, on this machine. A whole run has an empty environment, since the loader
 reads it. System calls are those of a run without those of a run over no line. Every program writes to /dev/null.
 
---check counts the program and the static library alone, and compares each row with the page. The status is 1 where a
-row takes more than 5 % more or less than the page says, or where the page lacks a row, has one that is no number, or
-one that is not measured. In each run the comparison is shown two counts that are 6 % off, which it has to report. The
-last line is `N rows, M failed`. Status 2: bad arguments, a program or library that is missing, a count that failed.
+--check counts the program and the static library alone, and compares the tables as they are printed with the page. The
+status is 1 where a row takes more than 5 % more or less than the page says, or where the page has other heads or rows.
+In each run the comparison is shown counts that are 6 % off, and tables with a row less, which it has to report. The
+last line is `N rows, M failed; W wrong cases shown`. Status 2: bad arguments, a program or library that is missing, a
+count that failed.
 """
 
+import difflib
 import os
 import re
 import shutil
@@ -24,7 +26,7 @@ import tempfile
 from dataclasses import dataclass
 from functools import partial
 from pathlib import Path
-from typing import Any, Callable, Iterator, Mapping, NoReturn, Optional, Union
+from typing import Any, Callable, Iterable, Iterator, Mapping, NoReturn, Optional, Sequence, Union
 
 import sources
 
@@ -59,6 +61,8 @@ class Label:
 # A cell of a table: a count, a text, or nothing; and what counts those of each row.
 Cell = Union[float, str, None]
 Rows = dict[str, list[Callable[[], Cell]]]
+# The head of a table, and what is counted of each row.
+Table = tuple[list[str], Mapping[str, Sequence[Cell]]]
 Word = Union[str, Path]
 Environment = Optional[Mapping[str, str]]
 
@@ -291,68 +295,101 @@ def shown(count: Cell) -> str:
     return f"{100 * round(count / 100):,}" if count >= 1000 else f"{count:.0f}"
 
 
-def print_tables() -> None:
+def counted(is_ours_alone: bool) -> Iterator[Table]:
+    """The tables of the page, each with what is counted of its rows: all cells, or ours alone."""
     for head, rows in tables():
-        print(f"| {' | '.join(head)} |\n|{'---|' * len(head)}")
-        for name, cells in rows.items():
-            found = [shown(cell()) for cell in cells]
-            print(f"| {' | '.join([name, *found, *['-'] * (len(head) - 1 - len(found))])} |")
-        print()
+        yield head, {name: [cell() for cell in cells[: 1 if is_ours_alone else None]] for name, cells in rows.items()}
+
+
+def text_of(made: Iterable[Table]) -> str:
+    """Tables as the page has them, each with a blank line after it."""
+    lines = []
+    for head, rows in made:
+        cells = [head, ["---"] * len(head), *([name, *map(shown, counts)] for name, counts in rows.items())]
+        lines += [f"| {' | '.join([*row, *['-'] * (len(head) - len(row))])} |" for row in cells]
+        lines.append("")
+    return "\n".join(lines)
 
 
 def rows_of(page: str) -> Iterator[list[str]]:
-    """The rows of the page's tables that are counted: a name, and the number of ours."""
+    """The cells of each row of the page's tables that are counted, those of the heads too."""
     is_counted = False
     for line in page.split("\n"):
-        cells = [cell.strip() for cell in line.split("|")[1:3]]
-        is_counted = cells in HEADS or is_counted and len(cells) == 2
-        if is_counted and cells not in HEADS and not cells[0].startswith("---"):
+        cells = [cell.strip() for cell in line.split("|")[1:-1]]
+        is_counted = cells[:2] in HEADS or is_counted and bool(cells)
+        if is_counted:
             yield cells
 
 
-def compared(name: str, found: float, wanted: str) -> str:
+def shape_of(row: Sequence[str]) -> str:
+    """What a row has to have on the page, whatever is counted: a head all cells, another row its name and as many."""
+    return " | ".join(row) if row[:2] in HEADS else f"{row[0]} with {len(row) - 1} more cells"
+
+
+def compared(name: str, found: Cell, wanted: str) -> str:
     """A line on a count beside that of the page, which begins with FAILS where they differ."""
     if not re.fullmatch(r"[1-9][\d,]*", wanted):
         return f"FAILS {name}: the page has {wanted or 'no such row'}"
+    if not isinstance(found, (int, float)):
+        return f"FAILS {name}: {wanted} on the page, and nothing is counted"
     percent = 100 * found / int(wanted.replace(",", "")) - 100
     line = f"{name}: {wanted} on the page, {found:,.0f} measured, {percent:+.1f} %"
     return f"FAILS {line}" if abs(percent) > ROOM else line
 
 
-def check(found: Mapping[str, float], page: str) -> tuple[list[str], int]:
-    """A line for each count, and how many fail."""
+def check(made: Sequence[Table], page: str) -> list[str]:
+    """A line for each count, and one where the tables as they are printed have other heads or rows than the page."""
     rows = [*rows_of(page)]
-    lines = []
-    for name, count in found.items():
-        lines.append(compared(name, count, "; ".join(cell for other, cell in rows if other == name)))
-    lines += [f"FAILS {name}: a row of the page that is not measured" for name, _ in rows if name not in found]
-    return lines, sum(line.startswith("FAILS") for line in lines)
+    lines = [
+        compared(name, counts[0], "; ".join(row[1] for row in rows if row[0] == name))
+        for _, of_table in made
+        for name, counts in of_table.items()
+    ]
+    ours, theirs = ([*map(shape_of, it)] for it in (rows_of(text_of(made)), rows))
+    differing = [line for line in difflib.ndiff(theirs, ours) if line[0] in "+-"]
+    return lines + [f"FAILS the page (-) has other rows than are printed (+): {line}" for line in differing]
 
 
-def sees_wrong_counts() -> bool:
-    """Whether counts that are 6 % below and above those of a page are reported."""
-    page = "| Label | labels |\n|---|---|\n| low | 1,000 |\n| high | 1,000 |\n| right | 1,000 |\n"
-    lines, failed = check({"low": 940, "high": 1060, "right": 1000}, page)
-    return failed == 2 and [line.startswith("FAILS") for line in lines] == [True, True, False]
+def failing(lines: Iterable[str]) -> list[str]:
+    """The lines that say that something fails."""
+    return [line for line in lines if line.startswith("FAILS")]
+
+
+def wrong_cases() -> Iterator[tuple[str, bool]]:
+    """Tables with a count that is 6 % off, one row less or one cell less than the page or more, each with whether this
+    is reported: rows at both ends and in the middle of each kind of table."""
+    for first, second in HEADS:
+        head, rows = [first, second, "others"], {name: [1000] for name in ("one", "two", "three")}
+        right: Table = head, rows
+        cases: dict[str, Table] = {
+            f"{name}, {count}": (head, {**rows, name: [count]}) for name in rows for count in (940, 1060)
+        }
+        cases |= {f"no {name}": (head, {it: rows[it] for it in rows if it != name}) for name in rows}
+        cases |= {"a cell less": (head[:2], rows)}
+        for name, wrong in cases.items():
+            for ours, page in ((wrong, right), (right, wrong)):
+                yield f"{name} of {ours} beside {page}", bool(failing(check([ours], text_of([page]))))
+        yield f"the same of {right}", not failing(check([right], text_of([right])))
 
 
 def main() -> int:
     parser = sources.parser_of(__doc__, has_top=False)
     parser.add_argument("--check", action="store_true", help="compare what is ours with the page")
     given = parser.parse_args()
+    made: list[Table] = []
     with tempfile.TemporaryDirectory() as folder:
         os.chdir(folder)
-        if not given.check:
-            print_tables()
-            return 0
-        if not sees_wrong_counts():
-            print("a count that is 6 % below or above that of the page is not reported")
-            return 1
-        counts = {name: cells[0]() for _, rows in tables() for name, cells in rows.items()}
-        found = {name: count for name, count in counts.items() if isinstance(count, (int, float))}
-    lines, failed = check(found, PAGE.read_text(encoding="utf-8"))
-    print(*lines, f"{len(found)} rows, {failed} failed", sep="\n")
-    return 1 if failed else 0
+        for table in counted(given.check):
+            made.append(table)
+            if not given.check:
+                print(text_of([table]), flush=True)
+    if not given.check:
+        return 0
+    faults, shown = sources.unreported(wrong_cases())
+    lines = check(made, PAGE.read_text(encoding="utf-8"))
+    faults += failing(lines)
+    print(*lines, sep="\n")
+    return sources.ended(faults, f"{sum(len(rows) for _, rows in made)} rows, {len(faults)} failed; {shown}")
 
 
 if __name__ == "__main__":

@@ -171,8 +171,8 @@ def faults_of_files(paths: Sequence[str]) -> list[str]:
     return found + [fault for path in counted for fault in too_long(path)]
 
 
-def unseen() -> Iterator[str]:
-    """The wrong files of which a look into them finds nothing."""
+def wrong_cases() -> Iterator[tuple[str, bool]]:
+    """Wrong files before, between and behind right ones, each with whether a look into them finds it alone."""
     long = "".join(f"    one = {number}\n" for number in range(MOST_STATEMENTS + 1))
     texts = {
         "wrong.py": f"def one():\n{long}",
@@ -180,11 +180,14 @@ def unseen() -> Iterator[str]:
         "wrong.sh": "# shellcheck disable=all\n",
     }
     with tempfile.TemporaryDirectory(prefix="lints-") as folder:
+        right = os.path.join(folder, "right.py")
+        sources.write(right, "")
         for name, text in texts.items():
             path = os.path.join(folder, name)
             sources.write(path, text)
-            if len(faults_of_files([path])) != 1:
-                yield f"a look into files finds nothing in: {text}"
+            for place in range(3):
+                found = faults_of_files([right] * place + [path] + [right] * (2 - place))
+                yield f"number {place} of three files: {text}", len(found) == 1
 
 
 def below(folders: Sequence[str], paths: Sequence[str]) -> list[str]:
@@ -219,17 +222,16 @@ def main() -> int:
     os.chdir(sources.TOP)
     files = files_by_kind()
     unknown = [kind for kind in files if kind.startswith("#!")]
-    faults = [f"{path}: no lint knows {kind}" for kind in unknown for path in files[kind]]
-    faults += [
-        *unseen(),
-        *faults_of_files([path for kind in ("python", "shell", "completion") for path in files[kind]]),
-    ]
+    faults, shown = sources.unreported(wrong_cases())
+    faults += [f"{path}: no lint knows {kind}" for kind in unknown for path in files[kind]]
+    faults += faults_of_files([path for kind in ("python", "shell", "completion") for path in files[kind]])
     lints = all_lints(files)
     kept = Kept()
     found = [fault for lint in lints if (fault := lint.fault(kept))]
     kept.write()
-    print(*faults, *found, f"{len(lints) - len(found)} passed, {len(found) + len(faults)} failed", sep="\n")
-    return 1 if found or faults else 0
+    print(shown)
+    faults += found
+    return sources.ended(faults, f"{len(lints) - len(found)} passed, {len(faults)} failed")
 
 
 if __name__ == "__main__":

@@ -260,8 +260,7 @@ def main() -> int:
             found += faults_of_example(page.split("/")[1], text, blocks, tests)
         faults += [f"{page}:{number}: {fault}" for number, fault in found]
     counts = f"{len(pages)} pages, {count} blocks, {names} names, {lines_by_hand(pages)} lines by hand"
-    print(*faults, f"{counts}, {len(faults)} faults", sep="\n")
-    return 1 if faults else 0
+    return sources.ended(faults, f"{counts}, {len(faults)} faults")
 
 
 if __name__ == "__main__":

@@ -6,8 +6,9 @@ each version from 1 to 10, level, mask and mode. They are the same in every run.
 in its quiet zone, at 1, 2 or 3 dots a module. It corrects nothing: every module has to be as the rules want it.
 
 A few hundred are damaged too: one to seven modules are turned, in a linear symbol one. These have to be read as the
-data or not at all. In each run the comparison is shown three wrong cases, which it has to report: a symbol of other
-data, a damaged one that is read as other data, and one that is not read.
+data or not at all. In each run the comparison is shown wrong cases of each symbology, which it has to report: a symbol
+of other data, a damaged one that is read as other data, and one that is not read, before, between and behind right
+ones.
 
 READER is the program that reads (scripts/foreign_reader.txt). Where none is named it is made in a copy of the crates,
 as `rt run` does: it proves them from nothing, which takes minutes. With --built it takes the libraries that `rt ci`
@@ -15,6 +16,7 @@ proved. The last line is `N symbols: R read as asked; M damaged: D data or nothi
 the status is then 1. Status 2: bad arguments, no kit, a program missing.
 """
 
+import itertools
 import json
 import os
 import random
@@ -23,7 +25,7 @@ import shutil
 import subprocess
 import sys
 import tempfile
-from dataclasses import dataclass
+from dataclasses import dataclass, replace
 from typing import Callable, Iterator
 
 import numpy
@@ -33,7 +35,7 @@ import zxingcpp
 
 import libraries
 import sources
-from compare_symbols import ALPHANUMERIC, LETTERS, capacity
+from compare_symbols import ALPHANUMERIC, LETTERS, capacity, with_other_bytes
 from pictures import DIGITS, with_check_digit
 
 # The crates that the reader needs, and its line in crates.txt.
@@ -235,16 +237,16 @@ def faults(reader: str, symbols: list[Symbol], are_damaged: bool) -> list[str]:
     return [symbol.told(read) for symbol, read in found if read != symbol.data and not (are_damaged and read is None)]
 
 
-def not_seen(reader: str, symbol: Symbol) -> Iterator[str]:
-    """The wrong cases that the comparison does not report."""
-    other = Symbol(symbol.drawer, symbol.symbology, symbol.data[:-1] + b"\n", symbol.modules)
-    light = Symbol(symbol.drawer, symbol.symbology, symbol.data, numpy.zeros_like(symbol.modules))
-    if not faults(reader, [other], False):
-        yield "a symbol of other data passes"
-    if not faults(reader, [other], True):
-        yield "a damaged symbol that is read as other data passes"
-    if not faults(reader, [light], False):
-        yield "a symbol that is not read passes"
+def wrong_cases(reader: str, symbol: Symbol) -> Iterator[tuple[str, bool]]:
+    """Wrong symbols before, between and behind right ones, each with whether the comparison reports it alone."""
+    others = [replace(symbol, data=data) for data in with_other_bytes(symbol.data)]
+    light = replace(symbol, modules=numpy.zeros_like(symbol.modules))
+    for other, are_damaged in (*itertools.product(others, (False, True)), (light, False)):
+        for place in range(3):
+            found = faults(reader, [symbol] * place + [other] + [symbol] * (2 - place), are_damaged)
+            where = f"number {place} of three{', damaged' if are_damaged else ''}"
+            yield f"{where}: {other.told(symbol.data)}", len(found) == 1
+    yield "a damaged symbol that is not read, which is right", not faults(reader, [light], True)
 
 
 def copy_crates(folder: str, as_left: bool) -> None:
@@ -292,11 +294,11 @@ def main() -> int:
         symbols = all_symbols()
         turned = damaged(symbols, 450)
         wrong, torn = faults(reader, symbols, False), faults(reader, turned, True)
-        unseen = [*not_seen(reader, symbols[0])]
+        one_of_each = {it.symbology: it for it in symbols}.values()
+        unseen, shown = sources.unreported(case for one in one_of_each for case in wrong_cases(reader, one))
     read, kept = len(symbols) - len(wrong), len(turned) - len(torn)
-    last = f"{len(symbols)} symbols: {read} read as asked; {len(turned)} damaged: {kept} data or nothing"
-    print(*wrong, *torn, *unseen, last, sep="\n")
-    return 1 if wrong or torn or unseen else 0
+    last = f"{len(symbols)} symbols: {read} read as asked; {len(turned)} damaged: {kept} data or nothing; {shown}"
+    return sources.ended([*wrong, *torn, *unseen], last)
 
 
 if __name__ == "__main__":

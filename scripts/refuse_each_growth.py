@@ -8,9 +8,9 @@ A run is good where it does what it does when no growth is refused, with the sam
 it writes nothing on standard output and `labels: no memory` on standard error, and ends with status 3, as a run of
 each command has to. Any other run is reported, and makes the status of this script 1.
 
-In each run it is shown programs that it has to report: one that loses its output without a word where a growth is
-refused, and one that says something else. The last line is `N growths: K no memory, L unaffected, M wrong`. Status 2:
-bad arguments, no such program, no C compiler.
+In each run it is shown programs that it has to report: some lose their output without a word where one growth is
+refused, the first, the middle or the last, and some say something else. The last line is `N growths: K no memory, L
+unaffected, M wrong; S wrong cases shown`. Status 2: bad arguments, no such program, no C compiler.
 """
 
 import contextlib
@@ -22,7 +22,7 @@ import sys
 import tempfile
 from collections import Counter
 from pathlib import Path
-from typing import Sequence
+from typing import Iterator, Sequence
 
 import sources
 
@@ -59,18 +59,27 @@ static int is_refused(void) {
 void *malloc(size_t size) { return is_refused() ? NULL : __libc_malloc(size); }
 void *realloc(void *old, size_t size) { return is_refused() ? NULL : __libc_realloc(old, size); }
 """
-# Says nothing where it has no memory, or something else than it has to, and ends with STATUS.
+# Where growth PLACE finds no memory it says nothing, or something else than it has to, and ends with STATUS; where
+# another one does, it does what is right. Place 0: it needs no memory.
 LOSER = """
 #include <stdlib.h>
 #include <unistd.h>
 
-int main(void) {
-    void *volatile room = malloc(1);
-    if (room)
-        return write(STDOUT_FILENO, "all", 3) != 3;
-    return STATUS && write(STDERR_FILENO, "labels: no memory!\\n", 19) != 19 ? 1 : STATUS;
+int main(int count, char **words) {
+    int lost = count > 2 ? atoi(words[1]) : 0, status = count > 2 ? atoi(words[2]) : 0;
+    for (int place = 1; place <= GROWTHS; place++) {
+        void *volatile room = malloc(1);
+        if (room || !lost)
+            continue;
+        if (place != lost)
+            return write(STDERR_FILENO, "labels: no memory\\n", 18) != 18 ? 1 : 3;
+        return status && write(STDERR_FILENO, "labels: no memory!\\n", 19) != 19 ? 1 : status;
+    }
+    return write(STDOUT_FILENO, "all", 3) != 3;
 }
 """
+# How often that program grows.
+GROWTHS = 3
 
 
 def build(text: str, file: Path, *options: str) -> None:
@@ -116,30 +125,33 @@ def refuse_each(folder: Path, command: Sequence[str | Path]) -> tuple[Counter[st
     return found, whole
 
 
+def wrong_cases(folder: Path) -> Iterator[tuple[str, bool]]:
+    """Programs that lose their output at one growth, the first, the middle or the last, and one whose growths all end
+    otherwise than with `no memory`: each with whether it is reported."""
+    build(LOSER, folder / "loser", f"-DGROWTHS={GROWTHS}")
+    for place, status in itertools.product(range(GROWTHS + 1), (0, NO_MEMORY[0])):
+        with contextlib.redirect_stdout(io.StringIO()) as said:
+            outcomes, _ = refuse_each(folder, [folder / "loser", f"{place}", f"{status}"])
+        wanted = Counter({"no memory" if place else "unaffected": GROWTHS - (place > 0), "wrong": 1})
+        told = f": growth {place}: status {status}, 0 bytes" if place else "none of its growths ended"
+        yield f"output lost at growth {place}, with status {status}", outcomes == wanted and told in said.getvalue()
+
+
 def main() -> int:
     program = sources.program_given(__doc__)
     found: Counter[str] = Counter()
     with tempfile.TemporaryDirectory() as name:
         folder = Path(name)
         build(REFUSE, folder / "refuse", "-fPIC", "-shared")
-        for status in (0, NO_MEMORY[0]):
-            build(LOSER, folder / "loser", f"-DSTATUS={status}")
-            with contextlib.redirect_stdout(io.StringIO()) as said:
-                outcomes, _ = refuse_each(folder, [folder / "loser"])
-            if outcomes != Counter(wrong=2) or f"growth 1: status {status}, 0 bytes" not in said.getvalue():
-                print(
-                    f"a program that loses its output where memory is refused, with status {status}, is not reported"
-                )
-                return 1
+        faults, shown = sources.unreported(wrong_cases(folder))
         for arguments in (STORED, [*STORED, "stdin"], *OTHERS):
             outcomes, whole = refuse_each(folder, [program, *arguments])
             found += outcomes
             if arguments not in OTHERS and whole[:2] != (0, (CRATE / "stdout").read_bytes()):
-                print(f"{arguments}: not the stored run")
-                found["wrong"] += 1
-    kinds = ("no memory", "unaffected", "wrong")
-    print(f"{found.total()} growths: {', '.join(f'{found[kind]} {kind}' for kind in kinds)}")
-    return 1 if found["wrong"] else 0
+                faults.append(f"{arguments}: not the stored run")
+    faults += [f"{found['wrong']} growths are wrong"] if found["wrong"] else []
+    kinds = ", ".join(f"{found[kind]} {kind}" for kind in ("no memory", "unaffected", "wrong"))
+    return sources.ended(faults, f"{found.total()} growths: {kinds}; {shown}")
 
 
 if __name__ == "__main__":

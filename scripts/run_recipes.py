@@ -48,6 +48,17 @@ CONTINUED = "> "
 EXAMPLE = re.compile(r"(?:^ {14}.*\n)+", re.MULTILINE)
 SHOWN_FILE = re.compile(r"cat ([\w.]+)\n")
 END = "END OF FILE"
+# What the last command of a page or a manual prints otherwise than these say, behind what is right.
+RIGHT = "```sh\necho right\n```\n\n```text\nright\n```\n\n"
+WRONG_PAGES = {
+    "a block and what it prints": "```sh\necho right\n```\n\n```text\nwrong\n```\n",
+    "a block that prints nothing": "```sh\necho wrong\n```\n",
+    "a session": "```console\n$ echo right\nright\n$ echo right\nwrong\n```\n",
+    "a session that goes on": "```console\n$ echo \\\n> right\nwrong\n```\n",
+    "a file that is shown": "```console\n$ cat one.csv\none\n$ cat one.csv\ntwo\n```\n",
+}
+IN_MANUAL = ".PP\n.RS\n.EX\n$ echo right\n{}\n.EE\n.RE\n"
+WRONG_MANUAL = f".TH WRONG 1\n.SH EXAMPLES\n{IN_MANUAL.format('right')}{IN_MANUAL.format('wrong')}.SH BUGS\nNone.\n"
 # zbar's warnings of its reader of another symbology, which are printed in some runs and not in others
 DATABAR = re.compile(r"WARNING: decoder/databar.*\n(?:\t.*\n)?")
 
@@ -195,8 +206,19 @@ def with_turned_pixel(picture: Path, folder: Path) -> Path:
     return folder / "turned.png"
 
 
-def unseen() -> Iterator[str]:
-    """The wrong cases that are not reported, by their names."""
+def faults_of_wrong_pages(folder: Path) -> Iterator[tuple[str, str]]:
+    """What is found of the last commands of WRONG_PAGES and of a manual; nothing where something is wrong before."""
+    texts = {what: ("wrong.md", RIGHT + text) for what, text in WRONG_PAGES.items()}
+    for what, (name, text) in {**texts, "a manual": ("wrong.1", WRONG_MANUAL)}.items():
+        page = folder / name
+        page.write_text(text, encoding="utf-8")
+        commands = examples_of(page) if name == "wrong.1" else commands_of(f"{page}", False)
+        first, *_, last = [one.fault(folder, {"PATH": os.defpath}) for one in commands]
+        yield what, "" if first else last
+
+
+def wrong_cases() -> Iterator[tuple[str, bool]]:
+    """Wrong cases before, between and behind right ones, each with whether it is reported alone."""
     one, another = sorted(PICTURES.glob("*.png"))[:2]
     right = Commands("echo right\n", "right\n")
     with tempfile.TemporaryDirectory() as name:
@@ -211,12 +233,13 @@ def unseen() -> Iterator[str]:
             "another picture": fault_of_picture(one, another),
             "another pixel": fault_of_picture(one, with_turned_pixel(one, folder)),
             "no picture": fault_of_picture(one, folder / one.name),
+            **dict(faults_of_wrong_pages(folder)),
         }
     for name, fault in cases.items():
-        with contextlib.redirect_stdout(io.StringIO()) as said:
-            counts = judged(name, [fault])
-        if counts != (1, 0) or fault not in said.getvalue():
-            yield name
+        for place in range(3):
+            with contextlib.redirect_stdout(io.StringIO()) as said:
+                counts = judged(name, [""] * place + [fault] + [""] * (2 - place))
+            yield f"{name}, number {place} of three", counts == (3, 2) and fault in said.getvalue()
 
 
 def main() -> int:
@@ -231,13 +254,11 @@ def main() -> int:
         commands = {page: [*commands_of(page, given.kit)] for page in pages.RUN}
         manuals = {f"man/{page.name}": examples_of(page) for page in sorted((TOP / "man").glob("*.1"))}
         commands |= {name: found for name, found in manuals.items() if found or name == "man/labels.1"}
-        passes = [*unseen()]
-        for name in passes:
-            print(f"this wrong case is not reported: {name}")
+        passes, shown = sources.unreported(wrong_cases())
         counts = [judged(name, faults_of(name, found, program, given.kit)) for name, found in commands.items()]
     count, good = map(sum, zip(*counts))
-    print(f"{good} of {count} as printed")
-    return 0 if good == count and not passes else 1
+    passes += [] if good == count else [f"{count - good} are not"]
+    return sources.ended(passes, f"{good} of {count} as printed; {shown}")
 
 
 if __name__ == "__main__":

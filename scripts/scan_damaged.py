@@ -247,14 +247,14 @@ class Scanners:
                 results.append("unread")
         return results
 
-    def passed_as_others(self, program: str) -> Iterator[str]:
-        """The labels whose pictures pass as those of another label, by one of the scanners."""
+    def wrong_cases(self, program: str) -> Iterator[tuple[str, bool]]:
+        """Pictures of labels in place of those of others, each with whether both scanners are caught."""
         for head, data, others in OTHERS:
             one, *rest = pictures(program, [label_of(head, text) for text in (data, *others)])
             for other in rest:
                 for label, drawn in ((one, other), (other, one)):
-                    if self.scan(label, drawn.pixels, is_shown=False) != ["misread"] * len(SCANNERS):
-                        yield f"{drawn.label.line()!r} passes as {label.label.line()!r}"
+                    found = self.scan(label, drawn.pixels, is_shown=False)
+                    yield f"{drawn.label.line()!r} as {label.label.line()!r}", found == ["misread"] * len(SCANNERS)
 
 
 def plain(data: bytes) -> bytes:
@@ -266,7 +266,7 @@ def main() -> int:
     program = sources.program_given(__doc__)
     draw, scanners = random.Random(SEED), Scanners()
     labels = [*bar_codes(draw, OF_BARS), *qr_symbols(draw, OF_VERSION)]
-    faults = [*scanners.passed_as_others(program)]
+    faults, shown = sources.unreported(scanners.wrong_cases(program))
     inside: Counter[str] = Counter()
     outside: Counter[str] = Counter()
     for picture in pictures(program, labels):
@@ -277,14 +277,15 @@ def main() -> int:
             inside.update(scanners.scan(picture, pixels, "guessed" if is_guess else "misread"))
         for pixels in beyond(picture, draw):
             outside.update(scanners.scan(picture, pixels, is_shown=False))
-    print(
-        *faults,
+    faults += [f"{inside['misread']} damaged labels are read as other data"] if inside["misread"] else []
+    faults += [] if inside["read"] else ["no damaged label is read"]
+    return sources.ended(
+        faults,
         f"{inside.total() // len(SCANNERS)} damaged labels, read twice: {inside['read']} as drawn, "
         f"{inside['unread']} not, {inside['misread']} misread, {inside['guessed']} guessed; beyond the limits: "
-        f"{outside['read']} as drawn, {outside['unread']} not, {outside['misread']} misread; of {kinds_of(labels)}",
-        sep="\n",
+        f"{outside['read']} as drawn, {outside['unread']} not, {outside['misread']} misread; {shown}; "
+        f"of {kinds_of(labels)}",
     )
-    return 1 if faults or inside["misread"] or not inside["read"] else 0
 
 
 if __name__ == "__main__":

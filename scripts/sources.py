@@ -5,7 +5,7 @@ import glob
 import os
 import subprocess
 import sys
-from typing import Sequence
+from typing import Iterable, Sequence
 
 # Debian's Python, which has the modules that the tools need, whatever is first on the path.
 PYTHON = "/usr/bin/python3"
@@ -65,6 +65,21 @@ def crates_of(top: str) -> list[str]:
     if there != {*listed} or not listed:
         sys.exit(f"crates.txt and the folders crates/*/src differ in: {' '.join(sorted(there ^ {*listed})) or 'none'}")
     return listed
+
+
+def ended(faults: Iterable[str], last: str) -> int:
+    """Prints what a script found wrong, and its last line. Returns its status: 1 where something was wrong."""
+    found = [*faults]
+    print(*found, last, sep="\n", flush=True)
+    return 1 if found else 0
+
+
+def unreported(cases: Iterable[tuple[str, bool]]) -> tuple[list[str], str]:
+    """Of the wrong cases that a script was shown, each with whether it reported it: a line for each that it did not,
+    and how many there were. The last line has this number, and so has the file of counts: none is left out unseen."""
+    shown = [*cases]
+    passed = [f"this wrong case is not reported: {name}" for name, is_reported in shown if not is_reported]
+    return passed, f"{len(shown)} wrong cases shown"
 
 
 def read(path: str) -> str:

@@ -30,10 +30,13 @@ def faults_of(subjects: Iterable[str]) -> Iterator[str]:
             yield f"{commit}: {len(subject)} letters, and at most {LONGEST} are wanted: {subject}"
 
 
-def sees_long_subjects() -> bool:
-    """Whether a subject of one letter too many is reported, and one that fits is not."""
-    lines = [f"{number:07x} {'é' * number}" for number in (LONGEST, LONGEST + 1)]
-    return [fault.split(":")[0] for fault in faults_of(lines)] == [f"{LONGEST + 1:07x}"]
+def wrong_cases() -> Iterator[tuple[str, bool]]:
+    """Subjects of one letter too many before, between and behind some that fit, each with whether it is reported
+    alone."""
+    for place in range(3):
+        lines = [f"{number} {'é' * (LONGEST + (number == place))}" for number in range(3)]
+        found = [fault.partition(":")[0] for fault in faults_of(lines)]
+        yield f"a subject of one letter too many, number {place} of three", found == [f"{place}"]
 
 
 def history() -> tuple[list[str], str]:
@@ -53,13 +56,10 @@ def history() -> tuple[list[str], str]:
 
 def main() -> int:
     sources.parser_of(__doc__, has_top=False).parse_args()
-    if not sees_long_subjects():
-        print("a subject of one letter too many is not reported")
-        return 1
+    faults, shown = sources.unreported(wrong_cases())
     lines, more = history()
-    faults = [*faults_of(lines)]
-    print(*faults, f"{len(lines)} subjects, {len(faults)} faults{more}", sep="\n")
-    return 1 if faults else 0
+    faults += faults_of(lines)
+    return sources.ended(faults, f"{shown}; {len(lines)} subjects, {len(faults)} faults{more}")
 
 
 if __name__ == "__main__":

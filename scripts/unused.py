@@ -27,8 +27,6 @@ import sources
 from reader import Declaration, File, Import, Key, Token
 
 READ_BY_CHECK = ("Answers", "Invariants", "Proof")
-# Traits of std that code imports for their methods: whether these are called is not looked at.
-TRAITS_OF_STD = {"Read", "Write", "BufRead", "Model", "Error"}
 
 
 def cited_by_code(file: File) -> Iterator[Key]:
@@ -87,7 +85,7 @@ def unused_in_code(imports: Sequence[Import], traits: dict[str, list[Declaration
     """The names that are imported for some tokens of code and not used there."""
     scope = imports[0].scope
     tokens, ghost_names = list(reader.without_uses(scope)), reader.names_in(reader.ghost_tokens(scope))
-    names = {token.text for token in tokens} | TRAITS_OF_STD
+    names = {token.text for token in tokens}
     called = {token.text for before, token in zip(tokens, tokens[1:]) if before.text in (".", ":")}
     for one in imports:
         methods = {it.name for it in traits.get(one.name, ()) if it.kind == "fn"}
@@ -142,8 +140,8 @@ def main() -> int:
     found += [f"{one.place}: nothing calls the function {one.name}" for one in functions]
     definition_count = sum(len(file.declarations) for file in logic)
     counts = f"{definition_count} definitions and lemmas, {sum(len(file.imports) for file in files)} imported names"
-    print(*found, f"{counts}, {function_count} functions: {len(found)} unused", sep="\n")
-    return 1 if found or not definition_count or not function_count else 0
+    found += [] if definition_count and function_count else ["nothing to look at"]
+    return sources.ended(found, f"{counts}, {function_count} functions: {len(found)} unused")
 
 
 if __name__ == "__main__":

@@ -238,12 +238,10 @@ def judged(results: Sequence[Tried], are_all: bool) -> int:
         failed.append(
             "no right body was accepted: nothing shows that others are refused for what they are"
         )
-    print(*failed, sep="\n", end="\n" if failed else "")
     of_form = [f"{tried.crate}/{name}" for tried in results for name in tried.of_form]
     print(f"{len(of_form)} refused for their form alone", *of_form, sep="\n  ")
     passed = sum(len(tried.refused) + tried.accepted for tried in results)
-    print(f"{passed} passed, {len(failed)} failed")
-    return 1 if failed else 0
+    return sources.ended(failed, f"{passed} passed, {len(failed)} failed")
 
 
 def main() -> int:

@@ -1,6 +1,7 @@
 """The built library: its files, its names, and what it may not have. Each check is shown a library that is wrong."""
 
 import re
+import shutil
 import tempfile
 import unittest
 from pathlib import Path
@@ -24,30 +25,48 @@ FILES = {
     "usr/share/man/man3/labels.3",
 }
 LAST = "const char *labels_version(void) { return LABELS_VERSION; }"
-WRONG = {
-    "exports other names": (
-        ("labels.c", LAST, LAST + "\nLABELS_API int labels_more(void);\nint labels_more(void) { return 0; }"),
-        ("labels.map", "        labels_line;", "        labels_line;\n        labels_more;"),
+MORE = ("labels.c", LAST, LAST + "\nLABELS_API int labels_more(void);\nint labels_more(void) { return 0; }")
+# What is said of a library with some changes.
+WRONG = (
+    (
+        "exports other names",
+        (MORE, ("labels.map", "        labels_line;", "        labels_line;\n        labels_more;")),
     ),
-    "needs other names": (
+    (
+        "liblabels.a has other names",
+        (MORE, ("Makefile", "$(OBJCOPY) --keep", "$(OBJCOPY) --keep-global-symbol=labels_more --keep")),
+    ),
+    *(
         (
-            "labels.c",
-            LAST,
-            "#include <stdlib.h>\n" + LAST.replace("return LABELS", 'return getenv("X") ? "" : LABELS'),
+            "needs other names",
+            (("labels.c", LAST, f"#include <{header}>\n" + LAST.replace("return", f'return {call} ? "" :')),),
+        )
+        for header, call in (("stdlib.h", 'getenv("X")'), ("errno.h", "errno"))
+    ),
+    (
+        "a relocation in the code",
+        (
+            ("labels.c", LAST, LAST + '\n__asm__(".text\\n.quad labels_version\\n");'),
+            ("Makefile", "-z,defs", "-z,defs,-z,notext"),
         ),
     ),
-    "a relocation in the code": (
-        ("labels.c", LAST, LAST + '\n__asm__(".text\\n.quad labels_version\\n");'),
-        ("Makefile", "-z,defs", "-z,defs,-z,notext"),
-    ),
-    "a stack that can be executed": (("Makefile", "noexecstack", "execstack"),),
-    "not of every amd64 processor": (("labels.c", LAST, LAST + '\n__asm__(".text\\npopcnt %rax, %rax\\n");'),),
-}
+    ("a stack that can be executed", (("Makefile", "noexecstack", "execstack"),)),
+    ("not of every amd64 processor", (("labels.c", LAST, LAST + '\n__asm__(".text\\npopcnt %rax, %rax\\n");'),)),
+)
+# Instructions that came with x86-64-v2 and -v3, each in a program.
+NEWER = (
+    *("pshufb %xmm1, %xmm0", "popcnt %rax, %rax", "ptest %xmm1, %xmm0", "pmulld %xmm1, %xmm0"),
+    *("pinsrb $1, %eax, %xmm0", "pinsrd $1, %eax, %xmm0", "pinsrq $1, %rax, %xmm0"),
+    *("pextrb $1, %xmm0, %eax", "pextrd $1, %xmm0, %eax", "pextrq $1, %xmm0, %rax"),
+    *("palignr $1, %xmm1, %xmm0", "pcmpeqq %xmm1, %xmm0", "pmovzxbw %xmm1, %xmm0", "pmovsxbd %xmm1, %xmm0"),
+    *("pblendw $1, %xmm1, %xmm0", "bzhi %rax, %rax, %rax", "shlx %rax, %rax, %rax", "shrx %rax, %rax, %rax"),
+    *("vmovaps %ymm1, %ymm0", "vpmovmskb %ymm0, %eax"),
+)
 
 
 class Built(WithLibrary):
-    def check(self, folder: Path) -> "tuple[int, str]":
-        done = run(LIB / "check.sh", folder, PROGRAM)
+    def check(self, folder: Path, program: Path = PROGRAM) -> "tuple[int, str]":
+        done = run(LIB / "check.sh", folder, PROGRAM, program)
         return done.returncode, text_of(done)
 
     def test_files(self) -> None:
@@ -71,13 +90,32 @@ class Built(WithLibrary):
         self.assertEqual(self.check(self.library.built), (0, ""))
 
     def test_wrong_libraries_are_refused(self) -> None:
-        for said, changes in WRONG.items():
-            with self.subTest(said):
+        for said, changes in WRONG:
+            with self.subTest(changes):
                 out = Path(tempfile.mkdtemp(dir=self.library.folder))
                 made = self.library.make(self.library.changed(*changes), out, "all")
                 self.assertEqual(made.returncode, 0, text_of(made))
                 status, text = self.check(out)
                 self.assertEqual((status, said in text), (1, True), text)
+
+    def test_each_newer_instruction_is_refused(self) -> None:
+        program = Path(self.library.folder, "newer.o")
+        for instruction in NEWER:
+            with self.subTest(instruction):
+                program.with_suffix(".s").write_text(f".text\n{instruction}\n", encoding="utf-8")
+                self.run_ok("gcc", "-c", program.with_suffix(".s"), "-o", program)
+                status, text = self.check(self.library.built, program)
+                self.assertEqual((status, "an instruction that is not of every amd64" in text), (1, True), text)
+
+    def test_each_file_is_looked_for(self) -> None:
+        folder = Path(tempfile.mkdtemp(dir=self.library.folder))
+        for gone in ("liblabels.a", "liblabels.so.1.1.0"):
+            shutil.copytree(self.library.built, folder / gone, symlinks=True)
+            (folder / gone / gone).unlink()
+            status, text = self.check(folder / gone)
+            self.assertEqual((status, "there is no " in text), (1, True), text)
+        status, text = self.check(self.library.built, folder / "none")
+        self.assertEqual((status, f"there is no {folder / 'none'}" in text), (1, True), text)
 
 
 if __name__ == "__main__":

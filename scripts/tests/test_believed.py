@@ -6,7 +6,9 @@ Run by `python3 -m unittest discover -s scripts/tests`. The kit is needed, and n
 import contextlib
 import io
 import re
+import shutil
 import sys
+import types
 import unittest
 from typing import Any, Callable, Container, Iterable
 from unittest import mock
@@ -14,6 +16,7 @@ from unittest import mock
 from support import TOP, InCopy, in_copy, module, read, write
 
 believed_rows = module("believed_rows")
+judging = module("judging")
 changes = module("changes")
 
 PAGE = "docs/DEFINITIONS.md"
@@ -88,6 +91,14 @@ class Believed(InCopy):
         )
         self.assert_changes_fail(changes, self.check)
 
+    def test_unknown_crate(self) -> None:
+        """One that no list of scripts/bases.py has."""
+        self.addCleanup(shutil.rmtree, self.path("crates/unknown"))
+        self.replace("crates.txt", read(self.path("crates.txt")) + "unknown:\n")
+        self.replace("crates/unknown/src/lib.rt", "")
+        status, said = self.check()
+        self.assertEqual((status, "crates.txt has unknown: scripts/bases.py has to name it" in said), (1, True), said)
+
     def test_show(self) -> None:
         """A list has what a clause rests on, with its comment, and says by which clause of a standard."""
         feed, penalty = "- LF: the line feed\n", "Why: `penalty`: in the manner of 7.8.3.\n"
@@ -116,7 +127,8 @@ class Believed(InCopy):
     def test_axioms(self) -> None:
         """The number of PROOF is that of the verdict on the program, and not one of another crate."""
         log = self.path("log")
-        for assumed, status, says in ((39, 0, "39 contracts"), (38, 1, "and docs/PROOF.md has 39")):
+        says_39 = "and docs/PROOF.md has 39"
+        for assumed, status, says in ((39, 0, "39 contracts"), (38, 1, says_39), (40, 1, says_39), (390, 1, says_39)):
             verdict = f"logic=proved functions=3 axioms={assumed} target=x86_64\n"
             other = "logic=proved functions=14 axioms=3 target=x86_64\n"
             write(log, f"== examples\n{other}\n== labels\n{verdict}\n== labels: its tests\n{other}")
@@ -140,7 +152,8 @@ class Rows(InCopy):
         self.replace(reading, text.replace("-- the decimal number that", "-- the number that"))
         status, said = self.check()
         self.assertEqual(status, 0, said)
-        self.assertRegex(said, r"^\d{4} changes of \d{3} definitions are refused, \d+ mean the same\n$")
+        said_so = r"^\d{4} changes of \d{3} definitions are refused, \d+ mean the same, sum [\da-f]{8}\n$"
+        self.assertRegex(said, said_so)
 
     def test_changes(self) -> None:
         """Another definition or worked value, a file without a result, a result without a file."""
@@ -158,6 +171,124 @@ class Rows(InCopy):
         )
         self.assert_changes_fail(changes, self.check)
 
+    def test_each_definition_is_looked_at(self) -> None:
+        """In each file the first and the last word that is changed, in its place, and then the sum of its line."""
+        every = changes.all_changes(changes.read_crates(self.folder))
+        for found in ({it.file: it for it in reversed(every)}, {it.file: it for it in every}):
+            for file, change in found.items():
+                self.replace(file.path, change.text())
+            status, said = self.check()
+            waiting = [file.title for file in found if f"{file.title}: no" not in said]
+            self.assertEqual((status, waiting), (1, []), said)
+            self.doCleanups()
+        text = read(self.path(RESULTS))
+        self.replace(RESULTS, re.sub(r"(?m)^(\w+/\w+ \d+) \w+", r"\1 0", text))
+        _, said = self.check()
+        self.assertEqual([file.title for file in found if f"{file.title}: not as it was judged" not in said], [])
+        self.assertIn("\n0 changes of 0 definitions", said)
+
+
+# What a check says of copies of three changes, of which it refuses the first by a worked value, and the last as no
+# definition.
+SAID = """./proofs/V0/Examples.antt:1:2: error: `one`: 1 is not 2
+./proofs/V0/Examples.antt:3:2: error: `other`: 1 is not 2
+./proofs/V2/Field.antt:1:2: error: no such name
+"""
+
+
+class Judging(unittest.TestCase):
+    """What comes of copies, by a stand-in of the kit's check."""
+
+    def setUp(self) -> None:
+        (self.crate,) = [it for name, it in changes.read_crates(TOP).items() if name == "gf256"]
+        self.found = changes.all_changes({"gf256": self.crate})[:3]
+        self.rooms: list[dict[str, str]] = []
+
+    def judged(self, *said: str) -> int:
+        """How many copies are refused, where the check says this."""
+
+        def check(_kit: Any, room: str, _words: Any) -> str:
+            paths = module("sources").files_below(room, "")
+            self.rooms.append({path.removeprefix(f"{room}/"): read(path) for path in paths})
+            return "".join(said)
+
+        text = self.crate.examples["Examples"].text
+        with mock.patch.object(judging.libraries, "check", check):
+            copies = [(change, text) for change in self.found]
+            refused: int = judging.judge_copies(None, [], self.crate, "Examples", copies)
+            return refused
+
+    def test_what_a_check_says(self) -> None:
+        self.assertEqual(self.judged(SAID, "logic=refuted\n"), 2)
+        self.assertEqual([it.by for it in self.found], ["one", "", judging.NO_DEFINITION])
+        for said in (SAID, f"{SAID}./proofs/V3/Examples.antt:1:2: error: `one`: 1 is not 2\nlogic=refuted\n"):
+            with self.subTest(said), self.assertRaises(SystemExit):
+                self.judged(said)
+
+    def test_what_is_checked(self) -> None:
+        """Each copy has its own change, and the last one none. It has the files between too: gf256's values rest on
+        the products of its polynomials by its field."""
+        every = changes.all_changes({"gf256": self.crate})
+        self.found = [it for it in every if it.file.module == "BinaryPolynomial"][:3]
+        self.judged("logic=proved\n")
+        (room,) = self.rooms
+        folders = [f"proofs/V{number}/" for number in range(4)]
+        for folder, change in zip(folders, [*self.found, None]):
+            file = self.found[0].file
+            wanted = judging.with_imports(change.text(), change.new) if change else file.text
+            own = re.sub(
+                rf"Rattle\.judge\.proofs\.{folder[7:-1]}\b", "Rattle.gf256.specs", room[f"{folder}{file.module}.antt"]
+            )
+            self.assertEqual(own, wanted)
+            self.assertIn(f"Rattle.judge.proofs.{folder[7:-1]}.{file.module}", room[f"{folder}Examples.antt"])
+        between = ("BinaryPolynomial", "ErrorCorrection", "Examples", "Field", "Polynomial")
+        paths = {f"{folder}{module}.antt" for folder in folders for module in between}
+        self.assertEqual({path for path in room if path.count("/") > 1}, paths)
+        self.assertEqual([path for path in paths if "Rattle.gf256.specs" in room[path]], [])
+
+    def test_imports(self) -> None:
+        text = "-- a\n\nuse Rattle.a.specs.B.{◌+◌, c}\n"
+        for word, line in (
+            ("-", "use Rattle.std.specs.Prelude.{◌-◌}"),
+            ("=!=", "use Rattle.judge.proofs.Differ.{◌=!=◌}"),
+            ("list_any", "use Rattle.std.specs.List.{list_any}"),
+            ("itself", "use Rattle.judge.proofs.Differ.{itself}"),
+        ):
+            self.assertEqual(judging.with_imports(text, word), text.replace("\nuse", f"\n{line}\nuse", 1))
+        for word in ("+", "5", "c", "x"):
+            self.assertEqual(judging.with_imports(text, word), text)
+
+    def test_worked_values(self) -> None:
+        """Each that rests on the definition judges it, or of these just those that are named."""
+        seen: list[tuple[str, str]] = []
+
+        def judge_copies(_kit: Any, _words: Any, _crate: Any, name: str, copies: Any) -> int:
+            seen.extend((name, text) for _, text in copies)
+            return 0
+
+        kit = mock.Mock()
+        kit.crates_below.return_value = [types.SimpleNamespace(name="gf256")]
+        stands_in = mock.patch.multiple(judging, words_for=lambda *_: [], judge_copies=judge_copies, AT_ONCE=2)
+        with stands_in, mock.patch.object(judging.libraries, "kit", lambda: kit):
+            with contextlib.redirect_stdout(io.StringIO()):
+                file = self.crate.examples["Examples"]
+                resting = self.crate.resting_on(self.found[0].definition.name, file)
+                names = [one.name for one in file.declarations if changes.is_worked(one) and one.name in resting]
+                self.assertGreater(len(names), 1)
+                for values in (names, names[:1], names[-1:], []):
+                    judging.judge(TOP, True, self.crate, self.found[:1], {self.found[0].file.title: values})
+                judging.judge(TOP, True, self.crate, self.found[:1])
+                self.found[0].by = names[0]
+                judging.judge(TOP, True, self.crate, self.found[:1])
+                wanted = [changes.with_values(file, values) for values in (names, names[:1], names[-1:], names)]
+                self.assertEqual(seen, [("Examples", text) for text in wanted])
+                # All are judged, at most two of them in one check.
+                self.found[0].by = ""
+                for count in range(1, 4):
+                    seen.clear()
+                    judging.judge(TOP, True, self.crate, self.found[:count])
+                    self.assertEqual(len(seen), count)
+
 
 class Sample(unittest.TestCase):
     """Changes that are judged again, by a stand-in of the prover."""
@@ -166,7 +297,9 @@ class Sample(unittest.TestCase):
         """The status of --sample and its last line, where `refuses` says whether a change is refused."""
 
         def judge(_top: str, _as_left: bool, _crate: Any, changes: Iterable[Any], values: Container[str]) -> None:
-            for change in changes:
+            of_crate = [*changes]
+            self.assertEqual(len({*map(id, of_crate)}), len(of_crate), "one is judged twice")
+            for change in of_crate:
                 self.assertIn(change.file.title, values)
                 change.by = "value" if refuses(change) else ""
 
@@ -196,6 +329,16 @@ class Sample(unittest.TestCase):
         self.assertEqual([name for name in worked if f"\n{name} :" in left], worked[:1])
         self.assertEqual(changes.with_values(file, worked), file.text)
         self.assertEqual(changes.with_values(file, ["gone"]), "")
+
+    def test_worked_values_by_their_text(self) -> None:
+        """One ends with refl or with omega arith; what is none stays in each copy."""
+        for crate in ("gf256", "labelcore"):
+            (file,) = module("reader").files_at(TOP, [f"{TOP}/crates/{crate}/proofs/Examples.antt"])
+            texts = {one.name: file.text_of(one.tokens) for one in file.declarations}
+            worked = [name for name, text in texts.items() if re.search(r"\b(refl|omega\s+arith)\b", text)]
+            self.assertEqual([one.name for one in file.declarations if changes.is_worked(one)], worked)
+            left = changes.with_values(file, worked[-1:])
+            self.assertEqual([name for name, text in texts.items() if text not in left], worked[:-1])
 
 
 if __name__ == "__main__":

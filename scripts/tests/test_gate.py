@@ -94,16 +94,8 @@ CHANGED = {
         ("crates.txt", "gf256:", "# gf256:", "differ in: gf256"),
         ("docs/RECIPES.md", "```sh\n", "```text\n", "blocks: "),
         ("HANDLES", HANDLES, "Handles allowed: Net.", f"HANDLES is not: {HANDLES}"),
-        (
-            "crates/gf256/src/lib.rt",
-            "#![tactic(auto)]\n",
-            "",
-            "crates/gf256: no line #![tactic(auto)] in its root file",
-        ),
         ("scripts/counts.txt", "device: ", "device: 9\ndevice: ", "two lines of the name device"),
-        ("README.md", "drew the same 5", "drew the same 6", "README.md: drew the same 6"),
         ("docs/PROOF.md", "believed definitions", "definitions", "docs/PROOF.md: no operator of"),
-        ("README.md", "read all ", "read many ", "README.md: no read all"),
         ("tools/tests/test_table_mutants.py", "MUTANTS = 4000", "MUTANTS = 4", " MUTANTS = 4, "),
         ("scripts/instructions.py", "ROOM = 5\n", "ROOM = 5.9\n", " ROOM = 5.9, and "),
         ("lib/tests/test_calls.py", "ROUNDS = 100_000", "ROUNDS = 100_00", " ROUNDS = 10000, "),
@@ -116,24 +108,19 @@ CHANGED = {
         ("crates/device/README.md", "```rust\n", "```rust\nsink.forget();\n", "lacks: sink.forget();"),
         ("docs/INPUT.md", END, f"\n```sh\nlabels\n{END}", "this block is not closed"),
         ("docs/INPUT.md", END, f"\n~~~rust\nfn a() {{}}\n~~~\n{END}", "no script reads blocks of ~~~"),
-        ("docs/INPUT.md", END, f"\n```bash\nlabels\n```\n{END}", "no script reads blocks of bash"),
         ("docs/INPUT.md", END, f"\n```\nlabels\n```\n{END}", "no script reads blocks of no language"),
-        ("docs/PROOF.md", END, f"\n```sh\nlabels\n```\n{END}", "nothing runs the commands"),
         ("docs/PROOF.md", "ensures whole {", "ensures half {", "this code is in no file"),
         ("docs/PROOF.md", "src/streams.rt", "src/stream.rt", "this code is in no file"),
         ("docs/INPUT.md", "```console\n$ ", "```console\n", "this session does not begin with a prompt"),
-        ("docs/PROOF.md", "`script`", "`scrip`", "no `scrip` in the code"),
         ("docs/PROOF.md", "`Buffered::prove_reached`", "`Buffered::nought`", "no `Buffered::nought` in the code"),
         ("README.md", END, f"{2 * MANY}{END}", "README.md: 1"),
         ("docs/DECISIONS.md", END, f"{MANY * 99}{END}", "pages by hand: "),
-        ("README.md", "](docs/PROOF.md", "](docs/PROOFS.md", "a link to no file: docs/PROOFS.md"),
         (
             "README.md",
             "](docs/PROOF.md",
             "](docs/PROOF.md#the-promis",
             "a link to no heading: docs/PROOF.md#the-promis",
         ),
-        ("README.md", "](docs/PROOF.md", "](docs/PROOF.md#none", "a link to no heading: docs/PROOF.md#none"),
     ),
 }
 
@@ -191,6 +178,78 @@ class TakenAway(InCopy):
         self.assertEqual(status, 1)
         for *_, wanted in CHANGED_SCRIPTS:
             self.assertIn(wanted, said)
+
+    def faults_of(self, name: str) -> list[str]:
+        """What a step says of the copy before its last line, each without the number of its line."""
+        status, said = self.judged(name)
+        *lines, _ = said.rstrip("\n").split("\n")
+        self.assertEqual(status, int(bool(lines)), said)
+        return sorted(re.sub(r":\d+: ", ": ", line) for line in lines)
+
+    def test_each_page_is_looked_at(self) -> None:
+        """What is wrong at its begin and at its end."""
+        pages = module("pages")
+        os.chdir(self.folder)
+        self.addCleanup(os.chdir, TOP)
+        wanted = list[str]()
+        for page, text in pages.texts().items():
+            wrong = ["[a](none.md)", "[a](#none)", "```bash\nlabels\n```"]
+            found = ["a link to no file: none.md", "a link to no heading: #none", "no script reads blocks of bash"]
+            if page in pages.NAMING:
+                wrong.append("`nought_of_all`")
+                found.append("no `nought_of_all` in the code")
+            if page in pages.QUOTING:
+                wrong.append("```rust\nnought_of_all\n```")
+                found.append("this code is in no file that the page names above it")
+            if page not in pages.RUN:
+                wrong.append("```sh\nlabels\n```")
+                found.append("nothing runs the commands of this page: write them as text")
+            self.replace(page, "\n\n".join([*wrong, text, *wrong, ""]))
+            wanted += 2 * [f"{page}: {it}" for it in found]
+        lines = [line for line in self.faults_of("pages.py") if " and at most " not in line]
+        self.assertEqual(lines, sorted(wanted))
+
+    def test_each_page_of_a_crate_is_looked_at(self) -> None:
+        """One without an example, and one that is too long."""
+        pages = module("pages")
+        names = module("sources").crates_of(self.folder)
+        for name in names:
+            page = f"crates/{name}/README.md"
+            text = read(self.path(page))
+            count = text.count("\n")
+            self.replace(page, text.replace("```rust\n", "```text\n") + "\n" * (pages.LONGEST + 1 - count))
+        wanted = [f"crates/{name}/README.md: 41 lines, and at most 40 are wanted" for name in names]
+        wanted += [f"crates/{name}/README.md: no example" for name in names if name not in pages.WITHOUT_EXAMPLE]
+        self.assertEqual(self.faults_of("pages.py"), sorted(wanted))
+
+    def test_each_number_is_looked_at(self) -> None:
+        """Each line of the file of counts, each sentence of a page that has a number, each crate's root file."""
+        counts, kept = module("counts"), module("gate").counts_kept()
+        os.chdir(TOP)
+        for wrong in ({}, {step: re.sub("[0-9]", "7", line) for step, line in kept.items()}):
+            self.assertEqual(len([*counts.faults_of_pages(wrong)]), len(counts.IN_PAGES))
+        self.assertEqual([*counts.faults_of_pages(kept)], [])
+        names = module("sources").crates_of(self.folder)
+        for name in names:
+            (root,) = (it for it in ("lib.rt", "main.rt") if os.path.exists(self.path("crates", name, "src", it)))
+            path = f"crates/{name}/src/{root}"
+            self.replace(path, read(self.path(path)).replace(f"{counts.AUTO}\n", ""))
+        text = read(self.path("scripts/counts.txt"))
+        for name in kept:
+            twice = mock.patch.object(module("gate").sources, "read", return_value=f"{text}{name}: 0\n")
+            with self.subTest(name), twice, self.assertRaisesRegex(
+                SystemExit, f"two lines of the name {re.escape(name)}$"
+            ):
+                module("gate").counts_kept()
+        self.replace("scripts/counts.txt", re.sub(r"(?m)^([^#:]+): .*", r"\1: x", text))
+        faults = self.faults_of("counts.py")
+        others = (*module("gate").COUNTED, *module("gate").TESTS)
+        wanted = [f"{name}: " for name in kept if name not in others]
+        wanted.append("scripts/counts.txt has no number of tests of scripts/tests, tools/tests, lib/tests")
+        wanted += [f"crates/{name}: no line {counts.AUTO} in its root file" for name in names]
+        wanted += [f"{page}: " for page, *_ in counts.IN_PAGES]
+        self.assertEqual([line for line in wanted if not any(it.startswith(line) for it in faults)], [])
+        self.assertEqual(len(faults), len(wanted), faults)
 
     def test_tests_that_cannot_be_read(self) -> None:
         self.move("lib/tests", "lib/tests-away")
@@ -253,11 +312,12 @@ class TakenAway(InCopy):
             status, said = self.judged("run_tests.py", "lib/tests")
         self.assertEqual((status, said), (1, "a test that did not pass is counted as one that did\n"))
         lints = module("lints")
-        for name in ("silenced", "too_long"):
+        for name, count in (("silenced", 6), ("too_long", 3)):
             with mock.patch.object(lints, name, return_value=[]), mock.patch.object(
                 lints, "all_lints", return_value=()
             ):
-                self.assertIn("a look into files finds nothing in: ", self.judged("lints.py")[1])
+                status, said = self.judged("lints.py")
+                self.assertEqual((status, said.count("this wrong case is not reported: ")), (1, count), said)
 
     def test_step_that_did_nothing(self) -> None:
         self.replace("scripts/refuse_each_growth.py", "print('0 passed, 0 failed')\n")
@@ -267,7 +327,8 @@ class TakenAway(InCopy):
         text = read(self.path("scripts/compare_symbols.py"))
         self.replace("scripts/compare_symbols.py", text.replace("return [label for", "return [] and [label for"))
         found = run_command([PYTHON, self.path("scripts/compare_symbols.py"), "/bin/true"])
-        self.assertEqual(found, (1, "0 labels: 0 read back, 0 of 0 as zint draws them; of those read back none\n"))
+        last = "0 labels: 0 read back, 0 of 0 as zint draws them; 0 wrong cases shown; of those read back none"
+        self.assertEqual(found, (1, f"no label to compare\n{last}\n"))
 
     def test_step_that_looked_at_less(self) -> None:
         script = "scripts/refuse_each_growth.py"
@@ -331,6 +392,34 @@ class TakenAway(InCopy):
         self.assertEqual(status, 1)
 
 
+# Makefiles, which no lint reads.
+NOT_READ = {"debian/rules"}
+
+
+class FilesOfLints(unittest.TestCase):
+    """What the lints read is what there is."""
+
+    def test_each_program_is_read(self) -> None:
+        """Each file with an ending or a first line of a program, but for the crates and what is built."""
+        lints = module("lints")
+        os.chdir(TOP)
+        no_code = {"out", ".git", "crates", "__pycache__"}
+        wanted = set[str]()
+        for folder, folders, names in os.walk("."):
+            folders[:] = [name for name in folders if name not in no_code]
+            paths = [os.path.join(folder, name).removeprefix("./") for name in names]
+            wanted |= {path for path in paths if re.search(r"\.(py|sh|bash|[1-8])$", path) or is_program(path)}
+        files = lints.files_by_kind()
+        kinds = ("python", "shell", "completion", "manual")
+        self.assertEqual(wanted - {path for kind in kinds for path in files[kind]}, NOT_READ)
+        read_by = [path for lint in lints.all_lints(files) for path in lint.files]
+        self.assertEqual(wanted - NOT_READ - {*read_by}, set())
+        for path in files["python"]:
+            with self.subTest(path):
+                # One for its layout, one for its style, one for its types.
+                self.assertEqual(read_by.count(path), 3)
+
+
 class KeptLints(InFolder):
     """What a lint passed is not read again: but what is new, what failed, and all after a package changed."""
 
@@ -370,6 +459,12 @@ class KeptLints(InFolder):
                 self.assertEqual(self.found_and_read(*names.split()), (found, are_read))
 
 
+def is_program(path: str) -> bool:
+    """Whether the first line of a file names what reads it."""
+    with open(path, "rb") as file:
+        return file.read(2) == b"#!"
+
+
 # Stands in for a part of the gate. Of gate.py `quick` runs one step, `built` two.
 PART = """import sys
 steps = dict(quick=["one"], built={built!r}).get(sys.argv[-1], [])
@@ -377,7 +472,7 @@ print(*(f"ok: {{step}}, 1.5 s, 1.4 of processor" for step in steps), sep="\\n")
 print("{name}", *sys.argv[1:], "ran")
 print({more!r}, end="")
 print({last!r})
-sys.exit({status})
+sys.exit({status} if {when!r} in sys.argv[-1] else 0)
 """
 REFUSED = "one: 2 refused, 1 accepted, in 1 checks\nrefused in one: low high\n"
 RT = "[ $1 != version ] || {{ echo 'kit-1 logic {version}'; exit; }}; echo rt ci ran; {then}"
@@ -389,8 +484,11 @@ def part(
     status: int = 0,
     built: tuple[str, ...] = ("two", "tests of three"),
     more: str = REFUSED,
+    when: str = "",
 ) -> dict[str, str]:
-    return {f"scripts/{name}.py": PART.format(name=name, last=last, status=status, built=built, more=more)}
+    """Stands in for a script: its last line, and its status where its last argument has a text."""
+    text = PART.format(name=name, last=last, status=status, built=built, more=more, when=when)
+    return {f"scripts/{name}.py": text}
 
 
 def program(name: str, text: str) -> dict[str, str]:
@@ -486,6 +584,27 @@ class Run(InFolder):
                 "did not run: tests of three",
                 "13 passed, 1 failed",
             ),
+            (
+                part("gate", "4 passed, 0 failed", 0, ("two more", "tests of three")),
+                {},
+                1,
+                parts,
+                "did not run: two",
+                "13 passed, 1 failed",
+            ),
+            (
+                {"scripts/counts.txt": "steps of quick: other\nsteps of built: two, tests of three\n"},
+                {},
+                1,
+                parts,
+                "did not run: other",
+                "15 passed, 1 failed",
+            ),
+            # A part that fails without a word on it.
+            (part("gate", "5 passed, 0 failed", 1, when="quick"), {}, 1, [quick], "5 passed", "5 passed, 1 failed"),
+            (part("gate", "5 passed, 0 failed", 1, when="built"), {}, 1, parts, "5 passed", "15 passed, 1 failed"),
+            (part("wrong_bodies", "2 passed, 0 failed", 1), {}, 1, parts, "2 passed", "15 passed, 1 failed"),
+            (kit("echo '3 passed, 0 failed'; exit 3"), {}, 3, parts[:2], "3 passed", "8 passed, 1 failed"),
             # The status is that of the proofs where these fail; what comes after the wrong bodies runs all the same.
             (
                 kit("echo '2 passed, 1 failed'; exit 3"),
@@ -512,7 +631,7 @@ class Run(InFolder):
             with self.subTest(said=said, status=status):
                 found = self.run_gate(changes, environment)
                 self.assertEqual((*found[:2], found[2][-1]), (status, ran, last), found)
-                self.assertIn(said, found[2] + ["built"])
+                self.assertTrue(any(line.startswith(said) for line in found[2] + ["built"]), found)
                 if len(ran) > 1:
                     self.assertRegex(found[2][-2], r"^\d+\.\d processor minutes$")
 
@@ -529,6 +648,18 @@ class Run(InFolder):
                 status, _, lines = self.run_gate(bent, {})
                 self.assertEqual((status, lines[-1]), (1, f"15 passed, {failed} failed"))
                 self.assertIn(said, lines)
+        for crate in ("another", "two"):
+            status, _, lines = self.run_gate({f"crates/{crate}/wrong-bodies/low.edit": ""}, {})
+            self.assertEqual((status, lines[-1]), (1, "15 passed, 1 failed"))
+            self.assertIn(f"not refused: {crate}/low", lines)
+
+    def test_each_package_is_wanted(self) -> None:
+        """The first and the last one of the list."""
+        os.chdir(TOP)
+        names = module("counts").names_of_packages()
+        for name in (names[0], names[-1], "zint"):
+            status, _, (said, *_) = self.run_gate({}, {"MISSING": name})
+            self.assertEqual((status, said.endswith(f" {name}")), (1, True), said)
 
 
 class Packages(unittest.TestCase):
@@ -566,7 +697,7 @@ class Packages(unittest.TestCase):
         gate = module("gate")
         run = read(os.path.join(TOP, ".ci/run"))
         names = {step.split()[0] for step in (*gate.QUICK, *gate.BUILT)}
-        names |= {*re.findall(r"(?m)^/usr/bin/python3 scripts/(\S+) ", run)}
+        names |= {*re.findall(r"(?m)^(?:part )?/usr/bin/python3 scripts/(\S+) ", run)}
         pages = [read(os.path.join(TOP, page)) for page in module("pages").RUN]
         names |= {name for page in pages for name in re.findall(r"(?m)^scripts/(\S+) ", page)}
         programs = {name for name in os.listdir(SCRIPTS) if os.access(os.path.join(SCRIPTS, name), os.X_OK)}

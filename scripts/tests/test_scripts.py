@@ -6,6 +6,7 @@ built program: where a script calls one, a stand-in of a few lines is put on the
 
 import contextlib
 import io
+import itertools
 import os
 import re
 import shutil
@@ -13,7 +14,7 @@ import sys
 import tempfile
 import types
 import unittest
-from typing import Any, Callable, Sequence
+from typing import Any, Callable, Iterable, Sequence
 from unittest import mock
 
 from support import SCRIPTS, TOP, InCopy, InFolder, in_copy, module, read, run, run_command, write
@@ -298,6 +299,9 @@ class Outcomes(InFolder):
             (["`returns`: record `One`", no_name, follows], True),
             ([no_field, differs], False),
             ([follows], False),
+            ([f"it is wrong: {no_name}"], False),
+            ([f"it is wrong: {no_field}"], False),
+            ([no_field, f"it is wrong: {follows}"], False),
             (list[str](), False),
         ):
             said = "".join(f"{at}{error}\n" for error in errors)
@@ -343,7 +347,7 @@ class Outcomes(InFolder):
             (
                 [one("a", ["c"], [], 1, 0, ["b: NOT REFUSED"])],
                 True,
-                (1, f"a/b: NOT REFUSED\n{none}2 passed, 1 failed\n"),
+                (1, f"{none}a/b: NOT REFUSED\n2 passed, 1 failed\n"),
             ),
         ):
             with contextlib.redirect_stdout(io.StringIO()) as said:
@@ -389,7 +393,7 @@ class Subjects(InFolder):
     def judged(self, folder: str, since: str) -> tuple[int, str]:
         with mock.patch.object(module("subjects"), "SINCE", since):
             status, said = in_copy(folder, "subjects.py")
-        return status, said.rstrip("\n").split("\n")[-1]
+        return status, said.rstrip("\n").split("\n")[-1].removeprefix("3 wrong cases shown; ")
 
     def test_histories(self) -> None:
         os.mkdir(self.path("one"))
@@ -414,7 +418,13 @@ class Subjects(InFolder):
 
     def test_one_that_reports_nothing(self) -> None:
         with mock.patch.object(module("subjects"), "faults_of", return_value=[]):
-            self.assertEqual(in_copy(TOP, "subjects.py"), (1, "a subject of one letter too many is not reported\n"))
+            status, said = in_copy(TOP, "subjects.py")
+        self.assertEqual((status, said.count("this wrong case is not reported: ")), (1, 3), said)
+
+
+def unreported(cases: Iterable[tuple[str, bool]]) -> int:
+    """How many of the cases that a script is shown it does not report."""
+    return sum(not is_reported for _, is_reported in cases)
 
 
 class Judges(unittest.TestCase):
@@ -430,9 +440,9 @@ class Judges(unittest.TestCase):
         symbol = read_foreign.Symbol("nobody", "ean8", data, read_foreign.row_of("101" + "0" * 64))
         cases: tuple[tuple[Callable[[Any], bytes | None], int], ...] = (
             (lambda one: data if one.modules.any() else None, 0),
-            (lambda one: data, 1),
-            (lambda one: None, 1),
-            (lambda one: bytes(one.data), 3),
+            (lambda one: data, 3),
+            (lambda one: None, 21),
+            (lambda one: bytes(one.data), 21),
         )
         for found, count in cases:
 
@@ -440,7 +450,7 @@ class Judges(unittest.TestCase):
                 return [found(one) for one in symbols]
 
             with mock.patch.object(read_foreign, "readings", bent):
-                self.assertEqual(len([*read_foreign.not_seen("reader", symbol)]), count)
+                self.assertEqual(unreported(read_foreign.wrong_cases("reader", symbol)), count)
 
     def test_turned_modules(self) -> None:
         """At both ends and in the middle: of a QR symbol one module, of a bar code one in all rows."""
@@ -477,7 +487,7 @@ class Judges(unittest.TestCase):
                 mock.patch.object(compare_symbols, "is_as_zint", return_value=is_same),
                 mock.patch.object(compare_symbols, "is_read_back", return_value=is_read),
             ):
-                self.assertEqual(len([*compare_symbols.not_seen("")]), wanted)
+                self.assertEqual(unreported(compare_symbols.wrong_cases("")), wanted)
 
     def test_more_or_fewer_modules_than_zint(self) -> None:
         """zint's last digit may have up to three bits more, which are none of the symbol."""
@@ -501,7 +511,7 @@ class Judges(unittest.TestCase):
     def assert_heeds(self, name: str, arguments: Sequence[str], shown: str, **bent: Any) -> None:
         """All is right but for the wrong cases: a script ends with 0 where none passes, else with 1, and says it."""
         self.assertEqual(self.status(name, *arguments, **{shown: lambda *_: iter(())}, **bent)[0], 0, name)
-        status, said = self.status(name, *arguments, **{shown: lambda *_: iter(["a wrong case"])}, **bent)
+        status, said = self.status(name, *arguments, **{shown: lambda *_: iter([("a wrong case", False)])}, **bent)
         self.assertEqual((status, "a wrong case" in said), (1, True), said)
 
     def test_wrong_cases_that_pass_are_heeded(self) -> None:
@@ -509,31 +519,43 @@ class Judges(unittest.TestCase):
         self.assert_heeds(
             "compare_symbols",
             ["/bin/true"],
-            "not_seen",
+            "wrong_cases",
             all_labels=lambda: [label],
             pictures_of=lambda *_: [self.picture()],
             is_as_zint=lambda *_: True,
             readings=lambda *_: [(label, label.full)],
         )
-        self.assert_heeds("run_recipes", ["/bin/true"], "unseen", faults_of=lambda *_: [""], examples_of=lambda *_: [])
+        self.assert_heeds(
+            "run_recipes", ["/bin/true"], "wrong_cases", faults_of=lambda *_: [""], examples_of=lambda *_: []
+        )
         scan_damaged = module("scan_damaged")
         scanners = mock.Mock()
         scanners.return_value.scan.return_value = ["read", "read"]
-        for passed, status in ([], 0), (["a wrong case"], 1):
-            scanners.return_value.passed_as_others.return_value = passed
+        for passed, status in ([], 0), ([("a wrong case", False)], 1):
+            scanners.return_value.wrong_cases.return_value = passed
             shown = [scan_damaged.Picture(label, self.picture().repeat(9, 0).repeat(9, 1))]
             found = self.status("scan_damaged", "/bin/true", Scanners=scanners, pictures=lambda *_: iter(shown))
-            self.assertEqual((found[0], found[1].startswith("a wrong case")), (status, bool(passed)), found)
+            self.assertEqual((found[0], "not reported: a wrong case" in found[1]), (status, bool(passed)), found)
         growth = module("refuse_each_growth")
         whole = (0, (growth.CRATE / "stdout").read_bytes(), b"")
         fine = {"build": lambda *_: None, "refuse_each": lambda *_: (growth.Counter({"no memory": 1}), whole)}
         status, said = self.status("refuse_each_growth", "/bin/true", **fine)
-        self.assertEqual((status, said.endswith("with status 0, is not reported\n")), (1, True), said)
+        self.assertEqual((status, said.count("this wrong case is not reported: ")), (1, 8), said)
 
     def test_kinds(self) -> None:
         heads = ("ean13,height=9", "qr,level=L,min-version=2,mask=3", "qr,level=L", "ean13")
         labels = [pictures.Label(head, b"", b"", 1) for head in heads]
         self.assertEqual(pictures.kinds_of(labels), "2 ean13, 2 level L, 1 mask 3, 2 qr, 1 version 2")
+
+    def test_words_of_code(self) -> None:
+        """Each counts, but white space, comments and the commas that a formatter puts last."""
+        for code, words in (
+            ("f(a, b)", " f ( a , b ) "),
+            ("f(\n    a,\n    b,\n)", " f ( a , b ) "),
+            ("[1, 2], // three", " [ 1 , 2 ] "),
+            ('"a, b" http://c', ' "a, b" http : / / c '),
+        ):
+            self.assertEqual(pages.words_of(code), words)
 
     def test_lines_by_hand(self) -> None:
         """Each line counts, but of the tables that scripts make, and only of README.md and docs/*.md."""
@@ -545,15 +567,15 @@ class Judges(unittest.TestCase):
             self.assertEqual((path, pages.lines_by_hand({path: text})), (path, count))
 
     def test_recipes(self) -> None:
-        self.assertEqual([*run_recipes.unseen()], [])
+        self.assertEqual(unreported(run_recipes.wrong_cases()), 0)
         for where, name, bent, count in (
-            (run_recipes.Commands, "fault", lambda *given: "", 6),
-            (run_recipes, "fault_of_picture", lambda *given: "", 3),
-            (run_recipes, "judged", lambda *given: (1, 1), 9),
-            (run_recipes, "judged", lambda *given: (1, 0), 9),
+            (run_recipes.Commands, "fault", lambda *given: "", 36),
+            (run_recipes, "fault_of_picture", lambda *given: "", 9),
+            (run_recipes, "judged", lambda *given: (3, 3), 45),
+            (run_recipes, "judged", lambda *given: (3, 2), 45),
         ):
             with mock.patch.object(where, name, bent):
-                self.assertEqual(len([*run_recipes.unseen()]), count)
+                self.assertEqual(unreported(run_recipes.wrong_cases()), count)
 
 
 # What stands in for the programs that debian/tests calls, as they are and as they must not be.
@@ -569,8 +591,13 @@ WRONG_PROGRAMS = (
     ("tools", "label-table", "echo ean13 4006381333931"),
     ("tools", "label-print", "echo %PDF-1.5"),
     ("tools", "label-print", "printf '^XA\\n^XA\\n'"),
-    ("tools", "man", "echo NAME"),
+    ("tools", "label-print", "[ $1 = --stock ] && echo %!PS || printf '^XA\\n^XA\\n'"),
+    *(
+        ("tools", "man", f"[ $3 = {name} ] && echo NAME || echo SYNOPSIS")
+        for name in ("labels", "label-table", "label-print")
+    ),
 )
+PAGES = ("README.md", "docs/INPUT.md", "docs/pictures/sheet.png")
 
 
 class PackageTests(InFolder):
@@ -591,7 +618,11 @@ class PackageTests(InFolder):
         for name, program, text in WRONG_PROGRAMS:
             with self.subTest(program=program, text=text):
                 self.assertFalse(self.passes(name, TOP, **{**RIGHT_PROGRAMS, program: text}))
-        self.assertFalse(self.passes("program", self.folder, **RIGHT_PROGRAMS))
+        for gone in PAGES:
+            for page in PAGES:
+                write(self.path(gone, page), "")
+            os.remove(self.path(gone, gone))
+            self.assertFalse(self.passes("program", self.path(gone), **RIGHT_PROGRAMS), gone)
 
     def test_nothing_installed(self) -> None:
         """Completions and the library are looked for where packages put them alone."""
@@ -621,32 +652,73 @@ class Instructions(unittest.TestCase):
     """Counts are compared with each row of the page."""
 
     def test_rows(self) -> None:
+        lacks = "the page (-) has other rows than are printed (+): "
         found = {"one": 20000, "two": 1000, "`labels_draw`, one": 300}
-        rows: tuple[tuple[str, str, dict[str, int], list[str]], ...] = (
+        rows: tuple[tuple[str, str, dict[str, Any], list[str]], ...] = (
             ("", "", {}, []),
             ("", "", {"one": 21000, "two": 950}, []),
             ("", "", {"one": 21200}, ["one: 20,000 on the page, 21,200 measured, +6.0 %"]),
             ("", "", {"one": 18800}, ["one: 20,000 on the page, 18,800 measured, -6.0 %"]),
-            ("| two | 1,000 | - |\n", "", {}, ["two: the page has no such row"]),
+            ("", "", {"one": None}, ["one: 20,000 on the page, and nothing is counted"]),
+            (
+                "| two | 1,000 | - |\n",
+                "",
+                {},
+                ["two: the page has no such row", f"{lacks}+ two with 2 more cells"],
+            ),
             ("20,000", "many", {}, ["one: the page has many"]),
-            ("| two ", "| one | 1 |\n| two ", {}, ["one: the page has 20,000; 1"]),
-            ("300 |\n", "300 |\n| more | 1 |\n", {}, ["more: a row of the page that is not measured"]),
-            ("liblabels", "labels", {}, ["`labels_draw`, one: the page has no such row"]),
+            (
+                "| two ",
+                "| one | 1 | - |\n| two ",
+                {},
+                ["one: the page has 20,000; 1", f"{lacks}- one with 2 more cells"],
+            ),
+            ("300 |\n", "300 |\n| more | 1 |\n", {}, [f"{lacks}- more with 1 more cells"]),
+            (
+                "zint |\n|",
+                "barcode |\n|",
+                {},
+                [f"{lacks}- Label | labels | barcode", f"{lacks}+ Label | labels | zint"],
+            ),
+            ("7 |\n", "7 | 8 |\n", {}, [f"{lacks}- one with 3 more cells", f"{lacks}+ one with 2 more cells"]),
         )
         for old, new, more, fails in rows:
             with self.subTest(old=old, new=new, more=more):
-                lines, failed = instructions.check({**found, **more}, PAGE.replace(old, new))
-                self.assertEqual([line for line in lines if line.startswith("FAILS")], [f"FAILS {it}" for it in fails])
-                self.assertEqual((failed, len(lines)), (len(fails), max(3, len(lines))))
+                self.assertIn(old, PAGE)
+                counts = {**found, **more}
+                label, call = ({name: [counts[name]] for name in names} for names in (("one", "two"), [*found][2:]))
+                made = [(["Label", "labels", "zint"], label), (["Call", "liblabels"], call)]
+                lines = instructions.check(made, PAGE.replace(old, new, 1))
+                self.assertEqual(instructions.failing(lines), [f"FAILS {it}" for it in fails])
+                self.assertGreaterEqual(len(lines), 3)
 
     def test_comparison_that_passes_all(self) -> None:
-        """One with another room for what is off, or that counts no failure, is shown counts that it has to report."""
+        """One with another room for what is off, or that counts no failure, is shown tables that it has to report."""
+        cases: tuple[tuple[str, Any, int], ...] = (
+            ("ROOM", 5, 0),
+            ("ROOM", 50, 48),
+            ("compared", lambda *given: "one: fine", 48),
+            ("shape_of", lambda row: "", 8),
+            ("check", lambda *given: [], 80),
+        )
+        for name, bent, count in cases:
+            with self.subTest(name, bent=bent), mock.patch.object(instructions, name, bent):
+                self.assertEqual(unreported(instructions.wrong_cases()), count)
+
+    def test_what_is_printed(self) -> None:
+        """It is what is compared: a page of what is printed has nothing wrong, and one of a table less has."""
+        head, rows = ["Label", "labels", "zint"], {"one": [1234, None], "two": [12.4, "7.5"], "three": [99]}
+        text = "| Label | labels | zint |\n| --- | --- | --- |\n| one | 1,200 | - |\n"
+        text += "| two | 12 | 7.5 |\n| three | 99 | - |\n"
+        self.assertEqual(instructions.text_of([(head, rows)]), text)
+        counts: dict[str, Any] = {"PAGE": mock.Mock(**{"read_text.return_value": text}), "counted": None}
         said = io.StringIO()
-        for name, bent in (("ROOM", 50), ("compared", lambda *given: "one: fine"), ("check", lambda *given: ([], 0))):
-            with self.subTest(name), mock.patch.object(instructions, name, bent), contextlib.redirect_stdout(said):
+        tables: tuple[tuple[list[Any], int], ...] = (([(head, rows)], 0), ([(head, rows)] * 2, 1), ([], 1))
+        for made, status in tables:
+            counts["counted"] = lambda _: made
+            with mock.patch.multiple(instructions, **counts), contextlib.redirect_stdout(said):
                 with mock.patch.object(sys, "argv", ["instructions.py", "--check"]):
-                    self.assertEqual(instructions.main(), 1)
-        self.assertEqual(said.getvalue().count("is not reported"), 3)
+                    self.assertEqual(instructions.main(), status, said.getvalue())
 
     def test_what_is_not_counted(self) -> None:
         """A program that draws nothing or fails, and valgrind where it is not installed."""
@@ -694,10 +766,15 @@ PLANTED = (
     (WORDS, "", DEFINITION, ("nothing uses the definition same",)),
     (FIELD, "◌<◌}", "◌<◌, ◌*◌}", ("the imported name ◌*◌ is not used",)),
     (FIELD, "alpha, ", "alpha, twice, ", ("the imported name twice is not used",)),
-    (FIELD, "use crate", "use std::io::{ErrorKind, Write};\nuse crate", ("the imported name ErrorKind is not used",)),
+    (FIELD, "use crate", "use std::io::{ErrorKind};\nuse crate", ("the imported name ErrorKind is not used",)),
     (FIELD, "", "\nfn lonely() {\n    lonely()\n}\n", ("nothing calls the function lonely",)),
     (FIELD, "", "\npub fn one() -> u8 {\n    1\n}\n", ("nothing calls the function one",)),
 )
+
+
+# What is planted before the first import of files, and at their ends.
+IMPORT = {"logic": "\nuse Rattle.std.specs.Prelude.{nil}", "src": "\nuse std::io::{nil};"}
+AT_THE_END = {"logic": "\nnought : ℕ\nnought = 0\n", "src": "\nfn nought() {}\n"}
 
 
 class Unused(InCopy):
@@ -719,6 +796,23 @@ class Unused(InCopy):
         wanted = [f"{file} {text}" for file, *_, texts in PLANTED for text in texts]
         self.assertEqual((status, sorted(found)), (1, sorted(wanted)))
         self.assertTrue(last.endswith(f": {len(wanted)} unused"), said)
+
+    def test_each_crate_is_looked_at(self) -> None:
+        """What is planted in its first and in its last file of each part."""
+        reader, wanted = module("reader"), list[str]()
+        kinds = {"specs": "uses the definition", "proofs": "uses the lemma", "src": "calls the function"}
+        for crate, part in itertools.product(module("sources").crates_of(self.folder), kinds):
+            files = reader.files_of(self.folder, [crate], part)
+            files = [file for file in files if not re.search("Examples|Theorems", file.module)]
+            for file in {*files[:1], *files[-1:]}:
+                kind = "src" if part == "src" else "logic"
+                text = file.text.replace("\nuse ", f"{IMPORT[kind]}\nuse ", 1)
+                self.replace(file.path, text + AT_THE_END[kind])
+                wanted.append(f"{file.path}: nothing {kinds[part]} nought")
+                wanted += [f"{file.path}: the imported name nil is not used"] if text != file.text else []
+        *lines, last = self.judged("unused.py")[1].rstrip("\n").split("\n")
+        self.assertEqual(sorted(re.sub(r":\d+: ", ": ", line) for line in lines), sorted(wanted))
+        self.assertTrue(last.endswith(f": {len(wanted)} unused"), last)
 
     def test_what_cannot_be_read(self) -> None:
         """A file of which the kit can make no words; no crate at all."""

@@ -8,7 +8,7 @@ import sys
 from dataclasses import dataclass
 from functools import cache
 from pathlib import Path
-from typing import Any, Callable, Iterator, Mapping, Optional, Sequence
+from typing import Any, Callable, Iterable, Iterator, Mapping, Optional, Sequence
 
 from labeltools.text import Text
 from labeltools.lines_file import lines_of
@@ -168,8 +168,9 @@ def setting_of(name: str, value: str) -> Any:
     return int(value)
 
 
-def run_labels(data: bytes, words: Sequence[str], talk: Talk) -> Drawn:
-    """Draws a file, a module being a pixel; `words` are options of labels(1).
+def run_labels(data: bytes, words: Sequence[str], talk: Talk, numbers: Iterable[int] = ()) -> Drawn:
+    """Draws a file, a module being a pixel; `words` are options of labels(1), `numbers` those of
+    the lines, where the first one is not 1.
 
     Raises `ToolError` where the library is not there, and with status 2 for bad options. Raises
     what `talk.go_on` raises.
@@ -177,7 +178,7 @@ def run_labels(data: bytes, words: Sequence[str], talk: Talk) -> Drawn:
     engine = Engine(words)
     pictures: dict[int, Modules] = {}
     refused: dict[int, Text] = {}
-    for done, (number, line) in enumerate(lines_with_data(data)):
+    for done, (number, line) in enumerate(lines_with_data(data, numbers)):
         if done % ASKED == 0:
             talk.go_on(0, 0)
         try:
@@ -187,8 +188,8 @@ def run_labels(data: bytes, words: Sequence[str], talk: Talk) -> Drawn:
     return Drawn(pictures, refused)
 
 
-def lines_with_data(data: bytes) -> Iterator[tuple[int, bytes]]:
+def lines_with_data(data: bytes, numbers: Iterable[int]) -> Iterator[tuple[int, bytes]]:
     """Yields the lines that labels(1) draws or refuses, with their numbers: no remarks."""
-    for number, line in enumerate(lines_of(data), 1):
+    for number, line in lines_of(data, numbers):
         if line and not line.startswith(b"#"):
             yield number, line

@@ -14,6 +14,10 @@ PART = ".{number}.part"  # a name that no label has: those begin with no dot
 BLOCK = 1 << 20
 
 
+class Unwritten(OSError):
+    """An error at which nothing was written, or all of it was taken back."""
+
+
 @contextmanager
 def temporary() -> Iterator[None]:
     """Names the folder of temporary files in a `ToolError` where an error names no file."""
@@ -46,7 +50,9 @@ def save(file: IO[bytes], path: Path, number: int = 1) -> None:
 
 
 def send(file: IO[bytes], output: int) -> None:
-    """Writes a whole file to an open one, which gets nothing where it does not take all."""
+    """Writes a whole file to an open one, which gets nothing where it does not take all; raises
+    `Unwritten` where that is so, and `OSError`.
+    """
     size = os.fstat(output).st_size
     data = b""
     done = 0
@@ -55,16 +61,20 @@ def send(file: IO[bytes], output: int) -> None:
             written = os.write(output, data)
             data = data[written:]
             done += written
-    except OSError:
-        take_back(output, size, done)
+    except OSError as error:
+        if take_back(output, size, done):
+            raise Unwritten(error.errno, error.strerror) from error
         raise
 
 
-def take_back(output: int, size: int, done: int) -> None:
+def take_back(output: int, size: int, done: int) -> bool:
     """Takes the last `done` bytes out of an open file that had a size before them, unless another
-    program has written to it since; what is written next follows what is there.
+    program has written to it since; what is written next follows what is there. Returns whether
+    nothing of them is left.
     """
     state = os.fstat(output)
-    if stat.S_ISREG(state.st_mode) and state.st_size == size + done:
+    if done and stat.S_ISREG(state.st_mode) and state.st_size == size + done:
         os.ftruncate(output, size)
         os.lseek(output, -done, os.SEEK_CUR)
+        done = 0
+    return not done

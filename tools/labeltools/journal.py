@@ -11,9 +11,9 @@ A lane locks a byte far behind the end of the file for as long as it runs, so th
 knows which of them have ended; and one more byte while it reads and writes. A lane that gives a
 label up leaves its number with it, and no lane takes a number that a label waits with.
 
-A last line that was cut off was never followed by its label, and is taken out; where all of its
-fields are there, an editor may have left out its end alone, and its label is doubtful. Ends of
-lines may be those of Windows.
+A last line that was cut off is taken out: the label of `sending` was not sent, that of `taken` is
+in doubt. Where all fields are there an editor may have left out the end alone: the line stays, and
+is a mark only of a label that waits for it. Ends of lines may be those of Windows.
 """
 
 import fcntl
@@ -25,24 +25,26 @@ from codecs import BOM_UTF8
 from contextlib import contextmanager, suppress
 from itertools import count
 from pathlib import Path
-from typing import Iterator, NamedTuple, Optional
+from typing import Iterator, Mapping, NamedTuple, Optional, Sequence
 
 from labeltools.lines_file import LineRecord
 from labeltools.messages import ToolError
+from labeltools.selection import few
 from labeltools.text import NOTHING, Text
 
 HEAD = b"#labels journal 1\n"
+UPCA = b"upca "
 SENDING = b"sending"
 TAKEN = b"taken"
 MOST_LANES = 64
-MOST_NAMED = 10  # lines that a message names
 STUCK = 60.0  # seconds that a lane may wait for another one
 SHORT = 0.0005  # seconds between two looks, at first
 LONG = 0.02  # and later
 FAR = 1 << 62  # of a file: bytes that are locked and never written
 NO_JOURNAL = Text("give a file that label-print --journal has made, or a new name")
-CUT_OFF = Text("its last line was cut off, and was taken out: its label was not sent")
-NO_END = Text("its last line had no end, so its label may be on paper")
+CUT_OFF = Text("its last line was cut off, and was taken out")
+NO_END = Text("its last line had no end")
+NOT_SENT = Text("its label was not sent")
 NOT_WRITTEN = Text("see that it can be written, then give the same command again")
 NO_LOCKS = Text("put the journal on a disk that locks files")
 STRANGE = re.compile(rb"[^ -\[\]-~]| (?= *\Z)")  # what is written as escapes: blanks at the end too
@@ -60,8 +62,8 @@ class Entry(NamedTuple):
     number: int
     event: bytes
     lane: int
-    printer: bytes
-    place: bytes
+    printer: str
+    place: str
 
 
 class Journal:
@@ -70,7 +72,7 @@ class Journal:
     def __init__(self, path: str, printer: str) -> None:
         """Opens a journal, or makes it; raises `ToolError` where it is none, and `OSError`."""
         self.path = path
-        self.printer = printer.replace("\t", " ").encode("utf-8", "replace")
+        self.printer = printer.replace("\t", " ")
         flags = os.O_RDWR | os.O_CREAT | os.O_CLOEXEC | os.O_NONBLOCK  # it waits for no FIFO
         self.file = os.open(path, flags, 0o644)
         if not stat.S_ISREG(os.fstat(self.file).st_mode):
@@ -97,8 +99,7 @@ class Journal:
             found = self.entries.get(code)
             if found is not None:
                 is_old = self.before.get(code) == found
-                is_again = again is not None and found.printer == again.encode("utf-8", "replace")
-                if not is_again or not is_old or self.is_alive(found):
+                if found.printer != again or not is_old or self.is_alive(found):
                     return False
             self.write(SENDING, record)
         try:
@@ -125,19 +126,23 @@ class Journal:
         """Returns the last that is known of the code of a line."""
         return self.entries.get(code_of(record))
 
-    def is_doubtful(self, record: LineRecord) -> bool:
-        """Returns whether a label was sent by a lane that has ended before it was taken. That lane
-        may have ended since the journal was read, and several may look at it: so it is read again
-        while no other one does.
+    def doubtful(self) -> Mapping[bytes, Entry]:
+        """Returns what was sent by lanes that ended before it was taken, by its code. A lane may
+        have ended since the journal was read, and several may look at it: so it is read again while
+        no other one does.
         """
-        found = self.entry(record)
-        if found is None or found.event != SENDING:
-            return False
         with suppress(ToolError), self.locked():  # where it cannot be read, what is known counts
             self.read()
-            found = self.entries[code_of(record)]
-            return found.event == SENDING and not self.is_alive(found)
-        return not self.is_alive(found)
+            return self.left()
+        return self.left()
+
+    def left(self) -> Mapping[bytes, Entry]:
+        """Returns what is sent, and not by a lane that goes on."""
+        return {
+            code: entry
+            for code, entry in self.entries.items()
+            if entry.event == SENDING and not self.is_alive(entry)
+        }
 
     def is_alive(self, entry: Entry) -> bool:
         """Returns whether the lane of an entry is sending it now."""
@@ -226,25 +231,23 @@ class Journal:
             self.mend(last.rstrip(ENDS))
 
     def mend(self, line: bytes) -> None:
-        """Takes out a last line without its end; one that has all fields is written anew, and its
-        label is in doubt unless the line says that it was taken, and an earlier one that it was
-        sent.
+        """Takes out a last line without its end, where fields are missing or it may be the mark of
+        a longer code. Else it is written anew, and its label is in doubt unless the line is the
+        mark of one that waits for it.
         """
         found = entry_in(line, self.lines + 1)
-        if found is None:
-            self.mended = CUT_OFF
+        now, _, rest = line.partition(b"\t")
+        marked = [
+            (code, entry) for code, entry in self.left().items() if is_mark(rest, code, entry)
+        ]
+        if found is None or any(code != found[0] for code, _ in marked):
+            self.mended = Text("{}: {}", CUT_OFF, on_paper(marked) if marked else NOT_SENT)
             os.ftruncate(self.file, self.end)
             return
+        self.mended = NOTHING if marked else Text("{}: {}", NO_END, on_paper([found]))
         code, entry = found
-        before = self.entries.get(code, entry)
-        is_mark = before._replace(event=TAKEN, number=entry.number) == entry != before
-        self.mended = NOTHING if is_mark else NO_END
-        fields = line.split(b"\t")
-        fields[1] = TAKEN if is_mark else SENDING
-        self.append(b"\t".join(fields) + b"\n")
+        self.append_entry(now, code, entry._replace(event=TAKEN if marked else SENDING))
         os.ftruncate(self.file, self.end)  # it was longer where it had blanks at its end
-        self.lines += 1
-        self.entries[code] = entry if is_mark else entry._replace(event=SENDING)
 
     def is_in_place(self) -> bool:
         """Returns whether the file has its name still: an editor may write a new one."""
@@ -261,21 +264,15 @@ class Journal:
         with suppress(FileNotFoundError):
             lines = Path(self.path).read_bytes().split(b"\n")
             found = {read[0] for line in lines if (read := entry_in(line.rstrip(ENDS), 0))}
-        lost = [
-            entry.place.decode("utf-8", "replace")
-            for code, entry in self.entries.items()
-            if code not in found
-        ]
+        lost = [entry.place for code, entry in self.entries.items() if code not in found]
         if not lost:
             return Text("nothing more is printed: give the same command again")
-        named = ", ".join(lost[:MOST_NAMED])
-        if len(lost) > MOST_NAMED:
-            named = Text("{} .. ({} in all)", named, len(lost))
+        named = few(lost, len(lost))
         return Text("it has not {}, which the same command would print once more", named)
 
     def printers(self) -> set[str]:
         """Returns the printers that it has labels of."""
-        return {entry.printer.decode("utf-8", "replace") for entry in self.entries.values()}
+        return {entry.printer for entry in self.entries.values()}
 
     def learn(self, line: bytes) -> None:
         """Takes a line."""
@@ -293,12 +290,14 @@ class Journal:
     def write(self, event: bytes, record: LineRecord) -> None:
         """Writes a line."""
         now = time.strftime("%Y-%m-%dT%H:%M:%SZ", time.gmtime()).encode()
-        lane = b"lane %d" % self.lane
-        place = str(record.place).encode()
-        code = code_of(record)
-        self.append(b"\t".join((now, event, lane, self.printer, place, code)) + b"\n")
+        entry = Entry(self.lines + 1, event, self.lane, self.printer, str(record.place))
+        self.append_entry(now, code_of(record), entry)
+
+    def append_entry(self, now: bytes, code: bytes, entry: Entry) -> None:
+        """Writes what is known of a code since a time."""
+        self.append(now + b"\t" + fields_of(code, entry) + b"\n")
         self.lines += 1
-        self.entries[code] = Entry(self.lines, event, self.lane, self.printer, place)
+        self.entries[code] = entry
 
     def append(self, line: bytes) -> None:
         """Writes a whole line at the end, or nothing: raises `OSError`."""
@@ -338,12 +337,33 @@ def entry_in(line: bytes, number: int) -> Optional[tuple[bytes, Entry]]:
     if found is None:
         return None
     event, lane, printer, place, code = found.groups()
-    return code, Entry(number, event, int(lane), printer, place)
+    if code.startswith(UPCA):  # as version 1.1.0 wrote it: see `LineRecord.key`
+        code = b"ean13 0" + code.removeprefix(UPCA)
+    texts = (text.decode("utf-8", "replace") for text in (printer, place))
+    return code, Entry(number, event, int(lane), *texts)
+
+
+def fields_of(code: bytes, entry: Entry) -> bytes:
+    """Returns the line of a code without its time and its end."""
+    texts = f"lane {entry.lane}\t{entry.printer}\t{entry.place}".encode("utf-8", "replace")
+    return b"\t".join((entry.event, texts, code))
+
+
+def is_mark(rest: bytes, code: bytes, entry: Entry) -> bool:
+    """Returns whether the mark of a label begins as a line does behind its time."""
+    return fields_of(code, entry._replace(event=TAKEN)).startswith(rest)
+
+
+def on_paper(found: Sequence[tuple[bytes, Entry]]) -> Text:
+    """Returns which labels may be on paper."""
+    names = [f"{entry.place} ({code.decode()})" for code, entry in found]
+    return Text("{} may be on paper", few(names, len(names)))
 
 
 def code_of(record: LineRecord) -> bytes:
     """Returns the code of a line as it stands in a journal."""
-    return record.symbology.encode("utf-8", "replace") + b" " + escaped(record.data)
+    symbology, data = record.key
+    return symbology.encode("utf-8", "replace") + b" " + escaped(data)
 
 
 def escaped(data: bytes) -> bytes:

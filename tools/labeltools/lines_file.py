@@ -11,13 +11,14 @@ says that the part is whole, and each other one belongs to the next line. Lines 
 are a part too. LF ends a line, and nothing else does.
 """
 
+import itertools
 import json
 import re
 import sys
 from dataclasses import dataclass, field
 from io import BytesIO
 from operator import methodcaller
-from typing import Any, Iterator, NamedTuple, Sequence
+from typing import Any, Iterable, Iterator, NamedTuple, Sequence
 
 from labeltools import VERSION
 from labeltools.text import NOTHING, Text
@@ -94,6 +95,15 @@ class LineRecord(NamedTuple):
     line: bytes
 
     @property
+    def key(self) -> tuple[str, bytes]:
+        """The symbology and the data of its code; the bars of UPC-A are those of the EAN-13 with a
+        zero before it.
+        """
+        if self.symbology == "upca":
+            return "ean13", b"0" + self.data
+        return self.symbology, self.data
+
+    @property
     def place(self) -> Place:
         """What messages name: the row of the table, or else the line."""
         if self.label.row:
@@ -112,9 +122,11 @@ class LinesFile:
     left_out_count: int
 
 
-def lines_of(data: bytes) -> Iterator[bytes]:
-    """Yields the lines of a file as labels(1) counts them."""
-    return map(methodcaller("removesuffix", b"\n"), BytesIO(data))
+def lines_of(data: bytes, numbers: Iterable[int] = ()) -> Iterator[tuple[int, bytes]]:
+    """Yields the lines of a file with their numbers, as labels(1) counts them or as given."""
+    return zip(
+        numbers or itertools.count(1), map(methodcaller("removesuffix", b"\n"), BytesIO(data))
+    )
 
 
 def first_remark(table: str) -> str:
@@ -150,15 +162,18 @@ def last_remark(count: int, left_out: Sequence[int]) -> str:
     return f"#{encode(end)}\n"
 
 
-def read_lines(data: bytes, name: str, has_escapes: bool = False) -> LinesFile:
+def read_lines(
+    data: bytes, name: str, has_escapes: bool = False, numbers: Iterable[int] = ()
+) -> LinesFile:
     """Returns the lines of a file; raises `ToolError` for one that is cut off, changed or not
     understood.
 
-    `has_escapes` is whether labels(1) is given --escapes.
+    `has_escapes` is whether labels(1) is given --escapes; `numbers` are those of the lines, where
+    the first one is not 1.
     """
     reader = _Reader(name, has_escapes)
     is_own = data.startswith(OBJECT)
-    for number, line in enumerate(lines_of(data), 1):
+    for number, line in lines_of(data, numbers):
         if is_own and line.endswith(b"\r"):
             hint = Text("take the file as label-table wrote it")
             raise ToolError(

@@ -24,6 +24,9 @@ PORTS = range(1, 65536)
 CONNECT = 10.0  # seconds
 STUCK = 60.0  # seconds in which a printer takes nothing
 FAREWELL = 2.0  # seconds that a printer may take to end the connection after the last label
+FIRST = 0.005  # seconds in which it is seen that the printer ends it first
+REGRET = 0.05  # seconds in which a printer that did so may still break it off
+BREAK = 0  # no event but that a connection breaks off
 SHORT = 0.0005  # seconds between two looks, at first
 LONG = 0.02  # and later
 HEARD = 65_536  # bytes that are read at a time of what a printer says
@@ -114,7 +117,7 @@ class NetworkPrinter:
                 raise TimeoutError
             before = left
             if rest:
-                wait_for_room(line, pause)
+                wait_for(line, select.POLLOUT, pause)
             else:
                 time.sleep(pause)
             pause = min(2 * pause, LONG)
@@ -129,6 +132,9 @@ class NetworkPrinter:
             return
         end = time.monotonic() + FAREWELL
         try:
+            if wait_for(self.line, select.POLLRDHUP, FIRST):
+                wait_for(self.line, BREAK, REGRET)
+                require_whole(self.line)  # once we have ended it too, the system does not say so
             self.line.shutdown(socket.SHUT_WR)
             while (left := end - time.monotonic()) > 0:
                 self.line.settimeout(left)
@@ -163,11 +169,13 @@ def has_ended(line: socket.socket) -> bool:
     return look.poll(0) == [(line.fileno(), select.POLLRDHUP)]  # with no error beside it
 
 
-def wait_for_room(line: socket.socket, seconds: float) -> None:
-    """Waits until the system takes more bytes, for some seconds at most."""
-    room = select.poll()  # it takes any number of open files, unlike select
-    room.register(line, select.POLLOUT)
-    room.poll(seconds * 1000)
+def wait_for(line: socket.socket, event: int, seconds: float) -> bool:
+    """Waits for an event of a connection, or its break, for some seconds at most; returns whether
+    there is one.
+    """
+    look = select.poll()  # it takes any number of open files, unlike select
+    look.register(line, event)
+    return bool(look.poll(seconds * 1000))
 
 
 def require_whole(line: socket.socket) -> None:

@@ -47,7 +47,7 @@ from labeltools.print_job import (
 from labeltools.printer import check_queue, lp_words, print_by, typed
 from labeltools.report import report
 from labeltools.selection import ROWS, selection_of
-from labeltools.sending import OUTPUT, Outlet, Sender, StandardOutput
+from labeltools.sending import OUTPUT, Outlet, Sender, StandardOutput, doubts
 from labeltools.stock import forget, list_stock
 
 TOOL = "label-print"
@@ -57,7 +57,7 @@ MOST_LABELS = 1_000_000  # of one run, with copies
 QUIET = 2.0
 BETWEEN = 0.2
 NUMBER = r"-?\d{1,4}(?:\.\d{1,4})?"
-MOST_NAMED = 10  # labels that a summary, or a message of doubtful ones, names
+MOST_NAMED = 10  # labels that a summary names
 NUMBERED = re.compile(r"%(0?\d?)d|%s")
 
 
@@ -116,7 +116,9 @@ def design_of(argument: str) -> str:
 def rows(argument: str) -> str:
     """Returns rows such as 2,7-9 or 7-."""
     ranges = re.findall(r"(\d+)-(\d+)", argument)
-    if not ROWS.fullmatch(argument) or any(int(first) > int(last) for first, last in ranges):
+    is_backward = any(int(first) > int(last) for first, last in ranges)
+    has_zero = 0 in map(int, re.findall(r"\d+", argument))
+    if not ROWS.fullmatch(argument) or is_backward or has_zero:
         raise wrong_argument(Text("{!r} is not as 2,7-9 or 7-", argument))
     return argument
 
@@ -128,16 +130,21 @@ def filled(argument: str) -> str:
     return argument
 
 
+def outlet_of(argument: str) -> str:
+    """Returns the name of a printer as a journal has it."""
+    scheme, colon, rest = filled(argument).partition("://")
+    return f"{scheme.lower()}{colon}{rest}" if colon else argument
+
+
 def printer_of(argument: str) -> str:
     """Returns the name of a queue of CUPS, or of a printer in the network."""
-    scheme, colon, rest = filled(argument).partition("://")
-    name = f"{scheme.lower()}{colon}{rest}"
+    name = outlet_of(argument)
     if name.startswith(SCHEME):
         try:
             address_of(name)
         except ToolError as error:
             raise wrong_argument(error.what) from error
-    elif colon:
+    elif "://" in name:
         raise wrong_argument(Text("{!r} is not as tcp://HOST, or a queue of CUPS", argument))
     return name
 
@@ -212,7 +219,10 @@ def add_choice_options(parser: argparse.ArgumentParser) -> None:
     add("--first", metavar="N", type=count, default=PrintOptions.first, help=first)
     only = "print these rows of the table alone, such as 2,7-9 or 7- for all from 7 on"
     add("--only", metavar="ROWS", type=rows, dest="rows_only", help=only)
-    code = "print the label with this code alone, or those of @FILE, a code on each line"
+    code = (
+        "print the label with this code, or those of @FILE, a code on each line; with --only those "
+        "of either"
+    )
     add(
         "--only-code",
         metavar="CODE",
@@ -246,7 +256,7 @@ def add_output_options(parser: argparse.ArgumentParser) -> None:
     )
     add("--journal", metavar="FILE", type=filled, help=journal)
     again = "with --only or --only-code: print what the journal has of this printer once more"
-    add("--again", metavar="PRINTER", type=filled, help=again)
+    add("--again", metavar="PRINTER", type=outlet_of, help=again)
     stream = "print each label as soon as its line has come in, and answer on standard error"
     add("--stream", action="store_true", dest="is_stream", help=stream)
     dots = "escpos: dots across the paper (576)"
@@ -412,7 +422,7 @@ def check_journal(arguments: argparse.Namespace, journal: Journal) -> None:
     """Says what was wrong with a journal, and that a file has lost what it had before; raises
     `ToolError` where labels cannot be printed by it.
     """
-    if journal.mended and not arguments.is_stream:  # each line of which is an answer
+    if journal.mended:
         write_message(TOOL, Text("{}: {}", arguments.journal, journal.mended))
     if arguments.again and arguments.again not in journal.printers():
         names = ", ".join(sorted(journal.printers())) or Text("nothing")
@@ -535,23 +545,22 @@ def send_each(arguments: argparse.Namespace, press: Press, found: Prepared) -> i
     try:
         sender.send_all(press, prints)
     finally:
-        doubtful = list(sender.doubtful(prints))
-        for start in range(0, len(doubtful), MOST_NAMED):  # each of them is named
-            for message in report(doubtful[start : start + MOST_NAMED], found.tables):
-                write_message(TOOL, message)
+        doubtful = sender.doubtful()
+        for message in doubts(doubtful, found.records, len(found.tables) > 1):
+            write_message(TOOL, message)
     text = counted("{} label", "{} labels", sender.taken)
     is_printer = sender.outlet.name != OUTPUT
     if is_printer:
         text = Text("{} taken by {}", text, sender.outlet.name)
     if arguments.rows_only or arguments.codes:
         text = with_names(text, sender.sent)
-    known = sender.known - len(doubtful)
-    if known > 0:
+    known = len(sender.known - doubtful.keys())
+    if known:
         there = counted(
             "{} label in {} already", "{} labels in {} already", known, arguments.journal
         )
         text = joined("; ", (text, there))
-    if known > 0 or is_printer or arguments.summary or sys.stderr.isatty():
+    if known or is_printer or arguments.summary or sys.stderr.isatty():
         write_message(TOOL, text)
     return 1 if found.left_out or doubtful else 0
 

@@ -92,7 +92,8 @@ class Remark:
 @dataclass(frozen=True)
 class Prepared:
     """How labels go out; those that can be printed, with their layouts; those that cannot;
-    what else is to be said; the tables that they are from; what measures their letters.
+    what else is to be said; the tables that they are from; what measures their letters; all lines
+    of the input.
     """
 
     job: PrintJob
@@ -101,6 +102,7 @@ class Prepared:
     remarks: tuple[Remark, ...]
     tables: frozenset[str]
     letters: Letters
+    records: tuple[LineRecord, ...]
 
     @property
     def labels(self) -> Sequence[LaidOut]:
@@ -287,7 +289,7 @@ def prepared(
         remarks += several(wanted, options.only)
         remarks += remarks_on(wanted, laid_out, len(tables) > 1, pen)
     laid_out = replace(laid_out, labels=tuple(wanted))
-    return Prepared(job, laid_out, tuple(left_out), tuple(remarks), tables, letters)
+    return Prepared(job, laid_out, tuple(left_out), tuple(remarks), tables, letters, lines.records)
 
 
 def laid_out_by(
@@ -315,7 +317,7 @@ def doubles(lines: LinesFile, refused: Mapping[int, Text]) -> Mapping[int, Text]
         if record.label.copies > 1:
             found[record.number] = Text("has copies, and each code is printed once")
             continue
-        earlier = first.setdefault((record.symbology, record.data), record.place)
+        earlier = first.setdefault(record.key, record.place)
         if earlier != record.place:
             found[record.number] = Text("has the code of {}", earlier.text)
     return found

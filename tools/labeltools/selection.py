@@ -55,11 +55,15 @@ class Selection:
 
 def names_of(record: LineRecord) -> set[bytes]:
     """Returns how the code of a line may be named: its data, of a number without its check digit
-    too.
+    too, of UPC-A as EAN-13 too.
     """
-    if record.symbology in ("ean13", "ean8", "upca"):
-        return {record.data, record.data[:-1]}
-    return {record.data}
+    if record.symbology not in ("ean13", "ean8", "upca"):
+        return {record.data}
+    _, number = record.key
+    names = {number, number[:-1]}
+    if record.symbology != "ean8" and number.startswith(b"0"):
+        names |= {name[1:] for name in names}
+    return names
 
 
 def selection_of(rows: Optional[str], codes: Iterable[str]) -> Optional[Selection]:

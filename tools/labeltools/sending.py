@@ -5,24 +5,28 @@ without one.
 import os
 import shlex
 import stat
-from contextlib import suppress
+from contextlib import contextmanager, suppress
 from io import BytesIO
-from typing import Iterable, Iterator, Optional, Protocol, Sized
+from typing import Any, Iterable, Iterator, Mapping, Optional, Protocol, Sequence, Sized
 
 from labeltools.command_line import hold_signals, standard_output
-from labeltools.files import send
+from labeltools.files import Unwritten, send
 from labeltools.forms import ZPL
-from labeltools.journal import Journal
+from labeltools.journal import SENDING, Entry, Journal, code_of
 from labeltools.layout import LaidOut
 from labeltools.lines_file import LineRecord
 from labeltools.messages import ToolError, sentence
 from labeltools.network import Broken
 from labeltools.press import Press, Prints
-from labeltools.report import LeftOut
+from labeltools.report import MOST_RANGES, places_text
 from labeltools.selection import words_of_rest
-from labeltools.text import NOTHING, Text, counted
+from labeltools.text import NOTHING, Text, counted, joined
 
 OUTPUT = "standard output"
+
+
+class Untaken(ToolError):
+    """Standard output that took nothing of a label."""
 
 
 class Outlet(Protocol):
@@ -56,14 +60,15 @@ class StandardOutput:
         return standard_output()
 
     def send(self, data: bytes) -> None:
-        """Writes a whole label; raises `Broken` where it does not take it."""
+        """Writes a whole label; raises `Untaken` where nothing of it is there, and `Broken`."""
         output = standard_output().fileno()
         try:
             send(BytesIO(data), output)
             if self.is_synced and stat.S_ISREG(os.fstat(output).st_mode):
                 os.fdatasync(output)
         except OSError as error:
-            raise Broken(Text("{}: {}", OUTPUT, error.strerror)) from error
+            kind = Untaken if isinstance(error, Unwritten) else Broken
+            raise kind(Text("{}: {}", OUTPUT, error.strerror)) from error
 
     def close(self) -> None:
         """Does nothing: it is closed at the end of the tool."""
@@ -91,7 +96,7 @@ class Sender:
         self.is_chosen = is_chosen
         self.sent: list[LaidOut] = []
         self.taken = 0
-        self.known = 0
+        self.known: set[bytes] = set()  # the codes that the journal had
         self.is_at_end = False  # whether standard output takes no more
 
     def send_all(self, press: Press, prints: Prints) -> None:
@@ -116,7 +121,7 @@ class Sender:
                 raise self.stopped(item, prints)
             try:
                 self.send(press, item, copies, not self.sent)
-            except Broken as error:
+            except (Broken, Untaken) as error:
                 what = Text("{}: {}", error.what, self.so_far())
                 raise ToolError(what, self.advice(error, item, prints)) from error
             except ToolError as error:
@@ -129,11 +134,17 @@ class Sender:
 
     def end(self) -> None:
         """Ends the way out after what was sent; raises `ToolError` where it broke off before."""
-        try:
+        with self.nothing_begun():
             self.outlet.close()
+
+    @contextmanager
+    def nothing_begun(self) -> Iterator[None]:
+        """Raises `ToolError` in place of `Broken`: what broke off are the labels before."""
+        try:
+            yield
         except Broken as error:
             what = Text("{}: {}", error.what, self.so_far())
-            raise ToolError(what, self.advice_at_end()) from error
+            raise ToolError(what, self.last_on_paper()) from error
 
     def send(
         self, press: Press, item: LaidOut, copies: int, is_first: bool, is_last: bool = False
@@ -143,12 +154,13 @@ class Sender:
         """
         record = item.label.record
         if self.journal is not None and self.is_known(item):
-            self.known += 1
+            self.known.add(code_of(record))
             return 0
         documents = list(written(press, item, copies, is_first))
-        self.outlet.open()
+        with self.nothing_begun():
+            self.outlet.open()
         if not self.claim(record, is_last):
-            self.known += 1
+            self.known.add(code_of(record))
             return 0
         self.give(record, documents, is_last)
         self.taken += copies
@@ -168,15 +180,21 @@ class Sender:
         return is_ours
 
     def give(self, record: LineRecord, documents: Iterable[bytes], is_last: bool) -> None:
-        """Gives a label to the printer, and writes that it was taken; raises `Broken`."""
+        """Gives a label to the printer, and writes that it was taken; raises `Broken`, and
+        `Untaken` where the journal has nothing of it either.
+        """
+        is_begun = self.journal is not None
         try:
             for document in documents:
                 self.outlet.send(document)
+                is_begun = True
             if is_last:
                 self.outlet.close()
-        except Broken:
+        except (Broken, Untaken) as error:
             self.is_at_end = self.outlet.name == OUTPUT
             self.give_up()
+            if is_begun:
+                raise Broken(error.what, error.hint) from error
             raise
         if self.journal is not None:
             try:
@@ -202,7 +220,7 @@ class Sender:
         """Returns how many labels went out whole."""
         return counted("it took {} label whole", "it took {} labels whole", self.taken)
 
-    def advice(self, error: Broken, item: LaidOut, prints: Prints) -> Text:
+    def advice(self, error: ToolError, item: LaidOut, prints: Prints) -> Text:
         """Returns what to do where a label went out in part."""
         place = item.label.record.place
         if error.hint:
@@ -211,13 +229,7 @@ class Sender:
             text = Text(
                 "{} may be on paper: look there, then give the same command again", place.text
             )
-            if not self.sent:
-                return text
-            last = self.sent[-1].label.record.place.text
-            words = f"--only --again {typed(self.outlet.name)}"
-            return Text(
-                "look that {} is on paper, or print what is missing by {}; {}", last, words, text
-            )
+            return joined("; ", filter(None, (self.last_on_paper(), text)))
         return self.rest(item, prints)
 
     def rest(self, item: LaidOut, prints: Prints) -> Text:
@@ -240,31 +252,72 @@ class Sender:
             return ToolError(what, Text("the same command prints what is missing"))
         return ToolError(what, self.rest(item, prints))
 
-    def advice_at_end(self) -> Text:
-        """Returns what to do where the printer broke off after the last label."""
+    def last_on_paper(self) -> Text:
+        """Returns how labels are printed that a printer forgot which took them; nothing where it
+        took none.
+        """
+        if not self.sent:
+            return NOTHING
+        last = self.sent[-1].label.record.place.text
         again = f" --again {typed(self.outlet.name)}" if self.journal is not None else ""
-        words = f"--only{again}"
-        return Text("look at the last one on paper, and print what is missing by {}", words)
+        words = f"--only ROWS{again}"
+        return Text("look that {} is on paper, or print what is missing by {}", last, words)
 
     def doubt(self, record: LineRecord) -> Text:
-        """Returns what to do about a label of which it is not known whether it is on paper, as its
-        lane has ended; nothing where that is known.
+        """Returns what to do about a label that was sent, but is not known to be taken; nothing
+        where it is.
         """
-        if self.journal is None or not self.journal.is_doubtful(record):
-            return NOTHING
-        entry = self.journal.entry(record)
-        printer = entry.printer.decode("utf-8", "replace") if entry else ""
-        reason = Text("may be on paper, from {}: look for it", printer)
-        hint = Text("if it is not there, give --only-code CODE --again {}", typed(printer))
-        return sentence(reason, hint)
+        printer = self.sent_to(record)
+        if printer and code_of(record) in self.doubtful():
+            return may_be_on_paper(printer)
+        if printer := self.sent_to(record):  # it was not taken meanwhile
+            what = Text("{} is sending it", printer)
+            return sentence(what, Text("send the line again to see whether it was taken"))
+        return NOTHING
 
-    def doubtful(self, prints: Prints) -> Iterator[LeftOut]:
-        """Yields labels of which it is not known whether they are on paper."""
-        for item in prints.items:
-            record = item.label.record
-            if reason := self.doubt(record):
-                data = record.data.decode("utf-8", "backslashreplace")
-                yield LeftOut(record.place, data, reason)
+    def sent_to(self, record: LineRecord) -> str:
+        """Returns the printer of a label that the journal has as sent and not as taken, or
+        nothing.
+        """
+        entry = self.journal.entry(record) if self.journal else None
+        return entry.printer if entry and entry.event == SENDING else ""
+
+    def doubtful(self) -> Mapping[bytes, Entry]:
+        """Returns the codes of labels of which it is not known whether they are on paper."""
+        return self.journal.doubtful() if self.journal else {}
+
+
+def doubts(
+    doubtful: Mapping[bytes, Entry], records: Sequence[LineRecord], has_tables: bool
+) -> Iterator[Text]:
+    """Yields messages that name all labels in doubt: those of a file of lines by their places."""
+    printers: dict[str, list[bytes]] = {}
+    for code, entry in doubtful.items():
+        printers.setdefault(entry.printer, []).append(code)
+    places = {code_of(record): record.place for record in reversed(records)} if printers else {}
+    for printer, codes in printers.items():
+        there = sorted(places[code] for code in codes if code in places)
+        for some in parts_of(there):
+            yield Text("{}: {}", places_text(some, has_tables), may_be_on_paper(printer))
+        for others in parts_of([code.decode() for code in codes if code not in places]):
+            yield Text(
+                "{}: may be on paper, from {}, and not in the input: look for it; if it is there, "
+                "make sending taken in its line of the journal",
+                joined("; ", others),
+                printer,
+            )
+
+
+def parts_of(found: Sequence[Any]) -> Iterator[Sequence[Any]]:
+    """Yields what was found, as much of it as a message names."""
+    return (found[start : start + MOST_RANGES] for start in range(0, len(found), MOST_RANGES))
+
+
+def may_be_on_paper(printer: str) -> Text:
+    """Returns what to do about labels that were sent to a printer, and may be on paper."""
+    reason = Text("may be on paper, from {}: look for it", printer)
+    hint = Text("if it is not there, give --only-code CODE --again {}", typed(printer))
+    return sentence(reason, hint)
 
 
 def typed(printer: str) -> str:

@@ -14,12 +14,15 @@ it, as in the file of label-table; its first and last remarks are skipped.
 
 import os
 import select
+import signal
 import stat
 import sys
 from io import BufferedReader, RawIOBase
-from typing import Any, BinaryIO, Iterator, NamedTuple, NoReturn, Optional
+from queue import Queue
+from threading import Thread
+from typing import Any, BinaryIO, Iterator, NamedTuple, NoReturn, Optional, Sequence
 
-from labeltools.command_line import hold_signals
+from labeltools.command_line import ENDING, hold_signals
 from labeltools.engine import LABELS_FAILED, Engine, run_labels
 from labeltools.letters import Letters
 from labeltools.lines_file import OBJECT, LineRecord, read_lines
@@ -32,9 +35,11 @@ from labeltools.text import NOTHING, Text, translated
 
 SKIPPED = (b'#{"labels"', b'#{"end"')
 LONGEST = 65_536  # bytes of a line
+MOST_AHEAD = 1000  # lines of a FIFO that wait to be printed
 LOOK = 5.0  # seconds between two looks whether a FIFO has its name still
 CUT_OFF = Text("cut off before its line end")
 TOO_LONG = Text("longer than {} bytes", LONGEST)
+TWO_OBJECTS = Text("there are two objects before it")
 LONG_OBJECT = Text("the object before it is longer than {} bytes", LONGEST)
 TAKEN = "taken"
 REFUSED = "refused"
@@ -55,11 +60,10 @@ class Known(Exception):
     """A line whose code was sent before."""
 
 
-class Job(NamedTuple):
-    """A line with its number and the object before it; what is wrong with it where something is."""
+class Part(NamedTuple):
+    """A line, or the object before it, with its number, and why it is refused where it is."""
 
     number: int
-    remark: bytes
     line: bytes
     fault: Text = NOTHING
 
@@ -113,18 +117,53 @@ class Fifo(RawIOBase):
             raise ToolError(Text("{}: another program has changed it", self.path))
 
 
-def source_of(path: Optional[str]) -> BinaryIO:
-    """Returns what lines come from; raises `ToolError` and `OSError`."""
+class Ahead:
+    """The lines of a FIFO, which a thread reads while labels go out: the end of a writer has to be
+    seen before the next one comes.
+    """
+
+    def __init__(self, fifo: Fifo) -> None:
+        """Begins to read."""
+        self.fifo = BufferedReader(fifo)
+        self.found: Queue[bytes | Exception] = Queue(MOST_AHEAD)
+        Thread(target=self.read, daemon=True).start()
+
+    def read(self) -> None:
+        """Reads lines, and the ends of writers, until there is an error, which `readline` raises;
+        signals are for the thread that prints.
+        """
+        signal.pthread_sigmask(signal.SIG_BLOCK, ENDING)
+        try:
+            while True:
+                self.found.put(self.fifo.readline(LONGEST))
+        except Exception as error:
+            self.found.put(error)
+
+    def readline(self, _: int) -> bytes:
+        """Returns a line, or as much of it as a line may have; nothing at the end of a writer.
+        Raises `ToolError` and `OSError`.
+        """
+        found = self.found.get()
+        if isinstance(found, Exception):
+            raise found
+        return found
+
+
+Source = BinaryIO | Ahead
+
+
+def source_of(path: Optional[str]) -> tuple[str, Source]:
+    """Returns what lines come from, with its name; raises `ToolError` and `OSError`."""
     if path is None or path == "-":
         if sys.stdin is None:
             raise ToolError(Text("standard input is closed"))
-        return sys.stdin.buffer
+        return Text("standard input"), sys.stdin.buffer
     if stat.S_ISFIFO(os.stat(path).st_mode):
-        return BufferedReader(Fifo(path))
-    return open(path, "rb")
+        return path, Ahead(Fifo(path))
+    return path, open(path, "rb")
 
 
-def next_line(source: BinaryIO) -> bytes:
+def next_line(source: Source) -> bytes:
     """Returns a line, or as much of it as a line may have; nothing at the end. Raises `ToolError`
     where it cannot be read.
     """
@@ -134,7 +173,7 @@ def next_line(source: BinaryIO) -> bytes:
         raise ToolError(Text("the lines cannot be read: {}", error.strerror)) from error
 
 
-def fault_of(line: bytes, source: BinaryIO) -> Text:
+def fault_of(line: bytes, source: Source) -> Text:
     """Returns what is wrong with a line that is not whole; the rest of a long one is read."""
     if line.endswith(b"\n"):
         return NOTHING
@@ -145,37 +184,36 @@ def fault_of(line: bytes, source: BinaryIO) -> Text:
     return TOO_LONG
 
 
-def jobs(source: BinaryIO) -> Iterator[Job]:
-    """Yields each line with data as soon as it is there; of a FIFO, for ever. A line whose object
-    is too long is not printed without it.
+def jobs(source: Source) -> Iterator[Sequence[Part]]:
+    """Yields each line with data as soon as it is there, behind the object before it where there is
+    one; of a FIFO, for ever.
     """
-    remark = b""
-    waiting = NOTHING  # what is wrong with the object before a line
+    before: list[Part] = []
     number = 0
-    is_fifo = isinstance(getattr(source, "raw", None), Fifo)
-    while (line := next_line(source)) or is_fifo:
+    while (line := next_line(source)) or isinstance(source, Ahead):
         if not line:
-            remark = b""
-            waiting = NOTHING
+            before = []
             continue
         number += 1
         fault = fault_of(line, source)
         data = line.removesuffix(b"\n")
         if data.startswith(OBJECT) and fault is not CUT_OFF:
-            remark = b"" if fault or data.startswith(SKIPPED) else line
-            waiting = LONG_OBJECT if fault else NOTHING
+            wrong = LONG_OBJECT if fault else TWO_OBJECTS if before else NOTHING
+            before = [] if data.startswith(SKIPPED) else [Part(number, data, wrong)]
         elif data and (fault is CUT_OFF or not data.startswith(b"#")):
-            yield Job(number, remark, data, fault or waiting)
-            remark = b""
-            waiting = NOTHING
+            yield [*before, Part(number, data, fault)]
+            before = []
 
 
 class Stream:
     """Prints lines one by one."""
 
-    def __init__(self, options: PrintOptions, job: PrintJob, sender: Sender) -> None:
-        """Takes how lines are printed; raises `ToolError` where none can be."""
+    def __init__(self, name: str, options: PrintOptions, job: PrintJob, sender: Sender) -> None:
+        """Takes what lines come from, and how they are printed; raises `ToolError` where none can
+        be.
+        """
         Engine(options.words)
+        self.name = name
         self.options = options
         self.job = job
         self.sender = sender
@@ -184,11 +222,11 @@ class Stream:
         self.seen: set[tuple[str, bytes]] = set()
         self.status = 0
 
-    def answer(self, job: Job) -> tuple[str, Text]:
+    def answer(self, parts: Sequence[Part]) -> tuple[str, Text]:
         """Prints a line, and returns the word and the text of its answer."""
-        text = job.line.decode("utf-8", "backslashreplace")
+        text = parts[-1].line.decode("utf-8", "backslashreplace")
         try:
-            return TAKEN, Text("{} {}", self.print(job), text)
+            return TAKEN, Text("{} {}", self.print(parts), text)
         except Known:
             return KNOWN, Text("{}", text)
         except Refused as refused:
@@ -209,15 +247,15 @@ class Stream:
         is_lost = journal is not None and journal.is_lost
         return bool(self.status) or self.sender.is_at_end or is_lost
 
-    def print(self, job: Job) -> int:
-        """Prints a label and returns how many bytes it has; raises `Refused`, `Known`,
-        `Unreachable` and `Broken`.
+    def print(self, parts: Sequence[Part]) -> int:
+        """Prints a label and returns how many bytes it has; raises `Refused`, `Known`, `ToolError`
+        where nothing went out, and `Broken`.
         """
-        if job.fault:
-            raise Refused(job.fault)
-        record, found = self.laid_out(job)
-        code = record.symbology, record.data
-        if self.options.is_unique and code in self.seen:
+        for part in parts:
+            if part.fault:
+                raise Refused(part.fault)
+        record, found = self.laid_out(parts)
+        if self.options.is_unique and record.key in self.seen:
             raise Known
         size = 0
         for item in found.labels:
@@ -227,7 +265,7 @@ class Stream:
             if not size:
                 self.raise_known(record)
         if self.options.is_unique and self.sender.journal is None:
-            self.seen.add(code)
+            self.seen.add(record.key)
         return size
 
     def raise_known(self, record: LineRecord) -> NoReturn:
@@ -238,12 +276,13 @@ class Stream:
             raise Broken(reason)
         raise Known
 
-    def laid_out(self, job: Job) -> tuple[LineRecord, Prepared]:
+    def laid_out(self, parts: Sequence[Part]) -> tuple[LineRecord, Prepared]:
         """Returns a line with its label; raises `Refused`."""
-        data = job.remark + job.line + b"\n"
+        data = b"".join(part.line + b"\n" for part in parts)
+        numbers = [part.number for part in parts]
         try:
-            lines = read_lines(data, Text("the line"), "--escapes" in self.options.words)
-            drawn = run_labels(data, self.options.words, Silence())
+            lines = read_lines(data, self.name, "--escapes" in self.options.words, numbers)
+            drawn = run_labels(data, self.options.words, Silence(), numbers)
             found = DrawnLines(lines, drawn)
             done = prepared(self.options, self.job, found, Silence(), self.letters, False)
         except ToolError as error:
@@ -273,13 +312,15 @@ def run(options: PrintOptions, job: PrintJob, path: Optional[str], sender: Sende
     if sys.__stderr__ is None:
         return 1
     status = 0
-    stream = Stream(options, job, sender)
-    for one in jobs(source_of(path)):
+    name, source = source_of(path)
+    stream = Stream(name, options, job, sender)
+    for parts in jobs(source):
         with hold_signals():
-            word, text = stream.answer(one)
+            word, text = stream.answer(parts)
             status = status if word == TAKEN else 1
+            said = visible(translated(text))
             try:
-                print(word, one.number, visible(translated(text)), file=sys.stderr, flush=True)
+                print(word, parts[-1].number, said, file=sys.stderr, flush=True)
             except OSError:
                 return 1
         if stream.is_at_end:

@@ -13,7 +13,7 @@ from typing import Optional
 from unittest import mock
 
 import support
-from labeltools.journal import Journal, escaped
+from labeltools.journal import Journal, code_of, escaped
 from labeltools.lines_file import read_lines
 from labeltools.messages import Silence, ToolError
 from labeltools.network import NetworkPrinter
@@ -62,6 +62,16 @@ class Folder(unittest.TestCase):
         self.assertEqual(done.returncode, status, text)
         self.assertRegex(text, pattern)
 
+    def is_doubtful(self, journal: Journal, number: int) -> bool:
+        """Whether the label of a line of TICKETS, from 0, is in doubt."""
+        return code_of(self.records[number]) in journal.doubtful()
+
+    def answers(self, input: bytes, *words: str) -> list[str]:
+        """The answers to lines."""
+        done = printed("--stream", *words, input=input)
+        self.assertEqual(done.stderr.count(b"\n"), len(done.stderr.splitlines()))
+        return done.stderr.decode().splitlines()
+
     def answer(self, stream: "subprocess.Popen[bytes]", line: bytes) -> str:
         """The answer to a line."""
         assert stream.stdin and stream.stderr
@@ -94,6 +104,7 @@ class Chosen(Folder):
         self.said(printed("--only-code", f"@{self.folder}/no"), 1, "no: No such file")
 
     def test_few_are_named(self) -> None:
+        """Rows and codes together are the labels of either."""
         done = printed("--only", "3", "--only-code", "T00007", "--summary")
         self.said(done, 0, "2 labels: line 3, T00003; line 7, T00007")
 
@@ -106,6 +117,21 @@ class Chosen(Folder):
         self.assertEqual(len(labels_in(done)), 3)
         copies = support.file_of([("qr A", {"copies": 2}), ("qr B", {})])
         self.said(printed("--unique", input=copies), 1, "row 2: has copies")
+
+    def test_the_bars_of_upca_are_those_of_an_ean13(self) -> None:
+        """A code is one, however its line has it."""
+        lines = b"upca 03600029145\nean13 003600029145\nean13 4006381333931\n"
+        self.said(printed("--unique", input=lines), 1, "line 2: has the code of line 1")
+        found = self.answers(lines, "--unique")
+        self.assertEqual([line.split()[0] for line in found], ["taken", "known", "taken"])
+        for line in lines.splitlines(keepends=True)[:2]:
+            for digits in ("0036000291452", "003600029145", "036000291452", "03600029145"):
+                done = printed("--only-code", digits, input=line)
+                self.assertEqual((done.returncode, len(labels_in(done))), (0, 1), done.stderr)
+            done = printed("--journal", self.path, input=line)
+            self.assertEqual(done.returncode, 0, done.stderr)
+        self.assertEqual(self.events(), ["sending", "taken"])
+        self.said(printed("--only-code", "00360002914", input=lines), 1, "but not in the input")
 
     def test_a_last_line_that_may_be_cut_off(self) -> None:
         done = printed(input=b"code128 PALLET-4711\ncode128 PALLET-47")
@@ -242,10 +268,10 @@ class Journals(Folder):
             self.assertEqual(other.stdout.readline(), b"2\n")
             self.assertEqual(other.stdout.readline(), b"[False, True]\n")
             self.assertFalse(ours.claim(self.records[1]))
-            self.assertFalse(ours.is_doubtful(self.records[1]))
+            self.assertFalse(self.is_doubtful(ours, 1))
             other.kill()
             other.wait()
-            self.assertTrue(ours.is_doubtful(self.records[1]))
+            self.assertTrue(self.is_doubtful(ours, 1))
 
     def test_a_lane_that_is_killed_while_another_one_waits(self) -> None:
         script = (
@@ -275,7 +301,7 @@ class Journals(Folder):
             Path(self.path).write_bytes(whole[:end])
             again = Journal(self.path, "tcp://a")
             self.assertTrue(again.mended)
-            self.assertEqual(again.is_doubtful(self.records[1]), end == len(whole) - 1)
+            self.assertEqual(self.is_doubtful(again, 1), end == len(whole) - 1)
             self.assertTrue(again.entry(self.records[0]))
             self.assertTrue(Path(self.path).read_bytes().startswith(whole[:start]))
             Journal(self.path, "tcp://a")  # it is whole now
@@ -292,6 +318,40 @@ class Journals(Folder):
         whole = Path(self.path).read_bytes()
         Path(self.path).write_bytes(whole[:-5])
         self.said(printed("--journal", self.path), 1, "line 1: may be on paper, from tcp://a")
+
+    def test_what_is_said_of_a_mark_that_is_cut_off(self) -> None:
+        """Its label was sent, and is named; that of another lane is not, once the lane is read."""
+        journal = Journal(self.path, "tcp://a")
+        journal.claim(self.records[1])
+        journal.give_up()
+        journal.claim(self.records[0])
+        journal.take(self.records[0])
+        os.close(journal.file)
+        whole = Path(self.path).read_bytes()
+        start = whole[:-1].rfind(b"\n") + 1
+        lane = whole.rfind(b"lane 2") + 6
+        first, second = r"line 1 \(qr T00001\)", r"line 2 \(qr T00002\)"
+        for end in range(start + 1, len(whole) - 1):
+            Path(self.path).write_bytes(whole[:end])
+            again = Journal(self.path, "tcp://a")
+            both = "" if end >= lane else f"{second}, "
+            self.assertRegex(again.mended, f"taken out: {both}{first} may be on paper$")
+            self.assertTrue(self.is_doubtful(again, 0))
+            self.assertEqual(Path(self.path).read_bytes(), whole[:start])
+            os.close(again.file)
+
+    def test_a_mark_that_is_cut_to_another_code(self) -> None:
+        """It is the mark of no label but the one that waits for it."""
+        line = "2026-11-27T09:30:00Z\t{}\tlane {}\ttcp://a\trow {}\tqr {}\n"
+        sent = line.format("sending", 1, 12, "T00012")
+        other = line.format("sending", 2, 1, "T0001")
+        cut = line.format("taken", 1, 12, "T0001")[:-1]
+        for before in (sent, other + sent):
+            Path(self.path).write_text(f"#labels journal 1\n{before}{cut}")
+            done = printed("--journal", self.path, input=b"qr T0001\nqr T00012\n")
+            self.said(done, 1, r"was taken out: row 12 \(qr T00012\) may be on paper")
+            self.said(done, 1, "lines? (1-)?2: may be on paper, from tcp://a: look for it")
+            self.assertEqual(len(labels_in(done)), int(before == sent))
 
     def test_other_files_are_kept(self) -> None:
         for data in (b"Code;Name\n", b"#labels journal 2\n", b"#labels journal 1 x\n", b"\0" * 99):
@@ -430,12 +490,6 @@ class Streams(Folder):
         self.addCleanup(ended, stream)
         return stream
 
-    def answers(self, input: bytes, *words: str) -> list[str]:
-        """The answers to lines."""
-        done = printed("--stream", *words, input=input)
-        self.assertEqual(done.stderr.count(b"\n"), len(done.stderr.splitlines()))
-        return done.stderr.decode().splitlines()
-
     def test_answers_and_bytes(self) -> None:
         lines = [
             b"qr A\n",
@@ -456,6 +510,12 @@ class Streams(Folder):
         stream.stdin.close()
         self.assertEqual(stream.stderr.read(), b"refused 6 cut off before its line end\n")
         self.assertEqual(stream.wait(), 1)
+
+    def test_the_status(self) -> None:
+        """Each line was taken, or one was not, though it is known."""
+        for status, word in ((0, "taken"), (1, "known")):
+            done = printed("--stream", "--journal", self.path, input=b"qr A\n")
+            self.said(done, status, f"^{word} 1 ")
 
     def test_lines_that_have_no_label(self) -> None:
         lines = {
@@ -519,7 +579,7 @@ class Streams(Folder):
         stream.stdout.close()
         stream.stdin.write(b"qr A\nqr B\n")
         stream.stdin.close()
-        self.assertEqual(stream.stderr.read(), b"doubtful 1 standard output: Broken pipe\n")
+        self.assertEqual(stream.stderr.read(), b"unsent 1 standard output: Broken pipe\n")
         self.assertEqual(stream.wait(), 1)
 
     def test_nobody_reads_the_answers(self) -> None:

@@ -43,10 +43,12 @@ class Printers(Folder):
         """A connection that is reset says that bytes were thrown away."""
         printer = Printer(rude=True).start()
         done = printed("--print", printer.name)
-        self.said(done, 1, "the printer broke off at the end: it took 30 labels whole; look at")
-        self.said(done, 1, "print what is missing by --only\n")
+        self.said(done, 1, "the printer broke off at the end: it took 30 labels whole; look that")
+        self.said(
+            done, 1, "look that line 30 is on paper, or print what is missing by --only ROWS\n"
+        )
         done = printed("--print", printer.name, "--journal", self.path)
-        self.said(done, 1, f"what is missing by --only --again {printer.name}\n")
+        self.said(done, 1, f"line 30 is on .* is missing by --only ROWS --again {printer.name}\n")
 
     def test_a_stream_to_one_that_hangs_up(self) -> None:
         """Its system takes each label, and it reads none."""
@@ -77,6 +79,10 @@ class Printers(Folder):
         for name in (*names, " ", "socket://till-3", "ipp://till-3/ipp"):
             self.said(printed("--print", name), 2, "argument --print: ")
         self.said(printed("--print", "TCP://no.invalid"), 1, "line 1 and what follows it were not")
+        printer = Printer().start()
+        words = ("--print", printer.name.upper(), "--journal", self.path, "--only", "1")
+        for again in ((), ("--again", printer.name.upper())):
+            self.said(printed(*words, *again), 0, "1 label taken by tcp://127")
 
     def test_what_a_variable_without_a_value_leaves_empty(self) -> None:
         for word in ("--journal", "--again", "--only-code"):
@@ -133,7 +139,8 @@ class Rows(Folder):
         self.said(done, 1, "No space left on device: it took 0 labels whole; .* by --only 1-\n")
 
     def test_rows_that_no_table_has(self) -> None:
-        self.said(printed("--only", "9-7"), 2, "'9-7' is not as 2,7-9 or 7-")
+        for rows in ("9-7", "0-", "0", "2,0-3", "00"):
+            self.said(printed("--only", rows), 2, f"'{rows}' is not as 2,7-9 or 7-")
         done = printed("--only", "2,2000000")
         self.said(done, 1, "row 2000000: of --only, but not in the input")
         self.assertEqual(len(labels_in(done)), 1)
@@ -164,6 +171,14 @@ class Editors(Folder):
             self.said(self.done_again(), 0, "30 labels in .* already")
             self.assertEqual(journal.read_bytes(), changed)
 
+    def test_a_journal_of_version_1_1_0(self) -> None:
+        """It has a UPC-A as its line has it."""
+        line = "2026-11-27T09:30:00Z\ttaken\tlane 1\ttcp://a\tline 1\tupca 036000291452\n"
+        Path(self.path).write_text(f"#labels journal 1\n{line}")
+        for code in (b"upca 03600029145", b"ean13 0036000291452"):
+            done = printed("--journal", self.path, input=code + b"\n")
+            self.said(done, 0, "^label-print: 0 labels; 1 label in .* already\n$")
+
     def test_blanks_at_the_end_of_a_code_are_its_own(self) -> None:
         lines = b"qr A\nqr A \nqr A  \n"
         for count in (3, 0):
@@ -182,7 +197,7 @@ class Editors(Folder):
             last = lines[-1].replace(b"sending", word) + end
             journal.write_bytes(b"\n".join([*lines[:-1], last]))
             done = self.done_again()
-            self.said(done, 1, "its last line had no end, so its label may be on paper")
+            self.said(done, 1, r"its last line had no end: line 30 \(qr T00030\) may be on paper")
             self.said(done, 1, "line 30: may be on paper, from standard output")
             self.said(self.done_again(), 1, "line 30: may be on paper")
 
@@ -460,14 +475,15 @@ class Streams(Folder):
         done = support.run(*words, input=TICKETS, LABELS_LIBRARY="/no/such.so")
         self.said(done, 1, r"\Alabel-print: the library liblabels is not there: .*\n\Z")
 
-    def test_a_line_that_was_cut_off_is_no_answer(self) -> None:
-        """What is said of a journal would be taken for the answer to the first line."""
+    def test_a_line_that_was_cut_off_is_said_before_the_answers(self) -> None:
+        """It begins as no answer does."""
         journal = Journal(self.path, "tcp://a")
         journal.claim(self.records[0])
         os.close(journal.file)
         Path(self.path).write_bytes(Path(self.path).read_bytes()[:-20])
         done = printed("--stream", "--journal", self.path, input=TICKETS[:10])
-        self.said(done, 0, r"\Ataken 1 .*\n\Z")
+        said = "its last line was cut off, and was taken out: its label was not sent"
+        self.said(done, 0, rf"\Alabel-print: .*/journal: {said}\ntaken 1 .*\n\Z")
 
 
 def stream_size(stream: "subprocess.Popen[bytes]", fifo: str, lines: bytes) -> int:

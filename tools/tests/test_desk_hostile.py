@@ -7,6 +7,7 @@ import os
 import signal
 import socket
 import subprocess
+import threading
 import time
 import unittest
 from contextlib import suppress
@@ -16,7 +17,7 @@ from typing import Callable
 from unittest import mock
 
 import support
-from labeltools import files, sending, stream
+from labeltools import files, network, sending, stream
 from labeltools.journal import Journal
 from labeltools.network import Broken, NetworkPrinter
 from printers import LABEL, Printer
@@ -124,7 +125,7 @@ class Connections(Starts):
 
     def test_one_that_a_printer_has_broken_off_is_not(self) -> None:
         """It says that bytes were thrown away, which may be those of the label before."""
-        printer = Printer(cut=1).start()
+        printer = Printer(cut=1, slow=0.2).start()  # its system has taken the label by then
         outlet = NetworkPrinter(printer.name)
         label = labels_in(printed(input=TICKETS[:10]))[0]
         outlet.open()
@@ -135,6 +136,27 @@ class Connections(Starts):
         with self.assertRaises(Broken):
             outlet.send(label)
         self.assertEqual(printer.labels, [label])
+
+    def test_one_that_a_printer_ends_first_and_then_breaks_off(self) -> None:
+        """It says goodbye, and throws bytes away: only while we have not ended it is that seen."""
+        for is_read in (True, False):
+            with socket.create_server(("127.0.0.1", 0)) as server:
+                outlet = NetworkPrinter(f"tcp://127.0.0.1:{server.getsockname()[1]}")
+                line = outlet.open()
+                printer, _ = server.accept()
+            outlet.send(b"label")
+            printer.recv(5 if is_read else 1)
+            printer.shutdown(socket.SHUT_WR)
+            while not network.has_ended(line):
+                time.sleep(0.001)
+            late = threading.Timer(0.02, printer.close)  # it breaks off with something unread
+            late.start()
+            if is_read:
+                outlet.close()
+                continue
+            with mock.patch("labeltools.network.REGRET", 5.0, create=True):
+                self.assertRaises(Broken, outlet.close)
+            late.join()
 
     def test_a_stream_leaves_a_printer_to_the_lane_that_has_the_label(self) -> None:
         """It has connected, and finds that another lane was first."""
@@ -178,8 +200,8 @@ class Doubts(Starts):
         taken = Path(self.path).read_text().replace("sending", "taken").splitlines()[1]
         with open(self.path, "a") as file:
             file.write(f"{taken}\n")
-        self.assertFalse(ours.is_doubtful(self.records[0]))
-        self.assertTrue(ours.is_doubtful(self.records[1]))
+        self.assertFalse(self.is_doubtful(ours, 0))
+        self.assertTrue(self.is_doubtful(ours, 1))
 
     def test_it_is_looked_at_while_no_other_lane_does(self) -> None:
         """Two that try the lock of a lane that has ended would each take the other for that one."""
@@ -193,8 +215,56 @@ class Doubts(Starts):
             return False
 
         with mock.patch.object(Journal, "is_alive", look):
-            self.assertTrue(ours.is_doubtful(self.records[0]))
+            self.assertTrue(self.is_doubtful(ours, 0))
         self.assertEqual(held, [True])
+
+    def test_those_outside_of_what_is_printed(self) -> None:
+        """Each run names all of a journal, until they are printed or their lines say `taken`."""
+        for words in (("--only", "3-"), ("--only-code", "T00002"), ()):
+            done = printed("--journal", self.waiting("tcp://a"), *words)
+            self.said(done, 1, r"line 1: may be on paper, from tcp://a: look for it; .* --again")
+        done = printed("--journal", self.path, "--only", "1", "--again", "tcp://a")
+        self.assertNotIn(b"may be on paper", done.stderr)
+        self.said(printed("--journal", self.path, "--only", "3-"), 0, "28 labels in .* already\n$")
+
+    def test_one_that_the_input_has_no_more(self) -> None:
+        """Its code is named, and its printer."""
+        for words in ((), ("--only", "2")):
+            done = printed("--journal", self.waiting("tcp://a"), *words, input=TICKETS[10:30])
+            pattern = (
+                r"^label-print: qr T00001: may be on paper, from tcp://a, and not in the input"
+            )
+            self.said(done, 1, f"{pattern}: look for it; if it is there, make sending taken in its")
+            self.assertNotIn(b"--again", done.stderr)
+
+    def test_those_of_many_printers(self) -> None:
+        """The printer of each is named, and those of one printer are together."""
+        names = [f"tcp://lane-{number % 12}" for number in range(1, 25)]
+        line = "2026-11-27T09:30:00Z\tsending\tlane {0}\t{1}\tline {0}\tqr T{0:05}\n"
+        lines = "".join(line.format(number, name) for number, name in enumerate(names, 1))
+        Path(self.path).write_text(f"#labels journal 1\n{lines}")
+        done = printed("--journal", self.path)
+        for number in range(12):
+            rows = f"{number or 12}, {(number or 12) + 12}"
+            self.said(done, 1, f"lines {rows}: may be on paper, from tcp://lane-{number}: look")
+
+    def test_one_that_another_lane_is_sending(self) -> None:
+        """That lane may break off: whoever is told `known` would tick it off."""
+        printer = Printer(stuck=1, slow=0.2).start()
+        busy = self.start("--print", printer.name, "--journal", self.path, "--dpi", "1200")
+        assert busy.stdin and busy.stderr
+        busy.stdin.write(b"qr T00001\nqr T00002\n")
+        busy.stdin.flush()
+        self.assertRegex(busy.stderr.readline(), b"^taken 1 ")
+        while self.events() != ["sending", "taken", "sending"]:
+            time.sleep(0.01)
+        other = self.start("--journal", self.path)
+        self.assertEqual(self.answer(other, b"qr T00001\n"), "known 1 qr T00001\n")
+        text = "is sending it: send the line again to see whether it was taken"
+        self.assertEqual(self.answer(other, b"qr T00002\n"), f"doubtful 2 {printer.name} {text}\n")
+        busy.kill()
+        busy.wait()
+        self.assertRegex(self.answer(other, b"qr T00002\n"), "^doubtful 3 may be on paper, from")
 
     def test_what_can_be_typed(self) -> None:
         done = printed("--journal", self.waiting("standard output"), input=TICKETS[:10])
@@ -268,6 +338,52 @@ class Ends(Folder):
         done = self.changed("StandardOutput.send = lambda outlet, data: end() or broken()")
         self.said(done, -signal.SIGTERM, "label-print: it is off: it took 0 labels whole; look at")
         self.said(done, -signal.SIGTERM, "then print from line 1 on by --only 1-\n")
+
+    def test_a_way_out_that_breaks_off_before_a_label(self) -> None:
+        """As of a printer that has ended the connection: of that label nothing was sent."""
+        code = "StandardOutput.open = lambda outlet, left=[0, 0]: left.pop() if left else broken()"
+        done = self.changed(code, "--journal", self.path)
+        self.said(done, 1, "it is off: it took 2 labels whole: line 3 and what follows it were not")
+        self.said(done, 1, "not sent; look that line 2 is on paper, or print what is missing by")
+        self.assertEqual(self.events(), ["sending", "taken"] * 2)
+
+    def test_a_way_out_that_breaks_off_after_no_label(self) -> None:
+        """All labels are those of another lane, and the connection was made for the first one."""
+        code = "StandardOutput.close = lambda outlet: broken()"
+        printed("--journal", self.path)
+        done = self.changed(code, "--journal", self.path)
+        self.said(done, 1, "^label-print: it is off: it took 0 labels whole\n$")
+
+    def limited_answers(self, path: str, room: int, lines: bytes, *words: str) -> bytes:
+        """The answers of a stream to a file that takes so many bytes."""
+        code = START.format(code=LIMIT.format(size=room))
+        command = ["/usr/bin/python3", "-c", code, *ROLL, "--stream", *words]
+        env = support.environment()
+        pipe = subprocess.PIPE
+        with open(path, "wb") as output:
+            done = subprocess.run(
+                command, input=lines, stdout=output, stderr=pipe, env=env, cwd=support.TOOLS
+            )
+        self.assertEqual(done.returncode, 1)
+        return done.stderr
+
+    def test_a_stream_to_a_standard_output_that_is_full(self) -> None:
+        """The label can be sent again: nothing of it is there. That is not known where its first
+        copy is there, or the journal has it as sent.
+        """
+        path = f"{self.folder}/labels"
+        label = b"".join(labels_in(printed(input=b"qr A\n")))
+        for name, room in (("/dev/full", 9), (path, len(label) - 1), (path, 2 * len(label) - 1)):
+            found = self.limited_answers(name, room, b"qr A\nqr B\n").splitlines()
+            self.assertRegex(found[-1], rb"^unsent (1|2) standard output: (No space|File too)")
+            self.assertEqual([line[:7] for line in found[:-1]], [b"taken 1"] * (room // len(label)))
+        self.assertEqual(Path(path).read_bytes(), label)
+        copies = b'#{"copies":2}\nqr A\n'
+        size = len(printed("--to", "escpos", input=b"qr A\n").stdout)
+        answer = self.limited_answers(path, size + 9, copies, "--to", "escpos")
+        self.assertRegex(answer, b"^doubtful 2 standard output: File too large\n$")
+        answer = self.limited_answers("/dev/full", 999, b"qr A\n", "--journal", self.path)
+        self.assertRegex(answer, b"^doubtful 1 standard output: No space left on device\n$")
 
     def test_what_is_on_the_disk_when_the_power_fails(self) -> None:
         """The name of a new journal, each label of a file before its mark."""
@@ -346,6 +462,31 @@ class Streams(Starts):
         with mock.patch.object(source, "poll", mock.Mock(poll=late)):
             self.assertEqual(source.readinto(bytearray(9)), 0)
 
+    def test_a_writer_that_goes_while_a_label_is_on_its_way(self) -> None:
+        """Its half line is not one with the line of the next writer."""
+        fifo = f"{self.folder}/till"
+        os.mkfifo(fifo)
+        stream = self.start("--print", Printer(slow=0.6).start().name, fifo)
+        for line in (b"qr A\n", b"qr T000", b"qr B\n"):
+            Path(fifo).write_bytes(line)
+            time.sleep(0.3)  # the next writer comes when that one has gone
+        assert stream.stderr
+        for pattern in (b"^taken 1 ", b"^refused 2 cut off before its line end$", b"^taken 3 "):
+            self.assertRegex(stream.stderr.readline(), pattern)
+
+    def test_what_goes_wrong_while_lines_are_read_ahead(self) -> None:
+        """It ends the stream, once the lines before it are printed."""
+        path = f"{self.folder}/fifo"
+        os.mkfifo(path)
+        for error in (MemoryError(), ValueError("bad")):
+            reads = [b"qr A\n", error]
+            with mock.patch("labeltools.stream.BufferedReader") as reader:
+                reader.return_value.readline.side_effect = reads
+                lines = stream.Ahead(stream.Fifo(path))
+                self.assertEqual(lines.readline(9), b"qr A\n")
+                with self.assertRaises(type(error)):
+                    lines.readline(9)
+
     def test_what_libraries_say_is_no_answer(self) -> None:
         """Fontconfig warns of this locale, which a ssh from another system may set."""
         stream = self.start(LC_ALL="UTF-8")
@@ -367,6 +508,29 @@ class Streams(Starts):
         refused, taken = done.stderr.decode().splitlines()
         self.assertEqual(refused, "refused 2 the object before it is longer than 65536 bytes")
         self.assertRegex(taken, "^taken 4 .* qr B$")
+
+    def test_two_objects_before_a_line(self) -> None:
+        """One of them is that of a line which got lost: a plain run refuses such a file, too."""
+        lines = b'#{"title":"A"}\n#{"title":"B"}\nqr A\n#{"title":"C"}\nqr C\n'
+        done = printed("--stream", input=lines)
+        refused, taken = done.stderr.decode().splitlines()
+        self.assertEqual(refused, "refused 3 there are two objects before it")
+        self.assertRegex(taken, "^taken 5 .* qr C$")
+        self.assertEqual(labels_in(done), labels_in(printed(input=b'#{"title":"C"}\nqr C\n')))
+        self.said(printed(input=lines), 1, "something is missing before line 2")
+
+    def test_what_is_wrong_with_an_object_names_its_line(self) -> None:
+        lines = b'qr A\n#{"title":1}\n\n# remark\nqr B\n'
+        Path(self.folder, "lines").write_bytes(lines)
+        for name, path in (("standard input", "-"), ("lines", f"{self.folder}/lines")):
+            done = printed("--stream", path, input=lines)
+            self.said(done, 1, f"\nrefused 5 (.*/)?{name}: line 2: not understood: .title.\n")
+
+    def test_the_places_in_a_journal_are_those_of_the_lines(self) -> None:
+        lines = b'qr A\n\n#{"row":7}\nqr B\n#{"title":"C"}\n# remark\nqr C\n'
+        printed("--stream", "--journal", self.path, input=lines)
+        places = [line.split("\t")[4] for line in Path(self.path).read_text().splitlines()[1:]]
+        self.assertEqual(places[::2], ["line 1", "row 7", "line 7"])
 
     def test_a_fifo_that_another_file_has_replaced(self) -> None:
         """Nobody can write to it any more."""
