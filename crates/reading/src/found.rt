@@ -77,11 +77,11 @@ pub fn read_any<G: Grid>(dots: &G) -> Option<Reading>
     ensures narrow { IfSome result (λ reading.
         reading.scale ≤ min (G.picture dots.now).width (G.picture dots.now).height) }
 {
-    let one = Quarter { dots };
-    let two = Quarter { dots: &one };
-    let three = Quarter { dots: &two };
-    let found = or_upright(read_upright(dots, 0), &one, 1);
-    or_upright(or_upright(found, &two, 2), &three, 3)
+    let once = Quarter { dots };
+    let twice = Quarter { dots: &once };
+    let thrice = Quarter { dots: &twice };
+    let found = or_upright(read_upright(dots, 0), &once, 1);
+    or_upright(or_upright(found, &twice, 2), &thrice, 3)
 }
 
 /// What is read upright is read as that, by [`read_any`]. It does nothing when it runs.
