@@ -8,7 +8,7 @@
   checked, and so are the statements without variables of a file that no other cites: worked values.
 - An imported name is used where its file, or the `impl` that imports it, has it outside of comments and imports; a
   name of `ghost use` where a contract, a ghost item or an attribute has it; a trait of ours also where a function of
-  it is called.
+  it is called, or a constant of it named.
 - A function is used where its name is found in code outside of its own body, in its crate or, if it is `pub`, in any.
   Tests, `main`, exports to C and the functions of an `impl` of a trait are called by others.
 
@@ -88,8 +88,8 @@ def unused_in_code(imports: Sequence[Import], traits: dict[str, list[Declaration
     names = {token.text for token in tokens}
     called = {token.text for before, token in zip(tokens, tokens[1:]) if before.text in (".", ":")}
     for one in imports:
-        methods = {it.name for it in traits.get(one.name, ()) if it.kind == "fn"}
-        is_used = one.name in names or methods & called
+        members = {it.name for it in traits.get(one.name, ()) if it.kind in ("fn", "const")}
+        is_used = one.name in names or members & called
         if not (reader.is_named_in(one.name, ghost_names) if one.is_ghost else is_used):
             yield one
 

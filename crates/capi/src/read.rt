@@ -21,14 +21,10 @@ pub const NOT_READ: u32 = 17;
 pub fn offer(bytes: &[u8], room: &mut [u8]) -> Answer
     ensures { PutsWhole (room_alone room.old room.new) result bytes.now }
 {
-    let code = if bytes.len() <= room.len() {
-        DONE
-    } else {
-        NO_ROOM
-    };
+    let size = room.len();
     put(room, 0, bytes);
     Answer {
-        code,
+        code: if bytes.len() <= size { DONE } else { NO_ROOM },
         reserved: 0,
         length: bytes.len(),
         at: 0,
@@ -39,30 +35,30 @@ pub fn offer(bytes: &[u8], room: &mut [u8]) -> Answer
 /// Reads the dots of a picture, a digit `0` or `1` each, as a symbol of a symbology.
 fn read_picture(
     symbology: Symbology,
-    scale: usize,
-    width: usize,
-    height: usize,
+    scale: u32,
+    width: u32,
+    height: u32,
     digits: &[u8],
 ) -> Option<SymbolData>
     requires { 0 < scale }
     ensures { option_map (λ bytes. bytes.items) result
         ≡ option_and_then (λ p. read_dots symbology scale (raster p)) (bytes_read 48 49 width height digits.now) }
 {
-    let dots = Dots::new(b'0', b'1', width, height, digits)?;
-    reading::read(symbology, &dots, scale)
+    let dots = Dots::new(b'0', b'1', width as usize, height as usize, digits)?;
+    reading::read(symbology, &dots, scale as usize)
 }
 
 /// Reads modules, a byte 0 or 1 each, as a symbol of a symbology.
 fn read_module_bytes(
     symbology: Symbology,
-    width: usize,
-    rows: usize,
+    width: u32,
+    rows: u32,
     bytes: &[u8],
 ) -> Option<SymbolData>
     ensures { option_map (λ bytes. bytes.items) result ≡ option_and_then
         (λ p. read_short (read_modules symbology) (raster p).rows) (bytes_read 0 1 width rows bytes.now) }
 {
-    let modules = Dots::new(0, 1, width, rows, bytes)?;
+    let modules = Dots::new(0, 1, width as usize, rows as usize, bytes)?;
     reading::read_modules(symbology, &modules)
 }
 
@@ -88,13 +84,10 @@ pub fn read_modules_into(
 ) -> Answer
     ensures { AnswersRead out.old out.new result (modules_asked symbology width rows modules.now) }
 {
-    match symbology_of(symbology) {
-        Some(symbology) => {
-            let read = read_module_bytes(symbology, width as usize, rows as usize, modules);
-            answered(read, out)
-        }
-        None => declined(BAD_SYMBOLOGY),
-    }
+    let Some(symbology) = symbology_of(symbology) else {
+        return declined(BAD_SYMBOLOGY);
+    };
+    answered(read_module_bytes(symbology, width, rows, modules), out)
 }
 
 /// Reads the dots of a picture as a symbol of a symbology in its quiet zone, each module `scale` dots wide, and puts
@@ -117,12 +110,5 @@ pub fn read_into(
     let Some(symbology) = symbology_of(symbology) else {
         return declined(BAD_SYMBOLOGY);
     };
-    let read = read_picture(
-        symbology,
-        scale as usize,
-        width as usize,
-        height as usize,
-        dots,
-    );
-    answered(read, out)
+    answered(read_picture(symbology, scale, width, height, dots), out)
 }

@@ -4,10 +4,7 @@ ghost use Rattle.capi.specs.Read.{AnswersFound, DeclinesFound, TellsFound, bits_
 ghost use Rattle.reading.specs.Found.{found_of};
 
 use crate::draw::declined;
-use crate::numbers::{
-    Answer, BAD_OPTION, CallRegion, FoundInfo, are_unused, flag_of,
-    number_of as number_of_symbology,
-};
+use crate::numbers::{Answer, BAD_OPTION, CallRegion, FoundInfo, are_unused, flag_of, number_of};
 use crate::read::{NOT_READ, offer};
 use reading::{BitRegion, Bits, Reading, read_any};
 
@@ -57,7 +54,7 @@ fn info_of(reading: &Reading) -> FoundInfo
     ensures { TellsFound result (found_of reading.now) }
 {
     FoundInfo {
-        symbology: number_of_symbology(reading.symbology),
+        symbology: number_of(reading.symbology),
         scale: reading.scale as u32,
         turns: u32::from(reading.turns),
         reserved: [0; 5],

@@ -2,18 +2,18 @@
 ghost use Rattle.std.specs.Prelude.{◌≡◌, ◌∷◌, ◌+◌, ◌*◌, ◌≤◌, ◌&&◌, ◌==◌, length, option_map, ◌++◌, [], nat_le, false};
 ghost use Rattle.std.specs.Prelude.{drop, if◌then◌else◌};
 ghost use Rattle.std.specs.Str.{bytes_eq};
-ghost use Rattle.linear.specs.declared.limits.TheConstants.{MAX_VALUES, MAX_MODULES};
-ghost use Rattle.linear_reading.specs.declared.full_data.TheConstants.{MAX_FULL_DATA};
+ghost use Rattle.linear.specs.declared.limits.TheConstants.{MAX_VALUES};
+ghost use Rattle.linear_reading.specs.declared.rows.TheConstants.{MAX_FULL_DATA};
 ghost use Rattle.arrayvec.specs.ArrayVec.{array_vec_len};
 ghost use Rattle.linear.specs.Code128.{character_modules, with_check};
-ghost use Rattle.linear.specs.Code128Reading.{meaning, other_set, read_values, symbol_data, read_code128};
+ghost use Rattle.linear.specs.Code128Reading.{meaning, other_set, read_values, symbol_data};
 ghost use Rattle.linear.specs.Modules.{same_modules};
 ghost use Rattle.linear_reading.specs.Private.Meanings.{group_value, meant, set_in, step};
 
-use crate::full_data::FullData;
 use crate::groups::{each_group, number_of, same_modules};
+use crate::rows::{FullData, LinearReading};
 use crate::tables::VALUES;
-use linear::{CHARACTERS, CodeSet, MAX_VALUES, STOP, check_value, start_value};
+use linear::{CHARACTERS, Code128, CodeSet, MAX_VALUES, STOP, check_value, start_value};
 
 /// The most values of a symbol before the stop character: with the start and the check value.
 const MOST: usize = MAX_VALUES + 2;
@@ -160,14 +160,12 @@ fn is_stopped(count: usize, row: &[bool]) -> bool
     count >= 3 && row.len() == 11 * count + 13 && is_stop(&row[11 * count..])
 }
 
-/// Reads a row as a Code 128 symbol.
-pub fn read_code128(row: &[bool]) -> Option<FullData>
-    requires { length row.now ≤ MAX_MODULES }
-    ensures { option_map (λ full. full.items) result ≡ read_code128 row.now }
-{
-    let count = row.len().saturating_sub(13) / 11;
-    if !is_stopped(count, row) {
-        return None;
+impl LinearReading for Code128 {
+    fn read_short(row: &[bool]) -> Option<FullData> {
+        let count = row.len().saturating_sub(13) / 11;
+        if !is_stopped(count, row) {
+            return None;
+        }
+        symbol_data(&each_group::<u8, _, MOST>(value_of, 11, count, row)?)
     }
-    symbol_data(&each_group::<u8, _, MOST>(value_of, 11, count, row)?)
 }

@@ -5,16 +5,16 @@ ghost use Rattle.std.specs.Result.{result_ok};
 ghost use Rattle.std.specs.Str.{bytes_eq};
 ghost use Rattle.linear.specs.Digits.{with_check_digit};
 ghost use Rattle.linear.specs.EanReading.{digit_in, digit_in_a_or_b, has_guards, read_halves};
-ghost use Rattle.linear.specs.EanReading.{with_first_digit, read_ean13, read_ean8, read_upca};
+ghost use Rattle.linear.specs.EanReading.{with_first_digit};
 ghost use Rattle.linear.specs.Private.Data.{AreDigits};
 ghost use Rattle.linear.specs.Tables.{left_half_sets};
 ghost use Rattle.linear_reading.specs.Private.Groups.{Finds, TakesGroups};
 
-use crate::full_data::{FullData, full_data};
 use crate::groups::{each_group, number_of, same_modules};
+use crate::rows::{FullData, LinearReading};
 use crate::tables::{DIGITS, LEFT_LETTERS};
 use arrayvec::ArrayVec;
-use linear::{CENTRE_GUARD, Digits, NORMAL_GUARD, NumberSet, with_check_digit};
+use linear::{CENTRE_GUARD, Digits, Ean8, Ean13, NORMAL_GUARD, NumberSet, UpcA, with_check_digit};
 
 /// What is found in the groups of a half.
 type Half<Y> = ArrayVec<Y, 6>;
@@ -118,35 +118,33 @@ fn checked(count: usize, digits: &[u8]) -> Option<FullData>
     ensures { option_map (λ full. full.items) result ≡ result_ok (with_check_digit count digits.now) }
 {
     let full = with_check_digit(count, digits).ok()?;
-    Some(full_data(&full))
-}
-
-/// Reads a row as an EAN-13 symbol: its thirteen digits.
-pub fn read_ean13(row: &[bool]) -> Option<FullData>
-    ensures { option_map (λ full. full.items) result ≡ read_ean13 row.now }
-{
-    let (left, right) = halves(digit_in_a_or_b, 6, row)?;
-    checked(12, &with_first_digit(&left, &right)?)
-}
-
-/// Reads a row as an EAN-8 symbol: its eight digits.
-pub fn read_ean8(row: &[bool]) -> Option<FullData>
-    ensures { option_map (λ full. full.items) result ≡ read_ean8 row.now }
-{
-    let (left, right) = halves(|group| digit_in(NumberSet::A, group), 4, row)?;
-    let mut digits = Digits::new();
     // There is space for them, so that it cannot fail.
-    let _ = digits.try_extend_from_slice(&left);
-    let _ = digits.try_extend_from_slice(&right);
-    checked(7, &digits)
+    FullData::try_from(full.as_slice()).ok()
 }
 
-/// Reads a row as a UPC-A symbol: its twelve digits.
-pub fn read_upca(row: &[bool]) -> Option<FullData>
-    ensures { option_map (λ full. full.items) result ≡ read_upca row.now }
-{
-    match read_ean13(row)?.as_slice() {
-        [b'0', rest @ ..] => Some(full_data(rest)),
-        _ => None,
+impl LinearReading for Ean13 {
+    fn read_short(row: &[bool]) -> Option<FullData> {
+        let (left, right) = halves(digit_in_a_or_b, 6, row)?;
+        checked(12, &with_first_digit(&left, &right)?)
+    }
+}
+
+impl LinearReading for Ean8 {
+    fn read_short(row: &[bool]) -> Option<FullData> {
+        let (left, right) = halves(|group| digit_in(NumberSet::A, group), 4, row)?;
+        let mut digits = Digits::new();
+        // There is space for them, so that it cannot fail.
+        let _ = digits.try_extend_from_slice(&left);
+        let _ = digits.try_extend_from_slice(&right);
+        checked(7, &digits)
+    }
+}
+
+impl LinearReading for UpcA {
+    fn read_short(row: &[bool]) -> Option<FullData> {
+        match Ean13::read_short(row)?.as_slice() {
+            [b'0', rest @ ..] => FullData::try_from(rest).ok(),
+            _ => None,
+        }
     }
 }

@@ -59,18 +59,9 @@ fn push_codeword(codeword: u8, bits: &mut BitList)
     requires { array_vec_len bits.old + 8 ≤ MAX_DATA_BITS }
     ensures { bits.new.items ≡ bits.old.items ++ bits_of 8 codeword }
 {
-    let bit = |place: u8| (codeword >> place) % 2 == 1;
+    let at = |place: u8| (codeword >> place) % 2 == 1;
     // There is space for them, so that it cannot fail.
-    let _ = bits.try_extend_from_slice(&[
-        bit(7),
-        bit(6),
-        bit(5),
-        bit(4),
-        bit(3),
-        bit(2),
-        bit(1),
-        bit(0),
-    ]);
+    let _ = bits.try_extend_from_slice(&[at(7), at(6), at(5), at(4), at(3), at(2), at(1), at(0)]);
 }
 
 /// Returns the bits of codewords.

@@ -23,13 +23,6 @@ fn interleaving_place(lengths: &[usize], block: usize, place: usize) -> usize
     before + here
 }
 
-/// Returns the codeword at a place, or 0 where there is none.
-fn codeword_at(codewords: &[u8], place: usize) -> u8
-    ensures { result ≡ slice_index codewords.now place }
-{
-    codewords.get(place).copied().unwrap_or(0)
-}
-
 /// Returns a block of interleaved codewords.
 fn block_at(lengths: &[usize], codewords: &[u8], block: usize) -> Codewords
     requires block { (block < length lengths.now) × (length lengths.now ≤ 8) }
@@ -39,7 +32,8 @@ fn block_at(lengths: &[usize], codewords: &[u8], block: usize) -> Codewords
 {
     let mut out = Codewords::new();
     for place in 0..lengths[block] {
-        out.push(codeword_at(codewords, interleaving_place(lengths, block, place)));
+        let at = interleaving_place(lengths, block, place);
+        out.push(codewords.get(at).copied().unwrap_or(0));
     }
     out
 }

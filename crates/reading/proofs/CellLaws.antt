@@ -15,7 +15,7 @@ use Rattle.picture.specs.Reading.{are_cells, cell, is_module, raster, sample}
 use Rattle.picture.specs.Text.{below, pixel_row}
 use Rattle.picture.specs.declared.quiet_zone.QuietZone.{QuietZone}
 use Rattle.picture.proofs.SampleLaws.{map-range, value_at-raster}
-use Rattle.reading.specs.Private.{AreAlike, IsLikeBefore, are_whole_cells, is_of_cell, is_row_of_cells, modules_in}
+use Rattle.reading.specs.Private.{are_whole_cells, is_of_cell, is_row_of_cells, modules_in}
 
 -- a cell that is there begins inside
 pub begins : (length scale cell : ℕ) → 0 < scale → cell < length / scale → cell * scale < length
@@ -32,14 +32,6 @@ same_cell scale y some inner =
     let most : (y - 1) / scale < y / scale + 1 =
     (div-lt_iff_lt-mul some).1 (omega (arith, (div-lt_iff_lt-mul some).0 next)) in
     omega (arith, least, most)
-
--- the numbers after one, up to the end of its cell
-pub within_cell : (scale y k : ℕ) → 0 < scale → y < k → k < y + (scale - y % scale) → k % scale ≢ 0
-within_cell scale y k some after early first =
-    let here = div-add-mod' y scale in
-    let cell : k / scale < y / scale + 1 = (div-lt_iff_lt-mul some).1 (omega (arith, early, here)) in
-    let before : y / scale < k / scale = (div-lt_iff_lt-mul some).1 (omega (arith, after, div-add-mod' k scale, first)) in
-    omega (arith, cell, before)
 
 -- numbers that pass do not decide
 pub pass_all : (test : ℕ → Bool) (m a n : ℕ) → ((k : ℕ) → a ≤ k → k < a + m → k < n → test k ≡ true)
@@ -138,24 +130,3 @@ module _ (p : Picture) (scale : ℕ) (zone : QuietZone) (some : 0 < scale) where
           | inr inner ↦ absurd (inner first)
         ]
       ]
-
-  -- the rows after one that have its pixels
-  pub rows_again : (y end : ℕ) → y < end → p.height % scale ≡ 0 → true ≡ is_row_of_cells p scale zone y
-      → AreAlike p y end → ((k : ℕ) → y < k → k < end → IsLikeBefore scale zone k)
-      → list_all (is_row_of_cells p scale zone) (range_with_len y (p.height - y))
-      ≡ list_all (is_row_of_cells p scale zone) (range_with_len end (p.height - end))
-  rows_again y end later whole is alike like =
-      let all = pass_all (is_row_of_cells p scale zone) (end - y) y p.height (λ k after early high.
-      let place : y + (k - y) ≡ k = omega (arith, after) in
-      ap (is_row_of_cells p scale zone) (sym place) ∙ row (k - y) (omega (arith, after, early)) (omega (arith, after, high))) in
-      let last : y + (end - y) ≡ end = omega (arith, later) in
-      all ∙ ap (λ b. list_all (is_row_of_cells p scale zone) (range_with_len b (p.height - b))) last
-    where
-      row : (k : ℕ) → y + k < end → y + k < p.height → is_row_of_cells p scale zone (y + k) ≡ true
-      row zero early high = simp unary_clauses (sym is)
-      row (suc k) early high =
-          let before : y + suc k - 1 ≡ y + k = omega arith in
-          cells_again (y + suc k) (omega arith) high whole (λ x wide.
-          alike x (y + suc k) wide (omega arith) early ∙ sym (alike x (y + k) wide (omega arith) (omega (arith, early)))
-          ∙ ap (p.dark x) (sym before)) (like (y + suc k) (omega arith) early)
-          (ap (is_row_of_cells p scale zone) before ∙ row k (omega (arith, early)) (omega (arith, high)))

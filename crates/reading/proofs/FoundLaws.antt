@@ -1,37 +1,67 @@
--- The first answer.
-use Rattle.std.proofs.Common.{◌≡◌, ◌+◌, ℕ, suc, true, false, Option, Some, None, List, ◌∷◌, length, get_or, drop, ◌<◌, ap, ◌∙◌, refl, sym}
+-- The first answer, and the scale of what is found.
+use Rattle.std.proofs.Common.{◌≡◌, ◌≤◌, ◌+◌, ℕ, zero, suc, min, true, false, Option, Some, None, List, [], ◌∷◌, ◌∙◌, refl, sym, subst, arith}
 use Rattle.std.specs.List.{range_with_len}
-use Rattle.std.specs.Option.{is_some, option_map}
+use Rattle.std.specs.Option.{is_some, option_map, option_or}
+use Rattle.std.specs.Prelude.{IfSome}
 use Rattle.std.proofs.lemmas.Bool.{false≢true}
-use Rattle.std.proofs.lemmas.List.{drop_more}
-use Rattle.reading.specs.Found.{first_some}
-
-module _ {A B D : Type 0} (told : D → B) (ask : A → Option B) where
-  pub hit : (o : Option D) (a : A) (xs : List A) → is_some o ≡ true → option_map told o ≡ ask a
-      → first_some ask (a ∷ xs) ≡ option_map told o
-  hit None a xs is e = absurd (false≢true is)
-  hit (Some d) a xs is e = rw (← e) refl
-
-  pub miss : (o : Option D) (a : A) (xs : List A) → is_some o ≡ false → option_map told o ≡ ask a
-      → first_some ask (a ∷ xs) ≡ first_some ask xs
-  miss None a xs is e = rw (← e) refl
-  miss (Some d) a xs is e = absurd (false≢true (sym is))
-
-  pub hit_in : (o : Option D) (xs : List A) (i : ℕ) (d : A) → i < length xs → is_some o ≡ true
-      → option_map told o ≡ ask (get_or xs i d) → first_some ask (drop i xs) ≡ option_map told o
-  hit_in o xs i d inside is e =
-      ap (first_some ask) (drop_more xs i d inside) ∙ hit o (get_or xs i d) (drop (i + 1) xs) is e
-
-  pub miss_in : (o : Option D) (xs : List A) (i : ℕ) (d : A) → i < length xs → is_some o ≡ false
-      → option_map told o ≡ ask (get_or xs i d) → first_some ask (drop i xs) ≡ first_some ask (drop (i + 1) xs)
-  miss_in o xs i d inside is e =
-      ap (first_some ask) (drop_more xs i d inside) ∙ miss o (get_or xs i d) (drop (i + 1) xs) is e
+use Rattle.labelcore.specs.declared.symbology.Symbology.{Symbology}
+use Rattle.picture.specs.Picture.{Picture}
+use Rattle.picture.specs.Reading.{raster}
+use Rattle.picture.specs.Text.{below}
+use Rattle.reading.specs.Found.{any_reading, first_some, found_of, reading_as, reading_at, symbologies, turned, upright_reading}
+use Rattle.reading.specs.Labels.{read_dots}
+use Rattle.reading.specs.declared.found.Reading.{Reading}
+use Rattle.reading.proofs.ScaleLaws.{scale_within}
 
 module _ {B D : Type 0} (told : D → B) (ask : ℕ → Option B) where
   pub hit_at : (o : Option D) (a n m : ℕ) → n ≡ suc m → is_some o ≡ true → option_map told o ≡ ask a
       → first_some ask (range_with_len a n) ≡ option_map told o
-  hit_at o a n m more is e = rw more (hit told ask o a (range_with_len (a + 1) m) is e)
+  hit_at None a n m more is e = absurd (false≢true is)
+  hit_at (Some d) a n m more is e = rw (more, ← e) refl
 
   pub miss_at : (o : Option D) (a n m : ℕ) → n ≡ suc m → is_some o ≡ false → option_map told o ≡ ask a
       → first_some ask (range_with_len a n) ≡ first_some ask (range_with_len (a + 1) m)
-  miss_at o a n m more is e = rw more (miss told ask o a (range_with_len (a + 1) m) is e)
+  miss_at None a n m more is e = rw (more, ← e) refl
+  miss_at (Some d) a n m more is e = absurd (false≢true (sym is))
+
+-- what holds of each answer holds of the first one
+first_has : {A B : Type 0} (P : B → Type 0) (ask : A → Option B) → ((x : A) → IfSome (ask x) P) → (xs : List A)
+    → IfSome (first_some ask xs) P
+first_has P ask each [] = tt
+first_has {B = B} P ask each (x ∷ xs) = either (ask x) (first_some ask xs) (each x) (first_has P ask each xs)
+  where
+    either : (a b : Option B) → IfSome a P → IfSome b P → IfSome (option_or a b) P
+    either None b first other = other
+    either (Some v) b first other = first
+
+-- the shorter side of a picture, which stays as long where it is turned
+abbrev least : Picture → ℕ
+least p = min p.width p.height
+
+same_least : (p : Picture) (n : ℕ) → least (turned n p) ≡ least p
+same_least p zero = refl
+same_least p (suc n) = omega arith ∙ same_least p n
+
+module _ (p : Picture) (turns : ℕ) where
+  as_narrow : (k : ℕ) (symbology : Symbology) → IfSome (reading_as turns p (k + 1) symbology) (λ found. found.scale ≤ least p)
+  as_narrow k symbology = at (read_dots symbology (k + 1) (raster p)) refl
+    where
+      at : (o : Option (List ℕ)) → read_dots symbology (k + 1) (raster p) ≡ o
+          → IfSome (reading_as turns p (k + 1) symbology) (λ found. found.scale ≤ least p)
+      at None e = rw e tt
+      at (Some full) e =
+          let fits = scale_within (raster p) symbology (k + 1) full (omega arith) e in rw e (omega (arith, fits.0, fits.1))
+
+  upright_narrow : IfSome (upright_reading turns p) (λ found. found.scale ≤ least p)
+  upright_narrow = first_has (λ found. found.scale ≤ least p) (λ k. reading_at turns p (k + 1))
+      (λ k. first_has (λ found. found.scale ≤ least p) (reading_as turns p (k + 1)) (as_narrow k) symbologies)
+      (below (least p))
+
+-- no scale is above the shorter side
+pub narrow : (p : Picture) (o : Option Reading) → option_map found_of o ≡ any_reading p
+    → IfSome o (λ reading. reading.scale ≤ least p)
+narrow p None is = tt
+narrow p (Some reading) is =
+    subst (λ found. IfSome found (λ found. found.scale ≤ least p)) (sym is)
+    (first_has (λ found. found.scale ≤ least p) (λ turns. upright_reading turns (turned turns p)) (λ turns. subst (λ n. IfSome (upright_reading turns (turned turns p)) (λ found. found.scale ≤ n))
+    (same_least p turns) (upright_narrow (turned turns p) turns)) (below 4))

@@ -1,7 +1,6 @@
 pub mod DotLaws
 pub mod CellLaws
 mod BitLaws
-mod TurnLaws
 mod FoundLaws
 mod ScaleLaws
 mod AloneLaws

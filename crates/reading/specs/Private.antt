@@ -1,5 +1,5 @@
 -- Definitions that only the contracts of private functions cite: nothing here has to be believed.
-use Rattle.std.specs.Prelude.{◌≡◌, ◌≢◌, ◌⊎◌, ◌<◌, ◌≤◌, ℕ, ◌+◌, ◌-◌, ◌*◌, ◌/◌, ◌%◌, ◌==◌, ◌&&◌, nat_le, Bool}
+use Rattle.std.specs.Prelude.{◌≡◌, ◌≢◌, ◌⊎◌, ◌<◌, ℕ, ◌+◌, ◌-◌, ◌*◌, ◌/◌, ◌%◌, ◌==◌, ◌&&◌, nat_le, Bool}
 use Rattle.std.specs.Bool.{beq}
 use Rattle.std.specs.List.{list_all}
 use Rattle.picture.specs.Picture.{Picture}
@@ -7,13 +7,13 @@ use Rattle.picture.specs.Reading.{is_module}
 use Rattle.picture.specs.Text.{below}
 use Rattle.picture.specs.declared.quiet_zone.QuietZone.{QuietZone}
 
--- the rows from one on and before another have its pixels
-abbrev pub AreAlike : Picture → ℕ → ℕ → Type 0
-AreAlike p y end = (x k : ℕ) → x < p.width → y ≤ k → k < end → p.dark x k ≡ p.dark x y
+-- the rows before one have the pixels of the first
+abbrev pub AreAlike : Picture → ℕ → Type 0
+AreAlike p end = (x k : ℕ) → x < p.width → k < end → p.dark x k ≡ p.dark x 0
 
--- a row of the same cells as the row before it, or no quiet zone is above and below
-abbrev pub IsLikeBefore : ℕ → QuietZone → ℕ → Type 0
-IsLikeBefore scale zone y = ((zone.top ≡ 0) × (zone.bottom ≡ 0)) ⊎ (y % scale ≢ 0)
+-- a row before another is of the same cells as the one before it, or no quiet zone is above and below
+abbrev pub IsAgain : ℕ → QuietZone → ℕ → ℕ → Type 0
+IsAgain scale zone equal y = (y < equal) × (((zone.top ≡ 0) × (zone.bottom ≡ 0)) ⊎ (y % scale ≢ 0))
 
 -- whether a pixel has the colour of its cell, which is light in the quiet zone
 abbrev pub is_of_cell : Picture → ℕ → QuietZone → ℕ → ℕ → Bool

@@ -1,5 +1,5 @@
 //! Modules read as bars.
-ghost use Rattle.std.specs.Prelude.{◌≡◌, ◌≤◌, length, option_map, option_and_then};
+ghost use Rattle.std.specs.Prelude.{◌≡◌, option_map, option_and_then};
 ghost use Rattle.linear_reading.specs.Reading.{read_row};
 ghost use Rattle.picture.specs.Reading.{common_row, raster};
 
@@ -8,17 +8,6 @@ use linear::MAX_MODULES;
 use linear_reading::LinearReading;
 use picture::Grid;
 use qr_reading::SymbolData;
-
-/// Returns the same data with more room after it.
-fn data_of(full: &[u8]) -> SymbolData
-    requires { length full.now ≤ 320 }
-    ensures { result.items ≡ full.now }
-{
-    let mut data = SymbolData::new();
-    // There is space for it, so that it cannot fail.
-    let _ = data.try_extend_from_slice(full);
-    data
-}
 
 /// Reads modules as bars: the row that all rows are equal to.
 pub fn read_bars<L: LinearReading, G: Grid>(modules: &G) -> Option<SymbolData>
@@ -34,5 +23,6 @@ pub fn read_bars<L: LinearReading, G: Grid>(modules: &G) -> Option<SymbolData>
     if !common_row(modules, row) {
         return None;
     }
-    Some(data_of(&L::read(row)?))
+    // There is room for it, so that it is `Ok`.
+    SymbolData::try_from(L::read(row)?.as_slice()).ok()
 }

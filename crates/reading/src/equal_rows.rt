@@ -3,6 +3,7 @@ ghost use Rattle.std.specs.Prelude.{◌≡◌, ℕ, ◌+◌, ◌-◌, ◌*◌, �
 
 /// Returns how many of `count` rows of `size` bytes are equal from the first on, which begins at `place`; each begins
 /// `stride` bytes after the one before.
+#[inline(never)]
 pub fn equal_rows(bytes: &[u8], place: usize, size: usize, stride: usize, count: usize) -> usize
     requires some { 0 < count }
     requires inside { place + (count - 1) * stride + size ≤ length bytes.now }

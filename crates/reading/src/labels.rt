@@ -1,6 +1,5 @@
 //! Labels read from modules and from dots, by their symbology.
 ghost use Rattle.std.specs.Prelude.{◌≡◌, ◌≢◌, ◌<◌, ℕ, [], IfOk, Some, option_map};
-ghost use Rattle.filter.specs.Private.{beside};
 ghost use Rattle.filter.specs.Reading.{read_modules};
 ghost use Rattle.filter.specs.Symbol.{quiet_zone, symbol_of};
 ghost use Rattle.picture.specs.Picture.{enlargement, with_quiet_zone};
@@ -31,34 +30,22 @@ pub fn read_modules<G: Grid>(symbology: Symbology, modules: &G) -> Option<Symbol
     }
 }
 
-/// Returns the quiet zone of the bars of a symbology.
-fn beside<L: Linear>() -> QuietZone
-    ensures { result ≡ beside L.QUIET_ZONES }
-{
-    let zones = L::QUIET_ZONES;
-    QuietZone {
-        left: zones.left,
-        right: zones.right,
-        top: 0,
-        bottom: 0,
-    }
-}
-
 /// Returns the quiet zone of a symbology.
 fn quiet_zone(symbology: Symbology) -> QuietZone
     ensures { result ≡ quiet_zone symbology }
 {
-    match symbology {
-        Symbology::Ean13 => beside::<Ean13>(),
-        Symbology::Ean8 => beside::<Ean8>(),
-        Symbology::UpcA => beside::<UpcA>(),
-        Symbology::Code128 => beside::<Code128>(),
-        Symbology::Qr => QuietZone {
-            left: QUIET_ZONE,
-            right: QUIET_ZONE,
-            top: QUIET_ZONE,
-            bottom: QUIET_ZONE,
-        },
+    let (left, right, above) = match symbology {
+        Symbology::Ean13 => (Ean13::QUIET_ZONES.left, Ean13::QUIET_ZONES.right, 0),
+        Symbology::Ean8 => (Ean8::QUIET_ZONES.left, Ean8::QUIET_ZONES.right, 0),
+        Symbology::UpcA => (UpcA::QUIET_ZONES.left, UpcA::QUIET_ZONES.right, 0),
+        Symbology::Code128 => (Code128::QUIET_ZONES.left, Code128::QUIET_ZONES.right, 0),
+        Symbology::Qr => (QUIET_ZONE, QUIET_ZONE, QUIET_ZONE),
+    };
+    QuietZone {
+        left,
+        right,
+        top: above,
+        bottom: above,
     }
 }
 

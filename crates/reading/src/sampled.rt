@@ -1,9 +1,10 @@
 //! Modules that dots show.
-ghost use Rattle.std.specs.Prelude.{◌≡◌, ℕ, ◌+◌, ◌*◌, ◌/◌, ◌%◌, ◌^◌, ◌<◌, ◌≤◌, ◌&&◌, nat_le, nat_lt, true, Some, None, MatchOption};
+ghost use Rattle.std.specs.Prelude.{◌≡◌, ◌+◌, ◌*◌, ◌/◌, ◌%◌, ◌<◌, ◌≤◌, ◌&&◌, nat_le, nat_lt, true, Some, None, IfSome, MatchOption};
 ghost use Rattle.std.specs.List.{list_all};
+ghost use Rattle.std.specs.Option.{is_some};
 ghost use Rattle.picture.specs.Reading.{raster, sample};
 ghost use Rattle.picture.specs.Text.{below};
-ghost use Rattle.reading.specs.Private.{AreAlike, IsLikeBefore, are_whole_cells, is_of_cell, is_row_of_cells};
+ghost use Rattle.reading.specs.Private.{AreAlike, IsAgain, are_whole_cells, is_of_cell, is_row_of_cells};
 ghost use Rattle.reading.specs.Private.{modules_in};
 
 use picture::{Grid, QuietZone};
@@ -16,7 +17,7 @@ pub struct Sampled<'a, G: Grid> {
     zone: QuietZone,
     are_equal: bool,
     ghost some: { 0 < scale },
-    ghost equal: { are_equal ≡ true → AreAlike (G.picture dots.now) 0 (G.picture dots.now).height },
+    ghost equal: { are_equal ≡ true → AreAlike (G.picture dots.now) (G.picture dots.now).height },
     ghost wide: { zone.left + zone.right ≤ (G.picture dots.now).width / scale },
     ghost high: { zone.top + zone.bottom ≤ (G.picture dots.now).height / scale },
 }
@@ -71,66 +72,37 @@ fn is_row_of_cells<G: Grid>(dots: &G, scale: usize, zone: &QuietZone, y: usize) 
     (0..dots.width()).all(|x| is_of_cell(dots, scale, zone, columns, top, is_inner, x, y))
 }
 
-/// Returns the next row after `y` that has to be looked at where the row `y` has the colours of its cells. The rows between
-/// are before `equal`, and of the same cells as the row before them; those of bars, which have no quiet zone above and
-/// below, need not be.
-fn next_row(scale: usize, zone: &QuietZone, equal: usize, y: usize) -> usize
-    requires some { 0 < scale }
-    requires later { y < equal }
-    ensures later { y < result }
-    ensures before { result ≤ equal }
-    ensures same { (k : ℕ) → y < k → k < result → IsLikeBefore scale zone.now k }
+/// Returns whether the row `y`, where it has the dots of the row before it, as those before `equal` have, has the colours
+/// of its cells if that one has. All rows of bars, which have no quiet zone above and below, are of the same cells.
+fn is_again(scale: usize, zone: &QuietZone, equal: usize, y: usize) -> bool
+    requires { 0 < scale }
+    ensures { result ≡ true → IsAgain scale zone.now equal y }
 {
-    if zone.top == 0 && zone.bottom == 0 {
-        return equal;
-    }
-    y + (scale - y % scale).min(equal - y)
+    y < equal && (y % scale != 0 || zone.top == 0 && zone.bottom == 0)
 }
 
-/// Returns the row up to which the rows from `y` on are known to have its pixels; those before `equal` have them.
-#[inline(always)]
-fn equal_until<G: Grid>(dots: &G, equal: usize, y: usize) -> usize
-    requires fits { (G.picture dots.now).height < 2 ^ 64 }
-    requires high { y < (G.picture dots.now).height }
-    requires same { AreAlike (G.picture dots.now) y equal }
-    ensures later { y < result }
-    ensures same { AreAlike (G.picture dots.now) y result }
-{
-    if y < equal {
-        equal
-    } else {
-        y + dots.equal_rows(y)
-    }
-}
-
-/// Returns how many rows are known to equal the first, itself among them.
-fn equal_to_first<G: Grid>(dots: &G) -> usize
-    ensures { AreAlike (G.picture dots.now) 0 result }
-{
-    if dots.height() == 0 {
-        0
-    } else {
-        dots.equal_rows(0)
-    }
-}
-
-/// Returns whether each dot has the colour of its cell. The rows before `equal` are equal.
-fn are_cells<G: Grid>(dots: &G, scale: usize, zone: &QuietZone, equal: usize) -> bool
+/// Returns whether each dot has the colour of its cell, and then whether all rows are known to be equal.
+fn are_cells<G: Grid>(dots: &G, scale: usize, zone: &QuietZone) -> Option<bool>
     requires some { 0 < scale }
     requires whole { (G.picture dots.now).height % scale ≡ 0 }
-    requires same { AreAlike (G.picture dots.now) 0 equal }
-    ensures { result ≡ list_all (is_row_of_cells (G.picture dots.now) scale zone.now) (below (G.picture dots.now).height) }
+    ensures cells { is_some result
+        ≡ list_all (is_row_of_cells (G.picture dots.now) scale zone.now) (below (G.picture dots.now).height) }
+    ensures equal { IfSome result (λ are_equal. are_equal ≡ true
+        → AreAlike (G.picture dots.now) (G.picture dots.now).height) }
 {
-    let mut equal = equal;
-    let mut y = 0;
-    while y < dots.height() {
-        if !is_row_of_cells(dots, scale, zone, y) {
-            return false;
+    let mut equal = 0;
+    let mut are_equal = true;
+    for y in 0..dots.height() {
+        let is_again = is_again(scale, zone, equal, y);
+        if !is_again && !is_row_of_cells(dots, scale, zone, y) {
+            return None;
         }
-        equal = equal_until(dots, equal, y);
-        y = next_row(scale, zone, equal, y);
+        are_equal &= is_again || y == 0;
+        if y >= equal {
+            equal = y + dots.equal_rows(y);
+        }
     }
-    true
+    Some(are_equal)
 }
 
 /// Returns the first dot of the cell that comes `place` cells after the first `before`.
@@ -170,15 +142,12 @@ impl<'a, G: Grid> Sampled<'a, G> {
         if !are_whole_cells(dots, scale, &zone) {
             return None;
         }
-        let equal = equal_to_first(dots);
-        if !are_cells(dots, scale, &zone, equal) {
-            return None;
-        }
+        let are_equal = are_cells(dots, scale, &zone)?;
         Some(Sampled {
             dots,
             scale,
             zone,
-            are_equal: equal == dots.height(),
+            are_equal,
         })
     }
 }

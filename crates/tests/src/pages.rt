@@ -6,7 +6,7 @@ use filter::{Status, run};
 use gf256::{Generator, mul, pow_alpha};
 use labelcore::{Fault, Format, Item, LineBuf, Options, Scratch, Symbology, parse};
 use linear::{Ean8, Linear, Refusal, Row};
-use linear_reading::{LinearReading, read_any};
+use linear_reading::LinearReading;
 use picture::{Bars, Framed, QuietZone, Scaled, write_pbm};
 use qrdata::{Codewords, Level, Version, choose, codewords};
 use qrmatrix::Matrix;
@@ -49,7 +49,6 @@ fn page_of_linear_reading(rt: HostRuntime) {
     let mut row = Row::new();
     assert!(rt; Ean8::encode(b"7351353", &mut row).is_ok());
     assert!(rt; Ean8::read(&row).is_some_and(|full| full.as_slice() == b"73513537".as_slice()));
-    assert!(rt; read_any(&row).is_some_and(|full| full.as_slice() == b"73513537".as_slice()));
 }
 
 #[test]

@@ -2,6 +2,6 @@ use Rattle.std.proofs.Common.{[]}
 use Rattle.capi.specs.Read.{modules_asked}
 use Rattle.capi.proofs.read.read_modules_into.Goals as goal
 
-pub returns-in-None : goal.returns-in-None
+pub returns-in_default : goal.returns-in_default
 unfolding modules_asked
-returns-in-None c = rw (← c.in-None.ensures) (c.declined.ensures c.args.out.now [])
+returns-in_default c = rw (← c.in_default.ensures) (c.declined.ensures c.args.out.now [])

@@ -1,27 +1,26 @@
-use Rattle.std.proofs.Common.{◌+◌, ◌-◌, ◌∙◌, ℕ, sym, arith}
-use Rattle.reading.specs.Found.{found_of, turned, upright_reading}
-use Rattle.reading.proofs.FoundLaws.{hit_at, miss_at}
-use Rattle.reading.proofs.TurnLaws.{same_least, widen}
+use Rattle.std.proofs.Common.{◌≡◌, ◌∙◌, Option, Some, None, ap, refl}
+use Rattle.std.specs.Option.{option_or}
+use Rattle.reading.specs.Found.{turned, upright_reading}
+use Rattle.reading.proofs.FoundLaws.{narrow}
 use Rattle.reading.proofs.found.read_any.Goals as goal
 
-pub returns-then-is_some-clause-read : goal.returns-then-is_some-clause-read
-returns-then-is_some-clause-read g c =
-    let p = g.G.Grid.picture c.args.dots.now in
-    let turns = c.loop-turns.turns in
-    sym (c.loop-turns.invariant ∙ hit_at found_of (λ (turns : ℕ). upright_reading turns (turned turns p))
-    c.read_upright-reading.result turns (4 - turns) (4 - (turns + 1)) (omega arith)
-    (sym c.is_some.ensures ∙ c.if-is_some.true) c.read_upright-reading.ensures.read)
+in_turn : {A : Type 0} (a b c d : Option A)
+    → option_or (option_or (option_or a b) c) d ≡ option_or a (option_or b (option_or c (option_or d None)))
+in_turn (Some x) b c d = refl
+in_turn None (Some x) c d = refl
+in_turn None None (Some x) d = refl
+in_turn None None None (Some x) = refl
+in_turn None None None None = refl
 
-pub loop-turns-preserved : goal.loop-turns-preserved
-loop-turns-preserved g c =
+pub returns-clause-read : goal.returns-clause-read
+returns-clause-read g c =
     let p = g.G.Grid.picture c.args.dots.now in
-    let turns = c.loop-turns.turns in
-    c.loop-turns.invariant ∙ miss_at found_of (λ (turns : ℕ). upright_reading turns (turned turns p))
-    c.read_upright-reading.result turns (4 - turns) (4 - (turns + 1)) (omega arith)
-    (sym c.is_some.ensures ∙ c.if-is_some.false) c.read_upright-reading.ensures.read
+    let one = upright_reading 1 (turned 1 p) in
+    let two = upright_reading 2 (turned 2 p) in
+    let three = upright_reading 3 (turned 3 p) in
+    c.or_upright-2.ensures ∙ ap (λ found. option_or found three) (c.or_upright.ensures
+    ∙ ap (λ found. option_or found two) (c.or_upright-found.ensures
+    ∙ ap (λ found. option_or found one) c.read_upright.ensures)) ∙ in_turn (upright_reading 0 p) one two three
 
-pub returns-then-is_some-clause-narrow : goal.returns-then-is_some-clause-narrow
-returns-then-is_some-clause-narrow g c =
-    widen c.read_upright-reading.result _ _
-    (omega (arith, same_least (g.G.Grid.picture c.args.dots.now) c.loop-turns.turns c.loop-turns-test.true))
-    c.read_upright-reading.ensures.narrow
+pub returns-clause-narrow : goal.returns-clause-narrow
+returns-clause-narrow g c = narrow (g.G.Grid.picture c.args.dots.now) _ (returns-clause-read g c)

@@ -1,11 +1,15 @@
-use Rattle.std.proofs.Common.{◌+◌, ◌-◌, sym, ◌∙◌, arith}
+use Rattle.std.proofs.Common.{◌≡◌, ◌+◌, ◌-◌, ◌<◌, true, refl, sym, ap, ◌∙◌, arith, inl, inr}
+use Rattle.std.proofs.lemmas.Bool.{and_parts, cases_lt, eqb-true}
 use Rattle.reading.specs.Private.{is_row_of_cells}
-use Rattle.qrmatrix.proofs.ComputedLaws.{fails_at}
-use Rattle.reading.proofs.CellLaws.{rows_again}
+use Rattle.qrmatrix.proofs.ComputedLaws.{fails_at, passes_on}
+use Rattle.reading.proofs.CellLaws.{cells_again}
 use Rattle.reading.proofs.sampled.are_cells.Goals as goal
+use Rattle.reading.proofs.sampled.are_cells.Goals.{then-is_again, else-is_again, then-y-equal, else-y-equal}
+use Rattle.reading.proofs.sampled.are_cells.Goals.{else-not-is_again-via-then-not-is_again+else-not-is_row_of_cells}
+use Rattle.reading.proofs.sampled.are_cells.Goals.{else-not-is_again-via-else-not-is_again}
 
-pub returns-then-not-is_row_of_cells : goal.returns-then-not-is_row_of_cells
-returns-then-not-is_row_of_cells g c =
+pub returns-then-not-is_row_of_cells-clause-cells : goal.returns-then-not-is_row_of_cells-clause-cells
+returns-then-not-is_row_of_cells-clause-cells g c =
     let p = g.G.Grid.picture c.args.dots.now in
     let y = c.loop-y.y in
     sym (c.loop-y.invariant.decide
@@ -14,15 +18,46 @@ returns-then-not-is_row_of_cells g c =
 
 pub loop-y-preserved : goal.loop-y-preserved
 loop-y-preserved g c =
-    let next = c.next_row-y.ensures in
-    let alike = c.equal_until-equal.ensures.same in
+    let p = g.G.Grid.picture c.args.dots.now in
+    let y = c.loop-y.y in
+    let was = c.loop-y.invariant in
+    let test = is_row_of_cells p c.args.scale c.args.zone.now in
+    let high : y < p.height = omega arith in
+    let last : y + 1 - 1 ≡ y = omega arith in
+    let passed : test y ≡ true = elim c.else-not-is_again.branch [
+      | else-not-is_again-via-then-not-is_again+else-not-is_row_of_cells w ↦
+          sym w.is_row_of_cells.ensures ∙ w.if-not-is_row_of_cells.false
+      | else-not-is_again-via-else-not-is_again w ↦
+          let again = c.is_again-is_again.ensures w.if-not-is_again.false in
+          cells_again p c.args.scale c.args.zone.now c.requires.some y (was.later again.0) high c.requires.whole
+          (λ x wide. was.like x y wide (omega arith) again.0) again.1 (was.before (was.later again.0))
+    ] in
     record {
-      decide = c.loop-y.invariant.decide
-          ∙ rows_again (g.G.Grid.picture c.args.dots.now) c.args.scale c.args.zone.now c.requires.some c.loop-y.y
-          c.next_row-y.result next.later c.requires.whole
-          (sym c.if-not-is_row_of_cells.false ∙ c.is_row_of_cells.ensures)
-          (λ x k wide after early. alike x k wide after (omega (arith, early, next.before))) next.same;
-      same = λ x k wide after early.
-          alike x k wide (omega (arith, after, next.later)) early
-          ∙ sym (alike x c.next_row-y.result wide (omega (arith, next.later)) (omega (arith, after, early)));
+      decide = was.decide
+          ∙ passes_on test y (y + 1) (p.height - y) (p.height - (y + 1)) (omega (arith, high)) refl (sym passed);
+      before = λ _. ap test last ∙ passed;
+      later = λ _. omega arith;
+      like = λ x k wide after early. (elim c.if-y-equal.branch [
+        | then-y-equal w ↦
+            let place : y + (k - y) ≡ k = omega (arith, after) in
+            ap (p.dark x) (sym place)
+            ∙ w.equal_rows.ensures.equal x (k - y) wide (omega (arith, early, after, w.equal-is))
+        | else-y-equal w ↦
+            was.like x k wide (omega (arith, after)) (omega (arith, early, w.equal-is))
+            ∙ sym (was.like x y wide (omega arith) (omega (arith, w.if-y-equal.false)))
+      ]) ∙ ap (p.dark x) (sym last);
+      equal = λ are x k wide early.
+          let equal = was.equal (and_parts _ _ are).0 in
+          elim (cases_lt k y) [
+            | inl less ↦ equal x k wide less
+            | inr not_less ↦
+                let here : k ≡ y = omega (arith, early, not_less) in
+                ap (p.dark x) here ∙ (elim c.if-is_again.branch [
+                  | then-is_again w ↦
+                      let again = c.is_again-is_again.ensures w.if-is_again.true in
+                      was.like x y wide (omega arith) again.0
+                      ∙ equal x (y - 1) wide (omega (arith, was.later again.0))
+                  | else-is_again w ↦ ap (p.dark x) (eqb-true y 0 (sym w.are_equal-is ∙ (and_parts _ _ are).1))
+                ])
+          ];
     }

@@ -1,18 +1,19 @@
-use Rattle.std.proofs.Common.{◌≡◌, ◌-◌}
+use Rattle.std.proofs.Common.{◌≡◌, ◌<◌, ◌≤◌, ◌-◌, ℕ, true}
 use Rattle.std.specs.List.{list_all, range_with_len}
 use Rattle.picture.specs.Text.{below}
 use Rattle.reading.specs.Private.{AreAlike, is_row_of_cells}
 use Rattle.reading.proofs.sampled.are_cells.Given as goal
 
--- the rows to come decide
+-- the rows to come decide; those before `equal` are like the one before, which is of its cells; and the rows so far are
+-- equal where it is said
 abbrev pub invariant-loop-y : goal.invariant-loop-y
 invariant-loop-y g l =
     let p = g.G.Grid.picture l.dots in
     let test = is_row_of_cells p l.scale l.zone in
     record {
       decide : list_all test (below p.height) ≡ list_all test (range_with_len l.y (p.height - l.y));
-      same : AreAlike p l.y l.equal;
+      before : 0 < l.y → test (l.y - 1) ≡ true;
+      later : l.y < l.equal → 0 < l.y;
+      like : (x k : ℕ) → x < p.width → l.y ≤ k → k < l.equal → p.dark x k ≡ p.dark x (l.y - 1);
+      equal : l.are_equal ≡ true → AreAlike p l.y;
     }
-
-abbrev pub decreases-loop-y : goal.decreases-loop-y
-decreases-loop-y g l = (g.G.Grid.picture l.dots).height - l.y

@@ -15,7 +15,7 @@ returns-then-self g c =
           let column = begins p.width s.scale (s.zone.left + x) s.some (omega (arith, wide)) in
           let same : (row : ℕ) → row < (modules_in p s.scale s.zone).height → p.dark ((s.zone.left + x) * s.scale) ((s.zone.top + row) * s.scale)
           ≡ p.dark ((s.zone.left + x) * s.scale) 0 =
-          λ row high. s.equal c.if-self.true ((s.zone.left + x) * s.scale) ((s.zone.top + row) * s.scale) column (omega arith)
+          λ row high. s.equal c.if-self.true ((s.zone.left + x) * s.scale) ((s.zone.top + row) * s.scale) column
           (begins p.height s.scale (s.zone.top + row) s.some (omega (arith, high))) in
           same (y + k) (omega (arith, more, c.height.ensures)) ∙ sym (same y c.requires);
     }

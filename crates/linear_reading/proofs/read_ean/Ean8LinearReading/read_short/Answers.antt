@@ -3,7 +3,7 @@ use Rattle.linear.specs.declared.ean.NumberSet.TheVariants.{A}
 use Rattle.linear.specs.EanReading.{digit_in, read_halves}
 use Rattle.linear.specs.Private.Data.{AreDigits}
 use Rattle.linear.proofs.ReadRowLaws.{ean8_digits}
-use Rattle.linear_reading.proofs.read_ean.read_ean8.Goals as goal
+use Rattle.linear_reading.proofs.read_ean.Ean8LinearReading.read_short.Goals as goal
 
 pub returns-in_err-left : goal.returns-in_err-left
 returns-in_err-left c =
