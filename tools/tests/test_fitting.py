@@ -64,6 +64,7 @@ class Glyphs(unittest.TestCase):
         line = glyphs.line(text, style.size)
         return line and line.places
 
+    @support.slow
     def test_lines_of_all_letters_are_as_pango_has_them(self) -> None:
         chosen = random.Random(7)
         for family in FAMILIES:
@@ -125,6 +126,7 @@ class Boxes(unittest.TestCase):
             counts[min(3, len(found.lines))] += 1
         self.assertGreater(min(counts.values()), 10, counts)
 
+    @support.slow
     def test_a_line_is_in_its_box_as_pango_has_it(self) -> None:
         chosen = random.Random(9)
         by = fitter()

@@ -285,6 +285,7 @@ class German(unittest.TestCase):
         self.assertTrue(said[-1].endswith("2 lignes laissées de côté"))
         self.assertNotIn("row", ran.stderr)
 
+    @support.slow
     def test_bad_arguments_are_said_in_german(self) -> None:
         """argparse says them, and what it says is looked for in the texts of the tools."""
         support.needs("msgfmt")

@@ -150,20 +150,24 @@ class Encodings(TableTest):
                 end = '#{"end":1,"lines":2,"left_out":[],"left_out_count":0}\n'
                 self.assertEqual(done.stdout.decode(), '#{"labels":1}\n' + pencil + small + end)
 
+    @support.slow
     def test_utf8_with_and_without_mark(self) -> None:
         self.check_letters(self.TEXT.encode("utf-8"))
         self.check_letters(self.TEXT.encode("utf-8-sig"))
         self.check_letters(self.TEXT.encode("utf-8-sig"), "--encoding", "UTF-8")
 
+    @support.slow
     def test_utf16_with_mark(self) -> None:
         self.check_letters(b"\xff\xfe" + self.TEXT.encode("utf-16-le"))
         self.check_letters(b"\xfe\xff" + self.TEXT.encode("utf-16-be"))
         self.check_letters(b"\xff\xfe" + self.TEXT.encode("utf-16-le"), "--encoding", "utf-16-le")
 
+    @support.slow
     def test_utf32_with_mark(self) -> None:
         self.check_letters(b"\xff\xfe\0\0" + self.TEXT.encode("utf-32-le"))
         self.check_letters(b"\0\0\xfe\xff" + self.TEXT.encode("utf-32-be"))
 
+    @support.slow
     def test_utf16_without_mark(self) -> None:
         self.check_letters(self.TEXT.encode("utf-16-le"), "--encoding", "utf-16-le")
         self.check_letters(self.TEXT.encode("utf-16-be"), "--encoding", "utf-16-be")

@@ -645,6 +645,7 @@ class Oracle(unittest.TestCase):
                 return name
         return f"{mine} is {theirs} in Gnumeric, by {number_format}"
 
+    @support.slow
     def test_two_readers_agree(self) -> None:
         names: Counter[str] = Counter()
         cells = 0
