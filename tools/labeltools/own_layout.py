@@ -13,7 +13,7 @@ from typing import Iterable, Iterator, Mapping, NamedTuple, Optional, Sequence
 
 from labeltools.area import LARGEST_MODULE, TINY, Area
 from labeltools.engine import Modules, run_labels
-from labeltools.fitting import Style
+from labeltools.fitting import LINE_END, Style
 from labeltools.frames import DIGITS_ROOM, HINTING, LEAST_TEXT, LINE, LOWEST, Box, Frame, share
 from labeltools.kept import Found
 from labeltools.layout import ASKED, LaidOut, LaidOutFile, Layout, PrintLabel, short
@@ -36,8 +36,8 @@ NO_FRAME = Frame("own", {}, {}, 0, 0, 0, 0, 0, 0, True, 0.0)
 
 
 class OwnText(NamedTuple):
-    """A text in a place: its letters and lines, and how they are written; where it begins if it is
-    one line and the widths of its letters say so.
+    """A text in a place, with the ends of its lines: its letters and lines, and how they are
+    written; where it begins if it is one line and the widths of its letters say so.
     """
 
     place: Place
@@ -200,10 +200,10 @@ class Room:
             return Fit(size, 1)
         lines = 0
         for words in text.paragraphs:
-            found = lines_of(words, room - SIDE)
-            if not found:
+            begins = lines_of(words, room - SIDE)
+            if not begins:
                 return None
-            lines += found
+            lines += len(begins)
         is_fitting = lines <= self.most_lines and size <= self.largest(lines)
         return Fit(size, lines) if is_fitting else None
 
@@ -221,11 +221,23 @@ class Room:
         is_bold = self.place.is_bold
         found: list[Word] = []
         space = 0.0
-        for part in [line] if self.is_price else self.letters.parts(line):
+        for part in self.parts(line):
             bare = part.rstrip(" ")
             found.append(Word(sign_of(self.letters, bare, is_bold).advance, space))
             space = self.letters.spaces[is_bold] * (len(part) - len(bare))
         return found
+
+    def parts(self, line: str) -> list[str]:
+        """Returns the parts of a line behind which it may be wrapped: a price is one."""
+        return [line] if self.is_price else self.letters.parts(line)
+
+    def parted(self, line: str, size: int) -> str:
+        """Returns a line of text that is whole in letters of a size with the ends of its lines."""
+        parts = self.parts(line)
+        begins = lines_of(self.words(line), self.wide / size / HINTING - SIDE) or [0]
+        ends = [*begins[1:], len(parts)]
+        rows = ["".join(parts[begin:end]).rstrip(" ") for begin, end in zip(begins, ends)]
+        return LINE_END.join(rows)
 
     @property
     def is_price(self) -> bool:
@@ -249,6 +261,8 @@ class Room:
         struck = len(text.encode()) if self.place.part == "was" else 0
         style = self.style(size, lines * is_parted, struck, round(base))
         left = None if is_parted or text in self.changing else self.left_of(text, size)
+        if lines > 1 and not fit.is_cut:
+            text = "\n".join([self.parted(line, size) for line in text.split("\n")])
         return OwnText(self.place, text, self.box, size, lines, style, left)
 
     def new_style(self, size: int, lines: int, struck: int, base: int) -> Style:
@@ -280,20 +294,20 @@ def sizes_between(least: int, most: int) -> list[int]:
     return sorted(sizes, reverse=True)
 
 
-def lines_of(words: Sequence[Word], room: float) -> int:
-    """Returns how many lines words take; 0 where one is too wide."""
-    lines = 1
+def lines_of(words: Sequence[Word], room: float) -> list[int]:
+    """Returns with which words lines begin; none where one is too wide."""
+    begins = [0]
     used = 0.0
-    for word in words:
+    for number, word in enumerate(words):
         if word.advance > room:
-            return 0
+            return []
         wide = word.space + word.advance if used else word.advance
         if used and used + wide > room:
-            lines += 1
+            begins.append(number)
             used = word.advance
         else:
             used += wide
-    return lines
+    return begins
 
 
 class Values(NamedTuple):
