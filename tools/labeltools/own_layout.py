@@ -102,11 +102,14 @@ class Measured(NamedTuple):
 
 
 class Fit(NamedTuple):
-    """The largest letters of a text in a place, how many lines it has then, whether it is cut."""
+    """The largest letters of a text in a place, how many lines it has then, whether it is cut; with
+    which parts of its paragraphs lines begin, where it may have several.
+    """
 
     size: int
     lines: int
     is_cut: bool = False
+    begins: Sequence[Sequence[int]] = ()
 
 
 @dataclass
@@ -198,14 +201,16 @@ class Room:
         room = self.wide / size / HINTING
         if 0 < text.ink <= room:
             return Fit(size, 1)
+        begins = []
         lines = 0
         for words in text.paragraphs:
-            begins = lines_of(words, room - SIDE)
-            if not begins:
+            found = lines_of(words, room - SIDE)
+            if not found:
                 return None
-            lines += len(begins)
+            begins.append(found)
+            lines += len(found)
         is_fitting = lines <= self.most_lines and size <= self.largest(lines)
-        return Fit(size, lines) if is_fitting else None
+        return Fit(size, lines, False, begins) if is_fitting else None
 
     def measured(self, text: str) -> Measured:
         """Returns the widths of a text; those of a price are of one word."""
@@ -231,10 +236,11 @@ class Room:
         """Returns the parts of a line behind which it may be wrapped: a price is one."""
         return [line] if self.is_price else self.letters.parts(line)
 
-    def parted(self, line: str, size: int) -> str:
-        """Returns a line of text that is whole in letters of a size with the ends of its lines."""
+    def parted(self, line: str, begins: Sequence[int]) -> str:
+        """Returns a paragraph with the ends of its lines, which begin with some of its parts."""
+        if len(begins) == 1:
+            return line
         parts = self.parts(line)
-        begins = lines_of(self.words(line), self.wide / size / HINTING - SIDE) or [0]
         ends = [*begins[1:], len(parts)]
         rows = ["".join(parts[begin:end]).rstrip(" ") for begin, end in zip(begins, ends)]
         return LINE_END.join(rows)
@@ -251,18 +257,17 @@ class Room:
             what = Text("{} has no room in the place {}", quoted(text), self.place.title)
             raise NoRoom(Text("{}: {}", what, ENLARGE))
         size = min(fit.size, self.common)
+        if size < fit.size and fit.lines > 1:
+            fit = self.fit(self.measured(text), size) or fit
         lines = fit.lines
-        if size < fit.size and lines > 1:
-            found = self.fit(self.measured(text), size)
-            lines = found.lines if found else lines
         tall = ((lines - 1) * LINE + self.bottom - self.top) * size
         base = (self.high - tall) * self.place.down - self.top * size
         is_parted = lines > 1 or fit.is_cut or "\n" in text
         struck = len(text.encode()) if self.place.part == "was" else 0
         style = self.style(size, lines * is_parted, struck, round(base))
         left = None if is_parted or text in self.changing else self.left_of(text, size)
-        if lines > 1 and not fit.is_cut:
-            text = "\n".join([self.parted(line, size) for line in text.split("\n")])
+        if lines > 1 and fit.begins:
+            text = "\n".join(map(self.parted, text.split("\n"), fit.begins))
         return OwnText(self.place, text, self.box, size, lines, style, left)
 
     def new_style(self, size: int, lines: int, struck: int, base: int) -> Style:
