@@ -16,7 +16,9 @@ from labeltools.kept import Found
 Key = TypeVar("Key", bound=Hashable)
 Made = TypeVar("Made")
 
-STRING = re.compile(rb"\(((?:[^\\()]|\\.)*)\)|<([0-9A-Fa-f]*)>|(-?[0-9.]+)", re.DOTALL)
+# a string of digits: a line of Cairo may end anywhere in it, and in no other string or number
+CODED = rb"[0-9A-Fa-f\n]*+"
+STRING = re.compile(rb"\(((?:[^\\()]|\\.)*)\)|<(%b)>|(-?[0-9.]+)" % CODED, re.DOTALL)
 NUMBER = re.compile(rb"-?[0-9.]+")
 ESCAPE = re.compile(rb"\\(?:([0-7]{1,3})|(\n)|(.))", re.DOTALL)
 FIRST = re.compile(rb"/FirstChar ([0-9]+)")
@@ -116,7 +118,8 @@ class Font:
     def new_word(self, string: tuple[bytes, bytes]) -> Reach:
         """Returns how far the letters of a string go, as if they were one letter."""
         plain, coded = string
-        codes = self.codes(bytes.fromhex(coded.decode()) if coded else unescaped(plain))
+        digits = coded.decode().replace("\n", "")
+        codes = self.codes(bytes.fromhex(digits) if digits else unescaped(plain))
         if not codes:
             return NO_LETTER
         return Reach(

@@ -24,7 +24,7 @@ from labeltools.drawn_codes import (
     Symbols,
     ink_of,
 )
-from labeltools.drawn_letters import Extent, Font, Shape, font_of
+from labeltools.drawn_letters import CODED, Extent, Font, Shape, font_of
 from labeltools.kept import Found
 from labeltools.text import Text
 
@@ -32,8 +32,8 @@ PLAIN_TEXT = rb"[^\\()]*+(?:\\.[^\\()]*+)*+"
 # an object that a page draws, and letters that it shows: several strings, or one
 DIFFERENT = re.compile(
     rb"/x([0-9]++) Do\b"
-    rb"|\[((?:[-0-9.\s]*+(?:\(%b\)|<[0-9A-Fa-f]*+>))*+[-0-9.\s]*+)\]TJ\b"
-    rb"|\((%b)\)\s*Tj\b|<([0-9A-Fa-f]*+)>\s*Tj\b" % (PLAIN_TEXT, PLAIN_TEXT),
+    rb"|\[((?:[-0-9.\s]*+(?:\(%b\)|<%b>))*+[-0-9.\s]*+)\]TJ\b"
+    rb"|\((%b)\)\s*Tj\b|<(%b)>\s*Tj\b" % (PLAIN_TEXT, CODED, PLAIN_TEXT, CODED),
     re.DOTALL,
 )
 GROUPS = (None,) * DIFFERENT.groups  # behind the last part

@@ -17,6 +17,7 @@ from labeltools.pango import Pango, pango_context
 
 NOT_LATIN = re.compile("[^\0-\u024f]")  # letters that may leave their line
 SEVERAL = re.compile("[^\\w., ]|  ")  # what may be parted elsewhere than at single spaces
+LINE_END = "\u2028"  # of a line that is not the last one of its paragraph
 ELLIPSIS = 1 << 1  # PANGO_ANALYSIS_FLAG_IS_ELLIPSIS of a run
 SIDE = 16  # lines have this part of the size of letters as room at their sides
 # letters that do not fit lose this part of their size: in a box, and on a base line
@@ -173,23 +174,25 @@ class Fitter:
     def is_surely_whole(self, line: str, style: Style, room: float) -> bool:
         """Returns whether a line is whole by the widths of its words, which is quick to see."""
         words = self.letters.words[style.is_bold]
-        lines = 1
-        used = 0.0
-        for word in line.split(" "):
-            sign = words[word]
-            if sign is None or sign.advance > room:
-                return False
-            if used + sign.advance > room:
-                lines += 1
-                used = 0.0
-            used += sign.advance + SPACE * bool(word)
+        lines = 0
+        for row in line.split(LINE_END):
+            lines += 1
+            used = 0.0
+            for word in row.split(" "):
+                sign = words[word]
+                if sign is None or sign.advance > room:
+                    return False
+                if used + sign.advance > room:
+                    lines += 1
+                    used = 0.0
+                used += sign.advance + SPACE * bool(word)
         return lines <= style.lines
 
     def shown(self, text: str, style: Style, width: int, height: int) -> str:
         """Returns a text as it is seen in a box: up to the ellipsis, where it has one."""
-        if not self.is_cut(text, style, width, height):
-            return text
-        return seen_in(self.fitted(text, style, width, height).layout)
+        is_cut = self.is_cut(text, style, width, height)
+        seen = seen_in(self.fitted(text, style, width, height).layout) if is_cut else text
+        return seen.replace(LINE_END, " ")
 
     def new_blank(self, style: Style, width: int, size: int) -> Any:
         """Returns a layout of Pango without a text, its letters of a size in dots."""

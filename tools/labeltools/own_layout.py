@@ -13,7 +13,7 @@ from typing import Iterable, Iterator, Mapping, NamedTuple, Optional, Sequence
 
 from labeltools.area import LARGEST_MODULE, TINY, Area
 from labeltools.engine import Modules, run_labels
-from labeltools.fitting import Style
+from labeltools.fitting import LINE_END, Style
 from labeltools.frames import DIGITS_ROOM, HINTING, LEAST_TEXT, LINE, LOWEST, Box, Frame, share
 from labeltools.kept import Found
 from labeltools.layout import ASKED, LaidOut, LaidOutFile, Layout, PrintLabel, short
@@ -36,8 +36,8 @@ NO_FRAME = Frame("own", {}, {}, 0, 0, 0, 0, 0, 0, True, 0.0)
 
 
 class OwnText(NamedTuple):
-    """A text in a place: its letters and lines, and how they are written; where it begins if it is
-    one line and the widths of its letters say so.
+    """A text in a place, with the ends of its lines: its letters and lines, and how they are
+    written; where it begins if it is one line and the widths of its letters say so.
     """
 
     place: Place
@@ -102,11 +102,14 @@ class Measured(NamedTuple):
 
 
 class Fit(NamedTuple):
-    """The largest letters of a text in a place, how many lines it has then, whether it is cut."""
+    """The largest letters of a text in a place, how many lines it has then, whether it is cut; with
+    which parts of its paragraphs lines begin, where it may have several.
+    """
 
     size: int
     lines: int
     is_cut: bool = False
+    begins: Sequence[Sequence[int]] = ()
 
 
 @dataclass
@@ -198,14 +201,16 @@ class Room:
         room = self.wide / size / HINTING
         if 0 < text.ink <= room:
             return Fit(size, 1)
+        begins = []
         lines = 0
         for words in text.paragraphs:
             found = lines_of(words, room - SIDE)
             if not found:
                 return None
-            lines += found
+            begins.append(found)
+            lines += len(found)
         is_fitting = lines <= self.most_lines and size <= self.largest(lines)
-        return Fit(size, lines) if is_fitting else None
+        return Fit(size, lines, False, begins) if is_fitting else None
 
     def measured(self, text: str) -> Measured:
         """Returns the widths of a text; those of a price are of one word."""
@@ -221,11 +226,24 @@ class Room:
         is_bold = self.place.is_bold
         found: list[Word] = []
         space = 0.0
-        for part in [line] if self.is_price else self.letters.parts(line):
+        for part in self.parts(line):
             bare = part.rstrip(" ")
             found.append(Word(sign_of(self.letters, bare, is_bold).advance, space))
             space = self.letters.spaces[is_bold] * (len(part) - len(bare))
         return found
+
+    def parts(self, line: str) -> list[str]:
+        """Returns the parts of a line behind which it may be wrapped: a price is one."""
+        return [line] if self.is_price else self.letters.parts(line)
+
+    def parted(self, line: str, begins: Sequence[int]) -> str:
+        """Returns a paragraph with the ends of its lines, which begin with some of its parts."""
+        if len(begins) == 1:
+            return line
+        parts = self.parts(line)
+        ends = [*begins[1:], len(parts)]
+        rows = ["".join(parts[begin:end]).rstrip(" ") for begin, end in zip(begins, ends)]
+        return LINE_END.join(rows)
 
     @property
     def is_price(self) -> bool:
@@ -239,16 +257,17 @@ class Room:
             what = Text("{} has no room in the place {}", quoted(text), self.place.title)
             raise NoRoom(Text("{}: {}", what, ENLARGE))
         size = min(fit.size, self.common)
+        if size < fit.size and fit.lines > 1:
+            fit = self.fit(self.measured(text), size) or fit
         lines = fit.lines
-        if size < fit.size and lines > 1:
-            found = self.fit(self.measured(text), size)
-            lines = found.lines if found else lines
         tall = ((lines - 1) * LINE + self.bottom - self.top) * size
         base = (self.high - tall) * self.place.down - self.top * size
         is_parted = lines > 1 or fit.is_cut or "\n" in text
         struck = len(text.encode()) if self.place.part == "was" else 0
         style = self.style(size, lines * is_parted, struck, round(base))
         left = None if is_parted or text in self.changing else self.left_of(text, size)
+        if lines > 1 and fit.begins:
+            text = "\n".join(map(self.parted, text.split("\n"), fit.begins))
         return OwnText(self.place, text, self.box, size, lines, style, left)
 
     def new_style(self, size: int, lines: int, struck: int, base: int) -> Style:
@@ -280,20 +299,20 @@ def sizes_between(least: int, most: int) -> list[int]:
     return sorted(sizes, reverse=True)
 
 
-def lines_of(words: Sequence[Word], room: float) -> int:
-    """Returns how many lines words take; 0 where one is too wide."""
-    lines = 1
+def lines_of(words: Sequence[Word], room: float) -> list[int]:
+    """Returns with which words lines begin; none where one is too wide."""
+    begins = [0]
     used = 0.0
-    for word in words:
+    for number, word in enumerate(words):
         if word.advance > room:
-            return 0
+            return []
         wide = word.space + word.advance if used else word.advance
         if used and used + wide > room:
-            lines += 1
+            begins.append(number)
             used = word.advance
         else:
             used += wide
-    return lines
+    return begins
 
 
 class Values(NamedTuple):

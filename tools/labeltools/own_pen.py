@@ -21,7 +21,11 @@ from labeltools.text import Text
 
 DARK = bytes(128) + b"\1" * 128  # the darkness of a dot from which on it is black
 CHECKED = 8.0  # dots a millimetre, in which a drawing is looked at
-LIGHT = bytes(range(160, 256))  # what symbols take behind them
+# what symbols take behind them, but for so many millimetres at the edges of their place, where the
+# drawing may end; so many dots a millimetre show lines far thinner than a dot
+WHITEST = bytes((254, 255))
+EDGE = 0.05
+FINE = 16.0
 DOTS_LIGHT = bytes(range(128, 256))  # what is white in dots
 MIXED = 0.4  # part of a place: more of it dark, and as much of it light, leave letters unread
 CONTRAST = 0.3  # between letters and what is behind them, of that between black and white
@@ -163,19 +167,31 @@ def with_colours(design: OwnDesign) -> OwnDesign:
     rows = lightness(design, wide, high)
     places = []
     for place in design.places:
+        if place.is_symbol:
+            check_white(design, place)
+            places.append(place)
+            continue
         first = round(place.left * CHECKED)
         last = round((place.left + place.width) * CHECKED)
         down = slice(round(place.top * CHECKED), round((place.top + place.height) * CHECKED))
         behind = b"".join(row[first:last] for row in rows[down])
-        if not place.is_symbol:
-            places.append(replace(place, colour=colour_on(design.file, place, behind)))
-            continue
-        if behind.translate(None, LIGHT):
-            what = Text("{}: the drawing is dark in the place {}", design.file, place.title)
-            hint = Text("a symbol needs white there, up to the edge of its place")
-            raise ToolError(what, hint)
-        places.append(place)
+        places.append(replace(place, colour=colour_on(design.file, place, behind)))
     return replace(design, places=tuple(places))
+
+
+def check_white(design: OwnDesign, place: Place) -> None:
+    """Raises `ToolError` where a drawing is not white in a place."""
+    sides = [max(1, round((side - 2 * EDGE) * FINE)) for side in (place.width, place.height)]
+    surface = cairo.ImageSurface(cairo.FORMAT_ARGB32, *sides)
+    canvas = cairo.Context(surface)
+    canvas.set_source_rgb(1, 1, 1)
+    canvas.paint()
+    canvas.translate(-(place.left + EDGE) * FINE, -(place.top + EDGE) * FINE)
+    design.draw(canvas, FINE)
+    surface.flush()
+    if bytes(surface.get_data()).translate(None, WHITEST):
+        what = Text("{}: the drawing is not white in the place {}", design.file, place.title)
+        raise ToolError(what, Text("a symbol needs white there, up to the edge of its place"))
 
 
 def colour_on(file: str, place: Place, behind: bytes) -> Colour:

@@ -88,11 +88,11 @@ def write(found: Prepared) -> list[bytes]:
 
 
 @contextmanager
-def own_design() -> Iterator[str]:
-    """The name of a design with symbols in each direction."""
+def own_design(drawing: str = OWN) -> Iterator[str]:
+    """The name of a design: of one with symbols in each direction."""
     with tempfile.TemporaryDirectory() as folder:
         path = Path(folder) / "own.svg"
-        path.write_text(OWN, encoding="utf-8")
+        path.write_text(drawing, encoding="utf-8")
         yield str(path)
 
 
@@ -524,6 +524,64 @@ class OwnDesigns(unittest.TestCase):
                     write(found)
 
 
+class LongTexts(unittest.TestCase):
+    """Texts in any script whose strings Cairo parts over lines of a PDF."""
+
+    SCRIPTS = {
+        "Han": "這是一個非常長的標題沒有任何空格用來測試換行與縮小",
+        "Kana": "これはとてもながいなまえでテストです",
+        "Latin": "Äpfel (rot) aus \\ Süden ",
+        "Greek": "Ελληνικά μήλα ",
+        "Arabic": "تفاح أحمر من الجنوب ",
+        "mixed": "Tea 茶 чай (شاي) ",
+    }
+    LENGTHS = (*range(10, 60, 7), 100, 200, 400)
+    PAGES: Sequence[dict[str, Any]] = (
+        {"paper": (100.0, 60.0)},
+        {"paper": (100.0, 60.0), "design": "shelf"},
+        {"stock": "Avery L7160", "paper": None},
+        {"stock": "Avery L7160", "paper": None, "design": "shelf"},
+    )
+
+    def found(self, text: str, **chosen: Any) -> Prepared:
+        """Labels whose titles are a text and the beginnings of it."""
+        long = text * 40
+        titles = [long[:length].strip() for length in self.LENGTHS]
+        labels = [(f"code128 A-{number}", {"title": title}) for number, title in enumerate(titles)]
+        return found_of(options_of("pdf", **chosen), labels)
+
+    def in_own_design(self, text: str, is_sheet: bool) -> Prepared:
+        """These labels in a design of the user's own."""
+        sheet = {"cell": (100.0, 60.0), "columns": 2, "rows": 4, "paper": None}
+        chosen = sheet if is_sheet else {"paper": (100.0, 60.0)}
+        with own_design(OWN.replace("title-2", "code-4")) as design:
+            return self.found(text, design=design, **chosen)
+
+    def test_each_is_drawn(self) -> None:
+        for script, text in self.SCRIPTS.items():
+            for chosen in self.PAGES:
+                with self.subTest(script=script, **chosen):
+                    self.assertTrue(write(self.found(text, **chosen)))
+            for is_sheet in (False, True):
+                with self.subTest(script=script, is_sheet=is_sheet):
+                    self.assertTrue(write(self.in_own_design(text, is_sheet)))
+
+    def test_a_fault_is_seen(self) -> None:
+        """Letters over a code, and the code of another label."""
+        other = engine.Engine(()).draw(b"code128 A-1")
+        for script, is_sheet in product(self.SCRIPTS, (False, True)):
+            found = self.in_own_design(self.SCRIPTS[script], is_sheet)
+            faults = {
+                "show": changed(pen.Pen.show, top=lambda top: top + 150),
+                "draw_modules": drawn_wrong(0, other),
+            }
+            for name, wrong in faults.items():
+                with self.subTest(script=script, is_sheet=is_sheet, name=name):
+                    with mock.patch(PEN + f"Pen.{name}", wrong):
+                        with self.assertRaisesRegex(ToolError, r"^row \d+: its code is wrong"):
+                            write(found)
+
+
 class Again(unittest.TestCase):
     """What comes on many labels is made twice, and then kept."""
 
@@ -739,6 +797,9 @@ class Read(unittest.TestCase):
         self.assertAlmostEqual(font.advance(shown), 3.18)
         self.assert_near(font.extents(shown), [(0.1, -0.2, 1.48, 0.7), (2.28, 0.0, 2.98, 0.7)])
         self.assertEqual(font.extents(b"(\\101\\\n)Tj"), font.extents(b"<41>Tj"))
+        for parted in (b"[<4\n1>\n20<67\n>-700<\n41>]TJ", b"[<41>20<67>-700<4\n\n1>]TJ"):
+            self.assertAlmostEqual(font.advance(parted), 3.18)
+            self.assertEqual(font.extents(parted), font.extents(shown))
 
     def test_where_letters_that_go_alike_far_may_be(self) -> None:
         """Rough ink has all of the exact one in it, whatever the letters are."""

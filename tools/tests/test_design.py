@@ -57,6 +57,7 @@ def svg_in_base64() -> str:
     return base64.b64encode(f"<svg {designs.SPACE} width='5' height='5'/>".encode()).decode()
 
 
+NOT_WHITE = "is not white in the place code"
 # what is drawn on a page of 60 by 40 mm, and what it is refused with
 REFUSED = (
     ("", "has no place for the code; draw a rectangle with the id code"),
@@ -82,8 +83,17 @@ REFUSED = (
         f'<rect id="code-2" x="9" y="9" width="40" height="20"/>{CODE}',
         "code-2 and code have room in",
     ),
-    (f'<path d="M0 30H60" stroke="black"/>{CODE}', "is dark in the place code; a symbol needs whi"),
-    (f'{CODE}<path d="M2 20H58V38H2Z" fill="none" stroke="black"/>', "is dark in the place code"),
+    (f'<path d="M0 30H60" stroke="black"/>{CODE}', "is not white in the place code; a symbol nee"),
+    (
+        f'{CODE}<path d="M2 20H58V38H2Z" fill="none" stroke="black"/>',
+        "is not white in the place co",
+    ),
+    (f'<path d="M0 30H60" stroke="black" stroke-width="0.005"/>{CODE}', NOT_WHITE),
+    (f'<path d="M30 0V40" stroke="#ccc" stroke-width="0.02"/>{CODE}', NOT_WHITE),
+    (f'<path d="M4 30H50V31H4Z" fill="#ccc"/>{CODE}', NOT_WHITE),
+    (f'<path d="M4 30H50V31H4Z" fill="#fafafa"/>{CODE}', NOT_WHITE),
+    (f'<path d="M4 30H50V31H4Z" fill="#fffff0"/>{CODE}', NOT_WHITE),
+    (f'<path d="M0 0H60V20.1H0Z" fill="#ccc"/>{CODE}', NOT_WHITE),
     (
         f'<path d="M0 0H30V20H0Z"/>{TITLE.format(WIDE)}',
         "is light and dark in the place title; lett",
@@ -592,10 +602,16 @@ class Drawings(OwnPages):
                 self.assertAlmostEqual(end, wanted, delta=0.13)
             middle = int((start + 4) / found.laid_out.area.dot)
             self.assertEqual([dots[middle].sum(), dots[:, middle].sum()], [2, 2])
-        across = '<path d="M0 30.0625H60" stroke="{}" stroke-width="0.08"/>' + CODE
-        with self.assertRaisesRegex(ToolError, "is dark in the place code"):
-            self.found(across.format("black"))
-        self.assertEqual(len(self.found(across.format("#ccc")).labels), 1)
+
+    def test_what_ends_at_the_edge_of_a_place(self) -> None:
+        """A white place in a black label, wherever its edges are between the dots."""
+        around = '<path fill-rule="evenodd" d="M0 0H60V40H0Z M{0} {1}h{2}v{3}h-{2}z"/>'
+        place = '<rect id="code" x="{0}" y="{1}" width="{2}" height="{3}"/>'
+        for sides in ((2, 20, 56, 18), (2.0749, 16.8641, 47.6377, 16.2753), (4.03, 9.07, 50, 20)):
+            for grow in (0.0, 0.02):
+                inside = [side + by for side, by in zip(sides, (grow, grow, -2 * grow, -2 * grow))]
+                found = self.found(around.format(*inside) + place.format(*sides))
+                self.assertEqual(len(found.labels), 1)
 
     def test_a_font_that_is_not_there_is_said(self) -> None:
         for style in ('font-family="Nothing, serif"', "style=\"font-family:'Nothing'\""):

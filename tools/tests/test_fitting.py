@@ -4,15 +4,20 @@ import random
 import tempfile
 import unittest
 from pathlib import Path
-from typing import Any, Optional, Sequence
+from typing import Any, Iterator, Optional, Sequence
+from unittest import mock
 
 import designs
 import support
-from labeltools.fitting import LEFT, MIDDLE, RIGHT, Fitted, Fitter, Style
+from designs import Label
+from labeltools.fitting import LEFT, LINE_END, MIDDLE, RIGHT, Fitted, Fitter, Style
 from labeltools.glyphs import UNIT
+from labeltools.layout import LaidOut
 from labeltools.letters import Fonts, Letters
 from labeltools.messages import Silence
+from labeltools.own_pen import OwnPen
 from labeltools.pango import plain_options
+from labeltools.pen import Placed
 
 LATIN = [chr(code) for code in (*range(0x20, 0x7F), *range(0xA1, 0x250)) if code != 0xAD]
 OTHERS = [chr(code) for code in (*range(0x370, 0x500), 0x20AC, *range(0x2010, 0x2027))]
@@ -53,6 +58,13 @@ def places_of(layout: Any, text: str) -> list[Glyph]:
 def places_in(fitted: Fitted) -> list[Glyph]:
     """Where the glyphs of a text are from its corner."""
     return [(x + place, y) for line, x, y in fitted.lines for place in line.places[:-1]]
+
+
+def lines_in(layout: Any) -> list[str]:
+    """The lines of a layout of Pango, without the spaces and ends behind them."""
+    written = layout.get_text().encode()
+    parts = [(line.start_index, line.length) for line in layout.get_lines_readonly()]
+    return [written[at : at + size].decode().rstrip(" " + LINE_END) for at, size in parts]
 
 
 class Glyphs(unittest.TestCase):
@@ -178,6 +190,69 @@ class Drawn(unittest.TestCase):
             )
         with found.press(Silence()).document([(found.labels[0], (0, 0))]) as file:
             self.assertEqual(file.read(5), b"%PDF-")
+
+
+class OwnLines(unittest.TestCase):
+    """Lines of texts in designs of a user's own: they end alike in each form, at any resolution."""
+
+    FORMS = ("pdf", "svg", "pbm")
+    SCRIPTS = (
+        WORDS,
+        "Müller & Söhne GmbH Obst und Gemüse Nord Molkerei Boskoop Karton A-12".split(),
+        "تفاح أحمر من الجنوب Tea عضوي".split(),
+        "茶葉 緑茶 天地玄黃宇宙洪荒 これはながい".split(),
+    )
+
+    def lines(self, design: Path, labels: Sequence[Label], form: str, dpi: int) -> list[list[str]]:
+        """The lines of each text that has several, as they are drawn."""
+        drawn = []
+        texts = OwnPen.texts
+
+        def noted(pen: OwnPen, item: LaidOut) -> Iterator[Placed]:
+            for placed in texts(pen, item):
+                rows = lines_in(placed.text.layout) if placed.text.layout else []
+                drawn.extend([rows] * (len(rows) > 1))
+                yield placed
+
+        size = designs.size_of(design.stem)
+        found = designs.prepared(design, labels, paper=size, to=form, dpi=dpi)
+        with mock.patch.object(OwnPen, "texts", noted):
+            for document in found.press(Silence()).documents(found.prints):
+                document.close()
+        wanted = [
+            text.text.replace(LINE_END, "\n").split("\n")
+            for text in designs.texts_of(found)
+            if text.lines > 1
+        ]
+        self.assertEqual(drawn, wanted)
+        return drawn
+
+    def test_lines_end_alike(self) -> None:
+        chosen = random.Random(10)
+        titles = [
+            " ".join(chosen.choices(words, k=chosen.randrange(4, 12)))
+            for words in self.SCRIPTS
+            for _ in range(24)
+        ]
+        labels = [(f"code128 A-{number}", {"title": title}) for number, title in enumerate(titles)]
+        with tempfile.TemporaryDirectory() as folder:
+            place = '<rect data-place="title, {}" x="2" y="1" width="50" height="18"/>'
+            for across, dpi in (("left", 203), ("right", 300)):
+                path = Path(folder) / f"{across}-60x40.svg"
+                design = designs.written(path, place.format(across) + designs.CODE)
+                found = [self.lines(design, labels, form, dpi) for form in self.FORMS]
+                with self.subTest(across=across, dpi=dpi):
+                    self.assertGreater(len(found[0]), 60)
+                    self.assertEqual(found[1:], [found[0]] * 2)
+
+    def test_lines_of_a_pallet(self) -> None:
+        text = {**designs.PALLET, "From": "Müller & Söhne GmbH, Obst und Gemüse"}
+        labels = [("code128 PAL-0004712", {"title": "4712", "text": text})]
+        design = designs.FOLDER / "pallet-105x148.svg"
+        for form in self.FORMS:
+            with self.subTest(form=form):
+                rows = self.lines(design, labels, form, 203)
+                self.assertEqual(rows, [["Müller & Söhne GmbH,", "Obst und Gemüse"]])
 
 
 if __name__ == "__main__":
