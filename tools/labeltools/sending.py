@@ -230,7 +230,8 @@ class Sender:
                 "{} may be on paper: look there, then give the same command again", place.text
             )
             return joined("; ", filter(None, (self.last_on_paper(), text)))
-        return self.rest(item, prints)
+        missing = self.last_on_paper() if self.again is not None else NOTHING
+        return joined("; ", filter(None, (missing, self.rest(item, prints))))
 
     def rest(self, item: LaidOut, prints: Prints) -> Text:
         """Returns how a label and those behind it are printed."""

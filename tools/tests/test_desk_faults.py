@@ -306,6 +306,34 @@ class Lanes(Folder):
         return subprocess.run(command, input=lines, capture_output=True, env=env, preexec_fn=limit)
 
 
+class Reprints(Folder):
+    """--again by another printer, which breaks off."""
+
+    def test_what_was_taken_and_is_missing_is_printed_by_the_name_of_that_printer(self) -> None:
+        """The labels that it took are its own in the journal: `--again` of the first has none."""
+        printed("--journal", self.path)
+        printer = Printer(cut=10).start()
+        words = ("--journal", self.path, "--print", printer.name)
+        done = printed(*words, "--only", "3-", "--again", "standard output")
+        last, first = self.events_of(printer.name)
+        missing = f"look that line {last} is on paper, or print what is missing by --only ROWS"
+        rest = f"then print from line {first} on by --only {first}-30 --again 'standard output'\n"
+        if first == 30:
+            rest = rest.replace("30-30", "30")
+        look = "look at the last one on paper"
+        self.said(done, 1, f"{missing} --again {printer.name}; {look}, {rest}")
+        thrown = len(printer.labels)
+        done = printed(*words, "--only", f"3-{last}", "--again", printer.name)
+        self.said(done, 1, f"{last - 2} labels taken by {printer.name}")
+        self.assertEqual(len(printer.labels), thrown + last - 2)
+
+    def events_of(self, printer: str) -> tuple[int, int]:
+        """The lines of the last label that a printer took, and of the last that it was sent."""
+        lines = [line.split("\t") for line in Path(self.path).read_text().splitlines()[1:]]
+        found = {line[1]: int(line[4].split()[1]) for line in lines if line[3] == printer}
+        return found["taken"], found["sending"]
+
+
 class Streams(Folder):
     """Streams that are ended, that nobody reads, and whose journal goes."""
 
