@@ -239,7 +239,7 @@ class Journals(Folder):
         self.assertEqual(doubtful, 1)
         done = printed(*words)
         self.said(
-            done, 1, "line [0-9]+: may be on paper, from tcp://127.* --only-code CODE --again"
+            done, 1, r"line ([0-9]+): may be on paper, from tcp://127.* give --only \1 --again"
         )
         self.assertEqual(len(printer.labels), len(set(printer.labels)))
         self.assertGreaterEqual(len(printer.labels), 29)

@@ -237,6 +237,35 @@ class Doubts(Starts):
             self.said(done, 1, f"{pattern}: look for it; if it is there, make sending taken in its")
             self.assertNotIn(b"--again", done.stderr)
 
+    def test_one_whose_data_stands_in_two_symbologies(self) -> None:
+        """What the message says prints that label alone."""
+        lines = b"code128 X1\nqr X1\n"
+        printed("--journal", self.path, "--only", "1", input=lines)
+        with open(self.path, "a") as file:
+            file.write("2026-11-27T09:30:00Z\tsending\tlane 1\tstandard output\tline 2\tqr X1\n")
+        words = ("--journal", self.path)
+        self.assertIn("give --only-code 'qr X1' --again", self.answers(b"qr X1\n", *words)[0])
+        done = printed(*words, input=lines)
+        self.said(done, 1, "line 2: may be on paper, from .* give --only 2 --again 'standard")
+        kept = Path(self.path).read_bytes()
+        for choice in (("--only", "2"), ("--only-code", "qr X1")):
+            Path(self.path).write_bytes(kept)
+            done = printed(*words, *choice, "--again", "standard output", input=lines)
+            self.assertEqual((done.returncode, len(labels_in(done))), (0, 1), done.stderr)
+
+    def test_those_of_rows_that_several_tables_have(self) -> None:
+        """A row is chosen in each table, a code of a journal once."""
+        lines = b"".join(
+            support.file_of([(f"qr {name}1", {}), (f"qr {name}2", {})]).replace(
+                b"articles", name.encode()
+            )
+            for name in "ab"
+        )
+        line = "2026-11-27T09:30:00Z\tsending\tlane 1\ttcp://a\trow 3\tqr b2\n"
+        Path(self.path).write_text(f"#labels journal 1\n{line}")
+        done = printed("--journal", self.path, input=lines)
+        self.said(done, 1, "b.xlsx, row 3: may be on paper, .* give --only-code 'qr b2' --again")
+
     def test_those_of_many_printers(self) -> None:
         """The printer of each is named, and those of one printer are together."""
         names = [f"tcp://lane-{number % 12}" for number in range(1, 25)]
@@ -268,7 +297,7 @@ class Doubts(Starts):
 
     def test_what_can_be_typed(self) -> None:
         done = printed("--journal", self.waiting("standard output"), input=TICKETS[:10])
-        self.said(done, 1, "give --only-code CODE --again 'standard output'\n")
+        self.said(done, 1, "give --only 1 --again 'standard output'\n")
         self.waiting("standard output")
         words = ("--journal", self.path, "--only-code", "T00001", "--again", "standard output")
         self.assertEqual(len(labels_in(printed(*words, input=TICKETS[:10]))), 1)
