@@ -314,7 +314,8 @@ def doubts(
         for others in parts_of([code.decode() for code in codes if code not in places]):
             yield Text(
                 "{}: may be on paper, from {}, and not in the input: look for it; if it is there, "
-                "make sending taken in its line of the journal",
+                "make sending taken in its line of the journal; if not, print it from an input "
+                "that has it by --again, or, where nobody wants it, take that line out",
                 joined("; ", others),
                 printer,
             )

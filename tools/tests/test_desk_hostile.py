@@ -235,7 +235,20 @@ class Doubts(Starts):
                 r"^label-print: qr T00001: may be on paper, from tcp://a, and not in the input"
             )
             self.said(done, 1, f"{pattern}: look for it; if it is there, make sending taken in its")
-            self.assertNotIn(b"--again", done.stderr)
+            self.said(done, 1, "; if not, .* by --again, or, where nobody wants it, take that line")
+
+    def test_a_line_that_was_cut_within_its_code(self) -> None:
+        """A label that there never was: what the message says ends it, on paper or not."""
+        kept = Path(self.waiting("tcp://a")).read_bytes().removesuffix(b"1\n")
+        for change in ((b"sending", b"taken"), (kept.splitlines(keepends=True)[1] + b"\n", b"")):
+            Path(self.path).write_bytes(kept)
+            for _ in range(2):
+                done = printed("--journal", self.path)
+                self.said(done, 1, "qr T0000: may be on paper, .* taken in .* take that line out")
+            text = Path(self.path).read_bytes()
+            self.assertIn(change[0], text)
+            Path(self.path).write_bytes(text.replace(*change, 1))
+            self.said(printed("--journal", self.path), 0, "30 labels in .* already\n$")
 
     def test_one_whose_data_stands_in_two_symbologies(self) -> None:
         """What the message says prints that label alone."""
