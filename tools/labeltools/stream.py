@@ -42,6 +42,7 @@ CUT_OFF = Text("cut off before its line end")
 TOO_LONG = Text("longer than {} bytes", LONGEST)
 TWO_OBJECTS = Text("there are two objects before it")
 LONG_OBJECT = Text("the object before it is longer than {} bytes", LONGEST)
+NO_FIFO = Text("make the FIFO anew by mkfifo, then give the same command again")
 TAKEN = "taken"
 REFUSED = "refused"
 KNOWN = "known"
@@ -100,12 +101,15 @@ class Fifo(RawIOBase):
 
     def wait_for_writer(self) -> None:
         """Waits until another program has it open. Meanwhile there is a writer of our own, or the
-        FIFO would be at its end.
+        FIFO would be at its end. Raises `ToolError` where nobody can open it any more.
         """
         has_writer = False
         while not has_writer:
-            self.require_name()
-            writer = os.open(self.path, os.O_WRONLY)
+            try:
+                self.require_name()
+                writer = os.open(self.path, os.O_WRONLY)
+            except FileNotFoundError as error:
+                raise ToolError(Text("{}: {}", self.path, error.strerror), NO_FIFO) from error
             has_bytes = bool(self.poll.poll(LOOK * 1000))
             os.close(writer)
             has_writer = has_bytes or not self.poll.poll(0)  # it is not at its end
@@ -115,7 +119,7 @@ class Fifo(RawIOBase):
         can open it any more.
         """
         if not os.path.samestat(os.stat(self.path), os.fstat(self.source)):
-            raise ToolError(Text("{}: another program has changed it", self.path))
+            raise ToolError(Text("{}: another program has changed it", self.path), NO_FIFO)
 
 
 class Ahead:

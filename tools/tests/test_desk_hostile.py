@@ -588,7 +588,7 @@ class Streams(Starts):
                 fifo.unlink()
                 make()
             self.assertEqual(stream.wait(WAIT), 1)
-            self.assertRegex(stream.stderr.read(), b"till: another program has changed it\n")
+            self.assertRegex(stream.stderr.read(), b"till: another program has changed it; make")
             fifo.unlink()
 
     def test_a_fifo_that_goes_while_nobody_writes(self) -> None:
@@ -602,7 +602,8 @@ class Streams(Starts):
             time.sleep(0.01)  # it waits for the next writer when it is one itself
         os.unlink(fifo)
         self.assertEqual(stream.wait(WAIT), 1)
-        self.assertRegex(stream.stderr.read(), b"the lines cannot be read: No such file")
+        said = b"/till: No such file or directory; make the FIFO anew by mkfifo, then give the same"
+        self.assertIn(said, stream.stderr.read())
 
     def test_a_fifo_that_a_writer_has_taken_for_itself(self) -> None:
         """It has opened it, and taken its name away: it may write whenever it likes."""
