@@ -29,7 +29,7 @@ from typing import Iterator, Mapping, NamedTuple, Optional, Sequence
 
 from labeltools.lines_file import LineRecord
 from labeltools.messages import ToolError
-from labeltools.selection import few
+from labeltools.report import few
 from labeltools.text import NOTHING, Text
 
 HEAD = b"#labels journal 1\n"

@@ -58,6 +58,12 @@ def places_text(places: Iterable[Place], has_tables: bool) -> Text:
     return joined("; ", texts) if texts else Text("some rows")
 
 
+def few(names: Sequence[str], count: int) -> Text:
+    """Returns names; where they are many, the first of them and the count of what all name."""
+    text = joined(", ", names[:MOST_RANGES])
+    return Text("{} .. ({} in all)", text, count) if len(names) > MOST_RANGES else text
+
+
 def ranges_of(numbers: Iterable[int]) -> list[tuple[int, int]]:
     """Returns the first and last numbers of runs of numbers in order.
 

@@ -8,10 +8,11 @@ from dataclasses import dataclass
 from pathlib import Path
 from typing import Iterable, Iterator, Optional, Sequence
 
+from labeltools.journal import code_of
 from labeltools.lines_file import LineRecord
 from labeltools.messages import Place, ToolError
-from labeltools.report import MOST_RANGES, LeftOut, range_text, ranges_of
-from labeltools.text import Text, joined
+from labeltools.report import MOST_RANGES, LeftOut, few, range_text, ranges_of
+from labeltools.text import Text
 
 Ranges = tuple[tuple[int, int], ...]  # the first and the last number of each, in order, apart
 ENDLESS = sys.maxsize  # the last number of a range without an end
@@ -55,15 +56,16 @@ class Selection:
 
 def names_of(record: LineRecord) -> set[bytes]:
     """Returns how the code of a line may be named: its data, of a number without its check digit
-    too, of UPC-A as EAN-13 too.
+    too, of UPC-A as EAN-13 too; and as a journal has it, with its symbology.
     """
+    whole = code_of(record)
     if record.symbology not in ("ean13", "ean8", "upca"):
-        return {record.data}
+        return {record.data, whole}
     _, number = record.key
     names = {number, number[:-1]}
     if record.symbology != "ean8" and number.startswith(b"0"):
         names |= {name[1:] for name in names}
-    return names
+    return names | {whole}
 
 
 def selection_of(rows: Optional[str], codes: Iterable[str]) -> Optional[Selection]:
@@ -125,12 +127,6 @@ def rows_text(ranges: Ranges) -> Text:
     count = sum(last - first + 1 for first, last in ranges)
     named = few([range_text(first, last) for first, last in ranges], count)
     return Text("row {}", named) if count == 1 else Text("rows {}", named)
-
-
-def few(names: Sequence[str], count: int) -> Text:
-    """Returns names; where they are many, the first of them and the count of what all name."""
-    text = joined(", ", names[:MOST_RANGES])
-    return Text("{} .. ({} in all)", text, count) if len(names) > MOST_RANGES else text
 
 
 def words_of_rest(places: Sequence[Place], start: int, is_chosen: bool) -> str:

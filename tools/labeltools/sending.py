@@ -5,6 +5,7 @@ without one.
 import os
 import shlex
 import stat
+from collections import Counter
 from contextlib import contextmanager, suppress
 from io import BytesIO
 from typing import Any, Iterable, Iterator, Mapping, Optional, Protocol, Sequence, Sized
@@ -230,7 +231,8 @@ class Sender:
                 "{} may be on paper: look there, then give the same command again", place.text
             )
             return joined("; ", filter(None, (self.last_on_paper(), text)))
-        return self.rest(item, prints)
+        missing = self.last_on_paper() if self.again is not None else NOTHING
+        return joined("; ", filter(None, (missing, self.rest(item, prints))))
 
     def rest(self, item: LaidOut, prints: Prints) -> Text:
         """Returns how a label and those behind it are printed."""
@@ -269,7 +271,7 @@ class Sender:
         """
         printer = self.sent_to(record)
         if printer and code_of(record) in self.doubtful():
-            return may_be_on_paper(printer)
+            return may_be_on_paper(printer, by_code(code_of(record)))
         if printer := self.sent_to(record):  # it was not taken meanwhile
             what = Text("{} is sending it", printer)
             return sentence(what, Text("send the line again to see whether it was taken"))
@@ -290,19 +292,30 @@ class Sender:
 def doubts(
     doubtful: Mapping[bytes, Entry], records: Sequence[LineRecord], has_tables: bool
 ) -> Iterator[Text]:
-    """Yields messages that name all labels in doubt: those of a file of lines by their places."""
+    """Yields messages that name all labels in doubt: those of a file of lines by their places, and
+    by their codes too where other codes have these numbers, as the rows of several tables have.
+    """
     printers: dict[str, list[bytes]] = {}
     for code, entry in doubtful.items():
         printers.setdefault(entry.printer, []).append(code)
-    places = {code_of(record): record.place for record in reversed(records)} if printers else {}
+    found = [(code_of(record), record.place) for record in reversed(records)] if printers else []
+    places = dict(found)
+    numbers = Counter(number for _, number in {(code, place.number) for code, place in found})
     for printer, codes in printers.items():
-        there = sorted(places[code] for code in codes if code in places)
-        for some in parts_of(there):
-            yield Text("{}: {}", places_text(some, has_tables), may_be_on_paper(printer))
+        there = [code for code in codes if code in places]
+        alone = sorted(places[code] for code in there if numbers[places[code].number] == 1)
+        for some in parts_of(alone):
+            words = "--only ROW" if len(some) > 1 else f"--only {some[0].number}"
+            yield Text("{}: {}", places_text(some, has_tables), may_be_on_paper(printer, words))
+        for code in there:
+            if numbers[places[code].number] > 1:
+                place = places_text([places[code]], has_tables)
+                yield Text("{}: {}", place, may_be_on_paper(printer, by_code(code)))
         for others in parts_of([code.decode() for code in codes if code not in places]):
             yield Text(
                 "{}: may be on paper, from {}, and not in the input: look for it; if it is there, "
-                "make sending taken in its line of the journal",
+                "make sending taken in its line of the journal; if not, print it from an input "
+                "that has it by --again, or, where nobody wants it, take that line out",
                 joined("; ", others),
                 printer,
             )
@@ -313,11 +326,18 @@ def parts_of(found: Sequence[Any]) -> Iterator[Sequence[Any]]:
     return (found[start : start + MOST_RANGES] for start in range(0, len(found), MOST_RANGES))
 
 
-def may_be_on_paper(printer: str) -> Text:
-    """Returns what to do about labels that were sent to a printer, and may be on paper."""
+def may_be_on_paper(printer: str, words: str) -> Text:
+    """Returns what to do about labels that were sent to a printer, and may be on paper; `words`
+    choose them.
+    """
     reason = Text("may be on paper, from {}: look for it", printer)
-    hint = Text("if it is not there, give --only-code CODE --again {}", typed(printer))
+    hint = Text("if it is not there, give {} --again {}", words, typed(printer))
     return sentence(reason, hint)
+
+
+def by_code(code: bytes) -> str:
+    """Returns the words that choose the label of a code of a journal, and no other one."""
+    return f"--only-code {shlex.quote(code.decode())}"
 
 
 def typed(printer: str) -> str:

@@ -12,6 +12,7 @@ A label is laid out by itself, as in a run for its line alone. An object before 
 it, as in the file of label-table; its first and last remarks are skipped.
 """
 
+import errno
 import os
 import select
 import signal
@@ -22,7 +23,7 @@ from queue import Queue
 from threading import Thread
 from typing import Any, BinaryIO, Iterator, NamedTuple, NoReturn, Optional, Sequence
 
-from labeltools.command_line import ENDING, hold_signals
+from labeltools.command_line import ENDING, hold_signals, standard_output
 from labeltools.engine import LABELS_FAILED, Engine, run_labels
 from labeltools.letters import Letters
 from labeltools.lines_file import OBJECT, LineRecord, read_lines
@@ -30,7 +31,7 @@ from labeltools.messages import Silence, ToolError, sentence, visible
 from labeltools.network import Broken
 from labeltools.press import Press, PrintJob
 from labeltools.print_job import DrawnLines, Prepared, PrintOptions, prepared
-from labeltools.sending import Sender
+from labeltools.sending import OUTPUT, Sender
 from labeltools.text import NOTHING, Text, translated
 
 SKIPPED = (b'#{"labels"', b'#{"end"')
@@ -41,6 +42,7 @@ CUT_OFF = Text("cut off before its line end")
 TOO_LONG = Text("longer than {} bytes", LONGEST)
 TWO_OBJECTS = Text("there are two objects before it")
 LONG_OBJECT = Text("the object before it is longer than {} bytes", LONGEST)
+NO_FIFO = Text("make the FIFO anew by mkfifo, then give the same command again")
 TAKEN = "taken"
 REFUSED = "refused"
 KNOWN = "known"
@@ -99,12 +101,15 @@ class Fifo(RawIOBase):
 
     def wait_for_writer(self) -> None:
         """Waits until another program has it open. Meanwhile there is a writer of our own, or the
-        FIFO would be at its end.
+        FIFO would be at its end. Raises `ToolError` where nobody can open it any more.
         """
         has_writer = False
         while not has_writer:
-            self.require_name()
-            writer = os.open(self.path, os.O_WRONLY)
+            try:
+                self.require_name()
+                writer = os.open(self.path, os.O_WRONLY)
+            except FileNotFoundError as error:
+                raise ToolError(Text("{}: {}", self.path, error.strerror), NO_FIFO) from error
             has_bytes = bool(self.poll.poll(LOOK * 1000))
             os.close(writer)
             has_writer = has_bytes or not self.poll.poll(0)  # it is not at its end
@@ -114,7 +119,7 @@ class Fifo(RawIOBase):
         can open it any more.
         """
         if not os.path.samestat(os.stat(self.path), os.fstat(self.source)):
-            raise ToolError(Text("{}: another program has changed it", self.path))
+            raise ToolError(Text("{}: another program has changed it", self.path), NO_FIFO)
 
 
 class Ahead:
@@ -251,6 +256,7 @@ class Stream:
         """Prints a label and returns how many bytes it has; raises `Refused`, `Known`, `ToolError`
         where nothing went out, and `Broken`.
         """
+        self.require_reader()
         for part in parts:
             if part.fault:
                 raise Refused(part.fault)
@@ -267,6 +273,12 @@ class Stream:
         if self.options.is_unique and self.sender.journal is None:
             self.seen.add(record.key)
         return size
+
+    def require_reader(self) -> None:
+        """Raises `ToolError` where labels go to standard output, and nobody reads it."""
+        if self.sender.outlet.name == OUTPUT and not has_reader(standard_output().fileno()):
+            self.sender.is_at_end = True
+            raise ToolError(Text("{}: {}", OUTPUT, os.strerror(errno.EPIPE)))
 
     def raise_known(self, record: LineRecord) -> NoReturn:
         """Raises `Known` for a line that the journal has, or `Broken` where its label is in doubt,
@@ -303,11 +315,20 @@ class Stream:
         return self.presses[is_turned]
 
 
+def has_reader(file: int) -> bool:
+    """Returns whether what is written may be read: False where the other end of a pipe, of a
+    connection or of a terminal has gone.
+    """
+    look = select.poll()
+    look.register(file, 0)  # errors and ends are always looked for
+    return not look.poll(0)
+
+
 def run(options: PrintOptions, job: PrintJob, path: Optional[str], sender: Sender) -> int:
     """Prints the lines of a source and answers each; returns 1 where one is not printed. It ends
     where nobody takes its labels, or reads its answers, any more: a line without an answer would be
-    sent again, and its label be there twice. So a signal, too, waits for the answer, and nothing is
-    printed where standard error was closed from the start.
+    sent again, and its label be there twice. So a signal, too, waits for the answer, and it is
+    looked before each label whether standard error is read.
     """
     if sys.__stderr__ is None:
         return 1
@@ -315,6 +336,8 @@ def run(options: PrintOptions, job: PrintJob, path: Optional[str], sender: Sende
     name, source = source_of(path)
     stream = Stream(name, options, job, sender)
     for parts in jobs(source):
+        if not has_reader(sys.stderr.fileno()):
+            return 1
         with hold_signals():
             word, text = stream.answer(parts)
             status = status if word == TAKEN else 1

@@ -17,6 +17,7 @@ import time
 import unittest
 from pathlib import Path
 from types import ModuleType
+from typing import Optional
 from unittest import mock
 
 import support
@@ -306,16 +307,49 @@ class Lanes(Folder):
         return subprocess.run(command, input=lines, capture_output=True, env=env, preexec_fn=limit)
 
 
+class Reprints(Folder):
+    """--again by another printer, which breaks off."""
+
+    def test_what_was_taken_and_is_missing_is_printed_by_the_name_of_that_printer(self) -> None:
+        """The labels that it took are its own in the journal: `--again` of the first has none."""
+        printed("--journal", self.path)
+        printer = Printer(cut=10).start()
+        words = ("--journal", self.path, "--print", printer.name)
+        done = printed(*words, "--only", "3-", "--again", "standard output")
+        last, first = self.events_of(printer.name)
+        missing = f"look that line {last} is on paper, or print what is missing by --only ROWS"
+        rest = f"then print from line {first} on by --only {first}-30 --again 'standard output'\n"
+        if first == 30:
+            rest = rest.replace("30-30", "30")
+        look = "look at the last one on paper"
+        self.said(done, 1, f"{missing} --again {printer.name}; {look}, {rest}")
+        thrown = len(printer.labels)
+        done = printed(*words, "--only", f"3-{last}", "--again", printer.name)
+        self.said(done, 1, f"{last - 2} labels taken by {printer.name}")
+        self.assertEqual(len(printer.labels), thrown + last - 2)
+
+    def events_of(self, printer: str) -> tuple[int, int]:
+        """The lines of the last label that a printer took, and of the last that it was sent."""
+        lines = [line.split("\t") for line in Path(self.path).read_text().splitlines()[1:]]
+        found = {line[1]: int(line[4].split()[1]) for line in lines if line[3] == printer}
+        return found["taken"], found["sending"]
+
+
 class Streams(Folder):
     """Streams that are ended, that nobody reads, and whose journal goes."""
 
-    def start(self, *words: str) -> "subprocess.Popen[bytes]":
-        """Starts a stream to a printer."""
+    def start(
+        self,
+        *words: str,
+        labels: int = subprocess.DEVNULL,
+        answers: Optional[socket.socket] = None,
+    ) -> "subprocess.Popen[bytes]":
+        """Starts a stream, with its standard output and standard error (a pipe)."""
         pipe = subprocess.PIPE
         command = [str(support.TOOLS / "label-print"), *ROLL, "--stream", *words]
         env = support.environment()
-        null = subprocess.DEVNULL
-        stream = subprocess.Popen(command, stdin=pipe, stdout=null, stderr=pipe, env=env)
+        error = pipe if answers is None else answers.fileno()
+        stream = subprocess.Popen(command, stdin=pipe, stdout=labels, stderr=error, env=env)
         self.addCleanup(ended, stream)
         return stream
 
@@ -333,6 +367,37 @@ class Streams(Folder):
         self.assertEqual(self.answer(stream, b"qr T00001\n"), "known 3 qr T00001\n")
         self.assertRegex(self.answer(stream, b"qr T00002\n"), "^taken 4 ")
         self.assertEqual(len(printer.labels), 2)
+
+    def test_nobody_reads_the_answers_any_more(self) -> None:
+        """It ends before the next label, which would be there without an answer."""
+        printer = Printer().start()
+        ours, theirs = socket.socketpair()
+        for answers in (None, theirs):
+            stream = self.start("--print", printer.name, "--journal", self.path, answers=answers)
+            assert stream.stdin
+            stream.stdin.write(b"qr %d\n" % (answers is None))
+            stream.stdin.flush()
+            said = stream.stderr if stream.stderr else ours.makefile("rb")
+            self.assertRegex(said.readline(), b"^taken 1 ")
+            said.close()
+            for end in (ours, theirs) if answers else ():
+                end.close()
+            stream.stdin.write(b"qr T00002\n")
+            stream.stdin.flush()
+            self.assertEqual(stream.wait(support.SECONDS), 1)
+        self.assertEqual(self.events(), ["sending", "taken"] * 2)
+        self.assertEqual(len(printer.labels), 2)
+
+    def test_nobody_reads_the_labels_any_more(self) -> None:
+        """The label has not gone out, and is not in doubt."""
+        stream = self.start("--journal", self.path, labels=subprocess.PIPE)
+        assert stream.stdout
+        self.assertRegex(self.answer(stream, b"qr A\n"), "^taken 1 ")
+        stream.stdout.close()
+        said = "unsent 2 standard output: Broken pipe\n"
+        self.assertEqual(self.answer(stream, b"qr B\n"), said)
+        self.assertEqual(stream.wait(support.SECONDS), 1)
+        self.assertEqual(self.events(), ["sending", "taken"])
 
     @support.slow
     def test_a_signal_waits_for_the_answer(self) -> None:

@@ -235,7 +235,49 @@ class Doubts(Starts):
                 r"^label-print: qr T00001: may be on paper, from tcp://a, and not in the input"
             )
             self.said(done, 1, f"{pattern}: look for it; if it is there, make sending taken in its")
-            self.assertNotIn(b"--again", done.stderr)
+            self.said(done, 1, "; if not, .* by --again, or, where nobody wants it, take that line")
+
+    def test_a_line_that_was_cut_within_its_code(self) -> None:
+        """A label that there never was: what the message says ends it, on paper or not."""
+        kept = Path(self.waiting("tcp://a")).read_bytes().removesuffix(b"1\n")
+        for change in ((b"sending", b"taken"), (kept.splitlines(keepends=True)[1] + b"\n", b"")):
+            Path(self.path).write_bytes(kept)
+            for _ in range(2):
+                done = printed("--journal", self.path)
+                self.said(done, 1, "qr T0000: may be on paper, .* taken in .* take that line out")
+            text = Path(self.path).read_bytes()
+            self.assertIn(change[0], text)
+            Path(self.path).write_bytes(text.replace(*change, 1))
+            self.said(printed("--journal", self.path), 0, "30 labels in .* already\n$")
+
+    def test_one_whose_data_stands_in_two_symbologies(self) -> None:
+        """What the message says prints that label alone."""
+        lines = b"code128 X1\nqr X1\n"
+        printed("--journal", self.path, "--only", "1", input=lines)
+        with open(self.path, "a") as file:
+            file.write("2026-11-27T09:30:00Z\tsending\tlane 1\tstandard output\tline 2\tqr X1\n")
+        words = ("--journal", self.path)
+        self.assertIn("give --only-code 'qr X1' --again", self.answers(b"qr X1\n", *words)[0])
+        done = printed(*words, input=lines)
+        self.said(done, 1, "line 2: may be on paper, from .* give --only 2 --again 'standard")
+        kept = Path(self.path).read_bytes()
+        for choice in (("--only", "2"), ("--only-code", "qr X1")):
+            Path(self.path).write_bytes(kept)
+            done = printed(*words, *choice, "--again", "standard output", input=lines)
+            self.assertEqual((done.returncode, len(labels_in(done))), (0, 1), done.stderr)
+
+    def test_those_of_rows_that_several_tables_have(self) -> None:
+        """A row is chosen in each table, a code of a journal once."""
+        lines = b"".join(
+            support.file_of([(f"qr {name}1", {}), (f"qr {name}2", {})]).replace(
+                b"articles", name.encode()
+            )
+            for name in "ab"
+        )
+        line = "2026-11-27T09:30:00Z\tsending\tlane 1\ttcp://a\trow 3\tqr b2\n"
+        Path(self.path).write_text(f"#labels journal 1\n{line}")
+        done = printed("--journal", self.path, input=lines)
+        self.said(done, 1, "b.xlsx, row 3: may be on paper, .* give --only-code 'qr b2' --again")
 
     def test_those_of_many_printers(self) -> None:
         """The printer of each is named, and those of one printer are together."""
@@ -268,7 +310,7 @@ class Doubts(Starts):
 
     def test_what_can_be_typed(self) -> None:
         done = printed("--journal", self.waiting("standard output"), input=TICKETS[:10])
-        self.said(done, 1, "give --only-code CODE --again 'standard output'\n")
+        self.said(done, 1, "give --only 1 --again 'standard output'\n")
         self.waiting("standard output")
         words = ("--journal", self.path, "--only-code", "T00001", "--again", "standard output")
         self.assertEqual(len(labels_in(printed(*words, input=TICKETS[:10]))), 1)
@@ -546,7 +588,7 @@ class Streams(Starts):
                 fifo.unlink()
                 make()
             self.assertEqual(stream.wait(WAIT), 1)
-            self.assertRegex(stream.stderr.read(), b"till: another program has changed it\n")
+            self.assertRegex(stream.stderr.read(), b"till: another program has changed it; make")
             fifo.unlink()
 
     def test_a_fifo_that_goes_while_nobody_writes(self) -> None:
@@ -560,7 +602,8 @@ class Streams(Starts):
             time.sleep(0.01)  # it waits for the next writer when it is one itself
         os.unlink(fifo)
         self.assertEqual(stream.wait(WAIT), 1)
-        self.assertRegex(stream.stderr.read(), b"the lines cannot be read: No such file")
+        said = b"/till: No such file or directory; make the FIFO anew by mkfifo, then give the same"
+        self.assertIn(said, stream.stderr.read())
 
     def test_a_fifo_that_a_writer_has_taken_for_itself(self) -> None:
         """It has opened it, and taken its name away: it may write whenever it likes."""
