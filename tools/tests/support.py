@@ -222,6 +222,8 @@ def printed(
             ):
                 with mock.patch("labeltools.command_line.on_signals", mock.MagicMock()):
                     status = status_of("labeltools.print_main")
+                if sys.stderr is not streams["stderr"]:  # of a stream: else Python warns of it
+                    sys.stderr.close()
         finally:
             for number, copy in enumerate(kept, 1):
                 os.dup2(copy, number)
