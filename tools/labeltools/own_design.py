@@ -1,8 +1,8 @@
 """A design of a user's own: an SVG page of the label's size, drawn in any program.
 
 A rectangle with a name is the place of a part of labels, and is not drawn itself; all else is drawn
-on each label as it is, but for a group with the name of a part, which is drawn where a label has
-that part. The name is that of the part, then how it is drawn:
+on each label as it is, but for a group with the name of a part or a column, which is drawn where a
+label has that. The name is that of the part, then how it is drawn:
 
     <rect data-place="title, bold, middle" x="2" y="2" width="96" height="22"/>
     <rect data-place="code" x="2" y="25" width="72" height="23"/>
@@ -143,7 +143,7 @@ class Place:
 class OwnDesign:
     """A design that suits a label: its file, the sides of a label as it is read, whether labels are
     turned to the right, its places, what is drawn, which begins at `corner` and has a size, the
-    parts of labels whose groups are drawn only with them, the places that are smaller than they are
+    names of its groups, which are drawn with the part or column of that name, the places that are smaller than they are
     drawn, since an edge of the paper takes no ink, the fonts of its words, what other shapes with a
     name are, by its key, its words, and what is said of it.
     """
@@ -232,8 +232,7 @@ def read_design(name: str, cell: Size, white: Edges, turn: Optional[bool]) -> Ow
     for parent, rect, _ in taken_places(name, root):
         parent.remove(rect)
     ends = (edges[0], edges[1], label[0] - edges[2], label[1] - edges[3])
-    keys = frozenset(key for place in placed for key in (place.key, place.part))
-    groups = frozenset(key for _, _, key in groups_of(root) if key in keys)
+    groups = frozenset(key for _, _, key in groups_of(root))
     how = (root, corner, size, groups, tuple(smaller), fonts_of(root), keys_of(shapes_in(root)))
     remarks = (*remarks_on(name, root), *cut_words(name, handle, words, area, ends))
     return OwnDesign(name, label, is_turned, cut, *how, words, remarks)

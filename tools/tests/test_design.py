@@ -571,6 +571,28 @@ class Drawings(OwnPages):
             (text,) = texts_of(found)
             self.assertEqual(text.place.colour, colour, (fill, behind))
 
+    def test_a_group_needs_no_place_beside_it(self) -> None:
+        """The column Bio has a logo alone: its text is nowhere else. A group named after nothing
+        that any label has is drawn on all.
+        """
+        body = '<g id="Bio"><path d="M40 2H58V9H40Z"/></g><rect id="text" x="2" y="2" {}/>' + CODE
+        body = body.format('width="30" height="9"')
+        labels: list[Label] = [
+            ("code128 A", {"text": {"Bio": "x", "Origin": "Kiel"}}),
+            ("code128 A", {"text": {"Origin": "Kiel"}}),
+        ]
+        found = self.found(body, labels)
+        self.assertEqual([self.ink(found, one)[1] > 40 for one in (0, 1)], [True, False])
+        self.assertEqual([text.text for text in texts_of(found)], ["Kiel", "Kiel"])
+        self.assertEqual(self.said(found), [])
+        for one in labels:  # as a stream lays them out
+            self.assertGreater(self.ink(self.found(body, [one]))[1], 40)
+        priced = body.replace("Bio", "was")
+        prices: list[Label] = [("code128 A", {"was": "2 €", "text": ["a"]}), labels[1]]
+        found = self.found(priced, prices)
+        self.assertEqual([self.ink(found, one)[1] > 40 for one in (0, 1)], [True, False])
+        self.assertEqual(self.said(found), [" has no place for was: not on the labels"])
+
     def test_a_group_goes_with_its_field(self) -> None:
         word = '<g id="Best before"><path d="M2 2H9V9H2Z"/></g>'
         place = '<rect id="Best_before" x="20" y="2" width="30" height="8"/>'
