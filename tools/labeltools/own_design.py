@@ -13,6 +13,7 @@ else the id. Lengths are in millimetres from the left upper corner of the label 
 """
 
 import re
+from collections import Counter
 from copy import deepcopy
 from dataclasses import dataclass, replace
 from functools import cached_property, lru_cache
@@ -40,7 +41,7 @@ from labeltools.own_drawing import (
     walked,
     words_of,
 )
-from labeltools.own_effects import make_alike
+from labeltools.own_effects import hidden_in, make_alike
 from labeltools.own_grammar import unlike
 from labeltools.stock import Size, size_text
 from labeltools.symbologies import SYMBOLOGIES
@@ -66,6 +67,9 @@ ALIKE = 0.015  # by which the proportions of a page without millimetres may
 MOST_SAID = 9  # of what may be drawn otherwise
 PLAIN_HINT = Text("write a plain style, such as fill:#000 or 2px, or make it a path or a picture")
 MOST_KNOWN = 1024  # names whose keys are kept
+MOST_PLACES = 400
+PLAIN_ID = re.compile(r"[\w.-]+", re.ASCII)
+SIDES = ("height", "width")
 THIN = 1e-7  # the height of what shows the upper edge of a place
 TINY = 0.01  # millimetres
 # names that programs give by themselves
@@ -220,22 +224,23 @@ def read_design(name: str, cell: Size, white: Edges, turn: Optional[bool]) -> Ow
     size = page.size if page.is_real else label
     corner = (label[0] - size[0]) / 2, (label[1] - size[1]) / 2
     area = rectangle(*corner, *size, 1.0)
+    said = [*remarks_on(name, root)]
     marked = deepcopy(root)
     taken = taken_places(name, marked)
-    words = mark_words(marked)
-    handle = mark_places(name, marked, taken)
-    placed = located(name, handle, [place for _, _, place in taken], area)
+    words, ids = mark_words(marked), mark_places(marked, taken)
+    handle = handle_of(name, marked)
+    placed = located(name, marked, handle, taken, ids, area)
     check_places(name, placed, label)
     edges = (white[1], white[2], white[3], white[0]) if is_turned else white
     cut = tuple(inside(name, place, label, edges) for place in placed)
     smaller = [one.title for one, whole in zip(cut, placed) if is_smaller(one, whole)]
-    for parent, rect, _ in taken_places(name, root):
-        parent.remove(rect)
+    for _, rect, _ in taken_places(name, root):
+        hide(rect)
     ends = (edges[0], edges[1], label[0] - edges[2], label[1] - edges[3])
     groups = frozenset(key for _, _, key in groups_of(root))
     how = (root, corner, size, groups, tuple(smaller), fonts_of(root), keys_of(shapes_in(root)))
-    remarks = (*remarks_on(name, root), *cut_words(name, handle, words, area, ends))
-    return OwnDesign(name, label, is_turned, cut, *how, words, remarks)
+    said += cut_words(name, handle, words, area, ends)
+    return OwnDesign(name, label, is_turned, cut, *how, tuple(words.values()), tuple(said))
 
 
 def remarks_on(name: str, root: Element) -> Iterator[Text]:
@@ -284,10 +289,15 @@ def groups_of(root: Element) -> Iterator[tuple[Element, Element, str]]:
 def without_groups(root: Element, absent: frozenset[str]) -> Element:
     """Returns a tree without the groups of some parts."""
     found = deepcopy(root)
-    for parent, group, key in list(groups_of(found)):
+    for _, group, key in groups_of(found):
         if key in absent:
-            parent.remove(group)
+            hide(group)
     return found
+
+
+def hide(element: Element) -> None:
+    """Makes an element invisible where it stands: style sheets count what is beside others."""
+    element.set("style", f"{element.get('style', '')};display:none")
 
 
 def page_of(name: str, root: Element) -> Page:
@@ -358,6 +368,11 @@ def taken_places(name: str, root: Element) -> list[Taken]:
     if not any(place.part == "code" for _, _, place in found):
         hint = Text("draw a rectangle with the id code")
         raise ToolError(Text("{} has no place for the code", name), hint)
+    if len(found) > MOST_PLACES:
+        raise ToolError(Text("{} has more than {} places", name, MOST_PLACES))
+    hidden = hidden_in(root)
+    for place in (place for _, rect, place in found if rect in hidden):
+        raise hidden_place(name, place)
     check_clones(name, root, found)
     return found
 
@@ -451,56 +466,75 @@ def place_of(name: str, written: str) -> Place:
     return place
 
 
-def mark(parent: Element, element: Element, name: str) -> None:
-    """Puts an element into a group with an id: style sheets find it as before."""
-    group = Element(f"{SPACE}g", {"id": name})
-    group.append(element)
-    parent[list(parent).index(element)] = group
-
-
-def mark_places(name: str, root: Element, taken: list[Taken]) -> Any:
-    """Marks the rectangles that are places, beside a copy of the upper and the left edge of each,
-    and returns what draws them; raises `ToolError`.
+def mark(parent: Element, element: Element, name: str, ids: Counter[str]) -> str:
+    """Returns the id of an element: its own one, or else a new one. Where others have it too, it
+    is put into a group with one, in which style sheets find it by its id as before.
     """
-    for number, (parent, rect, _) in enumerate(taken):
-        for part, side in (("upper", "height"), ("left", "width")):
-            edge = deepcopy(rect)
-            edge.set(side, f"{THIN}")
-            edge.set("style", f"{rect.get('style', '')};{side}:{THIN}px")
-            parent.insert(list(parent).index(rect), edge)
-            mark(parent, edge, f"{part}-{number}")
-        mark(parent, rect, f"place-{number}")
-    return handle_of(name, root)
+    own = element.get("id", "")
+    if PLAIN_ID.fullmatch(own) and ids[own] == 1:
+        return own
+    if own:
+        group = Element(f"{SPACE}g", {"id": name})
+        parent[list(parent).index(element)] = group
+        group.append(element)
+    else:
+        element.set("id", name)
+    return name
 
 
-def located(name: str, handle: Any, places: Iterable[Place], area: Any) -> tuple[Place, ...]:
-    """Returns places with their sides; raises `ToolError` for one that has none, or is askew."""
+def ids_in(root: Element) -> Counter[str]:
+    """Returns how often each id is there."""
+    return Counter(element.get("id", "") for element in root.iter())
+
+
+def mark_places(root: Element, taken: Iterable[Taken]) -> list[str]:
+    """Returns the ids of the rectangles that are places, all of which get one."""
+    ids = ids_in(root)
+    marked = enumerate(taken)
+    return [mark(parent, rect, f"place-{number}", ids) for number, (parent, rect, _) in marked]
+
+
+def located(
+    name: str, root: Element, handle: Any, taken: list[Taken], ids: list[str], area: Any
+) -> tuple[Place, ...]:
+    """Returns places with their sides; raises `ToolError` for one that has none, or is askew. It
+    shows librsvg the upper and the left edges of them all in their places.
+    """
+    edges = [edges_of(name, root, [rect for _, rect, _ in taken], one) for one in SIDES]
     found = []
-    for number, place in enumerate(places):
-        whole, upper, left = (
-            sides_of(handle, f"#{part}-{number}", area) for part in ("place", "upper", "left")
-        )
-        one = located_place(name, place, whole, upper, left)
-        found.append(replace(one, colour=colour_of(handle, f"#place-{number}", area, whole)))
+    for (_, _, place), one in zip(taken, ids):
+        whole, upper, left = (sides_of(drawn, f"#{one}", area) for drawn in (handle, *edges))
+        place = located_place(name, place, whole, upper, left)
+        found.append(replace(place, colour=colour_of(handle, f"#{one}", area, whole)))
     return tuple(found)
 
 
-def mark_words(root: Element) -> tuple[str, ...]:
-    """Marks the texts of a drawing, and returns their words."""
-    texts = [(parent, one) for parent, one, _ in walked(root) if tag_of(one) == "text"]
-    for number, (parent, element) in enumerate(texts):
-        mark(parent, element, f"words-{number}")
-    return tuple(words_of(element) for _, element in texts)
+def edges_of(name: str, root: Element, rects: Iterable[Element], side: str) -> Any:
+    """Returns what draws a tree whose places have nearly no height, or no width."""
+    styles = {rect: rect.get("style", "") for rect in rects}
+    for rect, style in styles.items():
+        rect.set("style", f"{style};{side}:{THIN}px")
+    handle = handle_of(name, root)
+    for rect, style in styles.items():
+        rect.set("style", style)
+    return handle
+
+
+def mark_words(root: Element) -> dict[str, str]:
+    """Returns the words of the texts of a drawing by their ids, all of which get one."""
+    ids = ids_in(root)
+    texts = enumerate((parent, one) for parent, one, _ in [*walked(root)] if tag_of(one) == "text")
+    return {mark(*both, f"words-{number}", ids): words_of(both[1]) for number, both in texts}
 
 
 def cut_words(
-    name: str, handle: Any, words: Iterable[str], area: Any, ends: Edges
+    name: str, handle: Any, words: Mapping[str, str], area: Any, ends: Edges
 ) -> Iterator[Text]:
     """Yields what is said of words of a drawing that end beyond an edge, as those of a font that is
     not there may; the left, upper, right and lower end of what takes ink are given.
     """
-    for number, text in enumerate(words):
-        ink = handle.get_geometry_for_layer(f"#words-{number}", area).out_ink_rect
+    for known, text in words.items():
+        ink = handle.get_geometry_for_layer(f"#{known}", area).out_ink_rect
         right, bottom = ink.x + ink.width, ink.y + ink.height
         cut = max(ends[0] - ink.x, ends[1] - ink.y, right - ends[2], bottom - ends[3])
         is_seen = ink.x < ends[2] and right > ends[0] and ink.y < ends[3] and bottom > ends[1]
@@ -515,9 +549,7 @@ def located_place(name: str, place: Place, whole: Any, upper: Any, left: Any) ->
     left edge; raises `ToolError`.
     """
     if min(whole.width, whole.height) < TINY:
-        hint = Text("give it a width and a height, and show its layer, or take its name away")
-        what = Text("{}: the place {} is hidden, or has no size", name, place.title)
-        raise ToolError(what, hint)
+        raise hidden_place(name, place)
     is_slanted = max(upper.width, upper.height) < side_of(whole, upper) - TINY
     if min(upper.width, upper.height) > TINY or is_slanted:
         hint = Text("turn it by a quarter, or not at all")
@@ -530,6 +562,12 @@ def located_place(name: str, place: Place, whole: Any, upper: Any, left: Any) ->
         height=whole.height,
         quarters=quarters_of(whole, upper, left),
     )
+
+
+def hidden_place(name: str, place: Place) -> ToolError:
+    """Returns why a place is refused that nobody sees."""
+    hint = Text("give it a width and a height, and show its layer, or take its name away")
+    return ToolError(Text("{}: the place {} is hidden, or has no size", name, place.title), hint)
 
 
 def side_of(whole: Any, upper: Any) -> float:

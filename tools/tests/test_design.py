@@ -27,6 +27,7 @@ TITLE = '<rect id="title" {}/>' + CODE
 WIDE = 'x="2" y="2" width="56" height="10"'
 ONE: Label = ("code128 A", {"title": "Title"})
 PICTURE = '<image x="2" y="2" width="5" height="5" href="data:image/{};base64,{}"/>' + CODE
+BOX = '<rect x="2" y="2" width="9" height="9"/>'
 NOT_EMBEDDED = "is of another file, which is not read; embed it"
 NOT_PICTURE = "a picture is not PNG or JPEG, or has more than 50,000,000 pixels; embed it as PNG"
 HIDDEN = "the place title is hidden, or has no size; give it a width and a height, and show its"
@@ -62,6 +63,9 @@ REFUSED = (
     ("", "has no place for the code; draw a rectangle with the id code"),
     (TITLE.format('x="2" y="2" width="0" height="9"'), HIDDEN),
     (f'<g style="display:none"><rect id="title" {WIDE}/></g>{CODE}', HIDDEN),
+    (f'<g visibility="hidden"><rect id="title" {WIDE}/></g>{CODE}', HIDDEN),
+    (f'<g style="visibility:collapse"><g><rect id="title" {WIDE}/></g></g>{CODE}', HIDDEN),
+    (f"<style>#title{{visibility:hidden}}</style>{TITLE.format(WIDE)}", HIDDEN),
     (f'<defs><rect id="title" {WIDE}/></defs>{CODE}', HIDDEN),
     (f'<clipPath><rect id="title" {WIDE}/></clipPath>{CODE}', HIDDEN),
     (
@@ -320,6 +324,33 @@ class Names(OwnPages):
                 self.assertAlmostEqual(end, wanted, delta=0.13)
         word = '<text id="Price" x="2" y="9" font-size="4">Price</text>'
         self.assertTrue(dots_of(self.found(word + CODE))[:150].any())
+
+    def test_a_page_that_is_moved(self) -> None:
+        """Places are moved with the drawing, and browsers move the page around its middle."""
+        body = f'<rect id="title" {WIDE}/><path d="M2 2H9V9H2Z"/>'.replace("56", "52") + CODE
+        page = f'{designs.PAGE} transform="scale(.9)"'
+        found = self.found(body.replace("title", "text"), [("code128 A", {})], page=page)
+        self.assertAlmostEqual(self.ink(found)[0], 1.8, delta=0.13)
+        assert found.job.design is not None
+        place = found.job.design.places[0]
+        sides = (place.left, place.top, place.width, place.height)
+        for side, wanted in zip(sides, (1.8, 1.8, 46.8, 9)):
+            self.assertAlmostEqual(side, wanted, delta=0.01)
+        self.assertEqual([one[2:17] for one in self.said(found)], ["<svg transform>"])
+
+    def test_what_moves_or_sizes_a_place(self) -> None:
+        """CSS moves a place by properties that librsvg does not know, and counts what is beside."""
+        for style in ("translate:9px 0", "rotate:90deg", "scale:2"):
+            styled = f'style="{style}" {WIDE}'
+            (said,) = self.said(self.found(TITLE.format(styled)))
+            self.assertTrue(said.startswith(f": {style} may not be drawn"), said)
+        sheet = "<style>rect:nth-of-type({}){{height:3px}}</style>"
+        for number, high in ((1, 3), (2, 10)):
+            found = self.found(sheet.format(number) + TITLE.format(WIDE) + BOX)
+            assert found.job.design is not None
+            self.assertAlmostEqual(found.job.design.places[0].height, high, delta=0.01)
+        third = sheet.format(3) + TITLE.format('x="30" y="2" width="28" height="10"') + BOX
+        self.assertAlmostEqual(self.ink(self.found(third, [("code128 A", {})]))[3], 5, delta=0.13)
 
     def test_style_sheets_find_places_by_their_ids(self) -> None:
         for rule in ("fill:red", "fill:red;x:2px;y:2px;width:56px;height:10px"):
