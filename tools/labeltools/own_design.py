@@ -22,7 +22,7 @@ from xml.etree.ElementTree import Element
 
 import cairo
 
-from labeltools.area import Edges
+from labeltools.area import ROLL_SMALLEST, Edges
 from labeltools.messages import BAD_ARGUMENTS, ToolError, quoted
 from labeltools.names import name_of
 from labeltools.own_copies import HOLDERS, PAINT, check_copies
@@ -68,6 +68,8 @@ MOST_SAID = 9  # of what may be drawn otherwise
 PLAIN_HINT = Text("write a plain style, such as fill:#000 or 2px, or make it a path or a picture")
 MOST_KNOWN = 1024  # names whose keys are kept
 MOST_PLACES = 400
+LARGEST = 4000.0  # millimetres of a page
+LEAST_BOX = 1e-3  # of a viewBox: librsvg draws a smaller one by numbers that are too large
 PLAIN_ID = re.compile(r"[\w.-]+", re.ASCII)
 SIDES = ("height", "width")
 THIN = 1e-7  # the height of what shows the upper edge of a place
@@ -147,9 +149,9 @@ class Place:
 class OwnDesign:
     """A design that suits a label: its file, the sides of a label as it is read, whether labels are
     turned to the right, its places, what is drawn, which begins at `corner` and has a size, the
-    names of its groups, which are drawn with the part or column of that name, the places that are smaller than they are
-    drawn, since an edge of the paper takes no ink, the fonts of its words, what other shapes with a
-    name are, by its key, its words, and what is said of it.
+    names of its groups, which are drawn with the part or column of that name, the places that are
+    smaller than they are drawn, since an edge of the paper takes no ink, the fonts of its words,
+    what other shapes with a name are, by its key, its words, and what is said of it.
     """
 
     file: str
@@ -239,7 +241,7 @@ def read_design(name: str, cell: Size, white: Edges, turn: Optional[bool]) -> Ow
     ends = (edges[0], edges[1], label[0] - edges[2], label[1] - edges[3])
     groups = frozenset(key for _, _, key in groups_of(root))
     how = (root, corner, size, groups, tuple(smaller), fonts_of(root), keys_of(shapes_in(root)))
-    said += cut_words(name, handle, words, area, ends)
+    said += [*cut_words(name, handle, words, area, ends)] or cut_drawing(name, root, area, ends)
     return OwnDesign(name, label, is_turned, cut, *how, tuple(words.values()), tuple(said))
 
 
@@ -313,7 +315,7 @@ def page_of(name: str, root: Element) -> Page:
         width, height = found.out_viewbox.width, found.out_viewbox.height
     box = found.out_viewbox if found.out_has_viewbox else rectangle(0, 0, width, height, 1.0)
     is_wrong = not found.out_has_viewbox and any(key.lower() == "viewbox" for key in root.attrib)
-    if is_wrong or min(width, height, box.width, box.height) <= 0:
+    if is_wrong or min(width, height, box.width, box.height) < LEAST_BOX:
         example = 'width="60mm" height="40mm" viewBox="0 0 60 40"'
         hint = Text("give it width, height and viewBox, as {}", example)
         raise ToolError(Text("{} has no size", name), hint)
@@ -322,7 +324,10 @@ def page_of(name: str, root: Element) -> Page:
         root.set("viewBox", f"0 0 {width * dots:.6f} {height * dots:.6f}")
     root.set("style", f"{root.get('style', '')};width:auto;height:auto")  # of its style sheets too
     scale = PX if is_real else 1.0
-    return Page((round(width * scale, 3), round(height * scale, 3)), is_real)
+    size = (round(width * scale, 3), round(height * scale, 3))
+    if is_real and max(size) > LARGEST:
+        raise ToolError(Text("{} is larger than {:g} mm", name, LARGEST))
+    return Page(size, is_real)
 
 
 def fitting_turn(name: str, page: Page, cell: Size, turn: Optional[bool]) -> bool:
@@ -365,11 +370,11 @@ def taken_places(name: str, root: Element) -> list[Taken]:
         is_free = element not in shapes and not UNNAMED.fullmatch(title_of(element))
         if tag_of(element) == "rect" and is_free:
             found.append((parent, element, place_of(name, written_name(element))))
+    if len(found) > MOST_PLACES:
+        raise ToolError(Text("{} has more than {} places", name, MOST_PLACES))
     if not any(place.part == "code" for _, _, place in found):
         hint = Text("draw a rectangle with the id code")
         raise ToolError(Text("{} has no place for the code", name), hint)
-    if len(found) > MOST_PLACES:
-        raise ToolError(Text("{} has more than {} places", name, MOST_PLACES))
     hidden = hidden_in(root)
     for place in (place for _, rect, place in found if rect in hidden):
         raise hidden_place(name, place)
@@ -440,30 +445,61 @@ def place_of(name: str, written: str) -> Place:
     """
     title, *words = (" ".join(word.split()).strip(BLANKS) for word in written.split(","))
     place = Place(title, title)
+    flags = {word.casefold() for word in words}
+    is_symbol = place.is_symbol or not flags.isdisjoint(SYMBOLOGIES)
+    kinds: dict[str, str] = {}
     for word in filter(None, words):
-        key, value = (side.strip() for side in (*word.split("=", 1), "")[:2])
-        key = key.casefold()
-        flag = word.casefold()
-        if flag in ACROSS:
-            place = replace(place, across=ACROSS[flag])
-        elif flag in DOWN:
-            place = replace(place, down=DOWN[flag])
-        elif flag == "bold":
-            place = replace(place, is_bold=True)
-        elif flag in SYMBOLOGIES:
-            place = replace(place, symbology=flag)
-        elif key in NUMBERS and NUMBERS[key].fullmatch(value) and float(value) > 0:
-            place = replace(place, **{key: float(value)})
-        elif key == "font" and value:
-            place = replace(place, font=value.replace("_", " "))
-        elif place.symbology and key in SYMBOLOGIES[place.symbology].settings:
-            place = replace(place, settings=(*place.settings, f"{key}={value.upper()}"))
-        else:
-            known = [*ACROSS, *DOWN, "bold", "font=NAME", *SYMBOLOGIES]
-            known += [f"{one}=N" for one in NUMBERS]
+        kind, changes = meaning_of(place, word, is_symbol)
+        if not kind:
             what = Text("{}: {}: {} is not understood", name, quoted(written), quoted(word))
-            raise ToolError(what, Text("behind the name is one of {}", ", ".join(known)))
+            raise ToolError(what, known_words(place, is_symbol))
+        if kind in kinds:
+            both = quoted(kinds[kind]), quoted(word)
+            what = Text("{}: {}: {} and {} are of one kind", name, quoted(written), *both)
+            raise ToolError(what, Text("take one of them away"))
+        kinds[kind] = word
+        place = replace(place, **changes)
+    if 0 < place.module < ROLL_SMALLEST:
+        what = Text("{}: {}: no module is below {} mm", name, quoted(written), ROLL_SMALLEST)
+        raise ToolError(what, Text("enlarge it"))
     return place
+
+
+def meaning_of(place: Place, word: str, is_symbol: bool) -> tuple[str, dict[str, Any]]:
+    """Returns what kind of word is behind the name of a symbol, or of a text, and what it changes
+    there; no kind for one that means nothing there.
+    """
+    key, value = (side.strip() for side in (*word.split("=", 1), "")[:2])
+    key = key.casefold()
+    flag = word.casefold()
+    found: dict[str, Any] = {}
+    if flag in SYMBOLOGIES:
+        key, found = "symbology", {"symbology": flag}
+    elif key in NUMBERS and (key == "module") == is_symbol:
+        is_number = NUMBERS[key].fullmatch(value) and float(value) > 0
+        found = {key: float(value)} if is_number else {}
+    elif is_symbol:
+        is_known = place.symbology and key in SYMBOLOGIES[place.symbology].settings
+        found = {"settings": (*place.settings, f"{key}={value.upper()}")} if is_known else {}
+    elif flag in ACROSS:
+        key, found = "across", {"across": ACROSS[flag]}
+    elif flag in DOWN:
+        key, found = "down", {"down": DOWN[flag]}
+    elif flag == "bold":
+        found = {"is_bold": True}
+    elif key == "font" and value:
+        found = {"font": value.replace("_", " ")}
+    return (key, found) if found else ("", {})
+
+
+def known_words(place: Place, is_symbol: bool) -> Text:
+    """Returns what may be behind the name of a symbol, or of a text."""
+    if not is_symbol:
+        known = [*ACROSS, *DOWN, "bold", "font=NAME", "size=N", "lines=N", *SYMBOLOGIES]
+        return Text("behind the name of a text is one of {}", ", ".join(known))
+    settings = SYMBOLOGIES[place.symbology].settings if place.symbology else ()
+    known = [*SYMBOLOGIES, "module=N", *(f"{one}=N" for one in settings)]
+    return Text("behind the name of a symbol is one of {}", ", ".join(known))
 
 
 def mark(parent: Element, element: Element, name: str, ids: Counter[str]) -> str:
@@ -542,6 +578,21 @@ def cut_words(
             hint = Text("move it, or make its letters smaller")
             what = Text("{}: {} is cut at the edge by {:.1f} mm", name, quoted(text), cut)
             yield Text("{}: {}", what, hint)
+
+
+def cut_drawing(name: str, root: Element, page: Any, ends: Edges) -> Iterator[Text]:
+    """Yields what is said of a drawing that ends beyond what takes ink, but not where it goes on to
+    the end of its page, as a background does.
+    """
+    ink = handle_of(name, root).get_geometry_for_layer(None, page).out_ink_rect
+    begins = (ink.x, ink.y, -ink.x - ink.width, -ink.y - ink.height)
+    pages = (page.x, page.y, -page.x - page.width, -page.y - page.height)
+    sides = (ends[0], ends[1], -ends[2], -ends[3])
+    inside = [one for one in zip(begins, pages, sides) if one[0] - one[1] > NEAR / 2]
+    cut = max((side - begin for begin, _, side in inside), default=0.0)
+    if min(ink.width, ink.height) > 0 and cut > NEAR / 2:
+        what = Text("{}: the drawing is cut at the edge by {:.1f} mm", name, cut)
+        yield Text("{}: {}", what, Text("move it in, or give another --edge or --shift"))
 
 
 def located_place(name: str, place: Place, whole: Any, upper: Any, left: Any) -> Place:

@@ -124,9 +124,33 @@ REFUSED = (
     (PICTURE.format("svg+xml", svg_in_base64()), NOT_PICTURE),
     (f'<image href="data:image/png,hello"/>{CODE}', NOT_PICTURE),
     ('<rect data-place="code, blod"/>', '"code, blod": "blod" is not understood; behind the name'),
-    ('<rect data-place="title, level=Q"/>', '"level=Q" is not understood; behind the name is one'),
-    ('<rect data-place="title, size=0"/>', '"size=0" is not understood; behind the name is one of'),
-    ('<rect data-place="title, lines=1.5"/>', '"lines=1.5" is not understood; behind the name is'),
+    ('<rect data-place="title, level=Q"/>', '"level=Q" is not understood; behind the name of a t'),
+    ('<rect data-place="title, size=0"/>', '"size=0" is not understood; behind the name of a text'),
+    ('<rect data-place="code, left"/>', '"left" is not understood; behind the name of a symbol is'),
+    (
+        '<rect data-place="code, size=1"/>',
+        '"size=1" is not understood; behind the name of a symbol',
+    ),
+    ('<rect data-place="title, qr, bold"/>', '"bold" is not understood; behind the name of a symb'),
+    ('<rect data-place="title, bold, qr"/>', '"bold" is not understood; behind the name of a symb'),
+    (
+        '<rect data-place="title, module=1"/>',
+        '"module=1" is not understood; behind the name of a t',
+    ),
+    (
+        '<rect data-place="title, left, right"/>',
+        '"title, left, right": "left" and "right" are of one kind; take one of them away',
+    ),
+    (
+        '<rect data-place="code, qr, level=Q, level=H"/>',
+        '"level=Q" and "level=H" are of one kind; take one of them',
+    ),
+    (
+        '<rect data-place="code, module=0.01"/>',
+        '"code, module=0.01": no module is below 0.249 mm; enlarge',
+    ),
+    ('<rect id="title-2"/>' * 500, "has more than 400 places"),
+    ('<rect data-place="title, lines=1.5"/>', '"lines=1.5" is not understood; behind the name of'),
     (f'<rect data-place="title, font=Nothing" {WIDE}/>{CODE}', "there is no font Nothing; fc-list"),
     (f"<!-- a -- b -->{CODE}", "is no SVG: not well-formed"),
 )
@@ -139,6 +163,12 @@ PAGES: tuple[tuple[str, dict[str, Any], str], ...] = (
     ),
     ('width="0mm" height="40mm"', {}, "has no size; give it width, height and viewBox"),
     ('width="60mm" height="40mm" viewBox="0 0 0 40"', {}, "has no size; give it width, height and"),
+    ('width="60mm" height="40mm" viewBox="0 0 6e-9 4e-9"', {}, "has no size; give it width, heigh"),
+    (
+        'width="60000mm" height="40mm"',
+        {"paper": None},
+        "is larger than 4000 mm",
+    ),
     ('width="60mm" height="40mm" viewBox="0 0 6mm 4mm"', {}, "has no size; give it width, height"),
     (
         'width="60mm" height="40mm" viewbox="0 0 60 40"',
@@ -172,6 +202,7 @@ PAGES: tuple[tuple[str, dict[str, Any], str], ...] = (
 # what is in a file that is no SVG, and what it is refused with
 FILES = (
     (b"", "is no SVG: no element found: line 1, column 0"),
+    (base64.b64decode(png_of(8, 8)), "is no SVG; it begins with <svg xmlns="),
     (b"<!doctype html><html><p>a<br></html>", "is no SVG: "),
     (f"<svg {designs.PAGE}>{CODE}</svg>".encode(), "is no SVG; it begins with <svg xmlns="),
     (f"<svg {designs.SPACE} {designs.PAGE}>{CODE}".encode(), "is no SVG: no element found"),
@@ -257,6 +288,10 @@ class Refused(OwnPages):
                 planned(PrintOptions(paper=designs.PAPER, design=str(self.path)))
             self.assertTrue(str(caught.exception).startswith(f"{self.path}"))
             self.assertTrue(designs.is_refused(caught.exception, why), caught.exception)
+        pipe = self.path.parent / "pipe.svg"
+        os.mkfifo(pipe)
+        with self.assertRaisesRegex(ToolError, f"--design {pipe} is no regular file"):
+            planned(PrintOptions(paper=designs.PAPER, design=str(pipe)))
         folder = self.path.parent / "folder.svg"
         folder.mkdir()
         for path, why in ((Path("none.svg"), "No such file"), (folder, "Is a directory")):
@@ -695,6 +730,23 @@ class Drawings(OwnPages):
             '<g style="background: rgb(255, 255, 255)"/>',
         ):
             self.assertEqual(self.said(self.found(what + CODE, [("code128 A", {})])), [])
+
+    def test_a_drawing_that_is_cut_is_said(self) -> None:
+        """But for what goes on to the end of the page, and what loses no more than 0.5 mm."""
+        bar = '<path d="M{}V11H{}Z"/>' + CODE
+        cases: tuple[tuple[tuple[str, int], dict[str, Any], float], ...] = (
+            (("50 2H59", 50), {"shift": (3.0, 0.0)}, 2.0),
+            (("50 2H59", 50), {"edge": (0.0, 0.0, 3.0, 0.0)}, 2.0),
+            (("2 1H9", 2), {"edge": (0.0, 3.0, 0.0, 0.0)}, 2.0),
+            (("50 2H59", 50), {"edge": (0.0, 0.0, 1.4, 0.0)}, 0.0),
+            (("50 2H60", 50), {"edge": (0.0, 0.0, 3.0, 0.0)}, 0.0),
+            (("50 2H70", 50), {"edge": (0.0, 0.0, 3.0, 0.0)}, 0.0),
+        )
+        for ends, options, said in cases:
+            found = self.said(self.found(bar.format(*ends), [("code128 A", {})], **options))
+            cut = [one for one in found if "smaller than drawn" not in one]
+            wanted = [f": the drawing is cut at the edge by {said:.1f} mm"] * (said > 0)
+            self.assertEqual([one.split(": move")[0] for one in cut], wanted, (ends, options))
 
     def test_words_that_are_cut_are_said(self) -> None:
         word = '<text x="{}" y="9" font-size="5" font-family="DejaVu Sans">Door 2</text>'
