@@ -1,8 +1,8 @@
 """A design of a user's own: an SVG page of the label's size, drawn in any program.
 
 A rectangle with a name is the place of a part of labels, and is not drawn itself; all else is drawn
-on each label as it is, but for a group with the name of a part, which is drawn where a label has
-that part. The name is that of the part, then how it is drawn:
+on each label as it is, but for a group with the name of a part or a column, which is drawn where a
+label has that. The name is that of the part, then how it is drawn:
 
     <rect data-place="title, bold, middle" x="2" y="2" width="96" height="22"/>
     <rect data-place="code" x="2" y="25" width="72" height="23"/>
@@ -13,6 +13,7 @@ else the id. Lengths are in millimetres from the left upper corner of the label 
 """
 
 import re
+from collections import Counter
 from copy import deepcopy
 from dataclasses import dataclass, replace
 from functools import cached_property, lru_cache
@@ -21,7 +22,7 @@ from xml.etree.ElementTree import Element
 
 import cairo
 
-from labeltools.area import Edges
+from labeltools.area import ROLL_SMALLEST, Edges
 from labeltools.messages import BAD_ARGUMENTS, ToolError, quoted
 from labeltools.names import name_of
 from labeltools.own_copies import HOLDERS, PAINT, check_copies
@@ -40,7 +41,7 @@ from labeltools.own_drawing import (
     walked,
     words_of,
 )
-from labeltools.own_effects import make_alike
+from labeltools.own_effects import hidden_in, make_alike
 from labeltools.own_grammar import unlike
 from labeltools.stock import Size, size_text
 from labeltools.symbologies import SYMBOLOGIES
@@ -66,6 +67,11 @@ ALIKE = 0.015  # by which the proportions of a page without millimetres may
 MOST_SAID = 9  # of what may be drawn otherwise
 PLAIN_HINT = Text("write a plain style, such as fill:#000 or 2px, or make it a path or a picture")
 MOST_KNOWN = 1024  # names whose keys are kept
+MOST_PLACES = 400
+LARGEST = 4000.0  # millimetres of a page
+LEAST_BOX = 1e-3  # of a viewBox: librsvg draws a smaller one by numbers that are too large
+PLAIN_ID = re.compile(r"[\w.-]+", re.ASCII)
+SIDES = ("height", "width")
 THIN = 1e-7  # the height of what shows the upper edge of a place
 TINY = 0.01  # millimetres
 # names that programs give by themselves
@@ -143,9 +149,9 @@ class Place:
 class OwnDesign:
     """A design that suits a label: its file, the sides of a label as it is read, whether labels are
     turned to the right, its places, what is drawn, which begins at `corner` and has a size, the
-    parts of labels whose groups are drawn only with them, the places that are smaller than they are
-    drawn, since an edge of the paper takes no ink, the fonts of its words, what other shapes with a
-    name are, by its key, its words, and what is said of it.
+    names of its groups, which are drawn with the part or column of that name, the places that are
+    smaller than they are drawn, since an edge of the paper takes no ink, the fonts of its words,
+    what other shapes with a name are, by its key, its words, and what is said of it.
     """
 
     file: str
@@ -220,23 +226,23 @@ def read_design(name: str, cell: Size, white: Edges, turn: Optional[bool]) -> Ow
     size = page.size if page.is_real else label
     corner = (label[0] - size[0]) / 2, (label[1] - size[1]) / 2
     area = rectangle(*corner, *size, 1.0)
+    said = [*remarks_on(name, root)]
     marked = deepcopy(root)
     taken = taken_places(name, marked)
-    words = mark_words(marked)
-    handle = mark_places(name, marked, taken)
-    placed = located(name, handle, [place for _, _, place in taken], area)
+    words, ids = mark_words(marked), mark_places(marked, taken)
+    handle = handle_of(name, marked)
+    placed = located(name, marked, handle, taken, ids, area)
     check_places(name, placed, label)
     edges = (white[1], white[2], white[3], white[0]) if is_turned else white
     cut = tuple(inside(name, place, label, edges) for place in placed)
     smaller = [one.title for one, whole in zip(cut, placed) if is_smaller(one, whole)]
-    for parent, rect, _ in taken_places(name, root):
-        parent.remove(rect)
+    for _, rect, _ in taken_places(name, root):
+        hide(rect)
     ends = (edges[0], edges[1], label[0] - edges[2], label[1] - edges[3])
-    keys = frozenset(key for place in placed for key in (place.key, place.part))
-    groups = frozenset(key for _, _, key in groups_of(root) if key in keys)
+    groups = frozenset(key for _, _, key in groups_of(root))
     how = (root, corner, size, groups, tuple(smaller), fonts_of(root), keys_of(shapes_in(root)))
-    remarks = (*remarks_on(name, root), *cut_words(name, handle, words, area, ends))
-    return OwnDesign(name, label, is_turned, cut, *how, words, remarks)
+    said += [*cut_words(name, handle, words, area, ends)] or cut_drawing(name, root, area, ends)
+    return OwnDesign(name, label, is_turned, cut, *how, tuple(words.values()), tuple(said))
 
 
 def remarks_on(name: str, root: Element) -> Iterator[Text]:
@@ -285,10 +291,15 @@ def groups_of(root: Element) -> Iterator[tuple[Element, Element, str]]:
 def without_groups(root: Element, absent: frozenset[str]) -> Element:
     """Returns a tree without the groups of some parts."""
     found = deepcopy(root)
-    for parent, group, key in list(groups_of(found)):
+    for _, group, key in groups_of(found):
         if key in absent:
-            parent.remove(group)
+            hide(group)
     return found
+
+
+def hide(element: Element) -> None:
+    """Makes an element invisible where it stands: style sheets count what is beside others."""
+    element.set("style", f"{element.get('style', '')};display:none")
 
 
 def page_of(name: str, root: Element) -> Page:
@@ -304,7 +315,7 @@ def page_of(name: str, root: Element) -> Page:
         width, height = found.out_viewbox.width, found.out_viewbox.height
     box = found.out_viewbox if found.out_has_viewbox else rectangle(0, 0, width, height, 1.0)
     is_wrong = not found.out_has_viewbox and any(key.lower() == "viewbox" for key in root.attrib)
-    if is_wrong or min(width, height, box.width, box.height) <= 0:
+    if is_wrong or min(width, height, box.width, box.height) < LEAST_BOX:
         example = 'width="60mm" height="40mm" viewBox="0 0 60 40"'
         hint = Text("give it width, height and viewBox, as {}", example)
         raise ToolError(Text("{} has no size", name), hint)
@@ -313,7 +324,10 @@ def page_of(name: str, root: Element) -> Page:
         root.set("viewBox", f"0 0 {width * dots:.6f} {height * dots:.6f}")
     root.set("style", f"{root.get('style', '')};width:auto;height:auto")  # of its style sheets too
     scale = PX if is_real else 1.0
-    return Page((round(width * scale, 3), round(height * scale, 3)), is_real)
+    size = (round(width * scale, 3), round(height * scale, 3))
+    if is_real and max(size) > LARGEST:
+        raise ToolError(Text("{} is larger than {:g} mm", name, LARGEST))
+    return Page(size, is_real)
 
 
 def fitting_turn(name: str, page: Page, cell: Size, turn: Optional[bool]) -> bool:
@@ -356,9 +370,14 @@ def taken_places(name: str, root: Element) -> list[Taken]:
         is_free = element not in shapes and not UNNAMED.fullmatch(title_of(element))
         if tag_of(element) == "rect" and is_free:
             found.append((parent, element, place_of(name, written_name(element))))
+    if len(found) > MOST_PLACES:
+        raise ToolError(Text("{} has more than {} places", name, MOST_PLACES))
     if not any(place.part == "code" for _, _, place in found):
         hint = Text("draw a rectangle with the id code")
         raise ToolError(Text("{} has no place for the code", name), hint)
+    hidden = hidden_in(root)
+    for place in (place for _, rect, place in found if rect in hidden):
+        raise hidden_place(name, place)
     check_clones(name, root, found)
     return found
 
@@ -426,82 +445,132 @@ def place_of(name: str, written: str) -> Place:
     """
     title, *words = (" ".join(word.split()).strip(BLANKS) for word in written.split(","))
     place = Place(title, title)
+    flags = {word.casefold() for word in words}
+    is_symbol = place.is_symbol or not flags.isdisjoint(SYMBOLOGIES)
+    kinds: dict[str, str] = {}
     for word in filter(None, words):
-        key, value = (side.strip() for side in (*word.split("=", 1), "")[:2])
-        key = key.casefold()
-        flag = word.casefold()
-        if flag in ACROSS:
-            place = replace(place, across=ACROSS[flag])
-        elif flag in DOWN:
-            place = replace(place, down=DOWN[flag])
-        elif flag == "bold":
-            place = replace(place, is_bold=True)
-        elif flag in SYMBOLOGIES:
-            place = replace(place, symbology=flag)
-        elif key in NUMBERS and NUMBERS[key].fullmatch(value) and float(value) > 0:
-            place = replace(place, **{key: float(value)})
-        elif key == "font" and value:
-            place = replace(place, font=value.replace("_", " "))
-        elif place.symbology and key in SYMBOLOGIES[place.symbology].settings:
-            place = replace(place, settings=(*place.settings, f"{key}={value.upper()}"))
-        else:
-            known = [*ACROSS, *DOWN, "bold", "font=NAME", *SYMBOLOGIES]
-            known += [f"{one}=N" for one in NUMBERS]
+        kind, changes = meaning_of(place, word, is_symbol)
+        if not kind:
             what = Text("{}: {}: {} is not understood", name, quoted(written), quoted(word))
-            raise ToolError(what, Text("behind the name is one of {}", ", ".join(known)))
+            raise ToolError(what, known_words(place, is_symbol))
+        if kind in kinds:
+            both = quoted(kinds[kind]), quoted(word)
+            what = Text("{}: {}: {} and {} are of one kind", name, quoted(written), *both)
+            raise ToolError(what, Text("take one of them away"))
+        kinds[kind] = word
+        place = replace(place, **changes)
+    if 0 < place.module < ROLL_SMALLEST:
+        what = Text("{}: {}: no module is below {} mm", name, quoted(written), ROLL_SMALLEST)
+        raise ToolError(what, Text("enlarge it"))
     return place
 
 
-def mark(parent: Element, element: Element, name: str) -> None:
-    """Puts an element into a group with an id: style sheets find it as before."""
-    group = Element(f"{SPACE}g", {"id": name})
-    group.append(element)
-    parent[list(parent).index(element)] = group
-
-
-def mark_places(name: str, root: Element, taken: list[Taken]) -> Any:
-    """Marks the rectangles that are places, beside a copy of the upper and the left edge of each,
-    and returns what draws them; raises `ToolError`.
+def meaning_of(place: Place, word: str, is_symbol: bool) -> tuple[str, dict[str, Any]]:
+    """Returns what kind of word is behind the name of a symbol, or of a text, and what it changes
+    there; no kind for one that means nothing there.
     """
-    for number, (parent, rect, _) in enumerate(taken):
-        for part, side in (("upper", "height"), ("left", "width")):
-            edge = deepcopy(rect)
-            edge.set(side, f"{THIN}")
-            edge.set("style", f"{rect.get('style', '')};{side}:{THIN}px")
-            parent.insert(list(parent).index(rect), edge)
-            mark(parent, edge, f"{part}-{number}")
-        mark(parent, rect, f"place-{number}")
-    return handle_of(name, root)
+    key, value = (side.strip() for side in (*word.split("=", 1), "")[:2])
+    key = key.casefold()
+    flag = word.casefold()
+    found: dict[str, Any] = {}
+    if flag in SYMBOLOGIES:
+        key, found = "symbology", {"symbology": flag}
+    elif key in NUMBERS and (key == "module") == is_symbol:
+        is_number = NUMBERS[key].fullmatch(value) and float(value) > 0
+        found = {key: float(value)} if is_number else {}
+    elif is_symbol:
+        is_known = place.symbology and key in SYMBOLOGIES[place.symbology].settings
+        found = {"settings": (*place.settings, f"{key}={value.upper()}")} if is_known else {}
+    elif flag in ACROSS:
+        key, found = "across", {"across": ACROSS[flag]}
+    elif flag in DOWN:
+        key, found = "down", {"down": DOWN[flag]}
+    elif flag == "bold":
+        found = {"is_bold": True}
+    elif key == "font" and value:
+        found = {"font": value.replace("_", " ")}
+    return (key, found) if found else ("", {})
 
 
-def located(name: str, handle: Any, places: Iterable[Place], area: Any) -> tuple[Place, ...]:
-    """Returns places with their sides; raises `ToolError` for one that has none, or is askew."""
+def known_words(place: Place, is_symbol: bool) -> Text:
+    """Returns what may be behind the name of a symbol, or of a text."""
+    if not is_symbol:
+        known = [*ACROSS, *DOWN, "bold", "font=NAME", "size=N", "lines=N", *SYMBOLOGIES]
+        return Text("behind the name of a text is one of {}", ", ".join(known))
+    settings = SYMBOLOGIES[place.symbology].settings if place.symbology else ()
+    known = [*SYMBOLOGIES, "module=N", *(f"{one}=N" for one in settings)]
+    return Text("behind the name of a symbol is one of {}", ", ".join(known))
+
+
+def mark(parent: Element, element: Element, name: str, ids: Counter[str]) -> str:
+    """Returns the id of an element: its own one, or else a new one. Where others have it too, it
+    is put into a group with one, in which style sheets find it by its id as before.
+    """
+    own = element.get("id", "")
+    if PLAIN_ID.fullmatch(own) and ids[own] == 1:
+        return own
+    if own:
+        group = Element(f"{SPACE}g", {"id": name})
+        parent[list(parent).index(element)] = group
+        group.append(element)
+    else:
+        element.set("id", name)
+    return name
+
+
+def ids_in(root: Element) -> Counter[str]:
+    """Returns how often each id is there."""
+    return Counter(element.get("id", "") for element in root.iter())
+
+
+def mark_places(root: Element, taken: Iterable[Taken]) -> list[str]:
+    """Returns the ids of the rectangles that are places, all of which get one."""
+    ids = ids_in(root)
+    marked = enumerate(taken)
+    return [mark(parent, rect, f"place-{number}", ids) for number, (parent, rect, _) in marked]
+
+
+def located(
+    name: str, root: Element, handle: Any, taken: list[Taken], ids: list[str], area: Any
+) -> tuple[Place, ...]:
+    """Returns places with their sides; raises `ToolError` for one that has none, or is askew. It
+    shows librsvg the upper and the left edges of them all in their places.
+    """
+    edges = [edges_of(name, root, [rect for _, rect, _ in taken], one) for one in SIDES]
     found = []
-    for number, place in enumerate(places):
-        whole, upper, left = (
-            sides_of(handle, f"#{part}-{number}", area) for part in ("place", "upper", "left")
-        )
-        one = located_place(name, place, whole, upper, left)
-        found.append(replace(one, colour=colour_of(handle, f"#place-{number}", area, whole)))
+    for (_, _, place), one in zip(taken, ids):
+        whole, upper, left = (sides_of(drawn, f"#{one}", area) for drawn in (handle, *edges))
+        place = located_place(name, place, whole, upper, left)
+        found.append(replace(place, colour=colour_of(handle, f"#{one}", area, whole)))
     return tuple(found)
 
 
-def mark_words(root: Element) -> tuple[str, ...]:
-    """Marks the texts of a drawing, and returns their words."""
-    texts = [(parent, one) for parent, one, _ in walked(root) if tag_of(one) == "text"]
-    for number, (parent, element) in enumerate(texts):
-        mark(parent, element, f"words-{number}")
-    return tuple(words_of(element) for _, element in texts)
+def edges_of(name: str, root: Element, rects: Iterable[Element], side: str) -> Any:
+    """Returns what draws a tree whose places have nearly no height, or no width."""
+    styles = {rect: rect.get("style", "") for rect in rects}
+    for rect, style in styles.items():
+        rect.set("style", f"{style};{side}:{THIN}px")
+    handle = handle_of(name, root)
+    for rect, style in styles.items():
+        rect.set("style", style)
+    return handle
+
+
+def mark_words(root: Element) -> dict[str, str]:
+    """Returns the words of the texts of a drawing by their ids, all of which get one."""
+    ids = ids_in(root)
+    texts = enumerate((parent, one) for parent, one, _ in [*walked(root)] if tag_of(one) == "text")
+    return {mark(*both, f"words-{number}", ids): words_of(both[1]) for number, both in texts}
 
 
 def cut_words(
-    name: str, handle: Any, words: Iterable[str], area: Any, ends: Edges
+    name: str, handle: Any, words: Mapping[str, str], area: Any, ends: Edges
 ) -> Iterator[Text]:
     """Yields what is said of words of a drawing that end beyond an edge, as those of a font that is
     not there may; the left, upper, right and lower end of what takes ink are given.
     """
-    for number, text in enumerate(words):
-        ink = handle.get_geometry_for_layer(f"#words-{number}", area).out_ink_rect
+    for known, text in words.items():
+        ink = handle.get_geometry_for_layer(f"#{known}", area).out_ink_rect
         right, bottom = ink.x + ink.width, ink.y + ink.height
         cut = max(ends[0] - ink.x, ends[1] - ink.y, right - ends[2], bottom - ends[3])
         is_seen = ink.x < ends[2] and right > ends[0] and ink.y < ends[3] and bottom > ends[1]
@@ -511,14 +580,27 @@ def cut_words(
             yield Text("{}: {}", what, hint)
 
 
+def cut_drawing(name: str, root: Element, page: Any, ends: Edges) -> Iterator[Text]:
+    """Yields what is said of a drawing that ends beyond what takes ink, but not where it goes on to
+    the end of its page, as a background does.
+    """
+    ink = handle_of(name, root).get_geometry_for_layer(None, page).out_ink_rect
+    begins = (ink.x, ink.y, -ink.x - ink.width, -ink.y - ink.height)
+    pages = (page.x, page.y, -page.x - page.width, -page.y - page.height)
+    sides = (ends[0], ends[1], -ends[2], -ends[3])
+    inside = [one for one in zip(begins, pages, sides) if one[0] - one[1] > NEAR / 2]
+    cut = max((side - begin for begin, _, side in inside), default=0.0)
+    if min(ink.width, ink.height) > 0 and cut > NEAR / 2:
+        what = Text("{}: the drawing is cut at the edge by {:.1f} mm", name, cut)
+        yield Text("{}: {}", what, Text("move it in, or give another --edge or --shift"))
+
+
 def located_place(name: str, place: Place, whole: Any, upper: Any, left: Any) -> Place:
     """Returns a place with its sides and its turn, by the rectangles of it and of its upper and
     left edge; raises `ToolError`.
     """
     if min(whole.width, whole.height) < TINY:
-        hint = Text("give it a width and a height, and show its layer, or take its name away")
-        what = Text("{}: the place {} is hidden, or has no size", name, place.title)
-        raise ToolError(what, hint)
+        raise hidden_place(name, place)
     is_slanted = max(upper.width, upper.height) < side_of(whole, upper) - TINY
     if min(upper.width, upper.height) > TINY or is_slanted:
         hint = Text("turn it by a quarter, or not at all")
@@ -531,6 +613,12 @@ def located_place(name: str, place: Place, whole: Any, upper: Any, left: Any) ->
         height=whole.height,
         quarters=quarters_of(whole, upper, left),
     )
+
+
+def hidden_place(name: str, place: Place) -> ToolError:
+    """Returns why a place is refused that nobody sees."""
+    hint = Text("give it a width and a height, and show its layer, or take its name away")
+    return ToolError(Text("{}: the place {} is hidden, or has no size", name, place.title), hint)
 
 
 def side_of(whole: Any, upper: Any) -> float:

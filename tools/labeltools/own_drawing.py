@@ -24,6 +24,7 @@ LINKS = ("href", "{http://www.w3.org/1999/xlink}href")
 CONDITIONS = ("requiredFeatures", "systemLanguage")
 DPI = 96.0  # of CSS, in which lengths without a unit are; librsvg takes 90 where nothing is said
 MOST_BYTES = 8_000_000
+BEFORE = b"\xef\xbb\xbf\xff\xfe\0 \t\r\n"  # what may be before the first <
 GZIP = b"\x1f\x8b"  # the begin of .svgz
 MOST_DEPTH = 200  # of elements in one another
 PICTURES = {"png": b"IEND", "jpeg": b"\xff\xd9"}  # and what is at the end of each
@@ -67,6 +68,8 @@ NO_RULES = re.compile(r"/\*.*?\*/|@namespace[^;{}]*;", re.DOTALL)  # of a style 
 def root_of(name: str) -> Element:
     """Returns the root of a file; raises `ToolError` where it is no plain SVG."""
     try:
+        if not (Path(name).is_file() or Path(name).is_dir() or not Path(name).exists()):
+            raise ToolError(Text("--design {} is no regular file", name))
         with Path(name).open("rb") as file:
             data = file.read(MOST_BYTES + 1)
     except OSError as error:
@@ -80,8 +83,7 @@ def root_of(name: str) -> Element:
         check_utf8(name, data)
         raise ToolError(Text("{} is no SVG: {}", name, error)) from error
     if root.tag != f"{SPACE}svg":
-        hint = Text("it begins with {}", BEGIN)
-        raise ToolError(Text("{} is no SVG", name), hint)
+        raise no_svg(name)
     for _, element, depth in walked(root):
         if depth > MOST_DEPTH:
             what = Text("{}: elements are more than {} deep in one another", name, MOST_DEPTH)
@@ -118,6 +120,8 @@ def check_bytes(name: str, data: bytes) -> None:
     if len(data) > MOST_BYTES:
         hint = Text("make its pictures smaller")
         raise ToolError(Text("{} has more than {} MB", name, MOST_BYTES // 1_000_000), hint)
+    if data.lstrip(BEFORE)[:1] not in (b"", b"<"):
+        raise no_svg(name)
     if b"\0" in data or b"<!ENTITY" in data:
         raise not_plain(name)
     if b"<?xml-stylesheet" in data:
@@ -131,6 +135,11 @@ def check_utf8(name: str, data: bytes) -> None:
         data.decode()
     except UnicodeDecodeError as error:
         raise not_plain(name) from error
+
+
+def no_svg(name: str) -> ToolError:
+    """Returns why a file is refused that is another one."""
+    return ToolError(Text("{} is no SVG", name), Text("it begins with {}", BEGIN))
 
 
 def not_plain(name: str) -> ToolError:

@@ -9,7 +9,7 @@ from collections import defaultdict
 from typing import Iterator, Mapping, Optional
 from xml.etree.ElementTree import Element
 
-from labeltools.own_drawing import SPACE, declared, properties_of, sheet_of, tag_of
+from labeltools.own_drawing import SPACE, declared, properties_of, sheet_of, tag_of, walked
 
 MOVES = ("dx", "dy")
 LISTS = ("x", "y", *MOVES)  # of a text: a number for each letter
@@ -44,12 +44,15 @@ def make_alike(root: Element) -> None:
     """Writes in other words what librsvg would draw otherwise: blanks of texts that are kept by
     `white-space`, line ends, which are blanks, and letters that have a place each, as programs
     write what they read from PDF; colours that are mixed with those below, but not with paper; the
-    size of letters that have none; symbols, which librsvg cuts where they show all, and only there.
+    size of letters that have none; symbols, which librsvg cuts where they show all, and only there;
+    what moves the page, by which librsvg draws, but says of no place where it is.
     """
     root.set(SIZE, root.get(SIZE, "16px"))  # librsvg takes 12
     if any(key == BLEND for one in root.iter() for key, _ in properties_of(one)):
         root.set("style", f"{root.get('style', '')};isolation:isolate")  # of the white page
     sheets = sheets_of(root)
+    if "transform" in {**root.attrib, **styles_of(root, sheets)}:
+        move_inside(root)
     for symbol in root.iter(f"{SPACE}symbol"):
         found = {**symbol.attrib, **styles_of(symbol, sheets)}.get("overflow")
         other = "hidden" if found in ("auto", "visible") else "visible"
@@ -62,6 +65,26 @@ def make_alike(root: Element) -> None:
             for child in element:
                 child.tail = with_blanks(child.tail)
         part_letters(element, is_preserved)
+
+
+def move_inside(root: Element) -> None:
+    """Makes all of a page a group, which is moved in its place."""
+    group = Element(f"{SPACE}g", {"transform": root.attrib.pop("transform", "")})
+    group[:] = root[:]
+    root[:] = [group]
+    root.set("style", f"{root.get('style', '')};transform:none")
+
+
+def hidden_in(root: Element) -> set[Element]:
+    """Returns the elements that are not visible."""
+    sheets = sheets_of(root)
+    found: set[Element] = set()
+    for parent, element, _ in [(root, root, 0), *walked(root)]:
+        style = {**element.attrib, **styles_of(element, sheets)}.get("visibility", "inherit")
+        is_inherited = style.startswith("inherit") and parent in found
+        if is_inherited or style.startswith(("hidden", "collapse")):
+            found.add(element)
+    return found
 
 
 def with_blanks(text: Optional[str]) -> Optional[str]:

@@ -1,5 +1,5 @@
 """Writes the frame that was found for labels as a design of SVG: a start for a design of one's own,
-with which the same labels are printed.
+with which labels are alike.
 """
 
 import math

@@ -276,6 +276,9 @@ def misused(
         yield from (side for side in SIDES if sides[side] == "auto")
     if tag in SERVERS and link and link not in ids:
         yield "href"
+    if tag in SERVERS and values.get("spreadMethod") == "repeat":
+        offsets = [stop.get("offset") for one in (element, ids.get(link)) for stop in one or ()]
+        yield from ("spreadMethod",) * (len(offsets) > len({*offsets}))
     if tag in SERVERS and (values.get("r") == "0" or is_point(values)):
         yield "r" if "r" in values else "x2"
     is_visible = values.get("overflow") == "visible"

@@ -323,8 +323,8 @@ class Values(NamedTuple):
 
 
 def values_of(label: PrintLabel, note: str, own: frozenset[str]) -> Values:
-    """Returns the texts of a label: those with a place of their own by their names, the others
-    together as its text.
+    """Returns the texts of a label: those with a place or a group of their own by their names, the
+    others together as its text.
     """
     record = label.record
     whole = record.label
@@ -366,6 +366,7 @@ class OwnLayouts:
         self.places = self.design.places
         self.own = frozenset(place.key for place in self.places)
         self.own |= frozenset(place.part for place in self.places)
+        self.known = self.own | self.design.groups.difference(PARTS)
         self.boxes = {place: self.box_of(place) for place in self.places}
         self.boxes_of = cache(self.new_boxes)
         self.keys: Mapping[Place, str] = {}
@@ -382,17 +383,18 @@ class OwnLayouts:
 
     def lay_out(self, labels: Sequence[PrintLabel], talk: Talk) -> LaidOutFile:
         """Returns labels with their layouts, why others are left out, and what is said of all."""
-        values = [values_of(label, self.note, self.own) for label in labels]
+        values = [values_of(label, self.note, self.known) for label in labels]
         self.keys = self.keys_of_places(values)
         keys = [self.keys[place] for place in self.places]
         rows = [tuple([value.texts.get(key, "") for key in keys]) for value in values]
         symbols = self.second_symbols(rows, talk)
         rooms = self.rooms(rows)
+        groups = self.design.groups & self.own.union(*(value.texts for value in values))
         placed = []
         for number, label in enumerate(labels):
             if number % ASKED == 0:
                 talk.go_on(number, 0)
-            absent = self.design.groups.difference(values[number].texts)
+            absent = groups.difference(values[number].texts)
             try:
                 layout = self.layout(label, rows[number], absent, rooms, symbols)
             except NoRoom as problem:
@@ -558,7 +560,7 @@ class OwnLayouts:
                 names.setdefault(key, value.names[key])
         columns = {key_of(name) for label in labels for name in label.record.label.names}
         check_shapes(file, self.design.shapes, sorted(columns))
-        lost = [name for key, name in names.items() if key not in self.own]
+        lost = [name for key, name in names.items() if key not in self.known]
         if lost:
             named = ", ".join(lost)
             yield first, Text("{} has no place for {}: not on the labels", file, named)

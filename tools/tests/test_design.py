@@ -27,6 +27,7 @@ TITLE = '<rect id="title" {}/>' + CODE
 WIDE = 'x="2" y="2" width="56" height="10"'
 ONE: Label = ("code128 A", {"title": "Title"})
 PICTURE = '<image x="2" y="2" width="5" height="5" href="data:image/{};base64,{}"/>' + CODE
+BOX = '<rect x="2" y="2" width="9" height="9"/>'
 NOT_EMBEDDED = "is of another file, which is not read; embed it"
 NOT_PICTURE = "a picture is not PNG or JPEG, or has more than 50,000,000 pixels; embed it as PNG"
 HIDDEN = "the place title is hidden, or has no size; give it a width and a height, and show its"
@@ -63,6 +64,9 @@ REFUSED = (
     ("", "has no place for the code; draw a rectangle with the id code"),
     (TITLE.format('x="2" y="2" width="0" height="9"'), HIDDEN),
     (f'<g style="display:none"><rect id="title" {WIDE}/></g>{CODE}', HIDDEN),
+    (f'<g visibility="hidden"><rect id="title" {WIDE}/></g>{CODE}', HIDDEN),
+    (f'<g style="visibility:collapse"><g><rect id="title" {WIDE}/></g></g>{CODE}', HIDDEN),
+    (f"<style>#title{{visibility:hidden}}</style>{TITLE.format(WIDE)}", HIDDEN),
     (f'<defs><rect id="title" {WIDE}/></defs>{CODE}', HIDDEN),
     (f'<clipPath><rect id="title" {WIDE}/></clipPath>{CODE}', HIDDEN),
     (
@@ -130,9 +134,33 @@ REFUSED = (
     (PICTURE.format("svg+xml", svg_in_base64()), NOT_PICTURE),
     (f'<image href="data:image/png,hello"/>{CODE}', NOT_PICTURE),
     ('<rect data-place="code, blod"/>', '"code, blod": "blod" is not understood; behind the name'),
-    ('<rect data-place="title, level=Q"/>', '"level=Q" is not understood; behind the name is one'),
-    ('<rect data-place="title, size=0"/>', '"size=0" is not understood; behind the name is one of'),
-    ('<rect data-place="title, lines=1.5"/>', '"lines=1.5" is not understood; behind the name is'),
+    ('<rect data-place="title, level=Q"/>', '"level=Q" is not understood; behind the name of a t'),
+    ('<rect data-place="title, size=0"/>', '"size=0" is not understood; behind the name of a text'),
+    ('<rect data-place="code, left"/>', '"left" is not understood; behind the name of a symbol is'),
+    (
+        '<rect data-place="code, size=1"/>',
+        '"size=1" is not understood; behind the name of a symbol',
+    ),
+    ('<rect data-place="title, qr, bold"/>', '"bold" is not understood; behind the name of a symb'),
+    ('<rect data-place="title, bold, qr"/>', '"bold" is not understood; behind the name of a symb'),
+    (
+        '<rect data-place="title, module=1"/>',
+        '"module=1" is not understood; behind the name of a t',
+    ),
+    (
+        '<rect data-place="title, left, right"/>',
+        '"title, left, right": "left" and "right" are of one kind; take one of them away',
+    ),
+    (
+        '<rect data-place="code, qr, level=Q, level=H"/>',
+        '"level=Q" and "level=H" are of one kind; take one of them',
+    ),
+    (
+        '<rect data-place="code, module=0.01"/>',
+        '"code, module=0.01": no module is below 0.249 mm; enlarge',
+    ),
+    ('<rect id="title-2"/>' * 500, "has more than 400 places"),
+    ('<rect data-place="title, lines=1.5"/>', '"lines=1.5" is not understood; behind the name of'),
     (f'<rect data-place="title, font=Nothing" {WIDE}/>{CODE}', "there is no font Nothing; fc-list"),
     (f"<!-- a -- b -->{CODE}", "is no SVG: not well-formed"),
 )
@@ -145,6 +173,12 @@ PAGES: tuple[tuple[str, dict[str, Any], str], ...] = (
     ),
     ('width="0mm" height="40mm"', {}, "has no size; give it width, height and viewBox"),
     ('width="60mm" height="40mm" viewBox="0 0 0 40"', {}, "has no size; give it width, height and"),
+    ('width="60mm" height="40mm" viewBox="0 0 6e-9 4e-9"', {}, "has no size; give it width, heigh"),
+    (
+        'width="60000mm" height="40mm"',
+        {"paper": None},
+        "is larger than 4000 mm",
+    ),
     ('width="60mm" height="40mm" viewBox="0 0 6mm 4mm"', {}, "has no size; give it width, height"),
     (
         'width="60mm" height="40mm" viewbox="0 0 60 40"',
@@ -178,6 +212,7 @@ PAGES: tuple[tuple[str, dict[str, Any], str], ...] = (
 # what is in a file that is no SVG, and what it is refused with
 FILES = (
     (b"", "is no SVG: no element found: line 1, column 0"),
+    (base64.b64decode(png_of(8, 8)), "is no SVG; it begins with <svg xmlns="),
     (b"<!doctype html><html><p>a<br></html>", "is no SVG: "),
     (f"<svg {designs.PAGE}>{CODE}</svg>".encode(), "is no SVG; it begins with <svg xmlns="),
     (f"<svg {designs.SPACE} {designs.PAGE}>{CODE}".encode(), "is no SVG: no element found"),
@@ -263,6 +298,10 @@ class Refused(OwnPages):
                 planned(PrintOptions(paper=designs.PAPER, design=str(self.path)))
             self.assertTrue(str(caught.exception).startswith(f"{self.path}"))
             self.assertTrue(designs.is_refused(caught.exception, why), caught.exception)
+        pipe = self.path.parent / "pipe.svg"
+        os.mkfifo(pipe)
+        with self.assertRaisesRegex(ToolError, f"--design {pipe} is no regular file"):
+            planned(PrintOptions(paper=designs.PAPER, design=str(pipe)))
         folder = self.path.parent / "folder.svg"
         folder.mkdir()
         for path, why in ((Path("none.svg"), "No such file"), (folder, "Is a directory")):
@@ -330,6 +369,33 @@ class Names(OwnPages):
                 self.assertAlmostEqual(end, wanted, delta=0.13)
         word = '<text id="Price" x="2" y="9" font-size="4">Price</text>'
         self.assertTrue(dots_of(self.found(word + CODE))[:150].any())
+
+    def test_a_page_that_is_moved(self) -> None:
+        """Places are moved with the drawing, and browsers move the page around its middle."""
+        body = f'<rect id="title" {WIDE}/><path d="M2 2H9V9H2Z"/>'.replace("56", "52") + CODE
+        page = f'{designs.PAGE} transform="scale(.9)"'
+        found = self.found(body.replace("title", "text"), [("code128 A", {})], page=page)
+        self.assertAlmostEqual(self.ink(found)[0], 1.8, delta=0.13)
+        assert found.job.design is not None
+        place = found.job.design.places[0]
+        sides = (place.left, place.top, place.width, place.height)
+        for side, wanted in zip(sides, (1.8, 1.8, 46.8, 9)):
+            self.assertAlmostEqual(side, wanted, delta=0.01)
+        self.assertEqual([one[2:17] for one in self.said(found)], ["<svg transform>"])
+
+    def test_what_moves_or_sizes_a_place(self) -> None:
+        """CSS moves a place by properties that librsvg does not know, and counts what is beside."""
+        for style in ("translate:9px 0", "rotate:90deg", "scale:2"):
+            styled = f'style="{style}" {WIDE}'
+            (said,) = self.said(self.found(TITLE.format(styled)))
+            self.assertTrue(said.startswith(f": {style} may not be drawn"), said)
+        sheet = "<style>rect:nth-of-type({}){{height:3px}}</style>"
+        for number, high in ((1, 3), (2, 10)):
+            found = self.found(sheet.format(number) + TITLE.format(WIDE) + BOX)
+            assert found.job.design is not None
+            self.assertAlmostEqual(found.job.design.places[0].height, high, delta=0.01)
+        third = sheet.format(3) + TITLE.format('x="30" y="2" width="28" height="10"') + BOX
+        self.assertAlmostEqual(self.ink(self.found(third, [("code128 A", {})]))[3], 5, delta=0.13)
 
     def test_style_sheets_find_places_by_their_ids(self) -> None:
         for rule in ("fill:red", "fill:red;x:2px;y:2px;width:56px;height:10px"):
@@ -581,6 +647,28 @@ class Drawings(OwnPages):
             (text,) = texts_of(found)
             self.assertEqual(text.place.colour, colour, (fill, behind))
 
+    def test_a_group_needs_no_place_beside_it(self) -> None:
+        """The column Bio has a logo alone: its text is nowhere else. A group named after nothing
+        that any label has is drawn on all.
+        """
+        body = '<g id="Bio"><path d="M40 2H58V9H40Z"/></g><rect id="text" x="2" y="2" {}/>' + CODE
+        body = body.format('width="30" height="9"')
+        labels: list[Label] = [
+            ("code128 A", {"text": {"Bio": "x", "Origin": "Kiel"}}),
+            ("code128 A", {"text": {"Origin": "Kiel"}}),
+        ]
+        found = self.found(body, labels)
+        self.assertEqual([self.ink(found, one)[1] > 40 for one in (0, 1)], [True, False])
+        self.assertEqual([text.text for text in texts_of(found)], ["Kiel", "Kiel"])
+        self.assertEqual(self.said(found), [])
+        for one in labels:  # as a stream lays them out
+            self.assertGreater(self.ink(self.found(body, [one]))[1], 40)
+        priced = body.replace("Bio", "was")
+        prices: list[Label] = [("code128 A", {"was": "2 €", "text": ["a"]}), labels[1]]
+        found = self.found(priced, prices)
+        self.assertEqual([self.ink(found, one)[1] > 40 for one in (0, 1)], [True, False])
+        self.assertEqual(self.said(found), [" has no place for was: not on the labels"])
+
     def test_a_group_goes_with_its_field(self) -> None:
         word = '<g id="Best before"><path d="M2 2H9V9H2Z"/></g>'
         place = '<rect id="Best_before" x="20" y="2" width="30" height="8"/>'
@@ -658,6 +746,23 @@ class Drawings(OwnPages):
             '<g style="background: rgb(255, 255, 255)"/>',
         ):
             self.assertEqual(self.said(self.found(what + CODE, [("code128 A", {})])), [])
+
+    def test_a_drawing_that_is_cut_is_said(self) -> None:
+        """But for what goes on to the end of the page, and what loses no more than 0.5 mm."""
+        bar = '<path d="M{}V11H{}Z"/>' + CODE
+        cases: tuple[tuple[tuple[str, int], dict[str, Any], float], ...] = (
+            (("50 2H59", 50), {"shift": (3.0, 0.0)}, 2.0),
+            (("50 2H59", 50), {"edge": (0.0, 0.0, 3.0, 0.0)}, 2.0),
+            (("2 1H9", 2), {"edge": (0.0, 3.0, 0.0, 0.0)}, 2.0),
+            (("50 2H59", 50), {"edge": (0.0, 0.0, 1.4, 0.0)}, 0.0),
+            (("50 2H60", 50), {"edge": (0.0, 0.0, 3.0, 0.0)}, 0.0),
+            (("50 2H70", 50), {"edge": (0.0, 0.0, 3.0, 0.0)}, 0.0),
+        )
+        for ends, options, said in cases:
+            found = self.said(self.found(bar.format(*ends), [("code128 A", {})], **options))
+            cut = [one for one in found if "smaller than drawn" not in one]
+            wanted = [f": the drawing is cut at the edge by {said:.1f} mm"] * (said > 0)
+            self.assertEqual([one.split(": move")[0] for one in cut], wanted, (ends, options))
 
     def test_words_that_are_cut_are_said(self) -> None:
         word = '<text x="{}" y="9" font-size="5" font-family="DejaVu Sans">Door 2</text>'

@@ -113,6 +113,11 @@ SYMBOL = '<symbol id="s" viewBox="0 0 9 9" {}><path d="M0 0H9V9Z"/></symbol>'
 DOT = f"data:image/png;base64,{BLACK}"
 # what Chromium draws otherwise, and what is said of it
 SAID = (
+    (
+        '<linearGradient id="g" spreadMethod="repeat"><stop offset=".5"/>'
+        '<stop offset=".5" stop-color="#fff"/></linearGradient>',
+        "<linearGradient spreadMethod>",
+    ),
     (f"<style>:root{{--ink:#fff}}</style>{BOX.format('fill:var(--ink)')}", "fill:var(--ink)"),
     (BOX.format("fill:none;fill:var(--ink)"), "fill:var(--ink)"),
     (BOX.format("stroke:#000;stroke-width:calc(1px + 1px)"), "stroke-width:calc(1px + 1px)"),
