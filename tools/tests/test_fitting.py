@@ -203,6 +203,10 @@ class OwnLines(unittest.TestCase):
         "茶葉 緑茶 天地玄黃宇宙洪荒 これはながい".split(),
     )
 
+    @classmethod
+    def setUpClass(cls) -> None:
+        support.labels_program()
+
     def lines(self, design: Path, labels: Sequence[Label], form: str, dpi: int) -> list[list[str]]:
         """The lines of each text that has several, as they are drawn."""
         drawn = []
