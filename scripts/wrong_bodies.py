@@ -21,15 +21,18 @@ names places which the changed body does not have, a right body would be refused
 are counted and named: they want another form, one that keeps the places, or a `body:`.
 
 The status is 0 where each wrong body is refused, 1 where one is not or there is none, and 2 where
-an argument names no crate or there is no kit. For each crate a line `refused in CRATE:` has the
-names of those that were, which `.ci/run` compares with the files. The last line is `N passed, M
-failed`, as of `rt ci`.
+an argument names no crate or there is no kit. For each crate a line says how many bodies it has
+and how long their checks took; a line `refused in CRATE:` has the names of those that were
+refused, which `.ci/run` compares with the files. The last line is `N passed, M failed`, as of `rt
+ci`.
 """
 
 import concurrent.futures
 import dataclasses
+import multiprocessing
 import os
 import re
+import resource
 import shutil
 import sys
 import tempfile
@@ -183,9 +186,16 @@ def try_bodies(rtlib: Any, crate: Any, bodies: Sequence[Body], kept: str, tried:
             left += [dataclasses.replace(it, is_alone=is_alone) for it in chosen if it in again]
 
 
+def seconds_of_programs() -> float:
+    """Returns the processor time of the programs that this process has run."""
+    used = resource.getrusage(resource.RUSAGE_CHILDREN)
+    return used.ru_utime + used.ru_stime
+
+
 def try_all(rtlib: Any, crate: Any) -> Tried:
     """Tries the wrong and the right bodies of a crate, over what its last check proved."""
     tried = Tried(crate.name)
+    before = seconds_of_programs()
     seen: dict[object, Body] = {}
     left = []
     for body in edits.bodies_of(crate.folder):
@@ -199,13 +209,22 @@ def try_all(rtlib: Any, crate: Any) -> Tried:
         if os.path.isdir(proved):
             shutil.copytree(proved, kept, dirs_exist_ok=True)
         try_bodies(rtlib, crate, left, kept, tried)
+    took = f"{seconds_of_programs() - before:.1f} s of processor"
     counts = f"{len(tried.refused)} refused, {tried.accepted} accepted, in {tried.checks} checks"
     names = " ".join(sorted(tried.refused))
-    print(f"{crate.name}: {counts}\nrefused in {crate.name}: {names}", flush=True)
+    print(f"{crate.name}: {counts}, {took}\nrefused in {crate.name}: {names}", flush=True)
     return tried
 
 
 # ---- all
+
+# The crates of this run by their names. The processes that try them begin with what it has.
+CRATES: dict[str, Any] = {}
+
+
+def try_named(name: str) -> Tried:
+    """Tries the bodies of a crate of this run, in a process that knows what its own checks took."""
+    return try_all(libraries.kit(), CRATES[name])
 
 
 def counts_of(names: Sequence[str]) -> dict[str, int]:
@@ -254,14 +273,17 @@ def main() -> int:
         print("0 passed, 1 failed")
         return 1
     rtlib = libraries.kit()
-    rtlib.guarded()  # once, before the threads call it
+    rtlib.guarded()  # once, before the processes call it
     of_kit = {it.name: it for it in rtlib.crates_below(sources.TOP)}
     crates = [of_kit[name] for name in counts]
     below = dict.fromkeys(dep for crate in crates for dep in crate.below())
     if libraries.build([*below], as_left):
         return 1
-    with concurrent.futures.ThreadPoolExecutor(len(os.sched_getaffinity(0))) as pool:
-        results = [*pool.map(lambda it: try_all(rtlib, it), crates)]
+    CRATES.update((it.name, it) for it in crates)
+    forked = multiprocessing.get_context("fork")
+    workers = len(os.sched_getaffinity(0))
+    with concurrent.futures.ProcessPoolExecutor(workers, mp_context=forked) as pool:
+        results = [*pool.map(try_named, counts)]
     return judged(results, not names)
 
 
