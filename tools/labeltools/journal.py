@@ -50,7 +50,7 @@ NO_LOCKS = Text("put the journal on a disk that locks files")
 STRANGE = re.compile(rb"[^ -\[\]-~]| (?= *\Z)")  # what is written as escapes: blanks at the end too
 ESCAPES = {bytes([byte]): b"\\x%02X" % byte for byte in range(256)} | {b"\\": b"\\\\"}
 LINE = re.compile(
-    rb"[^\t]*\t(sending|taken)\tlane ([1-9][0-9]{0,8})\t([^\t]*)\t([^\t]*)\t"
+    rb"\d{4}-\d\d-\d\dT[\d:]+Z\t(sending|taken)\tlane ([1-9][0-9]{0,8})\t([^\t]*)\t([^\t]*)\t"
     rb"([!-~]+ (?:[ -\[\]-~]|\\\\|\\x[0-9A-F]{2})*)"
 )
 ENDS = b"\r "  # what an editor may put behind a line, and what no code ends in

@@ -299,12 +299,12 @@ def file_name(name: str, number: int, data: bytes) -> str:
     return NUMBERED.sub(part, name)
 
 
-def write(press: Press, prints: Prints, is_chosen: bool) -> None:
+def write(press: Press, prints: Prints, chosen: Sequence[str]) -> None:
     """Writes labels to standard output, which are some of a file where they are chosen. A signal
     waits for the end of a document.
     """
     if press.job.form.is_roll:
-        Sender(StandardOutput(), is_chosen=is_chosen).send_all(press, prints)
+        Sender(StandardOutput(), chosen=chosen).send_all(press, prints)
         return
     output = standard_output().fileno()
     for document in press.documents(prints):
@@ -396,11 +396,11 @@ def check_arguments(arguments: argparse.Namespace, job: PrintJob) -> None:
         what = Text("{}: {} is a queue of CUPS", wants, queue)
         hint = Text("CUPS prints a broken run again from its beginning; give --print tcp://HOST")
         raise ToolError(what, hint, BAD_ARGUMENTS)
-    if arguments.again and not (arguments.journal and (arguments.rows_only or arguments.codes)):
+    if arguments.again and not (arguments.journal and chosen_by(arguments)):
         what = Text("--again needs --journal and rows or codes")
         hint = Text("say what is printed again by --only or --only-code")
         raise ToolError(what, hint, BAD_ARGUMENTS)
-    if arguments.is_stream and (arguments.rows_only or arguments.codes):
+    if arguments.is_stream and chosen_by(arguments):
         what = Text("--stream prints each line")
         raise ToolError(what, Text("leave out --only"), BAD_ARGUMENTS)
 
@@ -412,10 +412,15 @@ def sender_of(arguments: argparse.Namespace) -> Sender:
     if queue:
         outlet = NetworkPrinter(queue)
     journal = Journal(arguments.journal, outlet.name) if arguments.journal else None
-    is_chosen = bool(arguments.rows_only or arguments.codes)
     if journal is not None:
         check_journal(arguments, journal)
-    return Sender(outlet, journal, arguments.again, is_chosen)
+    return Sender(outlet, journal, arguments.again, chosen_by(arguments))
+
+
+def chosen_by(arguments: argparse.Namespace) -> tuple[str, ...]:
+    """Returns the options that choose some labels of a file."""
+    given = {"--only": arguments.rows_only, "--only-code": arguments.codes}
+    return tuple(name for name, value in given.items() if value)
 
 
 def check_journal(arguments: argparse.Namespace, journal: Journal) -> None:
@@ -520,7 +525,7 @@ def give_out(
     elif arguments.queue is not None:
         write_message(TOOL, Text("{}", print_on(press, prints, arguments.queue)))
     else:
-        write(press, prints, options.only is not None)
+        write(press, prints, chosen_by(arguments))
         if arguments.summary or sys.stderr.isatty():
             write_message(TOOL, summary_of(job, prints, items if options.only else ()))
     return 1 if found.left_out else 0
@@ -542,17 +547,18 @@ def send_each(arguments: argparse.Namespace, press: Press, found: Prepared) -> i
     """Sends labels one by one; returns 1 where one is left out or doubtful."""
     sender = sender_of(arguments)
     prints = found.prints
+    chosen = chosen_by(arguments)
     try:
         sender.send_all(press, prints)
     finally:
         doubtful = sender.doubtful()
-        for message in doubts(doubtful, found.records, len(found.tables) > 1):
+        for message in doubts(doubtful, found.records, len(found.tables) > 1, chosen):
             write_message(TOOL, message)
     text = counted("{} label", "{} labels", sender.taken)
     is_printer = sender.outlet.name != OUTPUT
     if is_printer:
         text = Text("{} taken by {}", text, sender.outlet.name)
-    if arguments.rows_only or arguments.codes:
+    if chosen:
         text = with_names(text, sender.sent)
     known = len(sender.known - doubtful.keys())
     if known:

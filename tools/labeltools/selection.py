@@ -65,7 +65,8 @@ def names_of(record: LineRecord) -> set[bytes]:
     names = {number, number[:-1]}
     if record.symbology != "ean8" and number.startswith(b"0"):
         names |= {name[1:] for name in names}
-    return names | {whole}
+    kind = record.symbology.encode("utf-8", "replace")
+    return {whole, *names, *(kind + b" " + name for name in names)}
 
 
 def selection_of(rows: Optional[str], codes: Iterable[str]) -> Optional[Selection]:

@@ -20,7 +20,7 @@ from labeltools.messages import ToolError, sentence
 from labeltools.network import Broken
 from labeltools.press import Press, Prints
 from labeltools.report import MOST_RANGES, places_text
-from labeltools.selection import words_of_rest
+from labeltools.selection import FILE, words_of_rest
 from labeltools.text import NOTHING, Text, counted, joined
 
 OUTPUT = "standard output"
@@ -88,17 +88,19 @@ class Sender:
         outlet: Outlet,
         journal: Optional[Journal] = None,
         again: Optional[str] = None,
-        is_chosen: bool = False,
+        chosen: Sequence[str] = (),
     ) -> None:
-        """Takes what labels go out by; `is_chosen` is whether they are some of a file."""
+        """Takes what labels go out by, and the options that choose some labels of a file."""
         self.outlet = outlet
         self.journal = journal
         self.again = again
-        self.is_chosen = is_chosen
+        self.chosen = chosen
         self.sent: list[LaidOut] = []
         self.taken = 0
         self.known: set[bytes] = set()  # the codes that the journal had
         self.is_at_end = False  # whether standard output takes no more
+        self.has_tables = False  # whether labels are of several tables,
+        self.are_unclear = False  # and rows of several labels
 
     def send_all(self, press: Press, prints: Prints) -> None:
         """Sends labels with their copies; raises `ToolError` where the printer does not take them,
@@ -115,6 +117,9 @@ class Sender:
 
     def send_until(self, came: Sized, press: Press, prints: Prints) -> None:
         """Sends labels until a signal came; raises `ToolError` as `send_all`."""
+        places = [item.label.record.place for item in prints.items]
+        self.has_tables = len({place.table for place in places}) > 1
+        self.are_unclear = len({place.number for place in places}) < len(places)
         done = 0
         for item, copies in prints.runs():
             if came:
@@ -126,9 +131,11 @@ class Sender:
                 what = Text("{}: {}", error.what, self.so_far())
                 raise ToolError(what, self.advice(error, item, prints)) from error
             except ToolError as error:
-                place = item.label.record.place.text
+                place = self.named(item)
                 what = Text("{}: {} and what follows it were not sent", error.what, place)
-                raise ToolError(what, error.hint, error.status) from error
+                hints = error.hint, self.way_on(item, prints) if self.sent else NOTHING
+                hint = joined("; ", filter(None, hints))
+                raise ToolError(what, hint, error.status) from error
             done += copies
             press.talk.go_on(done, len(prints))
         self.end()
@@ -223,36 +230,45 @@ class Sender:
 
     def advice(self, error: ToolError, item: LaidOut, prints: Prints) -> Text:
         """Returns what to do where a label went out in part."""
-        place = item.label.record.place
+        place = self.named(item)
         if error.hint:
-            return Text("{} may be on paper; {}", place.text, error.hint)
+            return Text("{} may be on paper; {}", place, error.hint)
         if self.journal is not None and self.again is None:
-            text = Text(
-                "{} may be on paper: look there, then give the same command again", place.text
-            )
+            text = Text("{} may be on paper: look there, then give the same command again", place)
             return joined("; ", filter(None, (self.last_on_paper(), text)))
         missing = self.last_on_paper() if self.again is not None else NOTHING
         return joined("; ", filter(None, (missing, self.rest(item, prints))))
 
     def rest(self, item: LaidOut, prints: Prints) -> Text:
         """Returns how a label and those behind it are printed."""
-        place = item.label.record.place
         places = [one.label.record.place for one in prints.items]
         start = next(number for number, one in enumerate(prints.items) if one is item)
-        words = words_of_rest(places, start, self.is_chosen)
+        words = words_of_rest(places, start, bool(self.chosen))
         again = f" --again {typed(self.again)}" if self.again else ""
-        return Text(
-            "look at the last one on paper, then print from {} on by {}", place.text, words + again
-        )
+        found = (self.named(item), words + again)
+        if gone := in_place_of(words, self.chosen):
+            return Text(
+                "look at the last one on paper, then print from {} on, in place of {}, by {}",
+                *(found[0], gone, found[1]),
+            )
+        return Text("look at the last one on paper, then print from {} on by {}", *found)
 
     def stopped(self, item: LaidOut, prints: Prints) -> ToolError:
         """Returns what is said where a signal came before a label."""
-        place = item.label.record.place.text
+        place = self.named(item)
         done = Text("{}: {}", self.outlet.name, self.so_far())
         what = Text("{}: {} and what follows it were not sent", done, place)
+        return ToolError(what, self.way_on(item, prints))
+
+    def way_on(self, item: LaidOut, prints: Prints) -> Text:
+        """Returns how a label that was not sent and those behind it are printed."""
         if self.journal is not None and self.again is None:
-            return ToolError(what, Text("the same command prints what is missing"))
-        return ToolError(what, self.rest(item, prints))
+            return Text("the same command prints what is missing")
+        return self.rest(item, prints)
+
+    def named(self, item: LaidOut) -> Text:
+        """Returns what messages call a label, with its table where there are several."""
+        return places_text([item.label.record.place], self.has_tables)
 
     def last_on_paper(self) -> Text:
         """Returns how labels are printed that a printer forgot which took them; nothing where it
@@ -260,9 +276,14 @@ class Sender:
         """
         if not self.sent:
             return NOTHING
-        last = self.sent[-1].label.record.place.text
+        last = self.named(self.sent[-1])
         again = f" --again {typed(self.outlet.name)}" if self.journal is not None else ""
-        words = f"--only ROWS{again}"
+        words = f"--only-code {FILE}FILE{again}" if self.are_unclear else f"--only ROWS{again}"
+        if gone := in_place_of(words, self.chosen):
+            return Text(
+                "look that {} is on paper, or print what is missing, in place of {}, by {}",
+                *(last, gone, words),
+            )
         return Text("look that {} is on paper, or print what is missing by {}", last, words)
 
     def doubt(self, record: LineRecord) -> Text:
@@ -271,7 +292,7 @@ class Sender:
         """
         printer = self.sent_to(record)
         if printer and code_of(record) in self.doubtful():
-            return may_be_on_paper(printer, by_code(code_of(record)))
+            return may_be_on_paper(printer, by_code(code_of(record)), self.chosen)
         if printer := self.sent_to(record):  # it was not taken meanwhile
             what = Text("{} is sending it", printer)
             return sentence(what, Text("send the line again to see whether it was taken"))
@@ -290,10 +311,14 @@ class Sender:
 
 
 def doubts(
-    doubtful: Mapping[bytes, Entry], records: Sequence[LineRecord], has_tables: bool
+    doubtful: Mapping[bytes, Entry],
+    records: Sequence[LineRecord],
+    has_tables: bool,
+    chosen: Sequence[str],
 ) -> Iterator[Text]:
     """Yields messages that name all labels in doubt: those of a file of lines by their places, and
     by their codes too where other codes have these numbers, as the rows of several tables have.
+    The options are given by which the run has chosen labels.
     """
     printers: dict[str, list[bytes]] = {}
     for code, entry in doubtful.items():
@@ -306,11 +331,12 @@ def doubts(
         alone = sorted(places[code] for code in there if numbers[places[code].number] == 1)
         for some in parts_of(alone):
             words = "--only ROW" if len(some) > 1 else f"--only {some[0].number}"
-            yield Text("{}: {}", places_text(some, has_tables), may_be_on_paper(printer, words))
+            hint = may_be_on_paper(printer, words, chosen)
+            yield Text("{}: {}", places_text(some, has_tables), hint)
         for code in there:
             if numbers[places[code].number] > 1:
                 place = places_text([places[code]], has_tables)
-                yield Text("{}: {}", place, may_be_on_paper(printer, by_code(code)))
+                yield Text("{}: {}", place, may_be_on_paper(printer, by_code(code), chosen))
         for others in parts_of([code.decode() for code in codes if code not in places]):
             yield Text(
                 "{}: may be on paper, from {}, and not in the input: look for it; if it is there, "
@@ -326,13 +352,27 @@ def parts_of(found: Sequence[Any]) -> Iterator[Sequence[Any]]:
     return (found[start : start + MOST_RANGES] for start in range(0, len(found), MOST_RANGES))
 
 
-def may_be_on_paper(printer: str, words: str) -> Text:
+def may_be_on_paper(printer: str, words: str, chosen: Sequence[str]) -> Text:
     """Returns what to do about labels that were sent to a printer, and may be on paper; `words`
-    choose them.
+    choose them, in a run that has chosen labels by some options.
     """
     reason = Text("may be on paper, from {}: look for it", printer)
-    hint = Text("if it is not there, give {} --again {}", words, typed(printer))
+    words = f"{words} --again {typed(printer)}"
+    hint = Text("if it is not there, give {}", words)
+    if gone := in_place_of(words, chosen):
+        hint = Text("if it is not there, give, in place of {}, {}", gone, words)
     return sentence(reason, hint)
+
+
+def in_place_of(words: str, chosen: Sequence[str]) -> str:
+    """Returns the options of a run that have to go where others choose labels: rows take the place
+    of rows, and all else would add to them.
+
+    >>> in_place_of("--only 9", ["--only"]), in_place_of("--only 9", ["--only", "--only-code"])
+    ('', '--only-code')
+    """
+    first = words.split(" ")[0]
+    return ", ".join(one for one in chosen if (one, first) != ("--only", "--only"))
 
 
 def by_code(code: bytes) -> str:

@@ -91,6 +91,8 @@ class Chosen(Folder):
     def test_rows_and_codes(self) -> None:
         self.assertEqual(self.rows("2,29-"), [2, 29, 30, 31])
         self.assertEqual(self.rows("3-4", "T00030", "400638133393"), [1, 3, 4, 31])
+        for digits in ("400638133393", "4006381333931"):
+            self.assertEqual(self.rows(None, f"ean13 {digits}", f"qr {digits}"), [1])
         codes = Path(self.folder, "codes")
         for data in (b"T00005\r\n\nT00001\n", b"\xef\xbb\xbfT00001\r\nT00005"):
             codes.write_bytes(data)

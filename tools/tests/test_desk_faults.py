@@ -8,6 +8,7 @@ import fcntl
 import functools
 import os
 import random
+import re
 import resource
 import signal
 import socket
@@ -25,7 +26,8 @@ from labeltools import journal as journals
 from labeltools import report, selection
 from labeltools.journal import Journal
 from labeltools.messages import ToolError
-from labeltools.network import NetworkPrinter
+from labeltools.network import NetworkPrinter, Unreachable
+from labeltools.text import Text
 from printers import BROKEN, LABEL, Printer
 from test_desk import ROLL, TICKETS, Folder, ended, labels_in, printed
 
@@ -120,8 +122,14 @@ class Rows(Folder):
 
     def test_rows_of_several_tables(self) -> None:
         rows = [(f"qr {table}{row}", {"row": row}) for table in "AB" for row in (2, 3, 4, 5)]
-        lines = support.file_of(rows[:4]) + support.file_of(rows[4:])
-        self.assertRegex(self.broken_off(lines), "from row [45] on by --only-code @FILE\n")
+        tables = [support.file_of(some) for some in (rows[:4], rows[4:])]
+        pattern = "from row [45] on by --only-code @FILE\n"
+        self.assertRegex(self.broken_off(b"".join(tables)), pattern)
+        lines = tables[0].replace(b"articles.xlsx", b"A.csv") + tables[1]
+        pattern = "from A.csv, row [45] on by --only-code @FILE\n"
+        self.assertRegex(self.broken_off(lines), pattern)
+        pattern = r"look that A.csv, row \d is on paper, or print what is missing by --only-code @F"
+        self.assertRegex(self.broken_off(lines, "--journal", self.path), pattern)
 
     def test_again_breaks_off(self) -> None:
         """The same command would print the first of them twice."""
@@ -133,6 +141,39 @@ class Rows(Folder):
         done = printed(*words, *again)
         pattern = f"then print from line (2[123]) on by --only \\1-30 --again {printer.name}\n"
         self.said(done, 1, pattern)
+
+    def test_rows_in_place_of_codes(self) -> None:
+        """Codes of the same command would be printed again beside the rows."""
+        codes = [word for row in (2, 5, 9, 12, 15) for word in ("--only-code", f"T{row:05}")]
+        said = self.broken_off(TICKETS, *codes)
+        pattern = r"from line (\d+) on, in place of --only-code, by --only (\1[\d,-]*)\n"
+        rows = re.search(pattern, said)
+        assert rows is not None, said
+        self.assertEqual(len(labels_in(printed("--only", rows[2]))), rows[2].count(",") + 1)
+        both = self.broken_off(TICKETS, "--only", "20-22", *codes)
+        self.assertRegex(both, pattern)
+
+    def test_one_that_is_off_after_some(self) -> None:
+        """A printer that ends its connection between labels, and takes no new one."""
+        open_line, done = NetworkPrinter.open, []
+
+        def look(line: NetworkPrinter) -> socket.socket:
+            done.append(line)
+            if len(done) % 4 == 3:
+                line.drop()
+                raise Unreachable(Text("{}: Connection refused", line.name))
+            return open_line(line)
+
+        printer = Printer().start()
+        again = ("--journal", self.path, "--only", "3-9", "--again", printer.name)
+        with mock.patch.object(NetworkPrinter, "open", look):
+            first = printed("--print", printer.name, "--journal", self.path)
+            self.said(first, 1, "line 3 and what follows it were not sent; the same command pri")
+            done.clear()
+            printed("--print", printer.name, "--journal", self.path)
+            done.clear()
+            pattern = f"not sent; .* print from line 5 on by --only 5-9 --again {printer.name}\n"
+            self.said(printed("--print", printer.name, *again), 1, pattern)
 
     def test_labels_of_a_roll_on_a_full_disk(self) -> None:
         words = " ".join([str(support.TOOLS / "label-print"), *ROLL])
@@ -171,6 +212,10 @@ class Editors(Folder):
             journal.write_bytes(changed)
             self.said(self.done_again(), 0, "30 labels in .* already")
             self.assertEqual(journal.read_bytes(), changed)
+        quoted = b"\n".join([lines[0], *(b'"%b"' % line for line in lines[1:]), b""])
+        journal.write_bytes(quoted)
+        self.said(self.done_again(), 1, "line 2 is no line of a journal")
+        self.assertEqual(journal.read_bytes(), quoted)
 
     def test_a_journal_of_version_1_1_0(self) -> None:
         """It has a UPC-A as its line has it."""

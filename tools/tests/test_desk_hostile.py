@@ -220,9 +220,14 @@ class Doubts(Starts):
 
     def test_those_outside_of_what_is_printed(self) -> None:
         """Each run names all of a journal, until they are printed or their lines say `taken`."""
-        for words in (("--only", "3-"), ("--only-code", "T00002"), ()):
+        for words, gone in (
+            (("--only", "3-"), ""),
+            (("--only-code", "T00002"), ", in place of --only-code,"),
+            ((), ""),
+        ):
             done = printed("--journal", self.waiting("tcp://a"), *words)
-            self.said(done, 1, r"line 1: may be on paper, from tcp://a: look for it; .* --again")
+            hint = f"if it is not there, give{gone} --only 1 --again tcp://a"
+            self.said(done, 1, f"line 1: may be on paper, from tcp://a: look for it; {hint}")
         done = printed("--journal", self.path, "--only", "1", "--again", "tcp://a")
         self.assertNotIn(b"may be on paper", done.stderr)
         self.said(printed("--journal", self.path, "--only", "3-"), 0, "28 labels in .* already\n$")
