@@ -40,7 +40,8 @@ Older = Mapping[tuple[str, str], set[Content]]
 
 @dataclass
 class LineWriter:
-    """Writes drafts as lines, and remembers what is said at the end.
+    """Writes drafts as lines, and remembers what is said at the end; `texts` are the names of the
+    columns of texts.
 
     A pattern of prices needs the whole column: drafts then wait for `finish`.
     """
@@ -49,6 +50,7 @@ class LineWriter:
     talk: Talk
     has_copies: bool
     older: Older | None = None
+    texts: tuple[str, ...] = ()
     output: bytearray = field(default_factory=bytearray)
     waiting: list[Draft] = field(default_factory=list)
     columns: tuple[PriceColumn, ...] = ()
@@ -57,6 +59,7 @@ class LineWriter:
     count: int = 0
     unchanged: int = 0
     left_out: list[int] = field(default_factory=list)
+    filled: set[str] = field(default_factory=set)  # columns of texts
     rounded: list[Rounded] = field(default_factory=list)
     codes: dict[int, str] = field(default_factory=dict)
     empty: dict[str, list[int]] = field(default_factory=lambda: {"title": [], "price": []})
@@ -84,7 +87,8 @@ class LineWriter:
         self.waiting = []
         self.left_out.sort()
         self.totals.left_out = len(self.left_out)
-        self.output += last_remark(self.count, self.left_out).encode()
+        empty = [name for name in self.texts if name not in self.filled]
+        self.output += last_remark(self.count, self.left_out, empty).encode()
         return bytes(self.output)
 
     def add(self, draft: Draft) -> None:
@@ -155,6 +159,7 @@ class LineWriter:
                 Text("the table has more than 128 MB of texts"), Text("make several tables of it")
             )
         self.count += 1
+        self.filled.update(draft.names)
         self.totals.add(draft.code.symbology, draft.copies)
         if draft.price and draft.price.money:
             self.totals.add_price(draft.price.money.value, content.price)

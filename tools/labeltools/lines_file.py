@@ -50,6 +50,7 @@ KEYS: dict[str, Any] = {
     "lines": int,
     "left_out": [int],
     "left_out_count": int,
+    "empty": [str],
 }
 ONE_LINE = ("price", "unit", "was")
 # what Pango cuts a text at or takes for a line end: controls (but LF), separators of lines and
@@ -113,13 +114,14 @@ class LineRecord(NamedTuple):
 
 @dataclass(frozen=True)
 class LinesFile:
-    """A whole file: its lines, the first rows that label-table left out, and how many it left
-    out.
+    """A whole file: its lines, the first rows that label-table left out, and how many it left out;
+    the columns of texts that are empty in a whole table.
     """
 
     records: tuple[LineRecord, ...]
     left_out: tuple[Place, ...]
     left_out_count: int
+    empty: frozenset[str] = frozenset()
 
 
 def lines_of(data: bytes, numbers: Iterable[int] = ()) -> Iterator[tuple[int, bytes]]:
@@ -155,10 +157,15 @@ def label_lines(label: Label, line: str, has_copies: bool) -> str:
     return f"{','.join(found)}}}\n{line}\n"
 
 
-def last_remark(count: int, left_out: Sequence[int]) -> str:
-    """Returns the last line of a file of `count` lines, of whose table these rows were left out."""
+def last_remark(count: int, left_out: Sequence[int], empty: Sequence[str]) -> str:
+    """Returns the last line of a file of `count` lines, of whose table these rows were left out,
+    and these columns of texts have none in the others.
+    """
     rows = list(left_out[:MOST_LEFT_OUT])
-    end = {"end": VERSION, "lines": count, "left_out": rows, "left_out_count": len(left_out)}
+    end: dict[str, Any] = {"end": VERSION, "lines": count}
+    end |= {"left_out": rows, "left_out_count": len(left_out)}
+    if empty:
+        end["empty"] = empty
     return f"#{encode(end)}\n"
 
 
@@ -211,6 +218,7 @@ class _Reader:
     records: list[LineRecord] = field(default_factory=list)
     left_out: list[Place] = field(default_factory=list)
     left_out_count: int = 0
+    empty: set[str] = field(default_factory=set)
 
     def take_object(self, number: int, line: bytes) -> None:
         """Takes a remark that is an object."""
@@ -229,6 +237,7 @@ class _Reader:
                 Place(self.part.table, "row", row) for row in found.get("left_out", [])
             ]
             self.left_out_count += found.get("left_out_count", 0)
+            self.empty.update(found.get("empty", ()))
             self.part = _Part()
             self.waiting = {}
         else:
@@ -258,7 +267,8 @@ class _Reader:
                 ),
                 hint,
             )
-        return LinesFile(tuple(self.records), tuple(self.left_out), self.left_out_count)
+        found = tuple(self.records), tuple(self.left_out), self.left_out_count
+        return LinesFile(*found, frozenset(self.empty))
 
 
 def object_of(line: bytes, name: str, number: int) -> dict[str, Any]:

@@ -74,6 +74,9 @@ PLAIN_ID = re.compile(r"[\w.-]+", re.ASCII)
 SIDES = ("height", "width")
 THIN = 1e-7  # the height of what shows the upper edge of a place
 TINY = 0.01  # millimetres
+UNPAINTED = ";".join(
+    f"{key}!important" for key in ("display:inline", "fill:none", "stroke:none", "filter:none")
+)
 # names that programs give by themselves
 UNNAMED = re.compile(
     r"(?:(?:artboard|background_?rect|canvas_background|(?:rounded[\s_-]*)?rect(?:angle)?|rechteck)"
@@ -149,7 +152,8 @@ class Place:
 class OwnDesign:
     """A design that suits a label: its file, the sides of a label as it is read, whether labels are
     turned to the right, its places, what is drawn, which begins at `corner` and has a size, the
-    names of its groups, which are drawn with the part or column of that name, the places that are
+    names of its groups, which are drawn with the part or column of that name, each with what it is
+    without a number behind it, the places that are
     smaller than they are drawn, since an edge of the paper takes no ink, the fonts of its words,
     what other shapes with a name are, by its key, its words, and what is said of it.
     """
@@ -161,7 +165,7 @@ class OwnDesign:
     root: Element
     corner: Size
     size: Size
-    groups: frozenset[str]
+    groups: Mapping[str, str]
     smaller: tuple[str, ...]
     fonts: tuple[str, ...]
     shapes: Mapping[str, str]
@@ -236,12 +240,15 @@ def read_design(name: str, cell: Size, white: Edges, turn: Optional[bool]) -> Ow
     edges = (white[1], white[2], white[3], white[0]) if is_turned else white
     cut = tuple(inside(name, place, label, edges) for place in placed)
     smaller = [one.title for one, whole in zip(cut, placed) if is_smaller(one, whole)]
-    for _, rect, _ in taken_places(name, root):
+    rects = [rect for _, rect, _ in taken_places(name, root)]
+    for rect in rects:
         hide(rect)
     ends = (edges[0], edges[1], label[0] - edges[2], label[1] - edges[3])
-    groups = frozenset(key for _, _, key in groups_of(root))
+    groups = {key: part_of(title_of(group)) for _, group, key in groups_of(root)}
     how = (root, corner, size, groups, tuple(smaller), fonts_of(root), keys_of(shapes_in(root)))
     said += [*cut_words(name, handle, words, area, ends)] or cut_drawing(name, root, area, ends)
+    for rect in rects:
+        unpaint(rect)
     return OwnDesign(name, label, is_turned, cut, *how, tuple(words.values()), tuple(said))
 
 
@@ -299,7 +306,14 @@ def without_groups(root: Element, absent: frozenset[str]) -> Element:
 
 def hide(element: Element) -> None:
     """Makes an element invisible where it stands: style sheets count what is beside others."""
-    element.set("style", f"{element.get('style', '')};display:none")
+    element.set("style", f"{element.get('style', '')};display:none!important")
+
+
+def unpaint(element: Element) -> None:
+    """Makes an element that was hidden one that leaves no ink, and has its room in its group: what
+    clips a group, or masks it, may be in units of that.
+    """
+    element.set("style", f"{element.get('style', '')};{UNPAINTED}")
 
 
 def page_of(name: str, root: Element) -> Page:

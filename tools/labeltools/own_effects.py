@@ -15,6 +15,7 @@ MOVES = ("dx", "dy")
 LISTS = ("x", "y", *MOVES)  # of a text: a number for each letter
 ZERO = re.compile(r"-?0*\.?0*[a-z]*")
 SEPARATED = re.compile(r"[\s,]+")
+BLANK = re.compile("[ \t\r\n]+")
 TEXTS = ("text", "tspan")
 SPACES = "{http://www.w3.org/XML/1998/namespace}space"
 PRESERVE = "preserve"
@@ -22,6 +23,8 @@ BLEND = "mix-blend-mode"
 KEPT = ("break-spaces", "pre", "pre-wrap")
 SIZE = "font-size"
 NAME = re.compile(r"[#.]?[\w-]+")
+GRADIENTS = ("linearGradient", "radialGradient")
+OFFSET = re.compile(r"\s*([-+]?(?:\d+\.?\d*|\.\d+))\s*(%?)\s*")
 ASIDE = re.compile(r"\[[^]]*\]|:[\w-]+(?:\([^)]*\))?|[>+~]")  # of a selector: what no name is
 Sheets = Mapping[str, Mapping[str, str]]
 
@@ -50,6 +53,9 @@ def make_alike(root: Element) -> None:
     root.set(SIZE, root.get(SIZE, "16px"))  # librsvg takes 12
     if any(key == BLEND for one in root.iter() for key, _ in properties_of(one)):
         root.set("style", f"{root.get('style', '')};isolation:isolate")  # of the white page
+    for element in root.iter():
+        if tag_of(element) in GRADIENTS:
+            raise_offsets(element)
     sheets = sheets_of(root)
     if "transform" in {**root.attrib, **styles_of(root, sheets)}:
         move_inside(root)
@@ -57,14 +63,24 @@ def make_alike(root: Element) -> None:
         found = {**symbol.attrib, **styles_of(symbol, sheets)}.get("overflow")
         other = "hidden" if found in ("auto", "visible") else "visible"
         symbol.set("style", f"{symbol.get('style', '')};overflow:{other}")
-    for element, is_preserved in [*texts_in(root, sheets, False)]:
-        if is_preserved:
-            element.set(SPACES, PRESERVE)
-        else:
-            element.text = with_blanks(element.text)
-            for child in element:
-                child.tail = with_blanks(child.tail)
-        part_letters(element, is_preserved)
+    preserved = dict(texts_in(root, sheets, False))
+    for text in root.iter(f"{SPACE}text"):
+        keep_blanks(text, preserved)
+    for element in preserved:
+        element.set(SPACES, PRESERVE)
+        part_letters(element)
+
+
+def raise_offsets(gradient: Element) -> None:
+    """Raises the offsets of stops to those before them: librsvg takes them as they are."""
+    most = 0.0
+    for stop in gradient.iter(f"{SPACE}stop"):
+        written = OFFSET.fullmatch(stop.get("offset", "0"))
+        if written:
+            found = float(written[1]) / (100 if written[2] else 1)
+            if found < most:
+                stop.set("offset", f"{most:g}")
+            most = max(most, found)
 
 
 def move_inside(root: Element) -> None:
@@ -87,9 +103,39 @@ def hidden_in(root: Element) -> set[Element]:
     return found
 
 
-def with_blanks(text: Optional[str]) -> Optional[str]:
-    """Returns a text with blanks for its line ends."""
-    return text and text.replace("\n", " ")
+def keep_blanks(text: Element, preserved: Mapping[Element, bool]) -> None:
+    """Leaves of blanks behind one another the first, and none at both ends of a text, but where
+    they are kept: librsvg would take away those at the ends of each part of it.
+    """
+    is_behind = True  # a blank, or the begin of the text
+    last: Optional[tuple[Element, str]] = None
+    for element, kind, is_kept in strings_in(text, preserved):
+        found = getattr(element, kind)
+        if not is_kept:
+            found = BLANK.sub(" ", found)
+            found = found[is_behind and found.startswith(" ") :]
+            setattr(element, kind, found)
+        if found:
+            is_behind = not is_kept and found.endswith(" ")
+            last = (element, kind) if is_behind else None
+    if last:
+        setattr(*last, getattr(*last)[:-1])
+
+
+def strings_in(
+    element: Element, preserved: Mapping[Element, bool]
+) -> Iterator[tuple[Element, str, bool]]:
+    """Yields the strings of a text in their order: of which element each is, whether as its text or
+    its tail, and whether its blanks are kept.
+    """
+    is_kept = preserved.get(element, False)
+    if element.text:
+        yield element, "text", is_kept
+    for child in element:
+        if tag_of(child) in (*TEXTS, "a"):
+            yield from strings_in(child, preserved)
+        if child.tail:
+            yield child, "tail", is_kept
 
 
 def rules_of(sheet: str) -> Iterator[tuple[str, str]]:
@@ -138,18 +184,16 @@ def texts_in(
         yield from texts_in(child, sheets, is_preserved)
 
 
-def part_letters(element: Element, is_preserved: bool) -> None:
+def part_letters(element: Element) -> None:
     """Makes parts of a text that begin where a letter has a place of its own: librsvg takes the
     first place of a list alone. What it does not part stays as it is.
     """
     places = {key: places_in(element, key) for key in LISTS}
     letters = element.text or ""
-    is_plain = is_preserved or letters == " ".join(letters.split())
-    is_parted = is_plain and not len(element) and all(map(is_alone, letters))
+    is_parted = not len(element) and all(map(is_alone, letters))
     if letters and is_parted and max(map(len, places.values())) > 1:
         element.text = None
         element[:] = spans_of(letters, places)
-        element.set(SPACES, PRESERVE)  # a part may begin with a blank
         for key in LISTS:
             element.attrib.pop(key, None)
 

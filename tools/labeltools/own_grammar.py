@@ -13,8 +13,18 @@ from math import isclose
 from typing import Iterable, Iterator, Mapping, Optional
 from xml.etree.ElementTree import Element
 
-from labeltools.own_drawing import LINKS, NO_RULES, WITH_FONTS, declared, sheet_of, tag_of, walked
+from labeltools.own_drawing import (
+    LINKS,
+    NO_RULES,
+    WITH_FONTS,
+    declared,
+    fonts_of,
+    sheet_of,
+    tag_of,
+    walked,
+)
 from labeltools.own_effects import LISTS, TEXTS, places_in, rules_of, sheets_of, styles_of
+from labeltools.own_stretched import stretched
 from labeltools.pango import Pango
 
 NUMBER = r"[-+]?(?:\d+(?:\.\d*)?|\.\d+)(?:e[-+]?\d+)?"
@@ -41,7 +51,8 @@ GRAMMAR = (
     ("fill stroke", f"none|context-fill|context-stroke|{COLOUR}|{LINK}(?: ?(?:none|{COLOUR}))?"),
     ("color flood-color lighting-color stop-color", COLOUR),
     ("fill-opacity flood-opacity offset opacity stop-opacity stroke-opacity", SHARE),
-    ("cx cy fr fx fy r rx ry stroke-dashoffset stroke-width x1 x2 y1 y2", LENGTH),
+    ("cx cy fx fy stroke-dashoffset x1 x2 y1 y2", LENGTH),
+    ("fr r rx ry stroke-width", UNSIGNED),
     ("height width", f"auto|{UNSIGNED}"),
     ("dx dy x y", LENGTHS),
     ("stroke-dasharray", f"none|{LENGTHS}"),
@@ -75,7 +86,8 @@ GRAMMAR = (
     ("font-kerning font-variant-ligatures", "auto|normal"),
     ("letter-spacing", f"normal|{FIXED}"),
     ("baseline-shift", f"baseline|{LENGTH}"),
-    ("display font-stretch isolation mask-type paint-order visibility", "[a-z -]+"),
+    ("display", "(?!contents)[a-z -]+"),
+    ("font-stretch isolation mask-type paint-order visibility", "[a-z -]+"),
     ("white-space", "normal|nowrap|pre|pre-(?:line|wrap)|break-spaces"),
     ("writing-mode", "horizontal-tb|lr|lr-tb"),
     (
@@ -118,7 +130,7 @@ PSEUDO = (
     r"|nth-(?:last-)?(?:child|of-type)\((?:even|odd|[\dn+\s-]+)\))"
 )
 SELECTOR = re.compile(rf"(?:{NAMED}|{PSEUDO}|:(?:lang|not)\((?:{NAMED}|{PSEUDO})*\))*")
-AT_RULE = re.compile(r"@(?:font-face|page)\b[^{]*|@keyframes\b.*", re.DOTALL)  # without effect
+AT_RULE = re.compile(r"@page\b[^{]*|@keyframes\b.*", re.DOTALL)  # without effect
 OTHER = re.compile(r"[^-+.,\de\s]", re.IGNORECASE)  # than numbers
 GEOMETRY = frozenset("cx cy height r rx ry width x y".split())
 SIZED = ("circle", "ellipse", "image", "rect")  # by properties of CSS
@@ -134,7 +146,7 @@ NOWHERE = {
 }
 ELEMENTS = frozenset(
     "animate animateColor animateMotion animateTransform feDiffuseLighting feImage"
-    " feSpecularLighting feTile set {http://www.w3.org/1999/xhtml}style".split()
+    " feSpecularLighting feTile script set {http://www.w3.org/1999/xhtml}style".split()
 )
 ORIGINS = ("transform-box", "transform-origin")  # they change what is moved alone
 SIDES = ("height", "width")
@@ -148,12 +160,14 @@ def unlike(root: Element) -> Iterator[str]:
     """Yields what may be drawn otherwise in other programs, by its name and value."""
     sheets = sheets_of(root)
     ids = {f"#{one.get('id')}": one for one in root.iter()}
+    fonts = {name for families in fonts_of(root) for name in families.split(",")}
+    yield from stretched(root, sheets)
     for parent, element, _ in [(root, root, 0), *walked(root)]:
         tag = tag_of(element)
         if tag in ELEMENTS:
             yield tag.rpartition("}")[2]
         yield from unlike_values(element)
-        yield from unlike_rules(element)
+        yield from unlike_rules(element, fonts)
         styles = styles_of(element, sheets)
         values = {**element.attrib, **styles}
         above = {**parent.attrib, **styles_of(parent, sheets)} if tag in TEXTS else {}
@@ -194,13 +208,18 @@ def unlike_styles(styles: Iterable[tuple[str, str]], known: set[str]) -> Iterato
             yield f"{key}:{shortened(value)}"
 
 
-def unlike_rules(element: Element) -> Iterator[str]:
-    """Yields what may be drawn otherwise in a style sheet."""
+def unlike_rules(element: Element, fonts: set[str]) -> Iterator[str]:
+    """Yields what may be drawn otherwise in a style sheet; the fonts of words are given: librsvg
+    takes no font from a file.
+    """
     for key, usual in (("media", ("all", "screen")), ("type", ("", "text/css"))):
         if tag_of(element) == "style" and element.get(key, usual[0]) not in usual:
             yield f'{key}="{element.get(key)}"'
     for selector, how in rules_of(sheet_of(element)):
-        if not AT_RULE.fullmatch(selector):
+        if selector.startswith("@font-face"):
+            families = {value.strip(" \"'") for key, value in declared(how) if key == "font-family"}
+            yield from (f"@font-face {family}" for family in sorted(families & fonts))
+        elif not AT_RULE.fullmatch(selector):
             yield from () if SELECTOR.fullmatch(selector) else (shortened(selector),)
             yield from unlike_styles(declared(how), set())
 

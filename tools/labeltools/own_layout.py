@@ -353,20 +353,23 @@ def values_of(label: PrintLabel, note: str, own: frozenset[str]) -> Values:
 
 @dataclass
 class OwnLayouts:
-    """Lays out labels in a design."""
+    """Lays out labels in a design; `empty` are columns of which no label has a text."""
 
     design: OwnDesign
     area: Area
     letters: Letters
     note: str
     words: tuple[str, ...]
+    empty: frozenset[str] = frozenset()
     left_out: dict[int, Text] = field(default_factory=dict)
 
     def __post_init__(self) -> None:
         self.places = self.design.places
         self.own = frozenset(place.key for place in self.places)
         self.own |= frozenset(place.part for place in self.places)
-        self.known = self.own | self.design.groups.difference(PARTS)
+        groups = self.design.groups
+        self.known = self.own | {*groups, *groups.values()}.difference(PARTS)
+        self.asked = frozenset(PARTS).union(map(key_of, self.empty))
         self.boxes = {place: self.box_of(place) for place in self.places}
         self.boxes_of = cache(self.new_boxes)
         self.keys: Mapping[Place, str] = {}
@@ -389,12 +392,16 @@ class OwnLayouts:
         rows = [tuple([value.texts.get(key, "") for key in keys]) for value in values]
         symbols = self.second_symbols(rows, talk)
         rooms = self.rooms(rows)
-        groups = self.design.groups & self.own.union(*(value.texts for value in values))
+        named = self.own.union(self.asked, *(value.texts for value in values))
+        every = self.design.groups.items()
+        known = ((key, key if key in named else part) for key, part in every)
+        groups = {key: part for key, part in known if part in named}
         placed = []
         for number, label in enumerate(labels):
             if number % ASKED == 0:
                 talk.go_on(number, 0)
-            absent = groups.difference(values[number].texts)
+            texts = values[number].texts
+            absent = frozenset(key for key, part in groups.items() if part not in texts)
             try:
                 layout = self.layout(label, rows[number], absent, rooms, symbols)
             except NoRoom as problem:
@@ -564,7 +571,7 @@ class OwnLayouts:
         if lost:
             named = ", ".join(lost)
             yield first, Text("{} has no place for {}: not on the labels", file, named)
-        known = {*names, *PARTS}
+        known = {*names, *self.asked}
         empty = [one for one in self.places if not known & {one.key, one.part}]
         if empty:
             named = ", ".join(place.title for place in empty)
@@ -573,6 +580,10 @@ class OwnLayouts:
                 quoted(empty[0].title),
             )
             yield first, Text("{}: no label has anything for {}: {}", file, named, hint)
+        parts = frozenset(PARTS).difference(self.own, names)
+        for key in sorted(key for key, part in self.design.groups.items() if part in parts):
+            what = Text("{}: the group {} is on no label, since none has that", file, key)
+            yield first, Text("{}: {}", what, Text("give it another name to have it on each"))
 
     def said_of_letters(
         self, values: Sequence[Values], rooms: Mapping[Place, Room]

@@ -28,6 +28,9 @@ EDGE = 0.05
 FINE = 16.0
 DOTS_LIGHT = bytes(range(128, 256))  # what is white in dots
 MIXED = 0.4  # part of a place: more of it dark, and as much of it light, leave letters unread
+# the least part of a place, but for so many millimetres at its edges, that some letters may lie on
+SPOTTED = 0.05
+FRAME = 0.5
 CONTRAST = 0.3  # between letters and what is behind them, of that between black and white
 DIGITS = bytes.maketrans(b"\0\1", b"01")
 UPRIGHT = cairo.Matrix()
@@ -166,17 +169,41 @@ def with_colours(design: OwnDesign) -> OwnDesign:
     wide, high = (max(1, round(side * CHECKED)) for side in design.label)
     rows = lightness(design, wide, high)
     places = []
+    spotted = []
     for place in design.places:
         if place.is_symbol:
             check_white(design, place)
             places.append(place)
             continue
-        first = round(place.left * CHECKED)
-        last = round((place.left + place.width) * CHECKED)
-        down = slice(round(place.top * CHECKED), round((place.top + place.height) * CHECKED))
-        behind = b"".join(row[first:last] for row in rows[down])
+        behind = behind_of(rows, place, 0.0)
         places.append(replace(place, colour=colour_on(design.file, place, behind)))
-    return replace(design, places=tuple(places))
+        if SPOTTED < dark_part(behind_of(rows, place, FRAME)) < 1 - SPOTTED:
+            spotted.append(place.title)
+    said = design.remarks
+    if spotted:
+        what = Text(
+            "{}: the drawing is light and dark in part of the place {}",
+            design.file,
+            ", ".join(spotted),
+        )
+        said = *said, Text("{}: {}", what, Text("move the place, or look at the letters there"))
+    return replace(design, places=tuple(places), remarks=said)
+
+
+def behind_of(rows: list[bytes], place: Place, edge: float) -> bytes:
+    """Returns what is behind a place, a byte from 0 for black for each dot, but for so many
+    millimetres at its edges.
+    """
+    left, right = place.left + edge, place.left + place.width - edge
+    top, bottom = place.top + edge, place.top + place.height - edge
+    across = slice(round(left * CHECKED), round(right * CHECKED))
+    down = slice(round(top * CHECKED), round(bottom * CHECKED))
+    return b"".join(row[across] for row in rows[down])
+
+
+def dark_part(behind: bytes) -> float:
+    """Returns which part of the dots behind a place are dark."""
+    return len(behind.translate(None, DOTS_LIGHT)) / max(1, len(behind))
 
 
 def check_white(design: OwnDesign, place: Place) -> None:
@@ -199,7 +226,7 @@ def colour_on(file: str, place: Place, behind: bytes) -> Colour:
     that of their place where it can be read, or else black or white. Raises `ToolError` where
     neither can.
     """
-    dark = len(behind.translate(None, DOTS_LIGHT)) / max(1, len(behind))
+    dark = dark_part(behind)
     if MIXED < dark < 1 - MIXED:
         what = Text("{}: the drawing is light and dark in the place {}", file, place.title)
         raise ToolError(what, Text("letters need light or dark behind them: move the place"))

@@ -273,7 +273,7 @@ def prepared(
         reasons.update(doubles(lines, reasons))
     if reasons:
         labels = [label for label in labels if label.record.number not in reasons]
-    laid_out = laid_out_by(options, job, labels, letters, talk)
+    laid_out = laid_out_by(options, job, labels, lines.empty, letters, talk)
     reasons.update(laid_out.left_out)
     wanted = only_wanted(laid_out.labels, options.only)
     if options.read_back:
@@ -296,14 +296,17 @@ def laid_out_by(
     options: PrintOptions,
     job: PrintJob,
     labels: Sequence[PrintLabel],
+    empty: frozenset[str],
     letters: Letters,
     talk: Talk,
 ) -> LaidOutFile:
-    """Returns the layouts of labels by the design of a file, or a built-in one."""
+    """Returns the layouts of labels by the design of a file, or a built-in one; the columns of
+    texts are given that are empty.
+    """
     if job.design is None:
         return lay_out(labels, job.plan.area, letters, talk)
     area = job.plan.area.turned() if job.design.is_turned else job.plan.area
-    own = OwnLayouts(job.design, area, letters, options.note, options.words)
+    own = OwnLayouts(job.design, area, letters, options.note, options.words, empty)
     return own.lay_out(labels, talk)
 
 

@@ -169,7 +169,8 @@ class TableRun:
         older = contents_of(self.options.new_since) if self.options.new_since else None
         has_copies = self.columns.copies is not None
         self.reader = RowReader(self.options, self.columns, self.start.head.names)
-        self.writer = LineWriter(self.options, self.talk, has_copies, older)
+        texts = tuple(column.name for column in self.columns.text)
+        self.writer = LineWriter(self.options, self.talk, has_copies, older, texts)
 
     def take_all(self, rows: Iterator[Row]) -> None:
         """Takes the rows below the head; empty ones are left out, but not those at the end."""

@@ -21,7 +21,7 @@ from labeltools.own_design import colour_of
 from labeltools.own_drawing import rectangle
 from labeltools.own_layout import OwnLayout
 from labeltools.pango import library
-from labeltools.print_job import Prepared, PrintOptions, planned
+from labeltools.print_job import Prepared, PrintOptions, labels_of, planned
 
 TITLE = '<rect id="title" {}/>' + CODE
 WIDE = 'x="2" y="2" width="56" height="10"'
@@ -381,7 +381,8 @@ class Names(OwnPages):
         sides = (place.left, place.top, place.width, place.height)
         for side, wanted in zip(sides, (1.8, 1.8, 46.8, 9)):
             self.assertAlmostEqual(side, wanted, delta=0.01)
-        self.assertEqual([one[2:17] for one in self.said(found)], ["<svg transform>"])
+        said = [one[2:17] for one in self.said(found)]
+        self.assertEqual(said, ["<svg transform>", "the drawing is "])
 
     def test_what_moves_or_sizes_a_place(self) -> None:
         """CSS moves a place by properties that librsvg does not know, and counts what is beside."""
@@ -668,6 +669,40 @@ class Drawings(OwnPages):
         found = self.found(priced, prices)
         self.assertEqual([self.ink(found, one)[1] > 40 for one in (0, 1)], [True, False])
         self.assertEqual(self.said(found), [" has no place for was: not on the labels"])
+
+    def test_a_group_of_what_no_label_has(self) -> None:
+        """That of a part is on none, which is said; that of a column that is empty in the whole
+        table is on none, as its cells say.
+        """
+        body = '<g id="{}"><path d="M2 2H9V9H2Z"/></g>' + CODE
+        plain: list[Label] = [("code128 A", {})]
+        found = self.found(body.format("Price"), plain)
+        self.assertFalse(dots_of(found)[:150].any())
+        why = ": the group price is on no label, since none has that: give it another name to"
+        self.assertTrue(self.said(found)[0].startswith(why), self.said(found))
+        for name, is_drawn in (("Logo", False), ("logo", False), ("Bio", True)):
+            path = designs.written(self.path, body.format(name))
+            options = PrintOptions(paper=designs.PAPER, dpi=203, to="pbm", design=str(path))
+            ends = '"lines":1,"left_out":[],"left_out_count":0,"empty":["Logo"]}'
+            lines = f'#{{"labels":1}}\n#{{"row":2}}\ncode128 A\n#{{"end":1,{ends}\n'.encode()
+            found = labels_of(options, planned(options), "lines", lines, Silence())
+            self.assertEqual((dots_of(found)[:150].any(), self.said(found)), (is_drawn, []))
+
+    def test_a_place_that_is_dark_in_part(self) -> None:
+        """Letters would be black on black: it is said. A line around letters is no such part."""
+        place = f'<rect id="title" x="2" y="2" width="56" height="10"/>{CODE}'
+        for shape, is_said in (
+            ("M40 0H60V14H40Z", True),
+            ("M0 0H15V14H0Z", True),
+            ("M0 0H60V14H0Z M30 5H38V10H30Z", True),
+            ("M2 2H58V12H2Z M2.3 2.3V11.7H57.7V2.3Z", False),
+            ("M0 0H60V14H0Z", False),
+        ):
+            drawn = f'<path fill-rule="evenodd" d="{shape}"/>{place}'
+            said = self.said(self.found(drawn, [ONE]))
+            hint = "move the place, or look at the letters there"
+            wanted = f": the drawing is light and dark in part of the place title: {hint}"
+            self.assertEqual(said, [wanted] * is_said, shape)
 
     def test_a_group_goes_with_its_field(self) -> None:
         word = '<g id="Best before"><path d="M2 2H9V9H2Z"/></g>'

@@ -61,6 +61,12 @@ SHOWN = (
     '<symbol id="s" viewBox="0 0 9 9" overflow="{}"><path d="M-5 -5H5V5H-5Z"/></symbol>'
     '<use href="#s" x="9" y="9" width="9" height="9"/>'
 )
+OFFSETS = (
+    '<radialGradient id="r"><stop {}/><stop {} stop-color="#fff"/><stop {} stop-color="#fff"/>'
+    '</radialGradient><path fill="url(#r)" d="M2 2H22V19H2Z"/>'
+)
+TURNED = f'<text {WORDS} transform="matrix({{}} 9 9)" {{}}>a{{}}</text>'
+HALVES = TURNED.format("1 0 0 1", "", "<tspan>b</tspan>")
 # what browsers draw alike: as SVG 2 says
 ALIKE = (
     (
@@ -93,6 +99,14 @@ ALIKE = (
         f'<text {WORDS} x="2" y="8">A B<tspan>C</tspan> D</text>',
     ),
     (
+        f'<text {WORDS} x="2" y="8"> <tspan>A </tspan><tspan> B\n</tspan> C <a>D </a> E\t</text>',
+        f'<text {WORDS} {PRESERVE} x="2" y="8"><tspan>A </tspan><tspan>B </tspan>C <a>D </a>E</text>',
+    ),
+    (
+        f'<text {WORDS} x="2" y="8">A <tspan {PRESERVE}> B </tspan> C <title>no</title></text>',
+        f'<text {WORDS} x="2" y="8" {PRESERVE}>A <tspan> B </tspan> C</text>',
+    ),
+    (
         f'<text {WORDS} x="2" y="8" dx="0 0 0 4 0">Word</text>',
         f'<text {WORDS} x="2" y="8">Wor<tspan dx="4">d</tspan></text>',
     ),
@@ -103,6 +117,16 @@ ALIKE = (
     (
         f'<path d="M2 2H22V12H2Z"/>{BLEND}',
         '<path d="M2 2H22V12H2Z"/><path d="M12 4H22V9H12Z" fill="#fff"/>',
+    ),
+    (
+        '<clipPath id="c" clipPathUnits="objectBoundingBox"><path d="M0 0H.7V2H0Z"/></clipPath>'
+        '<g clip-path="url(#c)"><path d="M2 9H12V14H2Z"/>'
+        '<rect id="title" x="1" y="2" width="22" height="5"/></g>',
+        '<path d="M2 9H12V14H2Z"/>',
+    ),
+    (
+        OFFSETS.format('offset=".8"', 'offset=".2"', 'offset="10%"'),
+        OFFSETS.format('offset=".8"', 'offset=".8"', 'offset="80%"'),
     ),
     (SHOWN.format("hidden"), '<path d="M9 9H14V14H9Z"/>'),
     (SHOWN.format("visible"), '<path d="M4 4H14V14H4Z"/>'),
@@ -131,6 +155,9 @@ SAID = (
     (BOX.format("mix-blend-mode:plus-lighter"), "mix-blend-mode:plus-lighter"),
     (BOX.format("d:path('M2 2H9V9Z')"), "d:path('M2 2H9V9Z')"),
     (BOX.format("content-visibility:hidden"), "content-visibility:hidden"),
+    (BOX.format("display:contents"), "display:contents"),
+    ('<path stroke="#000" stroke-width="-1" d="M2 2H9"/>', 'stroke-width="-1"'),
+    ("<script>let a</script>", "script"),
     (BOX.format("translate:9px 0"), "translate:9px 0"),
     (BOX.format("transform:translate(9px, 10%)"), "transform:translate(9px, 10%)"),
     (BOX.format("transform:translate(9,5)"), "transform:translate(9,5)"),
@@ -153,6 +180,26 @@ SAID = (
         "animate",
     ),
     ("<style>.a{font-size:2rem}</style>", "font-size:2rem"),
+    (
+        f"<style>@font-face{{font-family:'DejaVu Sans';src:url(data:,)}}</style><text {WORDS}/>",
+        "@font-face DejaVu Sans",
+    ),
+    (TURNED.format("1 0 0 .9", 'text-anchor="middle"', ""), "<text transform>"),
+    (TURNED.format("0 1 -2 0", "", "<tspan>b</tspan>"), "<text transform>"),
+    (TURNED.format("1 0 .5 1", "", "<a>b</a>"), "<text transform>"),
+    (
+        f'<g style="transform:scale(2,1)" text-anchor="end"><text {WORDS} x="9" y="9">a</text></g>',
+        "<text transform>",
+    ),
+    (
+        f'<defs><text {WORDS} id="t">a</text></defs><use href="#t" x="5" transform="scale(1 2)"/>',
+        "<use transform>",
+    ),
+    (
+        '<svg width="9" height="9" viewBox="0 0 9 18" preserveAspectRatio="none">'
+        f'<text {WORDS} x="5" y="9" text-anchor="end">a</text></svg>',
+        "<text transform>",
+    ),
     ("<style>:is(.a){fill:none}</style>", ":is(.a)"),
     ("<style>g{fill:#fff; &amp; path{fill:#000}}</style>", "g{fill:#fff; & path"),
     ("<style>g{fill:#fff; .a{fill:#000}}</style>", "g{fill:#fff; .a"),
@@ -221,6 +268,10 @@ NOT_SAID = (
     '<g style="-inkscape-stroke:none;line-height:1.25;text-align:center;color-scheme:light dark"/>',
     '<g data-cell-id="1" aria-label="a" role="img" p-id="9" foo="var(--a)"/>',
     '<path style="font-size:medium;font-variant-ligatures:normal" d="M2 2H9"/>',
+    TURNED.format("2 0 0 1", "", " b"),
+    TURNED.format("0 -1 1 0", 'text-anchor="end"', "<tspan>b</tspan>"),
+    TURNED.format("-1 .5 .5 1", "", "<tspan>b</tspan>"),
+    f'<g transform="scale(1 2)"><g style="transform:scaleY(.5)">{HALVES}</g></g>'
     '<polygon points="2-2.5.5,9e-1 "/>',
     '<rect x="2" y="2" width="3.5e1%" height=" 9PX" fill="REBECCAPURPLE"/>',
     '<path transform=" rotate(9-1,2)\n,scale(.5)" style="fill:HSL(120DEG 100% 25% / .5)"/>',

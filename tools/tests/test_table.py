@@ -759,6 +759,13 @@ class Texts(TableTest):
         arguments = ["--code", "code", "--text", "text", "--copies", "price"]
         self.check(table.format("c;b;2"), arguments, lines)
 
+    def test_the_end_names_texts_that_no_row_has(self) -> None:
+        """As a logo that no article of a table has."""
+        table = f"code,Bio,Day,Old\n{SMALL},,1.9.,\n{PENCIL}, ,,\n".encode()
+        words = ["--code", "code", "--text", "Bio", "--text", "Day", "--text", "Old"]
+        done = support.run_here("label-table", *words, input=table)
+        self.assertEqual(parts_of(done.stdout)[2]["empty"], ["Bio", "Old"])
+
     def test_the_end_names_twenty_rows_that_are_left_out(self) -> None:
         table = "code\n" + "x\n" * 30 + f"{SMALL}\n"
         problem = '"x" is not digits alone: character 1 is "x"'

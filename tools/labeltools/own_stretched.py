@@ -1,0 +1,118 @@
+"""Words that are stretched in a drawing: librsvg draws each letter so, but is wrong about how wide
+they are together. So parts of a text are over one another, and a text in the middle is not there.
+"""
+
+import math
+import re
+from typing import Iterator, Mapping, NamedTuple
+from xml.etree.ElementTree import Element
+
+from labeltools.own_drawing import LINKS, tag_of, walked
+from labeltools.own_effects import TEXTS, Sheets, styles_of
+
+CALL = re.compile(r"([a-z]+)\s*\(([^)]*)\)", re.IGNORECASE)
+NUMBER = re.compile(r"[-+]?(?:\d+\.?\d*|\.\d+)(?:e[-+]?\d+)?", re.IGNORECASE)
+MOST = 0.005  # by which letters may be wider or lower: too little to be seen
+FRAMES = ("svg", "symbol")
+
+
+class Linear(NamedTuple):
+    """Where a matrix takes the units across (a, b) and down (c, d)."""
+
+    a: float = 1.0
+    b: float = 0.0
+    c: float = 0.0
+    d: float = 1.0
+
+    def before(self, other: "Linear") -> "Linear":
+        """Returns this matrix, and then the other one."""
+        return Linear(
+            self.a * other.a + self.b * other.c,
+            self.a * other.b + self.b * other.d,
+            self.c * other.a + self.d * other.c,
+            self.c * other.b + self.d * other.d,
+        )
+
+    @property
+    def is_even(self) -> bool:
+        """Whether it turns, mirrors and scales alone, alike in all directions.
+
+        >>> Linear(0, 2, -2, 0).is_even, Linear(2, 0, 0, 1).is_even, Linear(1, 0, 1, 1).is_even
+        (True, False, False)
+        """
+        across, down = math.hypot(self.a, self.b), math.hypot(self.c, self.d)
+        most = MOST * max(across, down)
+        is_right = abs(self.a * self.c + self.b * self.d) <= most * max(across, down)
+        return is_right and abs(across - down) <= most
+
+
+def linear_of(transform: str) -> Linear:
+    """Returns how a list of transforms turns and stretches; what is no such list does nothing.
+
+    >>> linear_of("translate(3 4) scale(2)") == linear_of("matrix(2,0,0,2,9,9)") == Linear(2, 0, 0, 2)
+    True
+    """
+    found = Linear()
+    for name, written in CALL.findall(transform):
+        numbers = [float(one) for one in NUMBER.findall(written)]
+        found = one_of(name.lower(), numbers, "rad" in written).before(found)
+    return found
+
+
+def one_of(name: str, numbers: list[float], is_radians: bool) -> Linear:
+    """Returns how one transform turns and stretches."""
+    first, *rest = numbers or [0.0]
+    angle = first if is_radians else math.radians(first)
+    if name == "matrix" and len(numbers) == 6:
+        return Linear(*numbers[:4])
+    if name == "scale":
+        return Linear(first, 0.0, 0.0, rest[0] if rest else first)
+    if name in ("scalex", "scaley"):
+        return Linear(a=first) if name == "scalex" else Linear(d=first)
+    if name == "rotate":
+        return Linear(math.cos(angle), math.sin(angle), -math.sin(angle), math.cos(angle))
+    if name == "skewx":
+        return Linear(c=math.tan(angle))
+    return Linear(b=math.tan(angle)) if name == "skewy" else Linear()
+
+
+def framed(values: Mapping[str, str]) -> Linear:
+    """Returns how a page, or a symbol, stretches what is in it, where it keeps no proportions."""
+    sides = [NUMBER.findall(values.get(key, "")) for key in ("width", "height")]
+    box = [float(one) for one in NUMBER.findall(values.get("viewBox", ""))]
+    if values.get("preserveAspectRatio") != "none" or len(box) != 4 or not all(box[2:]):
+        return Linear()
+    if not all(sides):
+        return Linear(d=0.0)  # nobody knows how much
+    wide, high = (float(one[0]) for one in sides)
+    return Linear(wide / box[2], 0.0, 0.0, high / box[3])
+
+
+def stretched(root: Element, sheets: Sheets) -> Iterator[str]:
+    """Yields what stretches words that librsvg then draws in wrong places: texts of several parts,
+    and texts that do not begin where they are placed.
+    """
+    ids = {f"#{one.get('id')}": one for one in root.iter()}
+    known = {root: Linear()}
+    anchors = {root: "start"}
+    for parent, element, _ in [(root, root, 0), *walked(root)]:
+        values = {**element.attrib, **styles_of(element, sheets)}
+        tag = tag_of(element)
+        how = framed(values) if tag in FRAMES else Linear()
+        known[element] = how.before(linear_of(values.get("transform", ""))).before(known[parent])
+        anchors[element] = values.get("text-anchor", anchors[parent])
+        if known[element].is_even:
+            continue
+        shown = next((ids[link] for link in map(values.get, LINKS) if link in ids), None)
+        if tag == "use" and shown is not None and any(tag_of(one) in TEXTS for one in shown.iter()):
+            yield "<use transform>"
+        if tag == "text" and (is_parted(element) or anchors[element] != "start"):
+            yield "<text transform>"
+        if tag == "tspan" and anchors[element] != "start":
+            yield "<tspan transform>"
+
+
+def is_parted(text: Element) -> bool:
+    """Returns whether a text has several parts with letters."""
+    strings = (one for one in text.itertext() if one.strip())
+    return len([*strings]) > 1
