@@ -157,7 +157,7 @@ def label_lines(label: Label, line: str, has_copies: bool) -> str:
     return f"{','.join(found)}}}\n{line}\n"
 
 
-def last_remark(count: int, left_out: Sequence[int], empty: Sequence[str]) -> str:
+def last_remark(count: int, left_out: Sequence[int], empty: Sequence[str] = ()) -> str:
     """Returns the last line of a file of `count` lines, of whose table these rows were left out,
     and these columns of texts have none in the others.
     """

@@ -49,8 +49,8 @@ class Linear(NamedTuple):
 def linear_of(transform: str) -> Linear:
     """Returns how a list of transforms turns and stretches; what is no such list does nothing.
 
-    >>> linear_of("translate(3 4) scale(2)") == linear_of("matrix(2,0,0,2,9,9)") == Linear(2, 0, 0, 2)
-    True
+    >>> linear_of("translate(3 4) scale(2, 3)")
+    Linear(a=2.0, b=0.0, c=0.0, d=3.0)
     """
     found = Linear()
     for name, written in CALL.findall(transform):

@@ -1,5 +1,6 @@
 """Designs that librsvg draws otherwise than browsers: what is drawn alike, said or refused."""
 
+import doctest
 import os
 import time
 import unittest
@@ -10,6 +11,7 @@ import designs
 import jobs
 import support
 from designs import CODE, Label, dots_of
+from labeltools import own_design, own_effects, own_grammar, own_stretched
 from labeltools.messages import ToolError
 from test_design import BLACK, OwnPages
 
@@ -325,6 +327,14 @@ class Effects(OwnPages):
         )
         shapes = '<path d="M2 2h1v9h-1z" fill="url(#b)"/>' * 3000
         self.assertTrue(self.dots(gradient + shapes)[:150].any())
+
+
+def load_tests(
+    loader: unittest.TestLoader, tests: unittest.TestSuite, _: object
+) -> unittest.TestSuite:
+    for module in (own_design, own_effects, own_grammar, own_stretched):
+        tests.addTests(doctest.DocTestSuite(module))
+    return tests
 
 
 if __name__ == "__main__":
