@@ -31,6 +31,7 @@ from labeltools.files import save, send
 from labeltools.forms import DESIGN, FORMS
 from labeltools.journal import Journal
 from labeltools.layout import LaidOut
+from labeltools.lines_file import LineRecord
 from labeltools.messages import BAD_ARGUMENTS, ToolError, sentence, write_message
 from labeltools.network import SCHEME, NetworkPrinter, address_of
 from labeltools.own_design import is_file
@@ -45,7 +46,7 @@ from labeltools.print_job import (
     prepared,
 )
 from labeltools.printer import check_queue, lp_words, print_by, typed
-from labeltools.report import report
+from labeltools.report import places_text, report
 from labeltools.selection import ROWS, selection_of
 from labeltools.sending import OUTPUT, Outlet, Sender, StandardOutput, doubts
 from labeltools.stock import forget, list_stock
@@ -299,12 +300,14 @@ def file_name(name: str, number: int, data: bytes) -> str:
     return NUMBERED.sub(part, name)
 
 
-def write(press: Press, prints: Prints, chosen: Sequence[str]) -> None:
+def write(
+    press: Press, prints: Prints, chosen: Sequence[str], records: Sequence[LineRecord]
+) -> None:
     """Writes labels to standard output, which are some of a file where they are chosen. A signal
     waits for the end of a document.
     """
     if press.job.form.is_roll:
-        Sender(StandardOutput(), chosen=chosen).send_all(press, prints)
+        Sender(StandardOutput(), chosen=chosen, records=records).send_all(press, prints)
         return
     output = standard_output().fileno()
     for document in press.documents(prints):
@@ -405,8 +408,8 @@ def check_arguments(arguments: argparse.Namespace, job: PrintJob) -> None:
         raise ToolError(what, Text("leave out --only"), BAD_ARGUMENTS)
 
 
-def sender_of(arguments: argparse.Namespace) -> Sender:
-    """Returns what sends labels one by one."""
+def sender_of(arguments: argparse.Namespace, records: Sequence[LineRecord] = ()) -> Sender:
+    """Returns what sends labels of a file of lines one by one."""
     queue: str = arguments.queue or ""
     outlet: Outlet = StandardOutput(is_synced=arguments.journal is not None)
     if queue:
@@ -414,7 +417,7 @@ def sender_of(arguments: argparse.Namespace) -> Sender:
     journal = Journal(arguments.journal, outlet.name) if arguments.journal else None
     if journal is not None:
         check_journal(arguments, journal)
-    return Sender(outlet, journal, arguments.again, chosen_by(arguments))
+    return Sender(outlet, journal, arguments.again, chosen_by(arguments), records)
 
 
 def chosen_by(arguments: argparse.Namespace) -> tuple[str, ...]:
@@ -525,27 +528,29 @@ def give_out(
     elif arguments.queue is not None:
         write_message(TOOL, Text("{}", print_on(press, prints, arguments.queue)))
     else:
-        write(press, prints, chosen_by(arguments))
+        write(press, prints, chosen_by(arguments), found.records)
         if arguments.summary or sys.stderr.isatty():
             write_message(TOOL, summary_of(job, prints, items if options.only else ()))
     return 1 if found.left_out else 0
 
 
 def with_names(text: Text, items: Sequence[LaidOut]) -> Text:
-    """Returns a text with the labels that were asked for one by one, where they are few."""
+    """Returns a text with the labels that were asked for one by one, where they are few; with their
+    tables where these are several.
+    """
     if not items or len(items) > MOST_NAMED:
         return text
     records = [item.label.record for item in items]
-    names = [
-        joined(", ", (one.place.text, one.data.decode("utf-8", "backslashreplace")))
-        for one in records
-    ]
+    has_tables = len({one.table for one in records}) > 1
+    places = (places_text([one.place], has_tables) for one in records)
+    codes = (one.data.decode("utf-8", "backslashreplace") for one in records)
+    names = [joined(", ", both) for both in zip(places, codes)]
     return Text("{}: {}", text, joined("; ", names))
 
 
 def send_each(arguments: argparse.Namespace, press: Press, found: Prepared) -> int:
     """Sends labels one by one; returns 1 where one is left out or doubtful."""
-    sender = sender_of(arguments)
+    sender = sender_of(arguments, found.records)
     prints = found.prints
     chosen = chosen_by(arguments)
     try:

@@ -322,7 +322,8 @@ def doubles(lines: LinesFile, refused: Mapping[int, Text]) -> Mapping[int, Text]
             continue
         earlier = first.setdefault(record.key, record.place)
         if earlier != record.place:
-            found[record.number] = Text("has the code of {}", earlier.text)
+            named = places_text([earlier], earlier.table != record.table)
+            found[record.number] = Text("has the code of {}", named)
     return found
 
 

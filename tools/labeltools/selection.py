@@ -130,24 +130,20 @@ def rows_text(ranges: Ranges) -> Text:
     return Text("row {}", named) if count == 1 else Text("rows {}", named)
 
 
-def words_of_rest(places: Sequence[Place], start: int, is_chosen: bool) -> str:
-    """Returns the words that choose the labels of some places from the one of a number on, and none
-    before it; `is_chosen` is whether the places are some of a file.
-
-    >>> rows = [Place("", "row", number) for number in (2, 3, 5, 6)]
-    >>> words_of_rest(rows, 1, False), words_of_rest(rows, 1, True)
-    ('--only 3-', '--only 3,5-6')
-    >>> words_of_rest([*rows, *rows], 6, False)
-    '--only-code @FILE'
+def words_of_rest(rest: Sequence[LineRecord], others: Iterable[LineRecord], is_chosen: bool) -> str:
+    """Returns the words that choose some labels of a file, those at its end unless `is_chosen`, and
+    none of its others; nothing where others have the same rows and the same codes.
     """
-    done = {place.number for place in places[:start]}
-    rest = sorted({place.number for place in places[start:]})
-    if not is_chosen and max(done, default=0) < rest[0]:
-        return f"--only {rest[0]}-"
-    ranges = ranges_of(rest)
-    if len(ranges) > MOST_RANGES or not done.isdisjoint(rest):
-        return f"--only-code {FILE}FILE"
-    return f"--only {','.join(range_text(first, last) for first, last in ranges)}"
+    others = list(others)
+    rows = sorted({record.place.number for record in rest})
+    done = {record.place.number for record in others}
+    if not is_chosen and max(done, default=0) < rows[0]:
+        return f"--only {rows[0]}-"
+    ranges = ranges_of(rows)
+    if len(ranges) <= MOST_RANGES and done.isdisjoint(rows):
+        return f"--only {','.join(range_text(first, last) for first, last in ranges)}"
+    codes = {code_of(record) for record in rest}
+    return f"--only-code {FILE}FILE" if codes.isdisjoint(map(code_of, others)) else ""
 
 
 def codes_of(argument: str) -> set[bytes]:

@@ -89,18 +89,21 @@ class Sender:
         journal: Optional[Journal] = None,
         again: Optional[str] = None,
         chosen: Sequence[str] = (),
+        records: Sequence[LineRecord] = (),
     ) -> None:
-        """Takes what labels go out by, and the options that choose some labels of a file."""
+        """Takes what labels go out by, the options that choose some labels of a file, and all lines
+        of that.
+        """
         self.outlet = outlet
         self.journal = journal
         self.again = again
         self.chosen = chosen
+        self.records = records
+        self.has_tables = len({record.table for record in records}) > 1
         self.sent: list[LaidOut] = []
         self.taken = 0
         self.known: set[bytes] = set()  # the codes that the journal had
         self.is_at_end = False  # whether standard output takes no more
-        self.has_tables = False  # whether labels are of several tables,
-        self.are_unclear = False  # and rows of several labels
 
     def send_all(self, press: Press, prints: Prints) -> None:
         """Sends labels with their copies; raises `ToolError` where the printer does not take them,
@@ -117,9 +120,6 @@ class Sender:
 
     def send_until(self, came: Sized, press: Press, prints: Prints) -> None:
         """Sends labels until a signal came; raises `ToolError` as `send_all`."""
-        places = [item.label.record.place for item in prints.items]
-        self.has_tables = len({place.table for place in places}) > 1
-        self.are_unclear = len({place.number for place in places}) < len(places)
         done = 0
         for item, copies in prints.runs():
             if came:
@@ -241,9 +241,17 @@ class Sender:
 
     def rest(self, item: LaidOut, prints: Prints) -> Text:
         """Returns how a label and those behind it are printed."""
-        places = [one.label.record.place for one in prints.items]
+        records = [one.label.record for one in prints.items]
         start = next(number for number, one in enumerate(prints.items) if one is item)
-        words = words_of_rest(places, start, bool(self.chosen))
+        rest = {record.number: record for record in records[start:]}
+        others = (record for record in self.records if record.number not in rest)
+        words = words_of_rest([*rest.values()], others, bool(self.chosen))
+        if not words:
+            return Text(
+                "look at the last one on paper, then print a file of {} and what follows it alone: "
+                "others have the same rows and codes",
+                self.named(item),
+            )
         again = f" --again {typed(self.again)}" if self.again else ""
         found = (self.named(item), words + again)
         if gone := in_place_of(words, self.chosen):
@@ -278,7 +286,9 @@ class Sender:
             return NOTHING
         last = self.named(self.sent[-1])
         again = f" --again {typed(self.outlet.name)}" if self.journal is not None else ""
-        words = f"--only-code {FILE}FILE{again}" if self.are_unclear else f"--only ROWS{again}"
+        numbers = {record.place.number for record in self.records}
+        is_clear = len(numbers) == len(self.records)
+        words = f"--only ROWS{again}" if is_clear else f"--only-code {FILE}FILE{again}"
         if gone := in_place_of(words, self.chosen):
             return Text(
                 "look that {} is on paper, or print what is missing, in place of {}, by {}",

@@ -153,6 +153,20 @@ class Rows(Folder):
         both = self.broken_off(TICKETS, "--only", "20-22", *codes)
         self.assertRegex(both, pattern)
 
+    def test_rows_that_others_have(self) -> None:
+        """Rows and codes of another table, of which nothing was asked."""
+        rows = [(f"qr {table}{row}", {"row": row}) for table in "AB" for row in (2, 3, 4, 5)]
+        parts = [support.file_of(rows[:4]), support.file_of(rows[4:])]
+        parts[0] = parts[0].replace(b"articles.xlsx", b"A.csv")
+        words = [word for code in ("A2", "B3", "B4", "B5") for word in ("--only-code", code)]
+        pattern = r"row \d on, in place of --only-code, by --only-code @FILE\n"
+        self.assertRegex(self.broken_off(b"".join(parts), *words), pattern)
+        alike = b"".join(parts).replace(b"qr B", b"qr A")
+        said = self.broken_off(alike)
+        self.assertRegex(said, r"print a file of A.csv, row \d and what follows it alone: others")
+        done = printed("--unique", input=alike)
+        self.said(done, 1, "articles.xlsx, row 2: has the code of A.csv, row 2\n")
+
     def test_one_that_is_off_after_some(self) -> None:
         """A printer that ends its connection between labels, and takes no new one."""
         open_line, done = NetworkPrinter.open, []
