@@ -24,8 +24,10 @@ SIDE = 16  # lines have this part of the size of letters as room at their sides
 STEP = 20
 FINE_STEP = 40
 KEPT = 1536  # texts that are kept as they are laid out
-SPACE = 0.4  # more than the width of a space
-HINTED = 1.04  # by how much letters in dots may be wider than they are measured
+SPACE = 0.4  # more than the width of a space in dots
+# by how much letters may be wider than they are measured: in dots, and else
+HINTED = 1.04
+PLAIN = 1.005
 LEFT = -1
 MIDDLE = 0
 RIGHT = 1
@@ -165,7 +167,8 @@ class Fitter:
         """Returns whether a text ends in an ellipsis as it fits a box."""
         if not style.lines:
             return False
-        room = (width - 2 * (style.size // SIDE)) / (style.size * HINTED)
+        wider = HINTED if self.is_dots else PLAIN
+        room = (width - 2 * (style.size // SIDE)) / (style.size * wider)
         if all(self.is_surely_whole(line, style, room) for line in text.split("\n")):
             return False
         layout = self.fitted(text, style, width, height).layout
@@ -174,6 +177,7 @@ class Fitter:
     def is_surely_whole(self, line: str, style: Style, room: float) -> bool:
         """Returns whether a line is whole by the widths of its words, which is quick to see."""
         words = self.letters.words[style.is_bold]
+        space = SPACE if self.is_dots else self.letters.spaces[style.is_bold]
         lines = 0
         for row in line.split(LINE_END):
             lines += 1
@@ -185,7 +189,7 @@ class Fitter:
                 if used + sign.advance > room:
                     lines += 1
                     used = 0.0
-                used += sign.advance + SPACE * bool(word)
+                used += sign.advance + space * bool(word)
         return lines <= style.lines
 
     def shown(self, text: str, style: Style, width: int, height: int) -> str:
