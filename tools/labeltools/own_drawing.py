@@ -335,7 +335,8 @@ def draw(name: str, handle: Any, canvas: Any, area: Any) -> None:
     try:
         handle.render_document(canvas, area)
     except library("GLib", "2.0").Error as error:
-        raise ToolError(Text("{} cannot be drawn: {}", name, error.message)) from error
+        hint = Text("save it in millimetres, with letters of a usual size")
+        raise ToolError(Text("{} cannot be drawn: {}", name, error.message), hint) from error
 
 
 def with_thin_lines(rows: list[bytes], spared: Sequence[Area]) -> list[bytes]:

@@ -6,6 +6,7 @@
 import re
 import unicodedata
 from collections import defaultdict
+from copy import deepcopy
 from typing import Iterator, Mapping, Optional
 from xml.etree.ElementTree import Element
 
@@ -24,6 +25,7 @@ KEPT = ("break-spaces", "pre", "pre-wrap")
 SIZE = "font-size"
 NAME = re.compile(r"[#.]?[\w-]+")
 GRADIENTS = ("linearGradient", "radialGradient")
+LEAST_STEP = 1e-5  # between a stop and those at the ends, of which Cairo else takes one
 OFFSET = re.compile(r"\s*([-+]?(?:\d+\.?\d*|\.\d+))\s*(%?)\s*")
 ASIDE = re.compile(r"\[[^]]*\]|:[\w-]+(?:\([^)]*\))?|[>+~]")  # of a selector: what no name is
 Sheets = Mapping[str, Mapping[str, str]]
@@ -55,7 +57,7 @@ def make_alike(root: Element) -> None:
         root.set("style", f"{root.get('style', '')};isolation:isolate")  # of the white page
     for element in root.iter():
         if tag_of(element) in GRADIENTS:
-            raise_offsets(element)
+            make_whole(element)
     sheets = sheets_of(root)
     if "transform" in {**root.attrib, **styles_of(root, sheets)}:
         move_inside(root)
@@ -71,16 +73,28 @@ def make_alike(root: Element) -> None:
         part_letters(element)
 
 
-def raise_offsets(gradient: Element) -> None:
-    """Raises the offsets of stops to those before them: librsvg takes them as they are."""
+def make_whole(gradient: Element) -> None:
+    """Writes the offsets of stops as they count, from 0 to 1 and none below those before it, with
+    stops at both ends: without these Cairo repeats another part, and shows one colour where two
+    stops at an end are one.
+    """
+    stops = [one for one in gradient if tag_of(one) == "stop"]
+    written = [OFFSET.fullmatch(stop.get("offset", "0")) for stop in stops]
+    if not stops or not all(written):
+        return
     most = 0.0
-    for stop in gradient.iter(f"{SPACE}stop"):
-        written = OFFSET.fullmatch(stop.get("offset", "0"))
-        if written:
-            found = float(written[1]) / (100 if written[2] else 1)
-            if found < most:
-                stop.set("offset", f"{most:g}")
-            most = max(most, found)
+    offsets = []
+    for one in filter(None, written):
+        share = float(one[1]) / (100 if one[2] else 1)
+        most = max(most, min(1.0, share))
+        offsets.append(most)
+    first, last = deepcopy(stops[0]), deepcopy(stops[-1])
+    gradient.insert(list(gradient).index(stops[0]), first)
+    gradient.insert(list(gradient).index(stops[-1]) + 1, last)
+    first.set("offset", "0")
+    last.set("offset", "1")
+    for stop, offset in zip(stops, offsets):
+        stop.set("offset", f"{min(1 - LEAST_STEP, max(LEAST_STEP, offset)):.6f}")
 
 
 def move_inside(root: Element) -> None:
@@ -161,11 +175,15 @@ def sheets_of(root: Element) -> Sheets:
     return found
 
 
+def classes_of(element: Element) -> list[str]:
+    """Returns the classes of an element, as selectors name them."""
+    return [f".{name}" for name in element.get("class", "").split()]
+
+
 def styles_of(element: Element, sheets: Sheets) -> dict[str, str]:
     """Returns the properties that an element may have by style sheets and has by its style."""
-    classes = [f".{name}" for name in element.get("class", "").split()]
     found: dict[str, str] = {}
-    for name in ("*", tag_of(element), *classes, f"#{element.get('id')}"):
+    for name in ("*", tag_of(element), *classes_of(element), f"#{element.get('id')}"):
         found.update(sheets.get(name, {}))
     found.update(declared(element.get("style", "")))
     return {key: value.strip() for key, value in found.items()}

@@ -23,8 +23,18 @@ from labeltools.own_drawing import (
     tag_of,
     walked,
 )
-from labeltools.own_effects import LISTS, TEXTS, places_in, rules_of, sheets_of, styles_of
-from labeltools.own_stretched import stretched
+from labeltools.own_effects import (
+    ASIDE,
+    LISTS,
+    NAME,
+    TEXTS,
+    classes_of,
+    places_in,
+    rules_of,
+    sheets_of,
+    styles_of,
+)
+from labeltools.own_stretched import linked, stretched
 from labeltools.pango import Pango
 
 NUMBER = r"[-+]?(?:\d+(?:\.\d*)?|\.\d+)(?:e[-+]?\d+)?"
@@ -161,13 +171,14 @@ def unlike(root: Element) -> Iterator[str]:
     sheets = sheets_of(root)
     ids = {f"#{one.get('id')}": one for one in root.iter()}
     fonts = {name for families in fonts_of(root) for name in families.split(",")}
+    shown = shown_names(root, ids)
     yield from stretched(root, sheets)
     for parent, element, _ in [(root, root, 0), *walked(root)]:
         tag = tag_of(element)
         if tag in ELEMENTS:
             yield tag.rpartition("}")[2]
         yield from unlike_values(element)
-        yield from unlike_rules(element, fonts)
+        yield from unlike_rules(element, fonts, shown)
         styles = styles_of(element, sheets)
         values = {**element.attrib, **styles}
         above = {**parent.attrib, **styles_of(parent, sheets)} if tag in TEXTS else {}
@@ -208,9 +219,18 @@ def unlike_styles(styles: Iterable[tuple[str, str]], known: set[str]) -> Iterato
             yield f"{key}:{shortened(value)}"
 
 
-def unlike_rules(element: Element, fonts: set[str]) -> Iterator[str]:
-    """Yields what may be drawn otherwise in a style sheet; the fonts of words are given: librsvg
-    takes no font from a file.
+def shown_names(root: Element, ids: Mapping[str, Element]) -> set[str]:
+    """Returns the tags, classes and ids of what clones show."""
+    uses = (one for one in root.iter() if tag_of(one) == "use")
+    targets = (linked(use.attrib, ids) for use in uses)
+    shown = (one for target in targets if target is not None for one in target.iter())
+    return {name for one in shown for name in (tag_of(one), f"#{one.get('id')}", *classes_of(one))}
+
+
+def unlike_rules(element: Element, fonts: set[str], shown: set[str]) -> Iterator[str]:
+    """Yields what may be drawn otherwise in a style sheet. The fonts of words are given: librsvg
+    takes no font from a file; and the names of what clones show: librsvg knows what the original is
+    in.
     """
     for key, usual in (("media", ("all", "screen")), ("type", ("", "text/css"))):
         if tag_of(element) == "style" and element.get(key, usual[0]) not in usual:
@@ -220,8 +240,15 @@ def unlike_rules(element: Element, fonts: set[str]) -> Iterator[str]:
             families = {value.strip(" \"'") for key, value in declared(how) if key == "font-family"}
             yield from (f"@font-face {family}" for family in sorted(families & fonts))
         elif not AT_RULE.fullmatch(selector):
-            yield from () if SELECTOR.fullmatch(selector) else (shortened(selector),)
+            is_plain = SELECTOR.fullmatch(selector) and not is_above(selector, shown)
+            yield from () if is_plain else (shortened(selector),)
             yield from unlike_styles(declared(how), set())
+
+
+def is_above(selector: str, shown: set[str]) -> bool:
+    """Returns whether a selector says what elements are in of which clones show some."""
+    parts = (ASIDE.sub(" ", one).split() for one in selector.split(","))
+    return any(len(part) > 1 and not shown.isdisjoint(NAME.findall(part[-1])) for part in parts)
 
 
 @lru_cache(KEPT)

@@ -1,19 +1,27 @@
-"""Words that are stretched in a drawing: librsvg draws each letter so, but is wrong about how wide
-they are together. So parts of a text are over one another, and a text in the middle is not there.
+"""What is stretched or turned in a drawing, so that librsvg draws it otherwise than other programs.
+
+It is wrong about how wide stretched letters are together: parts of a text are over one another, and
+a text in the middle is not there. For the box of what is askew it takes that of its corners, and
+for that of words their ink: what clips, masks or paints them by their box does so elsewhere.
 """
 
 import math
 import re
-from typing import Iterator, Mapping, NamedTuple
+from typing import Iterator, Mapping, NamedTuple, Optional
 from xml.etree.ElementTree import Element
 
 from labeltools.own_drawing import LINKS, tag_of, walked
-from labeltools.own_effects import TEXTS, Sheets, styles_of
+from labeltools.own_effects import GRADIENTS, TEXTS, Sheets, styles_of
 
 CALL = re.compile(r"([a-z]+)\s*\(([^)]*)\)", re.IGNORECASE)
 NUMBER = re.compile(r"[-+]?(?:\d+\.?\d*|\.\d+)(?:e[-+]?\d+)?", re.IGNORECASE)
 MOST = 0.005  # by which letters may be wider or lower: too little to be seen
 FRAMES = ("svg", "symbol")
+BOXED = ("clip-path", "mask", "fill", "stroke")
+MOST_LINKS = 9  # from one paint to another
+LINK = re.compile(r"url\(\s*[\"']?(#[^\"')]+)")
+BOX = "objectBoundingBox"
+REGION = ("x", "y", "width", "height")
 
 
 class Linear(NamedTuple):
@@ -44,6 +52,12 @@ class Linear(NamedTuple):
         most = MOST * max(across, down)
         is_right = abs(self.a * self.c + self.b * self.d) <= most * max(across, down)
         return is_right and abs(across - down) <= most
+
+    @property
+    def is_upright(self) -> bool:
+        """Whether what is across or down is so behind it, too."""
+        along, aside = max(abs(self.a), abs(self.d)), max(abs(self.b), abs(self.c))
+        return min(along, aside) <= MOST * max(along, aside)
 
 
 def linear_of(transform: str) -> Linear:
@@ -90,26 +104,67 @@ def framed(values: Mapping[str, str]) -> Linear:
 
 def stretched(root: Element, sheets: Sheets) -> Iterator[str]:
     """Yields what stretches words that librsvg then draws in wrong places: texts of several parts,
-    and texts that do not begin where they are placed.
+    and texts that do not begin where they are placed; and what clips, masks or paints by their box
+    words, or what is askew.
     """
     ids = {f"#{one.get('id')}": one for one in root.iter()}
     known = {root: Linear()}
     anchors = {root: "start"}
+    boxed: list[tuple[Element, str, str]] = []
     for parent, element, _ in [(root, root, 0), *walked(root)]:
         values = {**element.attrib, **styles_of(element, sheets)}
         tag = tag_of(element)
         how = framed(values) if tag in FRAMES else Linear()
-        known[element] = how.before(linear_of(values.get("transform", ""))).before(known[parent])
+        moved = linear_of(values.get("transform", values.get("patternTransform", "")))
+        known[element] = how.before(moved).before(known[parent])
         anchors[element] = values.get("text-anchor", anchors[parent])
+        links = ((key, LINK.search(values.get(key, ""))) for key in BOXED)
+        found = ((key, ids.get(link[1])) for key, link in links if link)
+        paints = [(key, one) for key, one in found if one is not None and is_by_box(one, ids)]
+        boxed += [(element, key, tag_of(one)) for key, one in paints]
         if known[element].is_even:
             continue
-        shown = next((ids[link] for link in map(values.get, LINKS) if link in ids), None)
+        shown = linked(values, ids)
         if tag == "use" and shown is not None and any(tag_of(one) in TEXTS for one in shown.iter()):
             yield "<use transform>"
         if tag == "text" and (is_parted(element) or anchors[element] != "start"):
             yield "<text transform>"
         if tag == "tspan" and anchors[element] != "start":
             yield "<tspan transform>"
+    for element, key, by in boxed:
+        inner = [*element.iter()]
+        is_askew = by not in GRADIENTS and not all(known[one].is_upright for one in inner)
+        if is_askew or any(tag_of(one) == "text" for one in inner):
+            yield f"<{tag_of(element)} {key}>"
+
+
+def linked(values: Mapping[str, str], ids: Mapping[str, Element]) -> Optional[Element]:
+    """Returns the element that a link names, if there is one."""
+    found = (ids.get(values.get(key, "")) for key in LINKS)
+    return next((one for one in found if one is not None), None)
+
+
+def is_by_box(found: Element, ids: Mapping[str, Element]) -> bool:
+    """Returns whether what clips, masks or paints an element is in parts of the box of that."""
+    tag = tag_of(found)
+    if tag == "clipPath":
+        return attribute(found, "clipPathUnits", ids) == BOX
+    if tag == "mask":
+        is_cut = any(attribute(found, key, ids) for key in REGION)
+        units = attribute(found, "maskUnits", ids) or BOX
+        return is_cut and units == BOX or attribute(found, "maskContentUnits", ids) == BOX
+    units = "patternUnits" if tag == "pattern" else "gradientUnits"
+    is_paint = tag == "pattern" or tag in GRADIENTS
+    return is_paint and (attribute(found, units, ids) or BOX) == BOX
+
+
+def attribute(element: Optional[Element], key: str, ids: Mapping[str, Element]) -> str:
+    """Returns an attribute of what clips, masks or paints, or that of what it takes others from."""
+    for _ in range(MOST_LINKS):
+        if element is None or key in element.attrib:
+            break
+        element = linked(element.attrib, ids)
+    return "" if element is None else element.get(key, "")
 
 
 def is_parted(text: Element) -> bool:

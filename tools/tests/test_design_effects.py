@@ -63,10 +63,23 @@ SHOWN = (
     '<symbol id="s" viewBox="0 0 9 9" overflow="{}"><path d="M-5 -5H5V5H-5Z"/></symbol>'
     '<use href="#s" x="9" y="9" width="9" height="9"/>'
 )
+BOX_UNITS = "objectBoundingBox"
+USER = ' gradientUnits="userSpaceOnUse"'
 OFFSETS = (
     '<radialGradient id="r"><stop {}/><stop {} stop-color="#fff"/><stop {} stop-color="#fff"/>'
     '</radialGradient><path fill="url(#r)" d="M2 2H22V19H2Z"/>'
 )
+REPEATED = (
+    '<linearGradient id="r" spreadMethod="repeat" x2=".3">{}<stop offset=".2" stop-color="#fff"/>'
+    '<stop offset=".6"/>{}</linearGradient><path fill="url(#r)" d="M2 2H50V19H2Z"/>'
+)
+ASKEW = '<path transform="rotate({})" d="M9 2H19V9H9Z" {}/>'
+CIRCLE = f'<clipPath id="c" clipPathUnits="{BOX_UNITS}"><circle cx=".5" cy=".5" r=".5"/></clipPath>'
+MASK = f'<mask id="c" maskContentUnits="{BOX_UNITS}"><circle cx=".5" cy=".5" r=".5"/></mask>'
+TILES = '<pattern id="c" width=".3" height=".3"><path d="M0 0H2V2H0Z"/></pattern>'
+SHADE = '<linearGradient id="d" x2="0" y2="1"{}><stop/></linearGradient>'
+SHADE += '<linearGradient id="c" href="#d"/>'
+CLONE = '<g><path id="p" d="M2 2H9V9Z"/></g><use href="#p" x="9"/>'
 TURNED = f'<text {WORDS} transform="matrix({{}} 9 9)" {{}}>a{{}}</text>'
 HALVES = TURNED.format("1 0 0 1", "", "<tspan>b</tspan>")
 # what browsers draw alike: as SVG 2 says
@@ -130,6 +143,10 @@ ALIKE = (
         OFFSETS.format('offset=".8"', 'offset=".2"', 'offset="10%"'),
         OFFSETS.format('offset=".8"', 'offset=".8"', 'offset="80%"'),
     ),
+    (
+        REPEATED.format("", ""),
+        REPEATED.format('<stop stop-color="#fff"/>', '<stop offset="1"/>'),
+    ),
     (SHOWN.format("hidden"), '<path d="M9 9H14V14H9Z"/>'),
     (SHOWN.format("visible"), '<path d="M4 4H14V14H4Z"/>'),
     (f"<style>/* @import 'a.css'; */</style>{BOX}", BOX),
@@ -185,6 +202,16 @@ SAID = (
     (
         f"<style>@font-face{{font-family:'DejaVu Sans';src:url(data:,)}}</style><text {WORDS}/>",
         "@font-face DejaVu Sans",
+    ),
+    (CIRCLE + ASKEW.format(9, 'clip-path="url(#c)"'), "<path clip-path>"),
+    (CIRCLE + f'<g style="clip-path:url(#c)">{ASKEW.format(9, "")}</g>', "<g clip-path>"),
+    (MASK + ASKEW.format(9, 'mask="url(#c)"'), "<path mask>"),
+    (TILES + ASKEW.format(9, 'fill="url(#c)"'), "<path fill>"),
+    (SHADE.format("") + f'<text {WORDS} fill="url(#c)" x="2" y="9">a</text>', "<text fill>"),
+    ("<style>g path{fill:red}</style>" + CLONE, "g path"),
+    (
+        f'<pattern patternTransform="scale(2 1)"><text {WORDS}>a<tspan>b</tspan></text></pattern>',
+        "<text transform>",
     ),
     (TURNED.format("1 0 0 .9", 'text-anchor="middle"', ""), "<text transform>"),
     (TURNED.format("0 1 -2 0", "", "<tspan>b</tspan>"), "<text transform>"),
@@ -270,6 +297,10 @@ NOT_SAID = (
     '<g style="-inkscape-stroke:none;line-height:1.25;text-align:center;color-scheme:light dark"/>',
     '<g data-cell-id="1" aria-label="a" role="img" p-id="9" foo="var(--a)"/>',
     '<path style="font-size:medium;font-variant-ligatures:normal" d="M2 2H9"/>',
+    CIRCLE + ASKEW.format(90, 'clip-path="url(#c)"').replace("9 2H19V9H9", "9-9H19V-19H9"),
+    SHADE.format("") + ASKEW.format(9, 'fill="url(#c)"'),
+    SHADE.format(USER) + f'<text {WORDS} x="2" y="9" fill="url(#c)">a</text>',
+    f"<style>g .a,path{{fill:red}}</style>{CLONE}",
     TURNED.format("2 0 0 1", "", " b"),
     TURNED.format("0 -1 1 0", 'text-anchor="end"', "<tspan>b</tspan>"),
     TURNED.format("-1 .5 .5 1", "", "<tspan>b</tspan>"),

@@ -58,7 +58,27 @@ def rows_of(dots: jobs.Dots) -> list[str]:
     return [row.tobytes().decode() for row in (dots + ord("0")).astype(numpy.uint8)]
 
 
+STOP = '<stop offset="{}" stop-color="{}"/>'
+GRADIENT = '<linearGradient id="g">{}</linearGradient><path fill="url(#g)" d="M2 2H42V9H2Z"/>'
+
+
 class Drawings(unittest.TestCase):
+    def test_a_gradient_that_changes_at_once_at_its_end(self) -> None:
+        """Of two stops in one place, which are its first or last ones, Cairo writes one in PDF."""
+        for stops, ends in (
+            (((0.5, "black"), (0.5, "white"), (1, "white")), (2, 22)),
+            (((0, "white"), (0.5, "white"), (0.5, "black")), (22, 42)),
+            (((0, "black"), (0.25, "black"), (0.25, "white"), (0.25, "white")), (2, 12)),
+        ):
+            body = GRADIENT.format("".join(STOP.format(*stop) for stop in stops)) + designs.CODE
+            with tempfile.TemporaryDirectory() as folder:
+                path = designs.written(Path(folder, "own.svg"), body)
+                done = support.printed("--design", str(path), input=b"code128 A\n")
+            dots = rendered(["pdftoppm", "-r", "600", "-mono", "FILE", "out"], done.stdout)
+            (across,) = numpy.nonzero(dots[int(5 / 25.4 * 600)])
+            for end, wanted in zip((across.min(), across.max() + 1), ends):
+                self.assertAlmostEqual(float(end) / 600 * 25.4, wanted, delta=0.1, msg=str(stops))
+
     def test_a_drawing_ends_at_the_edge_of_its_label(self) -> None:
         """What a PDF of a sheet has beyond it would be on the next label."""
         sheet: Dict[str, Any] = {"cell": (60.0, 40.0), "margin": (10.0, 10.0), "paper": None}
