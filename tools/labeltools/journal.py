@@ -51,7 +51,7 @@ STRANGE = re.compile(rb"[^ -\[\]-~]| (?= *\Z)")  # what is written as escapes: b
 ESCAPES = {bytes([byte]): b"\\x%02X" % byte for byte in range(256)} | {b"\\": b"\\\\"}
 LINE = re.compile(
     rb"\d{4}-\d\d-\d\dT[\d:]+Z\t(sending|taken)\tlane ([1-9][0-9]{0,8})\t([^\t]*)\t([^\t]*)\t"
-    rb"([!-~]+ (?:[ -\[\]-~]|\\\\|\\x[0-9A-F]{2})*)"
+    rb"([a-z0-9]+ (?:[ -\[\]-~]|\\\\|\\x[0-9A-F]{2})*)"
 )
 ENDS = b"\r "  # what an editor may put behind a line, and what no code ends in
 

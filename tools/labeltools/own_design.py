@@ -74,6 +74,7 @@ PLAIN_ID = re.compile(r"[\w.-]+", re.ASCII)
 SIDES = ("height", "width")
 THIN = 1e-7  # the height of what shows the upper edge of a place
 TINY = 0.01  # millimetres
+FINE = 20.0  # dots a millimetre, in which ink is measured
 UNPAINTED = ";".join(
     f"{key}!important" for key in ("display:inline", "fill:none", "stroke:none", "filter:none")
 )
@@ -584,27 +585,62 @@ def cut_words(
     not there may; the left, upper, right and lower end of what takes ink are given.
     """
     for known, text in words.items():
-        ink = handle.get_geometry_for_layer(f"#{known}", area).out_ink_rect
-        right, bottom = ink.x + ink.width, ink.y + ink.height
-        cut = max(ends[0] - ink.x, ends[1] - ink.y, right - ends[2], bottom - ends[3])
-        is_seen = ink.x < ends[2] and right > ends[0] and ink.y < ends[3] and bottom > ends[1]
-        if is_seen and cut > NEAR / 2 and text:
+        cut = cut_by(box_of(handle, f"#{known}", area), ends) if text else 0.0
+        if cut > NEAR / 2:  # the box of what is turned is larger than its ink
+            cut = min(cut, cut_by(ink_of(handle, f"#{known}", area), ends))
+        if cut > NEAR / 2:
             hint = Text("move it, or make its letters smaller")
             what = Text("{}: {} is cut at the edge by {:.1f} mm", name, quoted(text), cut)
             yield Text("{}: {}", what, hint)
+
+
+def cut_by(ink: Edges, ends: Edges) -> float:
+    """Returns by how much ink ends beyond an edge; 0 where nobody sees any of it. Of both the left,
+    upper, right and lower end are given.
+    """
+    is_seen = ink[0] < ends[2] and ink[2] > ends[0] and ink[1] < ends[3] and ink[3] > ends[1]
+    beyond = ends[0] - ink[0], ends[1] - ink[1], ink[2] - ends[2], ink[3] - ends[3]
+    return max(beyond) if is_seen else 0.0
+
+
+def ink_of(handle: Any, name: Optional[str], area: Any) -> Edges:
+    """Returns the left, upper, right and lower end of the ink of an element, or of all."""
+    around = cairo.Rectangle(
+        *(side * FINE for side in (-LARGEST, -LARGEST, 3 * LARGEST, 3 * LARGEST))
+    )
+    surface = cairo.RecordingSurface(cairo.CONTENT_COLOR_ALPHA, around)
+    canvas = cairo.Context(surface)
+    canvas.scale(FINE, FINE)
+    handle.render_layer(canvas, name, area)
+    left, top, width, height = (side / FINE for side in surface.ink_extents())
+    return left, top, left + width, top + height
+
+
+def cut_inside(ink: Edges, page: Any, ends: Edges) -> float:
+    """Returns by how much ink, of which there is some, ends beyond an edge, but within its page."""
+    begins = (ink[0], ink[1], -ink[2], -ink[3])
+    pages = (page.x, page.y, -page.x - page.width, -page.y - page.height)
+    sides = (ends[0], ends[1], -ends[2], -ends[3])
+    inside = [one for one in zip(begins, pages, sides) if one[0] - one[1] > NEAR / 2]
+    has_ink = ink[0] < ink[2] and ink[1] < ink[3]
+    return max((side - begin for begin, _, side in inside), default=0.0) if has_ink else 0.0
+
+
+def box_of(handle: Any, name: Optional[str], area: Any) -> Edges:
+    """Returns the left, upper, right and lower end of the box of an element, or of all."""
+    found = handle.get_geometry_for_layer(name, area).out_ink_rect
+    return found.x, found.y, found.x + found.width, found.y + found.height
 
 
 def cut_drawing(name: str, root: Element, page: Any, ends: Edges) -> Iterator[Text]:
     """Yields what is said of a drawing that ends beyond what takes ink, but not where it goes on to
     the end of its page, as a background does.
     """
-    ink = handle_of(name, root).get_geometry_for_layer(None, page).out_ink_rect
-    begins = (ink.x, ink.y, -ink.x - ink.width, -ink.y - ink.height)
-    pages = (page.x, page.y, -page.x - page.width, -page.y - page.height)
-    sides = (ends[0], ends[1], -ends[2], -ends[3])
-    inside = [one for one in zip(begins, pages, sides) if one[0] - one[1] > NEAR / 2]
-    cut = max((side - begin for begin, _, side in inside), default=0.0)
-    if min(ink.width, ink.height) > 0 and cut > NEAR / 2:
+    handle = handle_of(name, root)
+    cut = cut_inside(box_of(handle, None, page), page, ends)
+    if cut > NEAR / 2:  # the box of what is turned is larger than its ink
+        cut = min(cut, cut_inside(ink_of(handle, None, page), page, ends))
+    if cut > NEAR / 2:
         what = Text("{}: the drawing is cut at the edge by {:.1f} mm", name, cut)
         yield Text("{}: {}", what, Text("move it in, or give another --edge or --shift"))
 

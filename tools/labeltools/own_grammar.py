@@ -111,8 +111,9 @@ GRAMMAR = (
         rf"(?:,{ANGLE})?|(?:matrix|scale[xy]?)\({NUMBER}(?:,{NUMBER})*)\)\s*)+",
     ),
     ("background background-color", WHITE),
+    ("pathLength", "none"),
     (
-        "alignment-baseline dominant-baseline filterRes font-variant pathLength requiredExtensions"
+        "alignment-baseline dominant-baseline filterRes font-variant requiredExtensions"
         " requiredFeatures rotate systemLanguage text-decoration textLength vector-effect"
         " word-spacing",
         USUAL,

@@ -16,8 +16,9 @@ from labeltools.own_effects import GRADIENTS, TEXTS, Sheets, styles_of
 CALL = re.compile(r"([a-z]+)\s*\(([^)]*)\)", re.IGNORECASE)
 NUMBER = re.compile(r"[-+]?(?:\d+\.?\d*|\.\d+)(?:e[-+]?\d+)?", re.IGNORECASE)
 MOST = 0.005  # by which letters may be wider or lower: too little to be seen
-FRAMES = ("svg", "symbol")
-BOXED = ("clip-path", "mask", "fill", "stroke")
+FRAMES = ("svg", "symbol", "pattern", "marker")
+UNITS = ("clipPathUnits", "maskContentUnits", "patternContentUnits")
+BOXED = ("clip-path", "mask", "fill", "stroke", "filter")
 MOST_LINKS = 9  # from one paint to another
 LINK = re.compile(r"url\(\s*[\"']?(#[^\"')]+)")
 BOX = "objectBoundingBox"
@@ -60,6 +61,9 @@ class Linear(NamedTuple):
         return min(along, aside) <= MOST * max(along, aside)
 
 
+UNKNOWN = Linear(d=0.0)  # uneven, but nobody knows how much
+
+
 def linear_of(transform: str) -> Linear:
     """Returns how a list of transforms turns and stretches; what is no such list does nothing.
 
@@ -91,13 +95,15 @@ def one_of(name: str, numbers: list[float], is_radians: bool) -> Linear:
 
 
 def framed(values: Mapping[str, str]) -> Linear:
-    """Returns how a page, or a symbol, stretches what is in it, where it keeps no proportions."""
+    """Returns how a page, or what is as one, stretches what is in it, where it keeps no
+    proportions.
+    """
     sides = [NUMBER.findall(values.get(key, "")) for key in ("width", "height")]
     box = [float(one) for one in NUMBER.findall(values.get("viewBox", ""))]
     if values.get("preserveAspectRatio") != "none" or len(box) != 4 or not all(box[2:]):
         return Linear()
-    if not all(sides):
-        return Linear(d=0.0)  # nobody knows how much
+    if not all(sides) or "%" in values["width"] + values["height"]:
+        return UNKNOWN
     wide, high = (float(one[0]) for one in sides)
     return Linear(wide / box[2], 0.0, 0.0, high / box[3])
 
@@ -110,32 +116,49 @@ def stretched(root: Element, sheets: Sheets) -> Iterator[str]:
     ids = {f"#{one.get('id')}": one for one in root.iter()}
     known = {root: Linear()}
     anchors = {root: "start"}
-    boxed: list[tuple[Element, str, str]] = []
+    boxed: list[tuple[Element, str]] = []
     for parent, element, _ in [(root, root, 0), *walked(root)]:
         values = {**element.attrib, **styles_of(element, sheets)}
-        tag = tag_of(element)
-        how = framed(values) if tag in FRAMES else Linear()
-        moved = linear_of(values.get("transform", values.get("patternTransform", "")))
-        known[element] = how.before(moved).before(known[parent])
+        known[element] = linear_in(tag_of(element), values).before(known[parent])
         anchors[element] = values.get("text-anchor", anchors[parent])
-        links = ((key, LINK.search(values.get(key, ""))) for key in BOXED)
-        found = ((key, ids.get(link[1])) for key, link in links if link)
-        paints = [(key, one) for key, one in found if one is not None and is_by_box(one, ids)]
-        boxed += [(element, key, tag_of(one)) for key, one in paints]
-        if known[element].is_even:
-            continue
-        shown = linked(values, ids)
-        if tag == "use" and shown is not None and any(tag_of(one) in TEXTS for one in shown.iter()):
-            yield "<use transform>"
-        if tag == "text" and (is_parted(element) or anchors[element] != "start"):
-            yield "<text transform>"
-        if tag == "tspan" and anchors[element] != "start":
-            yield "<tspan transform>"
-    for element, key, by in boxed:
+        if values.get("direction") == "rtl":  # it begins at the right
+            anchors[element] = "end"
+        boxed += [(element, key) for key in boxed_by(values, ids)]
+        has_words = not known[element].is_even and has_shifted(element, anchors[element], ids)
+        if has_words:
+            yield f"<{tag_of(element)} transform>"
+    for element, key in boxed:
         inner = [*element.iter()]
-        is_askew = by not in GRADIENTS and not all(known[one].is_upright for one in inner)
-        if is_askew or any(tag_of(one) == "text" for one in inner):
+        has_words = key != "filter" and any(tag_of(one) == "text" for one in inner)
+        if has_words or not all(known[one].is_upright for one in inner):
             yield f"<{tag_of(element)} {key}>"
+
+
+def linear_in(tag: str, values: Mapping[str, str]) -> Linear:
+    """Returns how an element turns and stretches what is in it."""
+    how = framed(values) if tag in FRAMES else Linear()
+    if BOX in map(values.get, UNITS):
+        how = UNKNOWN
+    return how.before(linear_of(values.get("transform", values.get("patternTransform", ""))))
+
+
+def has_shifted(element: Element, anchor: str, ids: Mapping[str, Element]) -> bool:
+    """Returns whether an element that is stretched has words in wrong places."""
+    tag = tag_of(element)
+    shown = linked(element.attrib, ids) if tag == "use" else None
+    if shown is not None:
+        return any(tag_of(one) in TEXTS for one in shown.iter())
+    is_moved = anchor != "start" or (tag == "text" and is_parted(element))
+    return tag in TEXTS and is_moved
+
+
+def boxed_by(values: Mapping[str, str], ids: Mapping[str, Element]) -> Iterator[str]:
+    """Yields the properties by which an element is clipped, masked or painted in parts of a box."""
+    for key in BOXED:
+        link = LINK.search(values.get(key, ""))
+        found = ids.get(link[1]) if link else None
+        if found is not None and is_by_box(found, ids):
+            yield key
 
 
 def linked(values: Mapping[str, str], ids: Mapping[str, Element]) -> Optional[Element]:
@@ -153,9 +176,9 @@ def is_by_box(found: Element, ids: Mapping[str, Element]) -> bool:
         is_cut = any(attribute(found, key, ids) for key in REGION)
         units = attribute(found, "maskUnits", ids) or BOX
         return is_cut and units == BOX or attribute(found, "maskContentUnits", ids) == BOX
-    units = "patternUnits" if tag == "pattern" else "gradientUnits"
-    is_paint = tag == "pattern" or tag in GRADIENTS
-    return is_paint and (attribute(found, units, ids) or BOX) == BOX
+    units = "gradientUnits" if tag in GRADIENTS else f"{tag}Units"
+    is_usual = tag in (*GRADIENTS, "filter", "pattern")
+    return is_usual and (attribute(found, units, ids) or BOX) == BOX
 
 
 def attribute(element: Optional[Element], key: str, ids: Mapping[str, Element]) -> str:

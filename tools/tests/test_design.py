@@ -670,6 +670,21 @@ class Drawings(OwnPages):
         self.assertEqual([self.ink(found, one)[1] > 40 for one in (0, 1)], [True, False])
         self.assertEqual(self.said(found), [" has no place for was: not on the labels"])
 
+    def test_what_is_turned_within_the_page(self) -> None:
+        """Boxes of what is turned go beyond the page."""
+        words = '<text transform="rotate({} 30 9)" x="{}" y="11" font-size="6" {}>Turned</text>'
+        font = 'font-family="DejaVu Sans"'
+        for drawn, is_cut in (
+            (words.format(25, 19, font), False),
+            (words.format(25, 2, font), True),
+            (
+                '<g transform="rotate(45 30 9)"><path d="M27 9H33M30 6V12" stroke="#000"/></g>',
+                False,
+            ),
+        ):
+            said = self.said(self.found(drawn + CODE, [("code128 A", {})]))
+            self.assertEqual([" is cut at the edge by " in one for one in said], [True] * is_cut)
+
     def test_a_group_of_what_no_label_has(self) -> None:
         """That of a part is on none, which is said; that of a column that is empty in the whole
         table is on none, as its cells say.

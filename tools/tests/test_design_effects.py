@@ -207,8 +207,26 @@ SAID = (
     (CIRCLE + f'<g style="clip-path:url(#c)">{ASKEW.format(9, "")}</g>', "<g clip-path>"),
     (MASK + ASKEW.format(9, 'mask="url(#c)"'), "<path mask>"),
     (TILES + ASKEW.format(9, 'fill="url(#c)"'), "<path fill>"),
+    ("<filter id='c'><feFlood/></filter>" + ASKEW.format(9, 'filter="url(#c)"'), "<path filter>"),
+    ('<path stroke="#000" stroke-dasharray="1" pathLength="0" d="M2 2H9"/>', 'pathLength="0"'),
+    (
+        '<svg width="50%" height="50%" viewBox="0 0 50 50" preserveAspectRatio="none">'
+        f"{HALVES}</svg>",
+        "<text transform>",
+    ),
+    (SHADE.format("") + ASKEW.format(9, 'fill="url(#c)"'), "<path fill>"),
     (SHADE.format("") + f'<text {WORDS} fill="url(#c)" x="2" y="9">a</text>', "<text fill>"),
     ("<style>g path{fill:red}</style>" + CLONE, "g path"),
+    (
+        f'<mask id="c" maskContentUnits="{BOX_UNITS}">{HALVES}</mask>',
+        "<text transform>",
+    ),
+    (
+        '<pattern width="9" height="9" viewBox="0 0 9 18" preserveAspectRatio="none">'
+        f"{HALVES}</pattern>",
+        "<text transform>",
+    ),
+    (TURNED.format("2 0 0 1", 'direction="rtl"', ""), "<text transform>"),
     (
         f'<pattern patternTransform="scale(2 1)"><text {WORDS}>a<tspan>b</tspan></text></pattern>',
         "<text transform>",
@@ -298,7 +316,7 @@ NOT_SAID = (
     '<g data-cell-id="1" aria-label="a" role="img" p-id="9" foo="var(--a)"/>',
     '<path style="font-size:medium;font-variant-ligatures:normal" d="M2 2H9"/>',
     CIRCLE + ASKEW.format(90, 'clip-path="url(#c)"').replace("9 2H19V9H9", "9-9H19V-19H9"),
-    SHADE.format("") + ASKEW.format(9, 'fill="url(#c)"'),
+    SHADE.format(USER) + ASKEW.format(9, 'fill="url(#c)"'),
     SHADE.format(USER) + f'<text {WORDS} x="2" y="9" fill="url(#c)">a</text>',
     f"<style>g .a,path{{fill:red}}</style>{CLONE}",
     TURNED.format("2 0 0 1", "", " b"),

@@ -226,10 +226,12 @@ class Editors(Folder):
             journal.write_bytes(changed)
             self.said(self.done_again(), 0, "30 labels in .* already")
             self.assertEqual(journal.read_bytes(), changed)
-        quoted = b"\n".join([lines[0], *(b'"%b"' % line for line in lines[1:]), b""])
-        journal.write_bytes(quoted)
-        self.said(self.done_again(), 1, "line 2 is no line of a journal")
-        self.assertEqual(journal.read_bytes(), quoted)
+        second = lines[1].rpartition(b"\t")
+        for line in (b'"%b"' % lines[1], b'%b\t"%b"' % second[::2]):
+            quoted = b"\n".join([lines[0], line, *lines[2:], b""])
+            journal.write_bytes(quoted)
+            self.said(self.done_again(), 1, "line 2 is no line of a journal")
+            self.assertEqual(journal.read_bytes(), quoted)
 
     def test_a_journal_of_version_1_1_0(self) -> None:
         """It has a UPC-A as its line has it."""
