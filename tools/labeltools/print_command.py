@@ -408,6 +408,13 @@ def check_arguments(arguments: argparse.Namespace, job: PrintJob) -> None:
         raise ToolError(what, Text("leave out --only"), BAD_ARGUMENTS)
 
 
+def lines_of(arguments: argparse.Namespace, found: Prepared) -> Sequence[LineRecord]:
+    """Returns the lines of a file that may be printed: with --unique the first one of each code."""
+    if not (arguments.is_unique or arguments.journal):
+        return found.records
+    return tuple({record.key: record for record in reversed(found.records)}.values())
+
+
 def sender_of(arguments: argparse.Namespace, records: Sequence[LineRecord] = ()) -> Sender:
     """Returns what sends labels of a file of lines one by one."""
     queue: str = arguments.queue or ""
@@ -528,7 +535,7 @@ def give_out(
     elif arguments.queue is not None:
         write_message(TOOL, Text("{}", print_on(press, prints, arguments.queue)))
     else:
-        write(press, prints, chosen_by(arguments), found.records)
+        write(press, prints, chosen_by(arguments), lines_of(arguments, found))
         if arguments.summary or sys.stderr.isatty():
             write_message(TOOL, summary_of(job, prints, items if options.only else ()))
     return 1 if found.left_out else 0
@@ -550,7 +557,7 @@ def with_names(text: Text, items: Sequence[LaidOut]) -> Text:
 
 def send_each(arguments: argparse.Namespace, press: Press, found: Prepared) -> int:
     """Sends labels one by one; returns 1 where one is left out or doubtful."""
-    sender = sender_of(arguments, found.records)
+    sender = sender_of(arguments, lines_of(arguments, found))
     prints = found.prints
     chosen = chosen_by(arguments)
     try:

@@ -312,7 +312,7 @@ def laid_out_by(
 
 def doubles(lines: LinesFile, refused: Mapping[int, Text]) -> Mapping[int, Text]:
     """Returns why lines are left out that have the code of an earlier one, or copies."""
-    first: dict[tuple[str, bytes], Place] = {}
+    first: dict[tuple[str, bytes], LineRecord] = {}
     found: dict[int, Text] = {}
     for record in lines.records:
         if record.number in refused or not record.label.copies:
@@ -320,9 +320,9 @@ def doubles(lines: LinesFile, refused: Mapping[int, Text]) -> Mapping[int, Text]
         if record.label.copies > 1:
             found[record.number] = Text("has copies, and each code is printed once")
             continue
-        earlier = first.setdefault(record.key, record.place)
-        if earlier != record.place:
-            named = places_text([earlier], earlier.table != record.table)
+        earlier = first.setdefault(record.key, record)
+        if earlier is not record:
+            named = places_text([earlier.place], earlier.table != record.table)
             found[record.number] = Text("has the code of {}", named)
     return found
 

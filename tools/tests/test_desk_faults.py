@@ -166,6 +166,18 @@ class Rows(Folder):
         self.assertRegex(said, r"print a file of A.csv, row \d and what follows it alone: others")
         done = printed("--unique", input=alike)
         self.said(done, 1, "articles.xlsx, row 2: has the code of A.csv, row 2\n")
+        said = self.broken_off(alike, "--unique")
+        self.assertRegex(
+            said, r"print from A.csv, row [34] on by --only-code @FILE\n|by --only [34]-"
+        )
+
+    def test_one_row_twice(self) -> None:
+        """A file that was joined with itself: its rows are those of other labels all the same."""
+        twice = 2 * b'#{"row":5}\nqr A\n'
+        for words in (("--unique",), ("--journal", self.path)):
+            done = printed(*words, input=twice + b"qr B\n")
+            self.said(done, 1, "row 5: has the code of row 5\n")
+            self.assertEqual(len(labels_in(done)), 2)
 
     def test_one_that_is_off_after_some(self) -> None:
         """A printer that ends its connection between labels, and takes no new one."""
