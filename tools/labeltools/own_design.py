@@ -156,7 +156,8 @@ class OwnDesign:
     names of its groups, which are drawn with the part or column of that name, each with what it is
     without a number behind it, the places that are
     smaller than they are drawn, since an edge of the paper takes no ink, the fonts of its words,
-    what other shapes with a name are, by its key, its words, and what is said of it.
+    what other shapes with a name are, by its key, its words, what is said of it, and how much at
+    its edges takes no ink, where it is not said yet that something is cut there.
     """
 
     file: str
@@ -172,6 +173,7 @@ class OwnDesign:
     shapes: Mapping[str, str]
     words: tuple[str, ...]
     remarks: tuple[Text, ...]
+    edges: Edges
 
     def draw(self, canvas: Any, scale: float, absent: frozenset[str] = frozenset()) -> None:
         """Draws what is alike on all labels without some parts, in so many units a millimetre;
@@ -241,16 +243,15 @@ def read_design(name: str, cell: Size, white: Edges, turn: Optional[bool]) -> Ow
     edges = (white[1], white[2], white[3], white[0]) if is_turned else white
     cut = tuple(inside(name, place, label, edges) for place in placed)
     smaller = [one.title for one, whole in zip(cut, placed) if is_smaller(one, whole)]
-    rects = [rect for _, rect, _ in taken_places(name, root)]
-    for rect in rects:
-        hide(rect)
+    for _, rect, _ in taken_places(name, root):
+        unpaint(rect)
     ends = (edges[0], edges[1], label[0] - edges[2], label[1] - edges[3])
     groups = {key: part_of(title_of(group)) for _, group, key in groups_of(root)}
     how = (root, corner, size, groups, tuple(smaller), fonts_of(root), keys_of(shapes_in(root)))
-    said += [*cut_words(name, handle, words, area, ends)] or cut_drawing(name, root, area, ends)
-    for rect in rects:
-        unpaint(rect)
-    return OwnDesign(name, label, is_turned, cut, *how, tuple(words.values()), tuple(said))
+    beyond = [*cut_words(name, handle, words, area, ends)]
+    seen = (0.0, 0.0, 0.0, 0.0) if beyond else edges
+    of_words = (tuple(words.values()), (*said, *beyond), seen)
+    return OwnDesign(name, label, is_turned, cut, *how, *of_words)
 
 
 def remarks_on(name: str, root: Element) -> Iterator[Text]:
@@ -311,8 +312,8 @@ def hide(element: Element) -> None:
 
 
 def unpaint(element: Element) -> None:
-    """Makes an element that was hidden one that leaves no ink, and has its room in its group: what
-    clips a group, or masks it, may be in units of that.
+    """Makes an element leave no ink, but have its room in its group: what clips a group, or masks
+    it, may be in units of that.
     """
     element.set("style", f"{element.get('style', '')};{UNPAINTED}")
 
@@ -603,8 +604,8 @@ def cut_by(ink: Edges, ends: Edges) -> float:
     return max(beyond) if is_seen else 0.0
 
 
-def ink_of(handle: Any, name: Optional[str], area: Any) -> Edges:
-    """Returns the left, upper, right and lower end of the ink of an element, or of all."""
+def ink_of(handle: Any, name: str, area: Any) -> Edges:
+    """Returns the left, upper, right and lower end of the ink of an element."""
     around = cairo.Rectangle(
         *(side * FINE for side in (-LARGEST, -LARGEST, 3 * LARGEST, 3 * LARGEST))
     )
@@ -616,33 +617,10 @@ def ink_of(handle: Any, name: Optional[str], area: Any) -> Edges:
     return left, top, left + width, top + height
 
 
-def cut_inside(ink: Edges, page: Any, ends: Edges) -> float:
-    """Returns by how much ink, of which there is some, ends beyond an edge, but within its page."""
-    begins = (ink[0], ink[1], -ink[2], -ink[3])
-    pages = (page.x, page.y, -page.x - page.width, -page.y - page.height)
-    sides = (ends[0], ends[1], -ends[2], -ends[3])
-    inside = [one for one in zip(begins, pages, sides) if one[0] - one[1] > NEAR / 2]
-    has_ink = ink[0] < ink[2] and ink[1] < ink[3]
-    return max((side - begin for begin, _, side in inside), default=0.0) if has_ink else 0.0
-
-
-def box_of(handle: Any, name: Optional[str], area: Any) -> Edges:
-    """Returns the left, upper, right and lower end of the box of an element, or of all."""
+def box_of(handle: Any, name: str, area: Any) -> Edges:
+    """Returns the left, upper, right and lower end of the box of an element."""
     found = handle.get_geometry_for_layer(name, area).out_ink_rect
     return found.x, found.y, found.x + found.width, found.y + found.height
-
-
-def cut_drawing(name: str, root: Element, page: Any, ends: Edges) -> Iterator[Text]:
-    """Yields what is said of a drawing that ends beyond what takes ink, but not where it goes on to
-    the end of its page, as a background does.
-    """
-    handle = handle_of(name, root)
-    cut = cut_inside(box_of(handle, None, page), page, ends)
-    if cut > NEAR / 2:  # the box of what is turned is larger than its ink
-        cut = min(cut, cut_inside(ink_of(handle, None, page), page, ends))
-    if cut > NEAR / 2:
-        what = Text("{}: the drawing is cut at the edge by {:.1f} mm", name, cut)
-        yield Text("{}: {}", what, Text("move it in, or give another --edge or --shift"))
 
 
 def located_place(name: str, place: Place, whole: Any, upper: Any, left: Any) -> Place:

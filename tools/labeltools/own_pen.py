@@ -6,7 +6,7 @@ from typing import Any, Iterable, Iterator, Optional
 
 import cairo
 
-from labeltools.area import MILLIMETRES, Dots
+from labeltools.area import MILLIMETRES, Dots, Edges
 from labeltools.engine import bytes_a_row
 from labeltools.fitting import Style
 from labeltools.forms.pdf import POINTS
@@ -14,7 +14,7 @@ from labeltools.layout import LaidOut
 from labeltools.letters import Fonts, Letters
 from labeltools.messages import ToolError
 from labeltools.own_drawing import with_thin_lines
-from labeltools.own_design import BLACK, WHITE, Colour, OwnDesign, Place
+from labeltools.own_design import BLACK, NEAR, WHITE, Colour, OwnDesign, Place
 from labeltools.own_layout import OwnLayout, OwnSymbol, OwnText
 from labeltools.pen import Medium, Page, Pen, Placed, is_light, light_of, padded
 from labeltools.text import Text
@@ -26,6 +26,7 @@ CHECKED = 8.0  # dots a millimetre, in which a drawing is looked at
 WHITEST = bytes((254, 255))
 EDGE = 0.05
 FINE = 16.0
+INKED = b"\1" * 250 + bytes(6)  # whether a dot is not white
 DOTS_LIGHT = bytes(range(128, 256))  # what is white in dots
 MIXED = 0.4  # part of a place: more of it dark, and as much of it light, leave letters unread
 # the least part of a place, but for so many millimetres at its edges, that some letters may lie on
@@ -180,6 +181,11 @@ def with_colours(design: OwnDesign) -> OwnDesign:
         if SPOTTED < dark_part(behind_of(rows, place, FRAME)) < 1 - SPOTTED:
             spotted.append(place.title)
     said = design.remarks
+    cut = cut_at(rows, design.edges)
+    if cut > NEAR / 2:
+        what = Text("{}: the drawing is cut at the edge by {:.1f} mm", design.file, cut)
+        hint = Text("move it in, or give another --edge or --shift")
+        said = *said, Text("{}: {}", what, hint)
     if spotted:
         what = Text(
             "{}: the drawing is light and dark in part of the place {}",
@@ -188,6 +194,24 @@ def with_colours(design: OwnDesign) -> OwnDesign:
         )
         said = *said, Text("{}: {}", what, Text("move the place, or look at the letters there"))
     return replace(design, places=tuple(places), remarks=said)
+
+
+def cut_at(rows: list[bytes], edges: Edges) -> float:
+    """Returns how many millimetres a drawing loses at the edges, which take no ink; but not of what
+    goes on to the end of the page, as a background does.
+    """
+    left, top, right, bottom = (round(edge * CHECKED) for edge in edges)
+    inwards = (
+        [row[:left] for row in rows],
+        [*map(bytes, zip(*rows[:top]))],
+        [row[::-1][:right] for row in rows],
+        [*map(bytes, zip(*rows[::-1][:bottom]))],
+    )
+    lost = [0.0]
+    for edge, lines in zip(edges, inwards):
+        begins = (line.translate(INKED).find(b"\1") for line in lines)
+        lost += [edge - begin / CHECKED for begin in begins if begin > 0]
+    return max(lost)
 
 
 def behind_of(rows: list[bytes], place: Place, edge: float) -> bytes:

@@ -814,6 +814,16 @@ class Drawings(OwnPages):
             wanted = [f": the drawing is cut at the edge by {said:.1f} mm"] * (said > 0)
             self.assertEqual([one.split(": move")[0] for one in cut], wanted, (ends, options))
 
+    def test_a_frame_on_a_background_is_cut(self) -> None:
+        """A white one is as the paper, and a black one goes on to the end of the page."""
+        white, black = (f'<path fill="{one}" d="M0 0H60V19H0Z"/>' for one in ("#fff", "#000"))
+        frame = '<path fill="none" stroke="#000" stroke-width=".2" d="M.5 .5H59.5V18H.5Z"/>'
+        for drawn, is_cut in ((white + frame, True), (black + frame, False), (white, False)):
+            found = self.found(drawn + CODE, [("code128 A", {})], edge=(3.0, 3.0, 3.0, 3.0))
+            said = [one for one in self.said(found) if "smaller than drawn" not in one]
+            wanted = [": the drawing is cut at the edge by 2.6 mm"] * is_cut
+            self.assertEqual([one.split(": move")[0] for one in said], wanted, drawn)
+
     def test_words_that_are_cut_are_said(self) -> None:
         word = '<text x="{}" y="9" font-size="5" font-family="DejaVu Sans">Door 2</text>'
         for left, said in ((2, 0), (50, 1), (-4, 1), (99, 0)):
