@@ -132,15 +132,17 @@ def rows_text(ranges: Ranges) -> Text:
 
 def words_of_rest(rest: Sequence[LineRecord], others: Iterable[LineRecord], is_chosen: bool) -> str:
     """Returns the words that choose some labels of a file, those at its end unless `is_chosen`, and
-    none of its others; nothing where others have the same rows and the same codes.
+    none of its others, also where the first of them is on paper; nothing where others have the same
+    rows and the same codes.
     """
     others = list(others)
     rows = sorted({record.place.number for record in rest})
     done = {record.place.number for record in others}
-    if not is_chosen and max(done, default=0) < rows[0]:
+    is_clear = len(rows) == len(rest)
+    if is_clear and not is_chosen and max(done, default=0) < rows[0]:
         return f"--only {rows[0]}-"
     ranges = ranges_of(rows)
-    if len(ranges) <= MOST_RANGES and done.isdisjoint(rows):
+    if is_clear and len(ranges) <= MOST_RANGES and done.isdisjoint(rows):
         return f"--only {','.join(range_text(first, last) for first, last in ranges)}"
     codes = {code_of(record) for record in rest}
     return f"--only-code {FILE}FILE" if codes.isdisjoint(map(code_of, others)) else ""

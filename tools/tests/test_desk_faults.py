@@ -125,6 +125,9 @@ class Rows(Folder):
         tables = [support.file_of(some) for some in (rows[:4], rows[4:])]
         pattern = "from row [45] on by --only-code @FILE\n"
         self.assertRegex(self.broken_off(b"".join(tables)), pattern)
+        first = Printer(cut=1).start()  # the next row is that of two labels
+        done = printed("--print", first.name, input=b"".join(tables))
+        self.said(done, 1, r"then print from row [23] on by --only-code @FILE\n")
         lines = tables[0].replace(b"articles.xlsx", b"A.csv") + tables[1]
         pattern = "from A.csv, row [45] on by --only-code @FILE\n"
         self.assertRegex(self.broken_off(lines), pattern)
