@@ -117,6 +117,8 @@ class Sender:
                 if came:
                     press.talk.say(error.what, error.hint)
                 raise
+            if came:
+                press.talk.say(Text("{}: {}, and these are all", self.outlet.name, self.so_far()))
 
     def send_until(self, came: Sized, press: Press, prints: Prints) -> None:
         """Sends labels until a signal came; raises `ToolError` as `send_all`."""

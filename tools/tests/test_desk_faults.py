@@ -174,6 +174,23 @@ class Rows(Folder):
             said, r"print from A.csv, row [34] on by --only-code @FILE\n|by --only [34]-"
         )
 
+    def test_a_signal_after_the_last_label(self) -> None:
+        """Without a word it would look as if nothing had gone out."""
+        printer = Printer(stuck=30).start()
+        pipe = subprocess.PIPE
+        words = [str(support.TOOLS / "label-print"), *ROLL, "--print", printer.name]
+        with subprocess.Popen(words, stdin=pipe, stderr=pipe) as run:
+            assert run.stdin is not None
+            run.stdin.write(TICKETS)
+            run.stdin.close()
+            run.stdin = None
+            printer.wait(30)
+            time.sleep(0.3)  # it waits for the printer's end of the connection
+            run.send_signal(signal.SIGTERM)
+            said = run.communicate()[1]
+        self.assertEqual(run.returncode, -signal.SIGTERM)
+        self.assertIn(b"it took 30 labels whole, and these are all\n", said)
+
     def test_one_row_twice(self) -> None:
         """A file that was joined with itself: its rows are those of other labels all the same."""
         twice = 2 * b'#{"row":5}\nqr A\n'
