@@ -132,8 +132,8 @@ def rows_text(ranges: Ranges) -> Text:
 
 def words_of_rest(rest: Sequence[LineRecord], others: Iterable[LineRecord], is_chosen: bool) -> str:
     """Returns the words that choose some labels of a file, those at its end unless `is_chosen`, and
-    none of its others, also where the first of them is on paper; nothing where others have the same
-    rows and the same codes.
+    none of its others, also where the first of them is on paper; nothing where neither rows nor
+    codes tell labels apart.
     """
     others = list(others)
     rows = sorted({record.place.number for record in rest})
@@ -145,7 +145,8 @@ def words_of_rest(rest: Sequence[LineRecord], others: Iterable[LineRecord], is_c
     if is_clear and len(ranges) <= MOST_RANGES and done.isdisjoint(rows):
         return f"--only {','.join(range_text(first, last) for first, last in ranges)}"
     codes = {code_of(record) for record in rest}
-    return f"--only-code {FILE}FILE" if codes.isdisjoint(map(code_of, others)) else ""
+    is_told = len(codes) == len(rest) and codes.isdisjoint(map(code_of, others))
+    return f"--only-code {FILE}FILE" if is_told else ""
 
 
 def codes_of(argument: str) -> set[bytes]:

@@ -169,6 +169,9 @@ class Rows(Folder):
         self.assertRegex(said, r"print a file of A.csv, row \d and what follows it alone: others")
         done = printed("--unique", input=alike)
         self.said(done, 1, "articles.xlsx, row 2: has the code of A.csv, row 2\n")
+        first = Printer(cut=1).start()  # codes of the rest are those of two labels
+        done = printed("--print", first.name, input=alike)
+        self.said(done, 1, r"print a file of A.csv, row [23] and what follows it alone: others")
         said = self.broken_off(alike, "--unique")
         self.assertRegex(
             said, r"print from A.csv, row [34] on by --only-code @FILE\n|by --only [34]-"
