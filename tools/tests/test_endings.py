@@ -47,11 +47,13 @@ def takes(run: "subprocess.Popen[bytes]", number: int) -> bool:
 
 def said_after(form: str, labels: int) -> Tuple[str, ...]:
     """What may be said where a signal came after so many labels of LABELS: of a printer's form the
-    row to go on from, unless nothing had begun, or all was done.
+    row to go on from, or that all went out, unless nothing had begun, or all was done before.
     """
-    if form == "pbm" or labels == len(LABELS):
+    if form == "pbm":
         return ("",)
     whole = "1 label" if labels == 1 else f"{labels} labels"
+    if labels == len(LABELS):
+        return "", f"label-print: standard output: it took {whole} whole, and these are all\n"
     row = labels + 2
     message = (
         f"label-print: standard output: it took {whole} whole: row {row} and what follows it were"
