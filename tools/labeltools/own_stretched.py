@@ -65,7 +65,8 @@ UNKNOWN = Linear(d=0.0)  # uneven, but nobody knows how much
 
 
 def linear_of(transform: str) -> Linear:
-    """Returns how a list of transforms turns and stretches; what is no such list does nothing.
+    """Returns how a list of transforms turns and stretches; what is no such list does nothing, nor
+    what has a number that is too large.
 
     >>> linear_of("translate(3 4) scale(2, 3)")
     Linear(a=2.0, b=0.0, c=0.0, d=3.0)
@@ -73,7 +74,8 @@ def linear_of(transform: str) -> Linear:
     found = Linear()
     for name, written in CALL.findall(transform):
         numbers = [float(one) for one in NUMBER.findall(written)]
-        found = one_of(name.lower(), numbers, "rad" in written).before(found)
+        if all(map(math.isfinite, numbers)):
+            found = one_of(name.lower(), numbers, "rad" in written).before(found)
     return found
 
 

@@ -319,6 +319,7 @@ NOT_SAID = (
     SHADE.format(USER) + ASKEW.format(9, 'fill="url(#c)"'),
     SHADE.format(USER) + f'<text {WORDS} x="2" y="9" fill="url(#c)">a</text>',
     f"<style>g .a,path{{fill:red}}</style>{CLONE}",
+    '<path transform="rotate(1e999) scale(1e300) scale(1e300)" d="M2 2H9"/>',
     TURNED.format("2 0 0 1", "", " b"),
     TURNED.format("0 -1 1 0", 'text-anchor="end"', "<tspan>b</tspan>"),
     TURNED.format("-1 .5 .5 1", "", "<tspan>b</tspan>"),
