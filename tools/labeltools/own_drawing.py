@@ -29,8 +29,11 @@ GZIP = b"\x1f\x8b"  # the begin of .svgz
 MOST_DEPTH = 200  # of elements in one another
 PICTURES = {"png": b"IEND", "jpeg": b"\xff\xd9"}  # and what is at the end of each
 MOST_PIXELS = 50_000_000  # of a picture
-EXIF = b"Exif\0\0"  # before what a camera says, as how its picture is turned
-MOST_EXIF = 65_536  # bytes at the begin of a picture, in which that is
+# before what a camera says, as how its picture is turned
+EXIF = {"jpeg": b"Exif\0\0", "png": b"eXIf"}
+ORIENTATION = "orientation"
+MOST_EXIF = 65_536  # bytes at the begin of a picture, in which that is; of PNG also at its end
+TURN = re.compile(b"\x01\x12\0\x03\0\0\0\x01\0([\1-\x08])|\x12\x01\x03\0\x01\0\0\0([\1-\x08])\0")
 OUTSIDE = re.compile(r"url\((?!\s*[\"']?(?:#|data:))|@import", re.IGNORECASE)
 # the elements that librsvg draws, and those that no program draws by themselves
 DRAWN = frozenset(
@@ -232,7 +235,7 @@ def check_links(name: str, element: Element) -> None:
         if before.startswith("data:"):
             picture = decoded(data)
             kind = kind_of(name, picture)
-            if kind == "jpeg" and EXIF in picture[:MOST_EXIF]:
+            if EXIF[kind] in picture[:MOST_EXIF] + picture[-MOST_EXIF:]:
                 kind, picture = "png", upright(picture)
             element.set(key, f"data:image/{kind};base64,{b64encode(picture).decode()}")
     values = [value for _, value in properties_of(element)]
@@ -272,7 +275,11 @@ def upright(picture: bytes) -> bytes:
     """Returns a picture as PNG, turned as its camera says: librsvg takes no notice of that."""
     loader = library("GdkPixbuf", "2.0").PixbufLoader()
     is_loaded(loader, picture)
-    _, turned = loader.get_pixbuf().apply_embedded_orientation().save_to_bufferv("png", [], [])
+    dots = loader.get_pixbuf()
+    turn = TURN.search(picture, picture.find(EXIF["png"]))
+    if turn and not dots.get_option(ORIENTATION):  # of PNG it is not read
+        dots.set_option(ORIENTATION, str(*turn[turn.lastindex or 1]))
+    _, turned = dots.apply_embedded_orientation().save_to_bufferv("png", [], [])
     return bytes(turned)
 
 

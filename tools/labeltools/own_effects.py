@@ -7,14 +7,14 @@ import re
 import unicodedata
 from collections import defaultdict
 from copy import deepcopy
-from typing import Iterator, Mapping, Optional
+from typing import Iterator, Mapping, Optional, Sequence
 from xml.etree.ElementTree import Element
 
 from labeltools.own_drawing import SPACE, declared, properties_of, sheet_of, tag_of, walked
 
 MOVES = ("dx", "dy")
 LISTS = ("x", "y", *MOVES)  # of a text: a number for each letter
-ZERO = re.compile(r"-?0*\.?0*[a-z]*")
+ZERO = re.compile(r"-?0*\.?0*[a-z%]*")
 SEPARATED = re.compile(r"[\s,]+")
 BLANK = re.compile("[ \t\r\n]+")
 TEXTS = ("text", "tspan")
@@ -27,6 +27,12 @@ NAME = re.compile(r"[#.]?[\w-]+")
 GRADIENTS = ("linearGradient", "radialGradient")
 LEAST_STEP = 1e-5  # between a stop and those at the ends, of which Cairo else takes one
 OFFSET = re.compile(r"\s*([-+]?(?:\d+\.?\d*|\.\d+))\s*(%?)\s*")
+DASHES = "stroke-dasharray"
+CAPS = "stroke-linecap"
+WIDTH = "stroke-width"
+AROUND_POINTS = ("round", "square")  # caps, which are there also where a line has no length
+MEASURE = re.compile(r"(\d+(?:\.\d*)?|\.\d+)([a-z%]*)")
+POINT = 0.01  # the length of a dot of a line, in widths of that
 ASIDE = re.compile(r"\[[^]]*\]|:[\w-]+(?:\([^)]*\))?|[>+~]")  # of a selector: what no name is
 Sheets = Mapping[str, Mapping[str, str]]
 
@@ -50,7 +56,8 @@ def make_alike(root: Element) -> None:
     `white-space`, line ends, which are blanks, and letters that have a place each, as programs
     write what they read from PDF; colours that are mixed with those below, but not with paper; the
     size of letters that have none; symbols, which librsvg cuts where they show all, and only there;
-    what moves the page, by which librsvg draws, but says of no place where it is.
+    what moves the page, by which librsvg draws, but says of no place where it is; dots of lines, of
+    which Cairo leaves out some.
     """
     root.set(SIZE, root.get(SIZE, "16px"))  # librsvg takes 12
     if any(key == BLEND for one in root.iter() for key, _ in properties_of(one)):
@@ -65,6 +72,7 @@ def make_alike(root: Element) -> None:
         found = {**symbol.attrib, **styles_of(symbol, sheets)}.get("overflow")
         other = "hidden" if found in ("auto", "visible") else "visible"
         symbol.set("style", f"{symbol.get('style', '')};overflow:{other}")
+    lengthen_dots(root, sheets)
     preserved = dict(texts_in(root, sheets, False))
     for text in root.iter(f"{SPACE}text"):
         keep_blanks(text, preserved)
@@ -95,6 +103,23 @@ def make_whole(gradient: Element) -> None:
     last.set("offset", "1")
     for stop, offset in zip(stops, offsets):
         stop.set("offset", f"{min(1 - LEAST_STEP, max(LEAST_STEP, offset)):.6f}")
+
+
+def lengthen_dots(root: Element, sheets: Sheets) -> None:
+    """Gives dots of a line, which are dashes without a length, a very small one: Cairo leaves those
+    behind others out, and programs that show a PDF those that are square.
+    """
+    keys = (DASHES, CAPS, WIDTH)
+    for element, how in inherited(root, sheets, keys).items():
+        dashes = SEPARATED.split(how[DASHES].strip(" ,"))
+        are_points = [bool(ZERO.fullmatch(one)) for one in dashes]
+        if how[CAPS] in AROUND_POINTS and any(are_points) and not all(are_points):
+            width = MEASURE.fullmatch(how[WIDTH])
+            wide, unit = width.groups() if width else ("1", "")
+            point = f"{float(wide) * POINT:.6f}{unit}"
+            longer = [point if is_point else one for one, is_point in zip(dashes, are_points)]
+            style = element.get("style", "")
+            element.set("style", f"{style};{DASHES}:{','.join(longer)}")
 
 
 def move_inside(root: Element) -> None:
@@ -187,6 +212,20 @@ def styles_of(element: Element, sheets: Sheets) -> dict[str, str]:
         found.update(sheets.get(name, {}))
     found.update(declared(element.get("style", "")))
     return {key: value.strip() for key, value in found.items()}
+
+
+def inherited(root: Element, sheets: Sheets, keys: Sequence[str]) -> dict[Element, dict[str, str]]:
+    """Returns some properties of all elements, each of its own or of what it is in; else they are
+    empty.
+    """
+    found: dict[Element, dict[str, str]] = {}
+    for parent, element, _ in [(root, root, 0), *walked(root)]:
+        own = {**element.attrib, **styles_of(element, sheets)}
+        above = found.get(parent, dict.fromkeys(keys, ""))
+        found[element] = {
+            key: above[key] if own.get(key, "inherit") == "inherit" else own[key] for key in keys
+        }
+    return found
 
 
 def texts_in(

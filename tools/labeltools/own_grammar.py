@@ -8,6 +8,7 @@ each year: one that is not listed is named where its value is more than usual.
 """
 
 import re
+import unicodedata
 from functools import lru_cache
 from math import isclose
 from typing import Iterable, Iterator, Mapping, Optional
@@ -24,14 +25,19 @@ from labeltools.own_drawing import (
     walked,
 )
 from labeltools.own_effects import (
+    AROUND_POINTS,
     ASIDE,
+    CAPS,
+    GRADIENTS,
     LISTS,
     NAME,
     TEXTS,
     classes_of,
+    inherited,
     places_in,
     rules_of,
     sheets_of,
+    strings_in,
     styles_of,
 )
 from labeltools.own_stretched import linked, stretched
@@ -134,7 +140,18 @@ COLOURED = ("color", "fill", "flood-color", "lighting-color", "stop-color", "str
 WORD = re.compile("[a-z]+$", re.IGNORECASE)
 AROUND = re.compile(r" ?([(),/]) ?")
 IMPORTANT = re.compile(" ?!important$", re.IGNORECASE)
-BOTH = re.compile(r"(?:color|light-dark)\(")  # what programs write behind a known value
+# properties that librsvg drops where they are important, and links of others
+DROPPED = re.compile(
+    "(?:filter|font|font-family|paint-order|stroke-dasharray|text-decoration|transform):"
+    r"|(?:fill|stroke):url\("
+)
+# what programs write behind a known colour: by its shares, or first what is on light paper
+BOTH = re.compile(r"color\([\w-]+ ([^)/]*)|light-dark\(\s*((?:[^(),]|\([^()]*\))+)", re.IGNORECASE)
+AS_LIGHT = 0.1  # by which the lightness of both may differ
+LIGHT = (0.3, 0.59, 0.11)  # of red, green and blue
+RED_GREEN_BLUE = re.compile(r"rgba?\(([^)]*)", re.IGNORECASE)
+MOST_SHARE = 65_535  # of a colour of Pango
+MOST_BYTE = 255
 NAMED = r"[\w\s.#*>+~,-]|\[[^]]*\]"
 PSEUDO = (
     r":(?:(?:first|last|only)-(?:child|of-type)|active|empty|focus|hover|link|root|visited"
@@ -144,8 +161,18 @@ SELECTOR = re.compile(rf"(?:{NAMED}|{PSEUDO}|:(?:lang|not)\((?:{NAMED}|{PSEUDO})
 AT_RULE = re.compile(r"@page\b[^{]*|@keyframes\b.*", re.DOTALL)  # without effect
 OTHER = re.compile(r"[^-+.,\de\s]", re.IGNORECASE)  # than numbers
 GEOMETRY = frozenset("cx cy height r rx ry width x y".split())
+SHARES = GEOMETRY | {"fx", "fy", "x1", "x2", "y1", "y2"}
+ELSEWHERE = ("clipPath", "marker", "mask", "pattern", *GRADIENTS)
+OF_PAGE = "userSpaceOnUse"
+# of a path: parts without a length
+POINTS = re.compile(
+    rf"m\s*({NUMBER})[\s,]*({NUMBER})[\s,]*(?:(?:[hv]\s*0|l\s*0[\s,]+0|(?-i:H\s*\1|V\s*\2"
+    r"|L\s*\1[\s,]+\2))(?![\d.])\s*z?|z)(?=\s*(?:m|$))",
+    re.IGNORECASE,
+)
+INNER = (CAPS, "direction", "letter-spacing")
 SIZED = ("circle", "ellipse", "image", "rect")  # by properties of CSS
-SERVERS = ("linearGradient", "pattern", "radialGradient")
+SERVERS = (*GRADIENTS, "pattern")
 UNMOVED = (*SERVERS, "svg")  # by properties of CSS
 # what is drawn otherwise in an element, by whatever it is set
 NOWHERE = {
@@ -174,6 +201,8 @@ def unlike(root: Element) -> Iterator[str]:
     fonts = {name for families in fonts_of(root) for name in families.split(",")}
     shown = shown_names(root, ids)
     yield from stretched(root, sheets)
+    yield from of_other_pages(root)
+    inner = inherited(root, sheets, INNER)
     for parent, element, _ in [(root, root, 0), *walked(root)]:
         tag = tag_of(element)
         if tag in ELEMENTS:
@@ -184,20 +213,20 @@ def unlike(root: Element) -> Iterator[str]:
         values = {**element.attrib, **styles}
         above = {**parent.attrib, **styles_of(parent, sheets)} if tag in TEXTS else {}
         names = {*misplaced(tag, values, above), *moved(element, styles)}
-        names |= {*misused(element, values, ids)}
+        names |= {*misused(element, values, ids), *joined(element, inner)}
         yield from (f"<{tag} {name}>" for name in sorted(names))
         if tag == "clipPath":
-            inner = ({**one.attrib, **styles_of(one, sheets)} for one in element.iter())
-            yield from ("<clipPath clip-path>" for one in inner if is_set(one, "clip-path"))
+            parts = ({**one.attrib, **styles_of(one, sheets)} for one in element.iter())
+            yield from ("<clipPath clip-path>" for one in parts if is_set(one, "clip-path"))
 
 
 def unlike_values(element: Element) -> Iterator[str]:
     """Yields the attributes and the properties of an element that may be drawn otherwise."""
-    known = set()
+    known = {}
     for key, value in element.items():
         is_read = key in RIGHT and is_read_in(element, key)
         if is_read and is_alike(key, value, False):
-            known.add(key)
+            known[key] = value
         elif is_read:
             yield f'{key}="{shortened(value)}"'
     styles = declared(NO_RULES.sub(" ", element.get("style", "")))
@@ -209,15 +238,50 @@ def is_read_in(element: Element, key: str) -> bool:
     return not key.startswith("font") or tag_of(element) in WITH_FONTS
 
 
-def unlike_styles(styles: Iterable[tuple[str, str]], known: set[str]) -> Iterator[str]:
+def unlike_styles(styles: Iterable[tuple[str, str]], known: dict[str, str]) -> Iterator[str]:
     """Yields the properties that may be drawn otherwise. Some programs write a newer colour behind
-    one that is known.
+    one that is known, and is as light.
     """
     for key, value in styles:
         if is_alike(key, value, True):
-            known.add(key)
-        elif key not in known or not BOTH.match(value):
+            known[key] = value
+        elif not is_as_light(known.get(key, ""), value):
             yield f"{key}:{shortened(value)}"
+
+
+def is_as_light(known: str, newer: str) -> bool:
+    """Returns whether a newer colour is as light as one that is known.
+
+    >>> is_as_light("#808080", "color(display-p3 0.5 0.5 0.5)")
+    True
+    >>> is_as_light("#fff", "light-dark(rgb(0, 0, 0), #fff)")
+    False
+    """
+    found = BOTH.match(newer.strip())
+    if not found:
+        return False
+    shares, first = found.groups()
+    light = light_in(first) if first else light_of(shares, 1.0)
+    usual = light_in(known)
+    return light is not None and usual is not None and abs(light - usual) <= AS_LIGHT
+
+
+def light_in(colour: str) -> Optional[float]:
+    """Returns how light a colour is, from 0 to 1, if that is known."""
+    found = Pango.Color()
+    if found.parse(colour.strip()):
+        parts = (found.red, found.green, found.blue)
+        return sum(weight * part / MOST_SHARE for weight, part in zip(LIGHT, parts))
+    shares = RED_GREEN_BLUE.match(colour.strip())
+    return light_of(shares[1], MOST_BYTE) if shares else None
+
+
+def light_of(shares: str, most: float) -> Optional[float]:
+    """Returns how light a colour is of which red, green and blue are written."""
+    found = re.findall(NUMBER, shares)
+    if len(found) < len(LIGHT):
+        return None
+    return sum(weight * float(share) / most for weight, share in zip(LIGHT, found))
 
 
 def shown_names(root: Element, ids: Mapping[str, Element]) -> set[str]:
@@ -243,7 +307,7 @@ def unlike_rules(element: Element, fonts: set[str], shown: set[str]) -> Iterator
         elif not AT_RULE.fullmatch(selector):
             is_plain = SELECTOR.fullmatch(selector) and not is_above(selector, shown)
             yield from () if is_plain else (shortened(selector),)
-            yield from unlike_styles(declared(how), set())
+            yield from unlike_styles(declared(how), {})
 
 
 def is_above(selector: str, shown: set[str]) -> bool:
@@ -260,7 +324,9 @@ def is_alike(key: str, value: str, is_style: bool) -> bool:
     (True, False)
     """
     value = AROUND.sub(r"\1", " ".join(value.split()))
-    if key != "transform":
+    if IMPORTANT.search(value):
+        if DROPPED.match(f"{key}:{value}"):
+            return False
         value = IMPORTANT.sub("", value)
     word = WORD.search(value) if key in COLOURED else None
     if word and Pango.Color().parse(word[0]):
@@ -342,6 +408,84 @@ def misused(
         yield from (key for key in LISTS if len(places_in(element, key)) > 1)
     if tag == "filter":
         yield from unread(element)
+
+
+def joined(element: Element, inner: Mapping[Element, Mapping[str, str]]) -> Iterator[str]:
+    """Yields what librsvg draws otherwise in a text of parts that go on from one another: letters
+    from right to left, and spaces between letters; and in a line without a length; the properties
+    of each element are given.
+    """
+    how = inner[element]
+    if how[CAPS] in AROUND_POINTS and has_point(element, how[CAPS]):
+        yield CAPS
+    if tag_of(element) != "text" or not is_continued(element):
+        return
+    letters = set("".join(element.itertext()))
+    if how["direction"] == "rtl" or any(map(is_from_right, letters)):
+        yield "direction"
+    if any(is_set(inner[one], "letter-spacing") for one in element.iter()):
+        yield "letter-spacing"
+
+
+def is_continued(text: Element) -> bool:
+    """Returns whether some part of a text goes on from one before it.
+
+    >>> from xml.etree.ElementTree import fromstring
+    >>> is_continued(fromstring("<text>a<a>b</a></text>"))
+    True
+    >>> is_continued(fromstring("<text>a<tspan x='2'>b</tspan> </text>"))
+    False
+    """
+    is_begun = False
+    for element, kind, _ in strings_in(text, {}):
+        if kind == "text" and element.get("x"):
+            is_begun = False
+        has_letters = bool(getattr(element, kind).strip())
+        if has_letters and is_begun:
+            return True
+        is_begun = is_begun or has_letters
+    return False
+
+
+def is_from_right(letter: str) -> bool:
+    """Returns whether a letter is read from right to left."""
+    return unicodedata.bidirectional(letter) in ("AL", "AN", "R")
+
+
+def has_point(element: Element, caps: str) -> bool:
+    """Returns whether a shape has a part without a length that a PDF does not show: with square
+    caps, or closed.
+
+    >>> has_point(Element("path", {"d": "M2 9h0"}), "square")
+    True
+    >>> has_point(Element("path", {"d": "M2 9h0"}), "round")
+    False
+    """
+    is_square = caps == "square"
+    tag = tag_of(element)
+    if tag == "path":
+        points = POINTS.finditer(element.get("d", ""))
+        return any(is_square or point[0].strip().lower().endswith("z") for point in points)
+    ends = re.findall(NUMBER, element.get("points", ""))
+    if tag == "line":
+        ends = [element.get(key, "0") for key in ("x1", "y1", "x2", "y2")]
+    is_alone = {*zip(ends[::2], ends[1::2])} == {(*ends[:2],)}
+    return tag in ("line", "polyline") and is_square and len(ends) > 2 and is_alone
+
+
+def of_other_pages(root: Element) -> Iterator[str]:
+    """Yields lengths in parts of a page, of what is drawn elsewhere, where a drawing has pages in
+    it: librsvg takes them of the page where it is drawn.
+    """
+    pages = [one for one in root.iter() if tag_of(one) == "svg"][1:]
+    inner = {one for page in pages for one in page.iter()}
+    holders = [one for one in root.iter() if tag_of(one) in ELSEWHERE and one not in inner]
+    for holder in holders if pages else ():
+        first, *others = holder.iter()
+        parts = [first, *others] if OF_PAGE in first.attrib.values() else others
+        for one in parts:
+            shares = sorted(key for key in SHARES if one.get(key, "").strip().endswith("%"))
+            yield from (f"<{tag_of(one)} {key}>" for key in shares)
 
 
 def is_resized(shown: Optional[Element], sides: Mapping[str, str]) -> bool:

@@ -534,9 +534,10 @@ class OwnLayouts:
 
     def no_room(self, place: Place, symbology: Symbology, wanted: tuple[int, int]) -> Text:
         """Returns why a symbol, which takes so many dots at least, has no room in its place."""
-        wide, high = (math.ceil(side * self.area.dot * 10) / 10 for side in wanted)
         sides = (place.width, place.height)
-        has = size_text(sides[::-1] if place.quarters % 2 else sides)
+        sides = sides[::-1] if place.quarters % 2 else sides
+        wide, high = (self.enough(*both) for both in zip(wanted, sides))
+        has = size_text(sides)
         hint = ENLARGE if symbology.is_number else Text("enlarge it, or take shorter data")
         what = Text(
             "{} needs {}, and the place {} of {} has {}",
@@ -547,6 +548,13 @@ class OwnLayouts:
             has,
         )
         return Text("{}: {}", what, hint)
+
+    def enough(self, dots: int, side: float) -> float:
+        """Returns the side in millimetres of a place that has so many whole dots wherever it is; a
+        dot less where another side is so small that this says why.
+        """
+        found, more = (math.ceil(one * self.area.dot * 10) / 10 for one in (dots, dots + 1))
+        return more if found <= side else found
 
     def said(
         self, labels: Sequence[PrintLabel], values: Sequence[Values], rooms: Mapping[Place, Room]

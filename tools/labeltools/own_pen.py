@@ -198,7 +198,7 @@ def with_colours(design: OwnDesign) -> OwnDesign:
 
 def cut_at(rows: list[bytes], edges: Edges) -> float:
     """Returns how many millimetres a drawing loses at the edges, which take no ink; but not of what
-    goes on to the end of the page, as a background does.
+    goes on to the end of the page, as a background does. A line along most of that end does not.
     """
     left, top, right, bottom = (round(edge * CHECKED) for edge in edges)
     inwards = (
@@ -209,8 +209,14 @@ def cut_at(rows: list[bytes], edges: Edges) -> float:
     )
     lost = [0.0]
     for edge, lines in zip(edges, inwards):
-        begins = (line.translate(INKED).find(b"\1") for line in lines)
-        lost += [edge - begin / CHECKED for begin in begins if begin > 0]
+        inks = [line.translate(INKED) for line in lines]
+        within = [ink.lstrip(b"\1") for ink in inks]
+        begins = (
+            len(ink) - len(rest.lstrip(b"\0")) for ink, rest in zip(inks, within) if any(rest)
+        )
+        lost += [edge - begin / CHECKED for begin in begins]
+        ended = sum(ink[:1] == b"\1" and bool(rest) for ink, rest in zip(inks, within))
+        lost += [edge] * (ended > len(lines) / 2)
     return max(lost)
 
 

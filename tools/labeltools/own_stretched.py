@@ -119,6 +119,7 @@ def stretched(root: Element, sheets: Sheets) -> Iterator[str]:
     known = {root: Linear()}
     anchors = {root: "start"}
     boxed: list[tuple[Element, str]] = []
+    moved = set()  # pictures: librsvg takes the box of one as if it were not moved itself
     for parent, element, _ in [(root, root, 0), *walked(root)]:
         values = {**element.attrib, **styles_of(element, sheets)}
         known[element] = linear_in(tag_of(element), values).before(known[parent])
@@ -126,13 +127,15 @@ def stretched(root: Element, sheets: Sheets) -> Iterator[str]:
         if values.get("direction") == "rtl":  # it begins at the right
             anchors[element] = "end"
         boxed += [(element, key) for key in boxed_by(values, ids)]
+        moved |= {element} if tag_of(element) == "image" and "transform" in values else set()
         has_words = not known[element].is_even and has_shifted(element, anchors[element], ids)
         if has_words:
             yield f"<{tag_of(element)} transform>"
     for element, key in boxed:
         inner = [*element.iter()]
         has_words = key != "filter" and any(tag_of(one) == "text" for one in inner)
-        if has_words or not all(known[one].is_upright for one in inner):
+        is_moved = not moved.isdisjoint(inner[1:])
+        if has_words or is_moved or not all(known[one].is_upright for one in inner):
             yield f"<{tag_of(element)} {key}>"
 
 

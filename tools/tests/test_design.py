@@ -824,6 +824,17 @@ class Drawings(OwnPages):
             wanted = [": the drawing is cut at the edge by 2.6 mm"] * is_cut
             self.assertEqual([one.split(": move")[0] for one in said], wanted, drawn)
 
+    def test_a_frame_at_the_end_of_the_page_is_cut(self) -> None:
+        """And what is within it; but not what ends there in a few places."""
+        frame = '<path fill="none" stroke="#000" stroke-width=".4" d="M.2 .2H59.8V39.8H.2Z"/>'
+        disc = '<circle cx="56" cy="9" r="3"/>'
+        corner = '<circle cx="60" cy="0" r="2.5"/>'
+        for drawn, cut in ((frame, 3.0), (corner + disc, 2.0), (corner, 0.0)):
+            found = self.found(drawn + CODE, [("code128 A", {})], edge=(0.0, 0.0, 3.0, 0.0))
+            said = [one for one in self.said(found) if "smaller than drawn" not in one]
+            wanted = [f": the drawing is cut at the edge by {cut:.1f} mm"] * (cut > 0)
+            self.assertEqual([one.split(": move")[0] for one in said], wanted, drawn)
+
     def test_words_that_are_cut_are_said(self) -> None:
         word = '<text x="{}" y="9" font-size="5" font-family="DejaVu Sans">Door 2</text>'
         for left, said in ((2, 0), (50, 1), (-4, 1), (99, 0)):
@@ -880,6 +891,15 @@ class Drawings(OwnPages):
             body = PICTURE.format("jpeg", data).replace('width="5" height="5"', box)
             for end, wanted in zip(self.ink(self.found(body)), (2, 10, 2, 10)):
                 self.assertAlmostEqual(end, wanted, delta=0.2)
+        _, png = plain.save_to_bufferv("png", [], [])
+        for tiff in (turn[6:], b"II*\0\x08\0\0\0\x01\0\x12\x01\x03\0\x01\0\0\0\x06\0\0\0\0\0\0\0"):
+            chunk = b"eXIf" + tiff
+            chunk = struct.pack(">I", len(tiff)) + chunk + struct.pack(">I", zlib.crc32(chunk))
+            for at in (33, len(png) - 12):  # behind the first chunk, and before the last one
+                data = base64.b64encode(png[:at] + chunk + png[at:]).decode()
+                body = PICTURE.format("png", data).replace('width="5" height="5"', box)
+                for end, wanted in zip(self.ink(self.found(body)), (2, 10, 2, 10)):
+                    self.assertAlmostEqual(end, wanted, delta=0.2)
 
     def test_a_page_of_an_old_inkscape(self) -> None:
         """Its lengths without a unit are of 90 dpi."""
@@ -927,6 +947,16 @@ class Symbols(OwnPages):
             self.assertEqual(len(self.found(body.format(wide, high), [(line, {})]).labels), 1, why)
             for less in ((wide - 0.3, high), (wide, high - 0.3)):
                 self.assertEqual(len(self.found(body.format(*less), [(line, {})]).labels), 0, why)
+
+    def test_a_place_that_misses_a_dot_needs_more(self) -> None:
+        """A symbol of 28.0 mm has less than that where its place begins and ends within a dot."""
+        body = '<rect id="code" x="1.13" y="1" width="{}" height="9"/>'
+        for wide in numpy.arange(20.0, 31.0, 0.1):
+            found = self.found(body.format(wide), [("code128 LOT 7", {})])
+            for why in reasons_of(found):
+                self.assertGreater(
+                    float(why.split(" needs ")[1].split(" by ")[0]), wide - 0.01, why
+                )
 
     def test_modules_are_as_large_as_the_place_takes(self) -> None:
         page = 'width="200mm" height="100mm" viewBox="0 0 200 100"'

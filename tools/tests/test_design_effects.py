@@ -19,6 +19,8 @@ PLAIN: Label = ("code128 A", {})
 WORDS = 'font-family="DejaVu Sans" font-size="5"'
 PRESERVE = 'xml:space="preserve"'
 BOX = '<path style="{}" d="M2 2H22V12H2Z"/>'
+LINE = '<path style="fill:none;stroke:#000;stroke-width:2;stroke-linecap:round;{}" d="{}"/>'
+DASHED = '<g stroke-linecap="square"><path class="a" fill="none" stroke="#000" d="M4 9H25"/></g>'
 DIFFERENCE = 'style="mix-blend-mode:difference"'  # white on black is black, on paper it is white
 BLEND = f'<path d="M12 4H39V9H12Z" fill="#fff" {DIFFERENCE}/>'
 FIGMA = "fill:#D9D9D9;fill:color(display-p3 0.85 0.85 0.85)"  # it writes a colour in two ways
@@ -150,10 +152,24 @@ ALIKE = (
     (SHOWN.format("hidden"), '<path d="M9 9H14V14H9Z"/>'),
     (SHOWN.format("visible"), '<path d="M4 4H14V14H4Z"/>'),
     (f"<style>/* @import 'a.css'; */</style>{BOX}", BOX),
+    (
+        LINE.format("stroke-dasharray:4,3,0,3", "M4 9H23"),
+        LINE.format("", "M4 9h4m3 0h.02m3 0h4m3 0h.02"),
+    ),
+    (
+        f"<style>.a{{stroke-dasharray:4 3 0 3}}</style>{DASHED}",
+        DASHED.replace('class="a"', 'stroke-dasharray="4,3,.01,3"'),
+    ),
     (f"<style>@namespace url(http://www.w3.org/2000/svg);</style>{BOX}", BOX),
+)
+POINT = '<line stroke="#000" x1="4" x2="4" y1="9" y2="9"/>'
+PART = (
+    '<mask id="m"{}><rect width="50%" height="20%"/></mask>'
+    '<{} width="9" height="9"><path mask="url(#m)" d="M0 0H9V9Z"/></{}>'
 )
 SYMBOL = '<symbol id="s" viewBox="0 0 9 9" {}><path d="M0 0H9V9Z"/></symbol>'
 DOT = f"data:image/png;base64,{BLACK}"
+FULL = f' width="4" height="4" href="{DOT}"'
 # what Chromium draws otherwise, and what is said of it
 SAID = (
     (
@@ -181,6 +197,20 @@ SAID = (
     (BOX.format("transform:translate(9px, 10%)"), "transform:translate(9px, 10%)"),
     (BOX.format("transform:translate(9,5)"), "transform:translate(9,5)"),
     (BOX.format("transform:none!important"), "transform:none!important"),
+    (BOX.format("stroke-dasharray:2 !important"), "stroke-dasharray:2 !important"),
+    (BOX.format("fill:url(#a)!important"), "fill:url(#a)!important"),
+    ("<style>.a{paint-order:stroke!important}</style>", "paint-order:stroke!important"),
+    (LINE.format("stroke-linecap:square", "M4 9h0"), "<path stroke-linecap>"),
+    (LINE.format("", "M4 9z"), "<path stroke-linecap>"),
+    (f'<g style="stroke-linecap:square">{POINT}</g>', "<line stroke-linecap>"),
+    (f"<text {WORDS}>של<tspan>ום</tspan></text>", "<text direction>"),
+    (f'<g direction="rtl"><text {WORDS}>a<tspan>b</tspan></text></g>', "<text direction>"),
+    (f'<text {WORDS} y="9" letter-spacing="1">a<a>b</a></text>', "<text letter-spacing>"),
+    (PART.format(' height="50%"', "svg", "svg"), "<rect height>, <rect width>"),
+    (f'<g clip-path="url(#c)">{CIRCLE}<image transform="scale(-1 1)"{FULL}/></g>', "<g clip-path>"),
+    (BOX.format("fill:#ddd;fill:color(srgb 0 0 0)"), "fill:color(srgb 0 0 0)"),
+    (BOX.format("fill:#000;fill:light-dark(white, black)"), "fill:light-dark(white, black)"),
+    (BOX.format("fill:#000;fill:light-dark(var(--a), #000)"), "fill:light-dark(var(--a), #000)"),
     ('<path fill="light-dark(#fff,#000)" d="M2 2H9V9Z"/>', 'fill="light-dark(#fff,#000)"'),
     ('<path fill="ButtonFace" d="M2 2H9V9Z"/>', 'fill="ButtonFace"'),
     ('<path transform="translate(9 9" d="M2 2H9V9Z"/>', 'transform="translate(9 9"'),
@@ -328,6 +358,15 @@ NOT_SAID = (
     '<rect x="2" y="2" width="3.5e1%" height=" 9PX" fill="REBECCAPURPLE"/>',
     '<path transform=" rotate(9-1,2)\n,scale(.5)" style="fill:HSL(120DEG 100% 25% / .5)"/>',
     f'<text {WORDS} x="2" y="9" dx="0 0 0">a<tspan>b</tspan>c</text>',
+    LINE.format("", "M4 9h0"),
+    LINE.format("stroke-linecap:square", "M4 9h.5"),
+    POINT,
+    f"<text {WORDS}>של ום</text>",
+    f'<text {WORDS} letter-spacing="1" x="2" y="5">ab<tspan x="2" y="9">c</tspan></text>',
+    PART.format("", "g", "g"),
+    f'<g clip-path="url(#c)">{CIRCLE}<g transform="scale(-1 1)"><image{FULL}/></g></g>',
+    BOX.format("fill:#fff !important;stroke:none!important;clip-path:url(#a)!important"),
+    BOX.format("fill:white;fill:light-dark(rgb(255, 255, 255), #000)"),
 )
 
 
