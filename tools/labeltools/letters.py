@@ -65,10 +65,28 @@ def extent_of(sign: Sign) -> Extent:
 
 def font_for(family: str) -> str:
     """Returns the font that is there for a wanted one: itself, or what is taken in its place."""
+    return str(described(family).get_family() or "")
+
+
+def described(families: str) -> Any:
+    """Returns how Pango describes the font that it takes for some."""
     context = pango_context(plain_options(), False)
-    wanted = Pango.FontDescription(f"{family}, 9")
+    wanted = Pango.FontDescription(f"{families}, 9")
     found = PangoCairo.FontMap.get_default().load_font(context, wanted)
-    return str(found.describe().get_family()) if found else ""
+    return found.describe() if found else Pango.FontDescription()
+
+
+def font_instead(families: str) -> str:
+    """Returns the font that is taken in the place of the first one of some; nothing where that is
+    there, if only as a face of another one, as DejaVu Sans Condensed is.
+    """
+    family = families.split(",")[0].lower()
+    found = described(families)
+    there = str(found.get_family())
+    is_face = family.startswith(f"{there.lower()} ")
+    is_plain = found.get_weight() == Pango.Weight.NORMAL
+    is_plain = is_plain and found.get_stretch() == Pango.Stretch.NORMAL
+    return "" if family == there.lower() or is_face and not is_plain else there
 
 
 def require_fonts(fonts: Fonts) -> None:

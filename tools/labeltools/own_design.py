@@ -84,6 +84,7 @@ UNNAMED = re.compile(
     r"(?:[\s_-]*(?:copy|kopie))?|(?:shape|id|svg)(?=[\s_.-]*\d))?[\s_\d.-]*",
     re.IGNORECASE,
 )
+PARTED = re.compile(r"[\s,]+")
 AGAIN = re.compile(r"(.+?) \d+")
 AFTER_HYPHEN = re.compile(r"-\d+\s*$")
 SHAPES = ("path", "circle", "ellipse", "polygon", "polyline", "line", "image", "use", "text")
@@ -233,7 +234,7 @@ def read_design(name: str, cell: Size, white: Edges, turn: Optional[bool]) -> Ow
     size = page.size if page.is_real else label
     corner = (label[0] - size[0]) / 2, (label[1] - size[1]) / 2
     area = rectangle(*corner, *size, 1.0)
-    said = [*remarks_on(name, root)]
+    said = [*remarks_on(name, root, size)]
     marked = deepcopy(root)
     taken = taken_places(name, marked)
     words, ids = mark_words(marked), mark_places(marked, taken)
@@ -254,9 +255,10 @@ def read_design(name: str, cell: Size, white: Edges, turn: Optional[bool]) -> Ow
     return OwnDesign(name, label, is_turned, cut, *how, *of_words)
 
 
-def remarks_on(name: str, root: Element) -> Iterator[Text]:
-    """Yields what is said of a drawing that other programs may draw otherwise."""
-    if names := [*dict.fromkeys(unlike(root))]:
+def remarks_on(name: str, root: Element, size: Size) -> Iterator[Text]:
+    """Yields what is said of a drawing of a size that other programs may draw otherwise."""
+    unit = size[0] / float(PARTED.split(root.get("viewBox", "").strip())[2])
+    if names := [*dict.fromkeys(unlike(root, unit))]:
         more = [".."] * (len(names) > MOST_SAID)
         listed = ", ".join([*names[:MOST_SAID], *more])
         what = Text("{}: {} may not be drawn as in other programs", name, listed)

@@ -64,7 +64,7 @@ Area = tuple[float, ...]  # its left, upper, right and lower end
 WITH_FONTS = ("svg", "g", "text", "tspan", "a", "style")
 GENERAL = ("serif", "sans-serif", "sans", "monospace", "cursive", "fantasy", "system-ui", "inherit")
 DECLARED = re.compile(r"(?<![\w-])([\w-]+)\s*:\s*([^;{}]+)")
-SHORTHAND = re.compile(r"\d[\w.%]*(?:\s*/\s*\S+)?\s+(\S.*)")  # font: bold 3px serif
+SHORTHAND = re.compile(r"\d(?:[a-z]+|%)(?:\s*/\s*\S+)?\s+(\S.*)")  # font: bold 3px serif
 NO_RULES = re.compile(r"/\*.*?\*/|@namespace[^;{}]*;", re.DOTALL)  # of a style sheet
 
 

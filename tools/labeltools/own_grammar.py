@@ -40,6 +40,7 @@ from labeltools.own_effects import (
     strings_in,
     styles_of,
 )
+from labeltools.own_limits import beyond
 from labeltools.own_stretched import linked, stretched
 from labeltools.pango import Pango
 
@@ -170,7 +171,11 @@ POINTS = re.compile(
     r"|L\s*\1[\s,]+\2))(?![\d.])\s*z?|z)(?=\s*(?:m|$))",
     re.IGNORECASE,
 )
-INNER = (CAPS, "direction", "letter-spacing")
+SPACING = "letter-spacing"
+ANCHOR = "text-anchor"
+# properties that count in an element, too, where they are of one that it is in
+INNER = (CAPS, SPACING, ANCHOR, "direction", "marker", "marker-mid", "marker-start")
+FROM_RIGHT = ("AL", "AN", "R")  # kinds of letters
 SIZED = ("circle", "ellipse", "image", "rect")  # by properties of CSS
 SERVERS = (*GRADIENTS, "pattern")
 UNMOVED = (*SERVERS, "svg")  # by properties of CSS
@@ -194,14 +199,17 @@ LONGEST = 40  # letters that are said of a value or a selector
 KEPT = 1024  # values that are known
 
 
-def unlike(root: Element) -> Iterator[str]:
-    """Yields what may be drawn otherwise in other programs, by its name and value."""
+def unlike(root: Element, unit: float) -> Iterator[str]:
+    """Yields what may be drawn otherwise in other programs, by its name and value; a unit of the
+    page is so many millimetres.
+    """
     sheets = sheets_of(root)
     ids = {f"#{one.get('id')}": one for one in root.iter()}
     fonts = {name for families in fonts_of(root) for name in families.split(",")}
     shown = shown_names(root, ids)
     yield from stretched(root, sheets)
     yield from of_other_pages(root)
+    yield from beyond(root, unit, sheets)
     inner = inherited(root, sheets, INNER)
     for parent, element, _ in [(root, root, 0), *walked(root)]:
         tag = tag_of(element)
@@ -211,8 +219,7 @@ def unlike(root: Element) -> Iterator[str]:
         yield from unlike_rules(element, fonts, shown)
         styles = styles_of(element, sheets)
         values = {**element.attrib, **styles}
-        above = {**parent.attrib, **styles_of(parent, sheets)} if tag in TEXTS else {}
-        names = {*misplaced(tag, values, above), *moved(element, styles)}
+        names = {*misplaced(tag, values, inner[element], inner[parent]), *moved(element, styles)}
         names |= {*misused(element, values, ids), *joined(element, inner)}
         yield from (f"<{tag} {name}>" for name in sorted(names))
         if tag == "clipPath":
@@ -348,18 +355,23 @@ def is_set(values: Mapping[str, str], key: str) -> bool:
     return not NO_EFFECT.fullmatch(values.get(key, ""))
 
 
-def misplaced(tag: str, values: Mapping[str, str], above: Mapping[str, str]) -> Iterator[str]:
-    """Yields the properties that are drawn otherwise in such an element; `above` are those of the
-    one that a text is in.
+def misplaced(
+    tag: str, values: Mapping[str, str], how: Mapping[str, str], above: Mapping[str, str]
+) -> Iterator[str]:
+    """Yields the properties that are drawn otherwise in such an element; `how` are those of INNER
+    that it has, `above` those of the one that it is in.
     """
     wrong = (key for key in NOWHERE.get(tag, ()) if is_set(values, key))
     yield from (key for key in wrong if (key, values[key]) != ("opacity", "1"))
-    anchor = values.get("text-anchor", above.get("text-anchor", "start"))
-    if tag in TEXTS and anchor in ("middle", "end") and is_set(values, "letter-spacing"):
-        yield "letter-spacing"
+    anchor = how[ANCHOR] or "start"
+    is_own = tag == "text" or SPACING in values or ANCHOR in values
+    if tag in TEXTS and is_own and anchor != "start" and is_set(how, SPACING):
+        yield SPACING
     is_placed = "x" in values or "y" in values
-    if tag == "tspan" and not is_placed and anchor != above.get("text-anchor", "start"):
-        yield "text-anchor"
+    is_anew = is_placed and "x" not in values  # librsvg goes on at the end of the line before
+    is_other = not is_placed and anchor != (above[ANCHOR] or "start")
+    if tag == "tspan" and (is_other or is_anew and anchor != "start"):
+        yield ANCHOR
 
 
 def moved(element: Element, styles: Mapping[str, str]) -> Iterator[str]:
@@ -411,29 +423,47 @@ def misused(
 
 
 def joined(element: Element, inner: Mapping[Element, Mapping[str, str]]) -> Iterator[str]:
-    """Yields what librsvg draws otherwise in a text of parts that go on from one another: letters
-    from right to left, and spaces between letters; and in a line without a length; the properties
-    of each element are given.
+    """Yields what librsvg draws otherwise in a line without a length, at the ends of paths in one,
+    in words whose letters are joined, and in a text of parts that go on from one another; the
+    properties of each element are given.
     """
     how = inner[element]
+    tag = tag_of(element)
     if how[CAPS] in AROUND_POINTS and has_point(element, how[CAPS]):
         yield CAPS
-    if tag_of(element) != "text" or not is_continued(element):
+    if tag in ("path", "polygon"):
+        yield from unmarked(element, how)
+    if tag != "text":
         return
-    letters = set("".join(element.itertext()))
-    if how["direction"] == "rtl" or any(map(is_from_right, letters)):
+    kinds = set(map(unicodedata.bidirectional, "".join(element.itertext())))
+    is_continued = goes_on(element)
+    if is_continued and (how["direction"] == "rtl" or not kinds.isdisjoint(FROM_RIGHT)):
         yield "direction"
-    if any(is_set(inner[one], "letter-spacing") for one in element.iter()):
-        yield "letter-spacing"
+    is_spaced = any(is_set(inner[one], SPACING) for one in element.iter())
+    if is_spaced and (is_continued or "AL" in kinds):
+        yield SPACING
 
 
-def is_continued(text: Element) -> bool:
+def unmarked(element: Element, how: Mapping[str, str]) -> Iterator[str]:
+    """Yields the markers of a path that are not there, or turned otherwise: those between parts of
+    it, and the first one of a closed part.
+    """
+    letters = element.get("d", "z" if element.get("points") else "").lower()
+    for key, is_unlike in (
+        ("marker-mid", letters.count("m") > 1),
+        ("marker-start", "z" in letters),
+    ):
+        if is_unlike and (is_set(how, key) or is_set(how, "marker")):
+            yield key
+
+
+def goes_on(text: Element) -> bool:
     """Returns whether some part of a text goes on from one before it.
 
     >>> from xml.etree.ElementTree import fromstring
-    >>> is_continued(fromstring("<text>a<a>b</a></text>"))
+    >>> goes_on(fromstring("<text>a<a>b</a></text>"))
     True
-    >>> is_continued(fromstring("<text>a<tspan x='2'>b</tspan> </text>"))
+    >>> goes_on(fromstring("<text>a<tspan x='2'>b</tspan> </text>"))
     False
     """
     is_begun = False
@@ -445,11 +475,6 @@ def is_continued(text: Element) -> bool:
             return True
         is_begun = is_begun or has_letters
     return False
-
-
-def is_from_right(letter: str) -> bool:
-    """Returns whether a letter is read from right to left."""
-    return unicodedata.bidirectional(letter) in ("AL", "AN", "R")
 
 
 def has_point(element: Element, caps: str) -> bool:

@@ -17,7 +17,7 @@ from labeltools.fitting import LINE_END, Style
 from labeltools.frames import DIGITS_ROOM, HINTING, LEAST_TEXT, LINE, LOWEST, Box, Frame, share
 from labeltools.kept import Found
 from labeltools.layout import ASKED, LaidOut, LaidOutFile, Layout, PrintLabel, short
-from labeltools.letters import BLANK, Fonts, Letters, Sign, extent_of, font_for, reasons_of
+from labeltools.letters import BLANK, Fonts, Letters, Sign, extent_of, font_instead, reasons_of
 from labeltools.lines_file import symbology_and_data
 from labeltools.messages import Place as LinePlace
 from labeltools.messages import Talk, quoted
@@ -632,8 +632,7 @@ class OwnLayouts:
             yield Text("{}: {}", file, why)
         for families in self.design.fonts:
             family = families.split(",")[0]
-            there = font_for(families)
-            if there.lower() != family.lower():
+            if there := font_instead(families):
                 yield Text("{}: there is no font {}: its words are in {}", file, family, there)
 
 

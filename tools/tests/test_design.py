@@ -764,10 +764,17 @@ class Drawings(OwnPages):
             word = f'<text x="2" y="9" font-size="4" font-family="{family}">a</text>{CODE}'
             self.assertEqual(len(self.said(self.found(word))), 1)
 
+    def test_a_face_of_a_font_is_there(self) -> None:
+        word = '<text x="2" y="9" font-size="4" font-family="DejaVu Sans {}">a</text>' + CODE
+        self.assertEqual(self.said(self.found(word.format("Light"), [("code128 A", {})])), [])
+        (said,) = self.said(self.found(word.format("Nothing"), [("code128 A", {})]))
+        self.assertTrue(said.startswith(": there is no font DejaVu Sans Nothing: its words"), said)
+
     def test_fonts_of_the_short_property_are_said(self) -> None:
         for style in (
             "<style>.a{font:bold 3px/1.2 'Nothing',serif}</style><text class='a'",
             "<text style='font: italic 3px Nothing'",
+            "<text style='font: 700 3px/1 Nothing'",
         ):
             (said, _) = self.said(self.found(f'{style} x="2" y="9">a</text>{CODE}'))
             self.assertRegex(said, "^: there is no font Nothing: its words are in .+")

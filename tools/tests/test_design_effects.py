@@ -162,6 +162,10 @@ ALIKE = (
     ),
     (f"<style>@namespace url(http://www.w3.org/2000/svg);</style>{BOX}", BOX),
 )
+TINY = (
+    '<pattern id="t" patternUnits="userSpaceOnUse" width="9" height="{}" patternTransform="{}">'
+    '<path d="M0 0H9"/></pattern><path fill="url(#t)" d="M2 2H9V9z"/>'
+)
 POINT = '<line stroke="#000" x1="4" x2="4" y1="9" y2="9"/>'
 PART = (
     '<mask id="m"{}><rect width="50%" height="20%"/></mask>'
@@ -206,6 +210,17 @@ SAID = (
     (f"<text {WORDS}>של<tspan>ום</tspan></text>", "<text direction>"),
     (f'<g direction="rtl"><text {WORDS}>a<tspan>b</tspan></text></g>', "<text direction>"),
     (f'<text {WORDS} y="9" letter-spacing="1">a<a>b</a></text>', "<text letter-spacing>"),
+    (f'<text {WORDS} style="letter-spacing:1px" y="9">مرحبا</text>', "<text letter-spacing>"),
+    (
+        f'<g text-anchor="end"><text {WORDS} x="19" y="5">a<tspan y="9">b</tspan></text></g>',
+        "<tspan text-anchor>",
+    ),
+    ('<g style="marker-mid:url(#k)"><path d="M2 2h9m2 0h9v9"/></g>', "<path marker-mid>"),
+    ('<path marker="url(#k)" d="M2 2h9v9z"/>', "<path marker-start>"),
+    ('<polygon marker-start="url(#k)" points="2 2 9 2 9 9 2 9"/>', "<polygon marker-start>"),
+    ('<path d="M-60000 2H9V9H-6e4z"/>', "<path d>"),
+    ('<g transform="scale(9)"><rect width="9999" height="1"/></g>', "<rect width>"),
+    (TINY.format("3", "scale(.1)"), "<pattern width>"),
     (PART.format(' height="50%"', "svg", "svg"), "<rect height>, <rect width>"),
     (f'<g clip-path="url(#c)">{CIRCLE}<image transform="scale(-1 1)"{FULL}/></g>', "<g clip-path>"),
     (BOX.format("fill:#ddd;fill:color(srgb 0 0 0)"), "fill:color(srgb 0 0 0)"),
@@ -362,6 +377,12 @@ NOT_SAID = (
     LINE.format("stroke-linecap:square", "M4 9h.5"),
     POINT,
     f"<text {WORDS}>של ום</text>",
+    f'<text {WORDS} style="letter-spacing:1px" x="9" y="9">שלום</text>',
+    f'<text {WORDS} x="9" y="5">a<tspan y="9">b</tspan></text>',
+    '<path marker-start="url(#k)" marker-mid="url(#k)" marker-end="url(#k)" d="M2 2h9v9"/>',
+    '<path marker-end="url(#k)" d="M2 2h9v9z"/>',
+    '<path d="M-6000 2H9V9H-6e3z"/>',
+    TINY.format("5", "scale(.1)"),
     f'<text {WORDS} letter-spacing="1" x="2" y="5">ab<tspan x="2" y="9">c</tspan></text>',
     PART.format("", "g", "g"),
     f'<g clip-path="url(#c)">{CIRCLE}<g transform="scale(-1 1)"><image{FULL}/></g></g>',
