@@ -169,7 +169,10 @@ class Fitter:
             return False
         wider = HINTED if self.is_dots else PLAIN
         room = (width - 2 * (style.size // SIDE)) / (style.size * wider)
-        if all(self.is_surely_whole(line, style, room) for line in text.split("\n")):
+        is_measured = style.family == self.letters.family
+        if is_measured and all(
+            self.is_surely_whole(line, style, room) for line in text.split("\n")
+        ):
             return False
         layout = self.fitted(text, style, width, height).layout
         return layout is not None and bool(layout.is_ellipsized())

@@ -88,6 +88,7 @@ PARTED = re.compile(r"[\s,]+")
 AGAIN = re.compile(r"(.+?) \d+")
 AFTER_HYPHEN = re.compile(r"-\d+\s*$")
 SHAPES = ("path", "circle", "ellipse", "polygon", "polyline", "line", "image", "use", "text")
+PICTURED = ("filter", "mask")
 BLANKS = " _-"
 ACROSS = {"left": -1, "middle": 0, "right": 1}
 DOWN = {"top": 0.0, "centre": 0.5, "bottom": 1.0}
@@ -176,6 +177,19 @@ class OwnDesign:
     remarks: tuple[Text, ...]
     edges: Edges
 
+    @cached_property
+    def has_pictures(self) -> bool:
+        """Whether librsvg makes pictures of parts of it, in dots of what it draws on."""
+        return any(
+            tag_of(one) in PICTURED or any(map(is_filter, properties_of(one)))
+            for one in self.root.iter()
+        )
+
+    @cached_property
+    def has_patterns(self) -> bool:
+        """Whether shapes may be filled with a pattern, as programs fill them with pictures."""
+        return next(self.root.iter(f"{SPACE}pattern"), None) is not None
+
     def draw(self, canvas: Any, scale: float, absent: frozenset[str] = frozenset()) -> None:
         """Draws what is alike on all labels without some parts, in so many units a millimetre;
         raises `ToolError`.
@@ -183,6 +197,12 @@ class OwnDesign:
         area = rectangle(*self.corner, *self.size, scale)
         root = without_groups(self.root, absent) if absent else self.root
         draw(self.file, handle_of(self.file, root), canvas, area)
+
+
+def is_filter(property_of: tuple[str, str]) -> bool:
+    """Returns whether a property with its value is a filter."""
+    key, value = property_of
+    return key == "filter" and not value.strip().startswith("none")
 
 
 class Page(NamedTuple):

@@ -48,9 +48,10 @@ NUMBER = r"[-+]?(?:\d+(?:\.\d*)?|\.\d+)(?:e[-+]?\d+)?"
 SHARE = f"{NUMBER}%?"
 FIXED = f"{NUMBER}(?:px|pt|pc|mm|cm|in|em)?"
 LENGTH = f"(?:{FIXED}|{NUMBER}%)"
-UNSIGNED = r"\+?(?:\d+(?:\.\d*)?|\.\d+)(?:e[-+]?\d+)?(?:px|pt|pc|mm|cm|in|em|%)?"
+PLAIN = r"\+?(?:\d+(?:\.\d*)?|\.\d+)(?:e[-+]?\d+)?"
+UNSIGNED = f"{PLAIN}(?:px|pt|pc|mm|cm|in|em|%)?"
 LENGTHS = rf"{LENGTH}(?:[\s,]+{LENGTH})*[\s,]*"
-FONT_SIZE = f"{NUMBER}(?:px|pt|pc|mm|cm|in|em|%)"
+FONT_SIZE = f"{PLAIN}(?:px|pt|pc|mm|cm|in|em|%)"
 PIXELS = f"(?:{NUMBER}px|0)"
 ANGLE = f"(?:{NUMBER}(?:deg|rad|grad)|0)"
 COLOUR = (
@@ -94,10 +95,10 @@ GRAMMAR = (
     ("markerHeight markerWidth refX refY", FIXED),
     ("radius stdDeviation", rf"{UNSIGNED}(?:[ ,]+{UNSIGNED})?"),
     ("orient", rf"(?-i:auto|auto-start-reverse)|{NUMBER}(?:deg|rad|grad)?"),
-    ("viewBox", rf"{NUMBER}(?:[\s,]+{NUMBER}){{3}}"),
+    ("viewBox", rf"{NUMBER}[\s,]+{NUMBER}(?:[\s,]+{PLAIN}){{2}}"),
     ("operator", "over|in|out|atop|xor|arithmetic|erode|dilate"),
     ("values", rf"{NUMBER}(?:(?:[\s,]+{NUMBER}){{19}}[\s,]*)?"),
-    ("font-size", f"{FONT_SIZE}|{NUMBER}"),
+    ("font-size", f"{FONT_SIZE}|{PLAIN}"),
     ("font-weight", WEIGHTS),
     ("font", rf"(?:(?:italic|oblique|{WEIGHTS}) )*{FONT_SIZE}(?:/\S+)? .+"),
     ("font-kerning font-variant-ligatures", "auto|normal"),
@@ -114,8 +115,8 @@ GRAMMAR = (
     (":d", "inherit"),
     (
         ":transform",  # of a style
-        rf"none|(?:(?:translate[xy]?\({PIXELS}(?:,{PIXELS})?|(?:rotate|skew[xy]?)\({ANGLE}"
-        rf"(?:,{ANGLE})?|(?:matrix|scale[xy]?)\({NUMBER}(?:,{NUMBER})*)\)\s*)+",
+        rf"none|(?:(?:(?-i:translate[XY]?)\({PIXELS}(?:,{PIXELS})?|(?-i:rotate|skew[XY]?)\({ANGLE}"
+        rf"(?:,{ANGLE})?|(?-i:matrix|scale[XY]?)\({NUMBER}(?:,{NUMBER})*)\)\s*)+",
     ),
     ("background background-color", WHITE),
     ("pathLength", "none"),
@@ -188,8 +189,8 @@ NOWHERE = {
     "tspan": {"clip-path", "filter", "mask", "mix-blend-mode", "opacity"},
 }
 ELEMENTS = frozenset(
-    "animate animateColor animateMotion animateTransform feDiffuseLighting feImage"
-    " feSpecularLighting feTile script set {http://www.w3.org/1999/xhtml}style".split()
+    "animate animateColor animateMotion animateTransform feConvolveMatrix feDiffuseLighting"
+    " feImage feSpecularLighting feTile script set {http://www.w3.org/1999/xhtml}style".split()
 )
 ORIGINS = ("transform-box", "transform-origin")  # they change what is moved alone
 SIDES = ("height", "width")
@@ -277,8 +278,7 @@ def light_in(colour: str) -> Optional[float]:
     """Returns how light a colour is, from 0 to 1, if that is known."""
     found = Pango.Color()
     if found.parse(colour.strip()):
-        parts = (found.red, found.green, found.blue)
-        return sum(weight * part / MOST_SHARE for weight, part in zip(LIGHT, parts))
+        return light_of(f"{found.red} {found.green} {found.blue}", MOST_SHARE)
     shares = RED_GREEN_BLUE.match(colour.strip())
     return light_of(shares[1], MOST_BYTE) if shares else None
 
@@ -439,6 +439,9 @@ def joined(element: Element, inner: Mapping[Element, Mapping[str, str]]) -> Iter
     is_continued = goes_on(element)
     if is_continued and (how["direction"] == "rtl" or not kinds.isdisjoint(FROM_RIGHT)):
         yield "direction"
+    strings = (getattr(one, kind) for one, kind, _ in strings_in(element, {}))
+    if any(unicodedata.category(letters[0]).startswith("M") for letters in strings):
+        yield "tspan"  # a sign over the letter before it
     is_spaced = any(is_set(inner[one], SPACING) for one in element.iter())
     if is_spaced and (is_continued or "AL" in kinds):
         yield SPACING

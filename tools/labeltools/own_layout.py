@@ -126,6 +126,7 @@ class Room:
     most_lines: int = 1  # and the most lines, which have these
     common: int = 0
     fits: dict[str, Fit] = field(default_factory=dict)
+    written: dict[str, str] = field(default_factory=dict)  # texts with as many lines as they have
     signs: dict[str, Sign] = field(default_factory=dict)  # of lines
     changing: set[str] = field(default_factory=set)  # lines whose letters change beside others
 
@@ -154,12 +155,7 @@ class Room:
 
     def take(self, counts: Counter[str]) -> None:
         """Finds the letters of all texts that come here, which are given with how often."""
-        for line in {line for text in counts for line in text.split("\n")}:
-            sign = self.letters.line(line, self.place.is_bold) if line.strip() else BLANK
-            if sign is None:
-                self.changing.add(line)
-                sign = self.letters.whole_sign(line, self.place.is_bold)
-            self.signs[line] = sign
+        self.take_lines({line for text in counts for line in text.split("\n")})
         *_, tops, bottoms = zip(*self.signs.values())
         self.top, self.bottom = min(tops), max(bottoms)
         if self.bottom - self.top <= 0:
@@ -168,12 +164,31 @@ class Room:
         most = int(self.place.lines) or MOST_LINES
         while self.most_lines < most and self.largest(self.most_lines + 1) >= self.least:
             self.most_lines += 1
+        self.written = {text: self.with_lines(text) for text in counts}
+        self.take_lines({text for text in self.written.values() if "\n" not in text})
         sizes: Counter[float] = Counter()
         for text, labels in counts.items():
-            fit = self.largest_fit(text)
+            fit = self.largest_fit(self.written[text])
             self.fits[text] = fit
             sizes[1 / fit.size] += labels
         self.common = round(1 / share(sizes))
+
+    def take_lines(self, lines: Iterable[str]) -> None:
+        """Measures lines that come here."""
+        for line in lines:
+            if line in self.signs:
+                continue
+            sign = self.letters.line(line, self.place.is_bold) if line.strip() else BLANK
+            if sign is None:
+                self.changing.add(line)
+                sign = self.letters.whole_sign(line, self.place.is_bold)
+            self.signs[line] = sign
+
+    def with_lines(self, text: str) -> str:
+        """Returns a text as it is written: its line ends become spaces where it has more lines than
+        there is room for.
+        """
+        return text if text.count("\n") < self.most_lines else " ".join(text.split("\n"))
 
     def largest_fit(self, text: str) -> Fit:
         """Returns the largest letters in which a text is whole, or else the least ones."""
@@ -256,6 +271,8 @@ class Room:
         if fit.is_cut and self.is_price:
             what = Text("{} has no room in the place {}", quoted(text), self.place.title)
             raise NoRoom(Text("{}: {}", what, ENLARGE))
+        struck = len(text.encode()) if self.place.part == "was" else 0
+        text = self.written[text]
         size = min(fit.size, self.common)
         if size < fit.size and fit.lines > 1:
             fit = self.fit(self.measured(text), size) or fit
@@ -263,7 +280,6 @@ class Room:
         tall = ((lines - 1) * LINE + self.bottom - self.top) * size
         base = (self.high - tall) * self.place.down - self.top * size
         is_parted = lines > 1 or fit.is_cut or "\n" in text
-        struck = len(text.encode()) if self.place.part == "was" else 0
         style = self.style(size, lines * is_parted, struck, round(base))
         left = None if is_parted or text in self.changing else self.left_of(text, size)
         if lines > 1 and fit.begins:

@@ -43,8 +43,10 @@ class OwnPen(Pen):
     def __init__(self, medium: Medium, fonts: Fonts, letters: Letters, design: OwnDesign) -> None:
         super().__init__(medium, fonts, letters)
         self.design = design
-        # dots of a unit of the drawing: in points Cairo does not scale it for each label of a PDF
-        self.unit = medium.dpi / POINTS if medium.is_pdf else 1.0
+        # dots of a unit of the drawing: in points Cairo does not scale it for each label of a PDF,
+        # but makes pictures of so many dots, and parts of patterns of whole ones
+        is_in_points = medium.is_pdf and not (design.has_pictures or design.has_patterns)
+        self.unit = medium.dpi / POINTS if is_in_points else 1.0
         self.drawing = cache(self.new_drawing)
         self.dark_rows = cache(self.new_dark_rows)
         self.packed = cache(self.new_packed)
@@ -56,10 +58,14 @@ class OwnPen(Pen):
         wide, high = (max(1, int(side / dot)) for side in self.design.label)
         return wide, high
 
-    def new_drawing(self, absent: frozenset[str]) -> Optional[cairo.SurfacePattern]:
-        """Returns what is drawn on labels without some parts; None where there is none."""
+    def new_drawing(
+        self, absent: frozenset[str], place: Optional[Dots]
+    ) -> Optional[cairo.SurfacePattern]:
+        """Returns what is drawn on labels without some parts, in one place of a page alone if that
+        is given; None where there is nothing.
+        """
         if not self.medium.is_dots:
-            return recorded(self.design, self.medium, absent)
+            return recorded(self.design, self.medium, self.unit, absent)
         rows = self.dark_rows(absent)
         return mask_of(rows, self.size[0]) if any(map(any, rows)) else None
 
@@ -99,7 +105,7 @@ class OwnPen(Pen):
 
     def draw_drawing(self, canvas: Any, item: LaidOut, place: Dots) -> None:
         """Draws what is alike on labels on the one whose area begins at a place."""
-        drawing = self.drawing(own_layout(item).absent)
+        drawing = self.drawing(own_layout(item).absent, self.alone(place))
         if drawing:
             canvas.save()
             canvas.translate(*place)
@@ -109,6 +115,12 @@ class OwnPen(Pen):
             canvas.set_source(drawing)
             canvas.paint()
             canvas.restore()
+
+    def alone(self, place: Dots) -> Optional[Dots]:
+        """Returns the place of a label on a page where a drawing has to be one of that place alone:
+        Ghostscript and MuPDF show a pattern in all places as it is in the first one.
+        """
+        return place if self.medium.is_pdf and self.design.has_patterns else None
 
     def symbols(self, item: LaidOut) -> Iterable[OwnSymbol]:
         """Returns the symbols of a label."""
@@ -146,12 +158,12 @@ def own_layout(item: LaidOut) -> OwnLayout:
 
 
 def recorded(
-    design: OwnDesign, medium: Medium, absent: frozenset[str]
+    design: OwnDesign, medium: Medium, unit: float, absent: frozenset[str]
 ) -> Optional[cairo.SurfacePattern]:
-    """Returns a drawing as it is, which a file has once: for PDF in points, or else in dots; None
-    where there is no ink.
+    """Returns a drawing as it is, which a file has once, in units of so many dots; None where there
+    is no ink.
     """
-    scale = (POINTS if medium.is_pdf else medium.dpi) / MILLIMETRES
+    scale = medium.dpi / unit / MILLIMETRES
     area = cairo.Rectangle(0, 0, *(side * scale for side in design.label))
     surface = cairo.RecordingSurface(cairo.CONTENT_COLOR_ALPHA, area)
     canvas = cairo.Context(surface)

@@ -426,7 +426,7 @@ class Names(OwnPages):
         ]
         fields = {"text": {"Row": "3", "Seat": "12", "Block": "A"}}
         found = self.found("".join(rects) + CODE, [("code128 A", fields)], note="Door 2")
-        self.assertEqual([text.text for text in texts_of(found)], ["12", "12", "3\nA\nDoor 2"])
+        self.assertEqual([text.text for text in texts_of(found)], ["12", "12", "3 A Door 2"])
         listed = self.found("".join(rects) + CODE, [("code128 A", {"text": ["3", "12"]})])
         self.assertEqual([text.text for text in texts_of(listed)], ["3\n12"])
 
@@ -585,6 +585,31 @@ class Texts(OwnPages):
         found = self.found(place.format(", lines=1"), [("code128 A", {"title": words})])
         self.assertEqual(self.said(found), ["line 2: shortened to fit, with an ellipsis"])
         self.assertAlmostEqual(texts_of(found)[0].size * found.laid_out.area.dot, 1.8, delta=0.13)
+
+    def test_a_text_in_another_font_is_cut(self) -> None:
+        """DejaVu Serif is wider than the font of the texts."""
+        sides = 'x="2.86" y="2.29" width="26.38" height="7.14"'
+        place = f'<rect data-place="title, font=DejaVu Serif" {sides}/>{CODE}'
+        title = "A very long title of an article that has to be wrapped into several lines, or cut"
+        for form in ("pdf", "png"):
+            found = self.found(place, [("code128 A", {"title": title})], to=form, dpi=600)
+            self.assertEqual(self.said(found), ["line 2: shortened to fit, with an ellipsis"])
+
+    def test_line_ends_are_spaces_where_there_is_no_room_for_them(self) -> None:
+        place = '<rect data-place="title{}" x="2" y="2" width="56" height="{}"/>' + CODE
+        for words, high, title, wanted, is_cut in (
+            ("", 9, "A\nlonger\ntitle", "A\nlonger\ntitle", False),
+            ("", 3, "A\nlonger\ntitle", "A longer title", False),
+            (", lines=2", 9, "A\nlonger\ntitle", "A longer title", False),
+            (", lines=2", 9, "A longer\ntitle", "A longer\ntitle", False),
+            (", lines=1", 9, "A long title of\n" * 9, ("A long title of " * 9), True),
+        ):
+            found = self.found(place.format(words, high), [("code128 A", {"title": title})])
+            (text,) = texts_of(found)
+            self.assertEqual(text.text.strip(), wanted.strip(), words)
+            self.assertGreaterEqual(text.size * found.laid_out.area.dot, 1.67)
+            cut = ["line 2: shortened to fit, with an ellipsis"] * is_cut
+            self.assertEqual(self.said(found), cut)
 
     def test_labels_that_are_the_same_once_shortened_are_said(self) -> None:
         place = '<rect data-place="title, lines=1" x="2" y="2" width="20" height="9"/>' + CODE

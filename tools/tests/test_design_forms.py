@@ -3,6 +3,7 @@ is read by zbar and by zxing, and has its modules.
 """
 
 import os
+import subprocess
 import tempfile
 import unittest
 from pathlib import Path
@@ -24,7 +25,7 @@ DOTS = ("png", "zpl", "escpos")  # the same dots as those of PBM
 
 def setUpModule() -> None:
     os.environ["LABELS"] = str(support.labels_program())
-    support.needs("pdftoppm", "rsvg-convert", "pngtopnm", "zbarimg")
+    support.needs("gs", "pdfimages", "pdftoppm", "rsvg-convert", "pngtopnm", "zbarimg")
 
 
 def printed(name: str, form: str, dpi: int) -> jobs.Dots:
@@ -58,6 +59,7 @@ def rows_of(dots: jobs.Dots) -> list[str]:
     return [row.tobytes().decode() for row in (dots + ord("0")).astype(numpy.uint8)]
 
 
+LINE = b"code128 A\n"
 STOP = '<stop offset="{}" stop-color="{}"/>'
 GRADIENT = '<linearGradient id="g">{}</linearGradient><path fill="url(#g)" d="M2 2H42V9H2Z"/>'
 
@@ -78,6 +80,44 @@ class Drawings(unittest.TestCase):
             (across,) = numpy.nonzero(dots[int(5 / 25.4 * 600)])
             for end, wanted in zip((across.min(), across.max() + 1), ends):
                 self.assertAlmostEqual(float(end) / 600 * 25.4, wanted, delta=0.1, msg=str(stops))
+
+    def test_what_has_a_filter_or_a_mask_is_as_sharp_as_the_dots(self) -> None:
+        """librsvg makes pictures of it, in dots of what it draws on."""
+        shape = '<path d="M2 2H42V9H2Z" fill="#fff"/>'
+        filtered = '<filter id="f"><feOffset/></filter><g filter="url(#f)">{}</g>'
+        masked = '<mask id="m">{}</mask><path mask="url(#m)" d="M0 0H50V10H0Z"/>'
+        for body in (filtered, masked, '<g style="filter:drop-shadow(1px 1px 1px #888)">{}</g>'):
+            with tempfile.TemporaryDirectory() as folder:
+                drawn = body.format(shape) + designs.CODE
+                path = designs.written(Path(folder, "own.svg"), drawn)
+                words = ("--design", str(path), "--dpi", "300")
+                Path(folder, "a.pdf").write_bytes(support.printed(*words, input=LINE).stdout)
+                listed = subprocess.run(
+                    ["pdfimages", "-list", "a.pdf"], cwd=folder, stdout=subprocess.PIPE, check=True
+                )
+            names, _, *pictures = listed.stdout.decode().splitlines()
+            at = names.split().index("x-ppi") + 1  # the number of its object is two words
+            wide = [int(one.split()[at]) for one in pictures if " stencil " not in one]
+            self.assertEqual({dots // 10 for dots in wide} - {29, 30}, set(), listed.stdout)
+            self.assertTrue(wide)
+
+    def test_a_pattern_is_alike_in_each_cell(self) -> None:
+        """Ghostscript shows one that is drawn in two places as in the first one."""
+        tile = '<path d="M0 0H2V2H0Z"/></pattern><path fill="url(#p)" d="M2 2H42V9H2Z"/>'
+        body = f'<pattern id="p" patternUnits="userSpaceOnUse" width="4" height="4">{tile}'
+        cells = ("--columns", "2", "--rows", "2", "--cell", "60x40", "--page", "140x100")
+        with tempfile.TemporaryDirectory() as folder:
+            path = designs.written(Path(folder, "own.svg"), body + designs.CODE)
+            words = ("--design", str(path), *cells, "--margin", "7x6", "--gap", "5x3")
+            done = support.printed(*words, "--edge", "0", input=LINE * 4)
+        shown = ["gs", "-q", "-sDEVICE=pbmraw", "-r254", "-o", "out", "FILE"]
+        dots = rendered(shown, done.stdout)
+        first, *others = (
+            dots[top : top + 95, left : left + 450] for top in (60, 490) for left in (70, 720)
+        )
+        self.assertTrue(first.any())
+        for other in others:
+            self.assertLess((first != other).mean(), 0.02)
 
     def test_a_drawing_ends_at_the_edge_of_its_label(self) -> None:
         """What a PDF of a sheet has beyond it would be on the next label."""
