@@ -4,10 +4,10 @@ import re
 import unicodedata
 from dataclasses import dataclass
 from functools import cache, lru_cache, partial
-from typing import Any, Iterable, NamedTuple, Optional, Sequence
+from typing import Any, Iterable, Mapping, NamedTuple, Optional, Sequence
 
 from labeltools.text import Text
-from labeltools.layout import Extent, PrintLabel
+from labeltools.layout import Extent
 from labeltools.messages import ToolError
 from labeltools.glyphs import OTHERS, Glyphs
 from labeltools.kept import Found
@@ -194,24 +194,19 @@ class Letters:
         ink, logical = layout.get_extents()
         return rectangle(ink), rectangle(logical)
 
-    def missing(self, labels: Iterable[PrintLabel]) -> dict[int, Text]:
-        """Returns why some labels cannot be drawn: letters that no font has, by the numbers of
-        their lines, with a reason for each script.
+    def missing(self, texts: Mapping[int, Sequence[str]]) -> dict[int, Text]:
+        """Returns why some labels cannot be drawn, of which the texts are given by the numbers of
+        their lines: letters that no font has, with a reason for each script.
         """
         used: set[str] = set()
-        kept = list(labels)
-        for label in kept:
-            used.update(*label.texts)
+        for several in texts.values():
+            used.update(*several)
         absent = sorted(letter for letter in used if self.is_missing(letter))
         if not absent:
             return {}
         reasons = reasons_of(absent)
-        found = {}
-        for label in kept:
-            reason = first_reason(label, reasons)
-            if reason:
-                found[label.record.number] = reason
-        return found
+        found = {number: first_reason(several, reasons) for number, several in texts.items()}
+        return {number: reason for number, reason in found.items() if reason}
 
     def is_missing(self, letter: str) -> bool:
         """Returns whether no font has a letter."""
@@ -255,10 +250,7 @@ def script_of(letter: str) -> str:
     return unicodedata.name(letter, "Signs").split()[0].capitalize()
 
 
-def first_reason(label: PrintLabel, reasons: dict[str, Text]) -> Optional[Text]:
-    """Returns the reason of the first letter of a label that no font has."""
-    for text in label.texts:
-        for letter in text:
-            if letter in reasons:
-                return reasons[letter]
-    return None
+def first_reason(texts: Iterable[str], reasons: dict[str, Text]) -> Optional[Text]:
+    """Returns the reason of the first letter of some texts that no font has."""
+    letters = (letter for text in texts for letter in text if letter in reasons)
+    return next(map(reasons.__getitem__, letters), None)

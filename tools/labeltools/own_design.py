@@ -63,6 +63,7 @@ PARTS = ("code", "title", "text", "price", "unit", "was", "note")
 PX = 25.4 / DPI  # millimetres
 UNITS = {"px": 1.0, "mm": 1 / PX, "cm": 10 / PX, "in": DPI, "pt": DPI / 72, "pc": DPI / 6}
 NEAR = 1.0  # millimetres by which a page may differ from a label
+SEEN = 0.2  # of letters that nobody misses
 ALIKE = 0.015  # by which the proportions of a page without millimetres may
 MOST_SAID = 9  # of what may be drawn otherwise
 PLAIN_HINT = Text("write a plain style, such as fill:#000 or 2px, or make it a path or a picture")
@@ -72,6 +73,8 @@ LARGEST = 4000.0  # millimetres of a page
 LEAST_BOX = 1e-3  # of a viewBox: librsvg draws a smaller one by numbers that are too large
 PLAIN_ID = re.compile(r"[\w.-]+", re.ASCII)
 SIDES = ("height", "width")
+CLEARED = ("class", "opacity", "mix-blend-mode")
+OPAQUE = "opacity:1!important;mix-blend-mode:normal!important"
 THIN = 1e-7  # the height of what shows the upper edge of a place
 TINY = 0.01  # millimetres
 FINE = 20.0  # dots a millimetre, in which ink is measured
@@ -158,8 +161,9 @@ class OwnDesign:
     names of its groups, which are drawn with the part or column of that name, each with what it is
     without a number behind it, the places that are
     smaller than they are drawn, since an edge of the paper takes no ink, the fonts of its words,
-    what other shapes with a name are, by its key, its words, what is said of it, and how much at
-    its edges takes no ink, where it is not said yet that something is cut there.
+    what other shapes with a name are, by its key, its words, each with its left, upper, right and
+    lower end, what is said of it, and how much at its edges takes no ink, where it is not said yet
+    that something is cut there.
     """
 
     file: str
@@ -173,7 +177,7 @@ class OwnDesign:
     smaller: tuple[str, ...]
     fonts: tuple[str, ...]
     shapes: Mapping[str, str]
-    words: tuple[str, ...]
+    words: tuple[tuple[str, Edges], ...]
     remarks: tuple[Text, ...]
     edges: Edges
 
@@ -189,6 +193,13 @@ class OwnDesign:
     def has_patterns(self) -> bool:
         """Whether shapes may be filled with a pattern, as programs fill them with pictures."""
         return next(self.root.iter(f"{SPACE}pattern"), None) is not None
+
+    def without_words(self) -> "OwnDesign":
+        """Returns the same design without the words of its drawing."""
+        root = deepcopy(self.root)
+        for text in root.iter(f"{SPACE}text"):
+            hide(text)
+        return replace(self, root=root)
 
     def draw(self, canvas: Any, scale: float, absent: frozenset[str] = frozenset()) -> None:
         """Draws what is alike on all labels without some parts, in so many units a millimetre;
@@ -269,9 +280,10 @@ def read_design(name: str, cell: Size, white: Edges, turn: Optional[bool]) -> Ow
     ends = (edges[0], edges[1], label[0] - edges[2], label[1] - edges[3])
     groups = {key: part_of(title_of(group)) for _, group, key in groups_of(root)}
     how = (root, corner, size, groups, tuple(smaller), fonts_of(root), keys_of(shapes_in(root)))
-    beyond = [*cut_words(name, handle, words, area, ends)]
+    boxes = boxes_of(name, marked, handle, words, area)
+    beyond = [*cut_words(name, handle, words, boxes, area, ends)]
     seen = (0.0, 0.0, 0.0, 0.0) if beyond else edges
-    of_words = (tuple(words.values()), (*said, *beyond), seen)
+    of_words = (tuple((words[known], box) for known, box in boxes.items()), (*said, *beyond), seen)
     return OwnDesign(name, label, is_turned, cut, *how, *of_words)
 
 
@@ -601,17 +613,38 @@ def mark_words(root: Element) -> dict[str, str]:
     return {mark(*both, f"words-{number}", ids): words_of(both[1]) for number, both in texts}
 
 
+def boxes_of(
+    name: str, root: Element, handle: Any, words: Mapping[str, str], area: Any
+) -> Mapping[str, Edges]:
+    """Returns the boxes of texts by their ids; of what is transparent or blended librsvg knows none
+    but where it is made plain.
+    """
+    found = deepcopy(root)
+    cleared = [one for one in found.iter() if any(key in CLEARED for key, _ in properties_of(one))]
+    for element in cleared:
+        element.set("style", f"{element.get('style', '')};{OPAQUE}")
+    drawn = handle_of(name, found) if cleared else handle
+    return {known: box_of(drawn, f"#{known}", area) for known, text in words.items() if text}
+
+
 def cut_words(
-    name: str, handle: Any, words: Mapping[str, str], area: Any, ends: Edges
+    name: str,
+    handle: Any,
+    words: Mapping[str, str],
+    boxes: Mapping[str, Edges],
+    area: Any,
+    ends: Edges,
 ) -> Iterator[Text]:
     """Yields what is said of words of a drawing that end beyond an edge, as those of a font that is
-    not there may; the left, upper, right and lower end of what takes ink are given.
+    not there may; their boxes are given, and the left, upper, right and lower end of what takes
+    ink.
     """
-    for known, text in words.items():
-        cut = cut_by(box_of(handle, f"#{known}", area), ends) if text else 0.0
-        if cut > NEAR / 2:  # the box of what is turned is larger than its ink
+    for known, box in boxes.items():
+        text = words[known]
+        cut = cut_by(box, ends)
+        if cut > SEEN:  # the box of what is turned is larger than its ink
             cut = min(cut, cut_by(ink_of(handle, f"#{known}", area), ends))
-        if cut > NEAR / 2:
+        if cut > SEEN:
             hint = Text("move it, or make its letters smaller")
             what = Text("{}: {} is cut at the edge by {:.1f} mm", name, quoted(text), cut)
             yield Text("{}: {}", what, hint)

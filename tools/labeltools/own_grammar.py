@@ -20,6 +20,7 @@ from labeltools.own_drawing import (
     WITH_FONTS,
     declared,
     fonts_of,
+    properties_of,
     sheet_of,
     tag_of,
     walked,
@@ -41,7 +42,8 @@ from labeltools.own_effects import (
     styles_of,
 )
 from labeltools.own_limits import beyond
-from labeltools.own_stretched import linked, stretched
+from labeltools.own_stretched import LINK as NAMED_BY
+from labeltools.own_stretched import is_clone, linked, stretched
 from labeltools.pango import Pango
 
 NUMBER = r"[-+]?(?:\d+(?:\.\d*)?|\.\d+)(?:e[-+]?\d+)?"
@@ -90,7 +92,7 @@ GRAMMAR = (
     (
         "clipPathUnits filterUnits gradientUnits markerUnits maskContentUnits maskUnits"
         " patternContentUnits patternUnits primitiveUnits spreadMethod",
-        "(?-i:userSpaceOnUse|objectBoundingBox|strokeWidth|pad|reflect|repeat)",
+        "(?-i:userSpaceOnUse|objectBoundingBox|strokeWidth|pad)",
     ),
     ("markerHeight markerWidth refX refY", FIXED),
     ("radius stdDeviation", rf"{UNSIGNED}(?:[ ,]+{UNSIGNED})?"),
@@ -173,9 +175,15 @@ POINTS = re.compile(
     re.IGNORECASE,
 )
 SPACING = "letter-spacing"
+UNMARKED = ("marker", "marker-mid", "marker-start")
 ANCHOR = "text-anchor"
 # properties that count in an element, too, where they are of one that it is in
-INNER = (CAPS, SPACING, ANCHOR, "direction", "marker", "marker-mid", "marker-start")
+INNER = (CAPS, SPACING, ANCHOR, "direction", "stroke", "stroke-opacity", *UNMARKED)
+# in a stop: an opacity, or a colour that has one
+TRANSPARENT = re.compile(
+    r"^\s*(?:0?\.\d+|0|\d{1,2}%)\s*$|(?:rgb|hsl)a\(|/|#(?:[\da-f]{4}){1,2}\s*$", re.IGNORECASE
+)
+PICTURED = ("filter", "mask")  # with these a PDF is drawn in dots, in which Cairo loses gradients
 FROM_RIGHT = ("AL", "AN", "R")  # kinds of letters
 SIZED = ("circle", "ellipse", "image", "rect")  # by properties of CSS
 SERVERS = (*GRADIENTS, "pattern")
@@ -183,7 +191,7 @@ UNMOVED = (*SERVERS, "svg")  # by properties of CSS
 # what is drawn otherwise in an element, by whatever it is set
 NOWHERE = {
     "mask": {"mask"},
-    "svg": {"clip-path"},
+    "svg": {"clip-path", "mask"},
     "symbol": {"height", "width", "x", "y"},
     "text": {"baseline-shift"},
     "tspan": {"clip-path", "filter", "mask", "mix-blend-mode", "opacity"},
@@ -194,6 +202,8 @@ ELEMENTS = frozenset(
 )
 ORIGINS = ("transform-box", "transform-origin")  # they change what is moved alone
 SIDES = ("height", "width")
+# what clips: in a PDF there is a hole where two are over each other that are drawn the other way
+CLIPPING = (*SIZED, "line", "path", "polygon", "polyline", "text", "use")
 NO_EFFECT = re.compile("|0(?:px|em)?|baseline|inherit|none|normal")
 ALIKE = 0.01  # by which proportions may differ
 LONGEST = 40  # letters that are said of a value or a selector
@@ -212,6 +222,7 @@ def unlike(root: Element, unit: float) -> Iterator[str]:
     yield from of_other_pages(root)
     yield from beyond(root, unit, sheets)
     inner = inherited(root, sheets, INNER)
+    has_pictures = any(tag_of(one) in PICTURED for one in root.iter())
     for parent, element, _ in [(root, root, 0), *walked(root)]:
         tag = tag_of(element)
         if tag in ELEMENTS:
@@ -222,8 +233,11 @@ def unlike(root: Element, unit: float) -> Iterator[str]:
         values = {**element.attrib, **styles}
         names = {*misplaced(tag, values, inner[element], inner[parent]), *moved(element, styles)}
         names |= {*misused(element, values, ids), *joined(element, inner)}
+        if tag not in ("g", "svg") and is_shaded_line(inner[element], ids, has_pictures):
+            names.add("stroke")
         yield from (f"<{tag} {name}>" for name in sorted(names))
         if tag == "clipPath":
+            yield from ("<clipPath>",) * (sum(tag_of(one) in CLIPPING for one in element) > 1)
             parts = ({**one.attrib, **styles_of(one, sheets)} for one in element.iter())
             yield from ("<clipPath clip-path>" for one in parts if is_set(one, "clip-path"))
 
@@ -399,11 +413,10 @@ def misused(
         yield from (side for side in SIDES if sides[side] != "auto")
     if tag == "image":
         yield from (side for side in SIDES if sides[side] == "auto")
+    if is_clone(element, ids) and is_set(values, "mask"):
+        yield "mask"
     if tag in SERVERS and link and link not in ids:
         yield "href"
-    if tag in SERVERS and values.get("spreadMethod") == "repeat":
-        offsets = [stop.get("offset") for one in (element, ids.get(link)) for stop in one or ()]
-        yield from ("spreadMethod",) * (len(offsets) > len({*offsets}))
     if tag in SERVERS and (values.get("r") == "0" or is_point(values)):
         yield "r" if "r" in values else "x2"
     is_visible = values.get("overflow") == "visible"
@@ -445,6 +458,21 @@ def joined(element: Element, inner: Mapping[Element, Mapping[str, str]]) -> Iter
     is_spaced = any(is_set(inner[one], SPACING) for one in element.iter())
     if is_spaced and (is_continued or "AL" in kinds):
         yield SPACING
+
+
+def is_shaded_line(how: Mapping[str, str], ids: Mapping[str, Element], has_pictures: bool) -> bool:
+    """Returns whether a line has a gradient that a PDF may not show: in a drawing with pictures, or
+    one that is transparent in part.
+    """
+    link = NAMED_BY.match(how["stroke"])
+    found = ids.get(link[1]) if link else None
+    if found is None or tag_of(found) not in GRADIENTS:
+        return False
+    first = linked(found.attrib, ids)
+    stops = [stop for one in (found, first) if one is not None for stop in one]
+    written = (value for stop in stops for key, value in properties_of(stop) if key != "offset")
+    is_whole = how["stroke-opacity"] in ("", "1", "100%")
+    return has_pictures or not is_whole or any(map(TRANSPARENT.search, written))
 
 
 def unmarked(element: Element, how: Mapping[str, str]) -> Iterator[str]:

@@ -4,6 +4,7 @@ texts in sizes of their letters.
 """
 
 import math
+import re
 from bisect import bisect_left
 from collections import Counter
 from dataclasses import dataclass, field
@@ -30,6 +31,9 @@ SIDE = 1 / 8  # white at both sides of wrapped lines, in letters
 STEP = 0.97  # the next smaller size of letters that is tried
 STEPS = 160  # of these: from the largest letters to less than a hundredth of them
 PRICES = ("price", "unit", "was")
+WHOLE = frozenset((*PRICES, "code", "note"))  # parts that are as long as they are
+NUMBER = re.compile(r"\W*\d[\d\W]+")
+NO_LETTER = "H"  # as large as which signs are that have no letter beside them
 MOST_LINES = 20  # of a text in a place
 ENLARGE = Text("enlarge it")
 NO_FRAME = Frame("own", {}, {}, 0, 0, 0, 0, 0, 0, True, 0.0)
@@ -37,7 +41,8 @@ NO_FRAME = Frame("own", {}, {}, 0, 0, 0, 0, 0, 0, True, 0.0)
 
 class OwnText(NamedTuple):
     """A text in a place, with the ends of its lines: its letters and lines, and how they are
-    written; where it begins if it is one line and the widths of its letters say so.
+    written; where it begins if it is one line and the widths of its letters say so; whether it is
+    on several labels.
     """
 
     place: Place
@@ -47,6 +52,7 @@ class OwnText(NamedTuple):
     lines: int
     style: Style
     left: Optional[int]
+    comes_again: bool
 
 
 class OwnSymbol(NamedTuple):
@@ -65,13 +71,15 @@ class OwnSymbol(NamedTuple):
 
 @dataclass(frozen=True, slots=True)
 class OwnLayout(Layout):
-    """What is on a label beside the drawing, and the parts that it has not, whose groups are not
-    drawn; as a layout it is that of its finest symbol of QR, or else of its finest one.
+    """What is on a label beside the drawing, the parts that it has not, whose groups are not drawn,
+    and whether a text of it is longer than any paper takes; as a layout it is that of its finest
+    symbol of QR, or else of its finest one.
     """
 
     texts: tuple[OwnText, ...]
     symbols: tuple[OwnSymbol, ...]
     absent: frozenset[str]
+    is_cut: bool
 
 
 Row = tuple[str, ...]  # the texts of a label in all places
@@ -127,6 +135,7 @@ class Room:
     common: int = 0
     fits: dict[str, Fit] = field(default_factory=dict)
     written: dict[str, str] = field(default_factory=dict)  # texts with as many lines as they have
+    several: set[str] = field(default_factory=set)  # texts of several labels
     signs: dict[str, Sign] = field(default_factory=dict)  # of lines
     changing: set[str] = field(default_factory=set)  # lines whose letters change beside others
 
@@ -155,7 +164,9 @@ class Room:
 
     def take(self, counts: Counter[str]) -> None:
         """Finds the letters of all texts that come here, which are given with how often."""
-        self.take_lines({line for text in counts for line in text.split("\n")})
+        lines = {line for text in counts for line in text.split("\n")}
+        has_letters = any(map(str.isalnum, "".join(lines)))
+        self.take_lines(lines if has_letters else {*lines, NO_LETTER})
         *_, tops, bottoms = zip(*self.signs.values())
         self.top, self.bottom = min(tops), max(bottoms)
         if self.bottom - self.top <= 0:
@@ -171,6 +182,8 @@ class Room:
             fit = self.largest_fit(self.written[text])
             self.fits[text] = fit
             sizes[1 / fit.size] += labels
+            if labels > 1:
+                self.several.add(text)
         self.common = round(1 / share(sizes))
 
     def take_lines(self, lines: Iterable[str]) -> None:
@@ -272,11 +285,13 @@ class Room:
             what = Text("{} has no room in the place {}", quoted(text), self.place.title)
             raise NoRoom(Text("{}: {}", what, ENLARGE))
         struck = len(text.encode()) if self.place.part == "was" else 0
+        comes_again = text in self.several
         text = self.written[text]
         size = min(fit.size, self.common)
         if size < fit.size and fit.lines > 1:
             fit = self.fit(self.measured(text), size) or fit
-        lines = fit.lines
+        is_number = fit.is_cut and any(map(NUMBER.fullmatch, text.split()))
+        lines = 1 if is_number else fit.lines  # a number in two lines would be two numbers
         tall = ((lines - 1) * LINE + self.bottom - self.top) * size
         base = (self.high - tall) * self.place.down - self.top * size
         is_parted = lines > 1 or fit.is_cut or "\n" in text
@@ -284,7 +299,7 @@ class Room:
         left = None if is_parted or text in self.changing else self.left_of(text, size)
         if lines > 1 and fit.begins:
             text = "\n".join(map(self.parted, text.split("\n"), fit.begins))
-        return OwnText(self.place, text, self.box, size, lines, style, left)
+        return OwnText(self.place, text, self.box, size, lines, style, left, comes_again)
 
     def new_style(self, size: int, lines: int, struck: int, base: int) -> Style:
         """Returns how texts are written."""
@@ -332,10 +347,13 @@ def lines_of(words: Sequence[Word], room: float) -> list[int]:
 
 
 class Values(NamedTuple):
-    """What a label has for places: texts by their keys, and the other names of these keys."""
+    """What a label has for places: texts by their keys, the other names of these keys, and which
+    texts are longer than any paper takes.
+    """
 
     texts: Mapping[str, str]
     names: Mapping[str, str]
+    cut: frozenset[str]
 
 
 def values_of(label: PrintLabel, note: str, own: frozenset[str]) -> Values:
@@ -344,8 +362,7 @@ def values_of(label: PrintLabel, note: str, own: frozenset[str]) -> Values:
     """
     record = label.record
     whole = record.label
-    texts = {"title": short(whole.title), "price": whole.price, "unit": whole.unit}
-    texts["was"] = whole.was
+    texts = {"title": whole.title, "price": whole.price, "unit": whole.unit, "was": whole.was}
     texts["code"] = record.data.decode("utf-8", "surrogateescape")
     names = {key: key for key in texts}
     rest = []
@@ -353,7 +370,7 @@ def values_of(label: PrintLabel, note: str, own: frozenset[str]) -> Values:
         name = whole.names[number] if whole.names else ""
         key = key_of(name)
         if key in own and key not in PARTS and key not in texts:
-            texts[key] = short(text)
+            texts[key] = text
             names[key] = name
         else:
             rest.append((name, text))
@@ -362,9 +379,15 @@ def values_of(label: PrintLabel, note: str, own: frozenset[str]) -> Values:
     elif note:
         rest.append(("note", note))
     if rest:
-        texts["text"] = short("\n".join(text for _, text in rest))
+        texts["text"] = "\n".join(text for _, text in rest)
         names["text"] = ", ".join(dict.fromkeys(name or "text" for name, _ in rest))
-    return Values({key: text for key, text in texts.items() if text}, names)
+    cut = set()
+    for key in names.keys() - WHOLE:
+        text = short(texts[key])
+        if text is not texts[key]:
+            cut.add(key)
+            texts[key] = text
+    return Values({key: text for key, text in texts.items() if text}, names, frozenset(cut))
 
 
 @dataclass
@@ -416,16 +439,27 @@ class OwnLayouts:
         for number, label in enumerate(labels):
             if number % ASKED == 0:
                 talk.go_on(number, 0)
-            texts = values[number].texts
+            texts, _, cut = values[number]
             absent = frozenset(key for key, part in groups.items() if part not in texts)
+            is_cut = not cut.isdisjoint(keys)
             try:
-                layout = self.layout(label, rows[number], absent, rooms, symbols)
+                layout = self.layout(label, rows[number], absent, is_cut, rooms, symbols)
             except NoRoom as problem:
                 self.left_out[label.record.number] = problem.reason
             else:
                 placed.append(LaidOut(label, layout))
         said = tuple(self.said(labels, values, rooms))
         return LaidOutFile(tuple(placed), self.area, self.left_out, said)
+
+    def texts_in_places(self, labels: Iterable[PrintLabel]) -> Mapping[int, Row]:
+        """Returns the texts of labels in places of letters, by the numbers of their lines."""
+        values = {one.record.number: values_of(one, self.note, self.known) for one in labels}
+        keys = self.keys_of_places(values.values())
+        wanted = [keys[place] for place in self.places if not place.is_symbol]
+        return {
+            number: tuple(one.texts.get(key, "") for key in wanted)
+            for number, one in values.items()
+        }
 
     def keys_of_places(self, values: Iterable[Values]) -> Mapping[Place, str]:
         """Returns the keys of the texts in places: Line-2 is a column where any label has one of
@@ -479,6 +513,7 @@ class OwnLayouts:
         label: PrintLabel,
         row: Row,
         absent: frozenset[str],
+        is_cut: bool,
         rooms: Mapping[Place, Room],
         made: Made,
     ) -> OwnLayout:
@@ -502,7 +537,7 @@ class OwnLayouts:
         if len(symbols) > 1:
             finest = min(symbols, key=lambda one: (one.symbology.nominal > 0, one.module))
         found = (finest.symbology, finest.module, finest.boxes, False)
-        return OwnLayout(NO_FRAME, *found, tuple(texts), tuple(symbols), absent)
+        return OwnLayout(NO_FRAME, *found, tuple(texts), tuple(symbols), absent, is_cut)
 
     def symbol(
         self, place: Place, symbology: Symbology, modules: Modules, data: bytes
@@ -589,8 +624,13 @@ class OwnLayouts:
         for value in values:
             for key in value.texts:
                 names.setdefault(key, value.names[key])
-        columns = {key_of(name) for label in labels for name in label.record.label.names}
+        columns = {key_of(name): name for label in labels for name in label.record.label.names}
         check_shapes(file, self.design.shapes, sorted(columns))
+        for key in sorted((self.own & columns.keys()).intersection(PARTS).difference(names)):
+            what = Text(
+                "{}: the place {} is of a part, not of the column {}", file, key, columns[key]
+            )
+            yield first, Text("{}: {}", what, Text("give the column another name, and the place"))
         lost = [name for key, name in names.items() if key not in self.known]
         if lost:
             named = ", ".join(lost)
@@ -643,7 +683,9 @@ class OwnLayouts:
             named = ", ".join(self.design.smaller)
             yield Text("{}: smaller than drawn: {}: {}", file, named, why)
         yield from self.design.remarks
-        absent = filter(self.letters.is_missing, sorted(set().union(*self.design.words)))
+        absent = filter(
+            self.letters.is_missing, sorted(set().union(*(words for words, _ in self.design.words)))
+        )
         for why in dict.fromkeys(reasons_of(absent).values()):
             yield Text("{}: {}", file, why)
         for families in self.design.fonts:

@@ -1,5 +1,5 @@
-"""What Cairo has no numbers for: it leaves patterns out whose parts are below a dot, and draws a
-shape that goes very far in one direction in the other one.
+"""What Cairo has no numbers for: in a PDF it leaves patterns out whose parts are below a point, and
+it draws a shape that goes very far in one direction in the other one.
 """
 
 import math
@@ -11,7 +11,7 @@ from labeltools.own_drawing import tag_of, walked
 from labeltools.own_effects import Sheets, styles_of
 from labeltools.own_stretched import NUMBER, Linear, linear_in
 
-LEAST_PART = 0.13  # millimetres: a dot of 203 dpi, and a bit more
+LEAST_PART = 0.4  # millimetres: a point, and a bit more
 FARTHEST = 50_000.0  # millimetres: at 4,000 dpi Cairo counts no farther
 FAR = re.compile(r"\d{4}|e\+?\d", re.IGNORECASE)  # what is in a large number
 PLACES = ("d", "points", *"cx cy height r rx ry width x x1 x2 y y1 y2".split())

@@ -8,11 +8,11 @@ import cairo
 
 from labeltools.area import MILLIMETRES, Dots, Edges
 from labeltools.engine import bytes_a_row
-from labeltools.fitting import Style
+from labeltools.fitting import KEPT, Style
 from labeltools.forms.pdf import POINTS
 from labeltools.layout import LaidOut
 from labeltools.letters import Fonts, Letters
-from labeltools.messages import ToolError
+from labeltools.messages import ToolError, quoted
 from labeltools.own_drawing import with_thin_lines
 from labeltools.own_design import BLACK, NEAR, WHITE, Colour, OwnDesign, Place
 from labeltools.own_layout import OwnLayout, OwnSymbol, OwnText
@@ -33,6 +33,9 @@ MIXED = 0.4  # part of a place: more of it dark, and as much of it light, leave 
 SPOTTED = 0.05
 FRAME = 0.5
 CONTRAST = 0.3  # between letters and what is behind them, of that between black and white
+SEEN = 35  # by which dots of words are lighter or darker than what is behind them
+LEAST_SHOWN = 0.25  # of these dots
+DOTS_DARK = b"\1" * 128 + bytes(128)
 DIGITS = bytes.maketrans(b"\0\1", b"01")
 UPRIGHT = cairo.Matrix()
 
@@ -44,12 +47,15 @@ class OwnPen(Pen):
         super().__init__(medium, fonts, letters)
         self.design = design
         # dots of a unit of the drawing: in points Cairo does not scale it for each label of a PDF,
-        # but makes pictures of so many dots, and parts of patterns of whole ones
-        is_in_points = medium.is_pdf and not (design.has_pictures or design.has_patterns)
+        # and loses no gradients, but what librsvg makes pictures of has as few dots
+        is_in_points = medium.is_pdf and not design.has_pictures
         self.unit = medium.dpi / POINTS if is_in_points else 1.0
         self.drawing = cache(self.new_drawing)
         self.dark_rows = cache(self.new_dark_rows)
         self.packed = cache(self.new_packed)
+        self.colours = cache(self.new_colours)
+        # texts of several labels as they are placed, by their ids: they are kept with them
+        self.again: dict[int, tuple[OwnText, Placed]] = {}
 
     @property
     def size(self) -> tuple[int, int]:
@@ -128,14 +134,48 @@ class OwnPen(Pen):
 
     def texts(self, item: LaidOut) -> Iterator[Placed]:
         """Yields the texts of a label, each of which is drawn before the next one is fitted."""
-        for text in own_layout(item).texts:
-            place, style = text.place, text.style
-            if text.left is None or self.medium.is_dots or style.family != self.fonts.texts:
-                fitted = self.fitter.found(*in_room(text))
-            else:
-                fitted = self.fitter.on_base(text.text, style, text.left)
-            colour = None if place.colour == BLACK else place.colour
-            yield Placed(fitted, style, text.box, place.quarters, colour)
+        layout = own_layout(item)
+        colours = self.colours(layout.absent) if layout.absent else {}
+        for text in layout.texts:
+            known = self.again.get(id(text))
+            placed = known[1] if known else self.placed_text(text)
+            if text.place in colours:
+                placed = placed._replace(colour=colours[text.place])
+            yield placed
+
+    def new_colours(self, absent: frozenset[str]) -> dict[Place, Optional[Colour]]:
+        """Returns the colours of letters that are other ones on labels without some parts: what is
+        behind them may be in the group of such a part.
+        """
+        texts = [place for place in self.design.places if not place.is_symbol]
+        wide, high = (max(1, round(side * CHECKED)) for side in self.design.label)
+        rows = lightness(self.design, wide, high, absent)
+        found: dict[Place, Optional[Colour]] = {}
+        for place in texts:
+            colour = colour_on(place, behind_of(rows, place, 0.0))
+            if colour != place.colour:
+                found[place] = None if colour == BLACK else colour
+        return found
+
+    def placed_text(self, text: OwnText) -> Placed:
+        """Returns a text as it fits its place; one of several labels is kept."""
+        place, style = text.place, text.style
+        if text.left is None or self.medium.is_dots or style.family != self.fonts.texts:
+            fitted = self.fitter.found(*in_room(text))
+        else:
+            fitted = self.fitter.on_base(text.text, style, text.left)
+        colour = None if place.colour == BLACK else place.colour
+        placed = Placed(fitted, style, text.box, place.quarters, colour)
+        if text.comes_again and fitted.lines:
+            if len(self.again) >= KEPT:
+                self.again.clear()
+            self.again[id(text)] = text, placed
+        return placed
+
+    def is_shortened(self, item: LaidOut) -> bool:
+        """Returns whether a text of a label ends in an ellipsis."""
+        texts = self.lines_of(item)
+        return own_layout(item).is_cut or any(self.fitter.is_cut(*text) for text in texts)
 
     def lines_of(self, item: LaidOut) -> Iterator[tuple[str, Style, int, int]]:
         """Yields the texts of a label that may be cut, with their room."""
@@ -175,7 +215,7 @@ def recorded(
     return cairo.SurfacePattern(surface) if min(width, height) > 0 else None
 
 
-def with_colours(design: OwnDesign) -> OwnDesign:
+def with_colours(design: OwnDesign, is_dots: bool) -> OwnDesign:
     """Returns a design whose letters have colours that can be read on its drawing; raises
     `ToolError` where a symbol or letters cannot be.
     """
@@ -185,11 +225,13 @@ def with_colours(design: OwnDesign) -> OwnDesign:
     spotted = []
     for place in design.places:
         if place.is_symbol:
-            check_white(design, place)
+            for absent in {frozenset[str](), frozenset(design.groups)}:
+                check_white(design, place, absent)
             places.append(place)
             continue
         behind = behind_of(rows, place, 0.0)
-        places.append(replace(place, colour=colour_on(design.file, place, behind)))
+        check_mixed(design.file, place, behind)
+        places.append(replace(place, colour=colour_on(place, behind)))
         if SPOTTED < dark_part(behind_of(rows, place, FRAME)) < 1 - SPOTTED:
             spotted.append(place.title)
     said = design.remarks
@@ -205,7 +247,35 @@ def with_colours(design: OwnDesign) -> OwnDesign:
             ", ".join(spotted),
         )
         said = *said, Text("{}: {}", what, Text("move the place, or look at the letters there"))
+    if is_dots and (lost := lost_words(design, rows)):
+        what = Text(
+            "{}: words are as light as what is behind them: {}", design.file, ", ".join(lost)
+        )
+        said = *said, Text(
+            "{}: {}", what, Text("in dots they are lost: make them dark, or white on dark")
+        )
     return replace(design, places=tuple(places), remarks=said)
+
+
+def lost_words(design: OwnDesign, rows: list[bytes]) -> list[str]:
+    """Returns the words of a drawing that are not there in black dots, or hardly; its rows are
+    given.
+    """
+    wide, high = len(rows[0]), len(rows)
+    bare = lightness(design.without_words(), wide, high) if design.words else rows
+    lost = []
+    for words, box in design.words:
+        left, top, right, bottom = (max(0, round(end * CHECKED)) for end in box)
+        pairs = [
+            (one, other)
+            for row, plain in zip(rows[top : bottom + 1], bare[top : bottom + 1])
+            for one, other in zip(row[left : right + 1], plain[left : right + 1])
+        ]
+        inked = sum(abs(one - other) > SEEN for one, other in pairs)
+        shown = sum(DOTS_DARK[one] != DOTS_DARK[other] for one, other in pairs)
+        if shown < LEAST_SHOWN * inked:
+            lost.append(quoted(words))
+    return lost
 
 
 def cut_at(rows: list[bytes], edges: Edges) -> float:
@@ -248,31 +318,33 @@ def dark_part(behind: bytes) -> float:
     return len(behind.translate(None, DOTS_LIGHT)) / max(1, len(behind))
 
 
-def check_white(design: OwnDesign, place: Place) -> None:
-    """Raises `ToolError` where a drawing is not white in a place."""
+def check_white(design: OwnDesign, place: Place, absent: frozenset[str]) -> None:
+    """Raises `ToolError` where a drawing without some parts is not white in a place."""
     sides = [max(1, round((side - 2 * EDGE) * FINE)) for side in (place.width, place.height)]
     surface = cairo.ImageSurface(cairo.FORMAT_ARGB32, *sides)
     canvas = cairo.Context(surface)
     canvas.set_source_rgb(1, 1, 1)
     canvas.paint()
     canvas.translate(-(place.left + EDGE) * FINE, -(place.top + EDGE) * FINE)
-    design.draw(canvas, FINE)
+    design.draw(canvas, FINE, absent)
     surface.flush()
     if bytes(surface.get_data()).translate(None, WHITEST):
         what = Text("{}: the drawing is not white in the place {}", design.file, place.title)
         raise ToolError(what, Text("a symbol needs white there, up to the edge of its place"))
 
 
-def colour_on(file: str, place: Place, behind: bytes) -> Colour:
-    """Returns the colour of letters on what is behind them, a byte from 0 for black for each dot:
-    that of their place where it can be read, or else black or white. Raises `ToolError` where
-    neither can.
-    """
-    dark = dark_part(behind)
-    if MIXED < dark < 1 - MIXED:
+def check_mixed(file: str, place: Place, behind: bytes) -> None:
+    """Raises `ToolError` where letters cannot be read on what is behind them."""
+    if MIXED < dark_part(behind) < 1 - MIXED:
         what = Text("{}: the drawing is light and dark in the place {}", file, place.title)
         raise ToolError(what, Text("letters need light or dark behind them: move the place"))
-    usual = BLACK if dark <= MIXED else WHITE
+
+
+def colour_on(place: Place, behind: bytes) -> Colour:
+    """Returns the colour of letters on what is behind them, a byte from 0 for black for each dot:
+    that of their place where it can be read, or else black or white.
+    """
+    usual = BLACK if dark_part(behind) <= 0.5 else WHITE
     wanted = place.colour or usual
     contrast = abs(light_of(wanted) - sum(behind) / 255 / max(1, len(behind)))
     return wanted if is_light(wanted) == is_light(usual) and contrast > CONTRAST else usual

@@ -134,9 +134,15 @@ def stretched(root: Element, sheets: Sheets) -> Iterator[str]:
     for element, key in boxed:
         inner = [*element.iter()]
         has_words = key != "filter" and any(tag_of(one) == "text" for one in inner)
-        is_moved = not moved.isdisjoint(inner[1:])
+        is_moved = not moved.isdisjoint(inner[1:]) or any(is_clone(one, ids) for one in inner)
         if has_words or is_moved or not all(known[one].is_upright for one in inner):
             yield f"<{tag_of(element)} {key}>"
+
+
+def is_clone(element: Element, ids: Mapping[str, Element]) -> bool:
+    """Returns whether an element shows a symbol, of which librsvg takes another box."""
+    shown = linked(element.attrib, ids) if tag_of(element) == "use" else None
+    return shown is not None and tag_of(shown) in FRAMES
 
 
 def linear_in(tag: str, values: Mapping[str, str]) -> Linear:

@@ -131,7 +131,7 @@ def planned(options: PrintOptions) -> PrintJob:
     if edges is None:
         edge = 0.0 if sheet.is_single else EDGE
         edges = edge, edge, edge, edge
-    own = own_design(options, sheet, edges) if is_file(options.design) else None
+    own = own_design(options, sheet, edges, form) if is_file(options.design) else None
     wishes = Wishes(
         OWN if own else DESIGNS[options.design],
         options.module,
@@ -170,14 +170,15 @@ def check_texts(options: PrintOptions) -> None:
             )
 
 
-def own_design(options: PrintOptions, sheet: Sheet, edges: Edges) -> OwnDesign:
-    """Returns the design that a file is; raises `ToolError` where it is none."""
+def own_design(options: PrintOptions, sheet: Sheet, edges: Edges, form: Form) -> OwnDesign:
+    """Returns the design that a file is, for a form; raises `ToolError` where it is none."""
     if options.height is not None:
         what = Text("--height is not for a design of one's own")
         hint = Text("the places of a design say how high bars are")
         raise ToolError(what, hint, BAD_ARGUMENTS)
     white = white_of(sheet, edges)
-    return with_colours(read_design(options.design, sheet.cell, white, options.turn))
+    design = read_design(options.design, sheet.cell, white, options.turn)
+    return with_colours(design, not form.is_drawn)
 
 
 def form_of(options: PrintOptions) -> Form:
@@ -268,12 +269,14 @@ def prepared(
     letters = letters or Letters(job.fonts)
     labels = drawn_labels(lines, drawn, options.note)
     reasons: dict[int, Text] = dict(drawn.refused)
-    reasons.update(letters.missing(labels))
+    own = own_layouts(options, job, lines.empty, letters)
+    reasons.update(without_letters(labels, own, letters))
     if options.is_unique:
         reasons.update(doubles(lines, reasons))
     if reasons:
         labels = [label for label in labels if label.record.number not in reasons]
-    laid_out = laid_out_by(options, job, labels, lines.empty, letters, talk)
+    area = job.plan.area
+    laid_out = own.lay_out(labels, talk) if own else lay_out(labels, area, letters, talk)
     reasons.update(laid_out.left_out)
     wanted = only_wanted(laid_out.labels, options.only)
     if options.read_back:
@@ -292,22 +295,26 @@ def prepared(
     return Prepared(job, laid_out, tuple(left_out), tuple(remarks), tables, letters, lines.records)
 
 
-def laid_out_by(
-    options: PrintOptions,
-    job: PrintJob,
-    labels: Sequence[PrintLabel],
-    empty: frozenset[str],
-    letters: Letters,
-    talk: Talk,
-) -> LaidOutFile:
-    """Returns the layouts of labels by the design of a file, or a built-in one; the columns of
-    texts are given that are empty.
+def own_layouts(
+    options: PrintOptions, job: PrintJob, empty: frozenset[str], letters: Letters
+) -> Optional[OwnLayouts]:
+    """Returns what lays labels out by the design of a file, if that is wished; the columns of texts
+    are given that are empty.
     """
     if job.design is None:
-        return lay_out(labels, job.plan.area, letters, talk)
+        return None
     area = job.plan.area.turned() if job.design.is_turned else job.plan.area
-    own = OwnLayouts(job.design, area, letters, options.note, options.words, empty)
-    return own.lay_out(labels, talk)
+    return OwnLayouts(job.design, area, letters, options.note, options.words, empty)
+
+
+def without_letters(
+    labels: Sequence[PrintLabel], own: Optional[OwnLayouts], letters: Letters
+) -> dict[int, Text]:
+    """Returns why labels are left out that have letters which no font has; in a design of a file
+    those of its places alone.
+    """
+    found = letters.missing({label.record.number: label.texts for label in labels})
+    return letters.missing(own.texts_in_places(labels)) if own and found else found
 
 
 def doubles(lines: LinesFile, refused: Mapping[int, Text]) -> Mapping[int, Text]:

@@ -8,8 +8,9 @@ order: a word, the number of the line, and more.
     unsent 5 tcp://till-3: Connection refused   nothing went out: send it again
     doubtful 6 tcp://till-3: ..                 a part went out: look before you send it again
 
-A label is laid out by itself, as in a run for its line alone. An object before a line belongs to
-it, as in the file of label-table; its first and last remarks are skipped.
+A line that begins with `label-print:` is a message: what is said of a design, once, and of texts
+that are shortened. A label is laid out by itself, as in a run for its line alone. An object before
+a line belongs to it, as in the file of label-table; its first and last remarks are skipped.
 """
 
 import errno
@@ -27,10 +28,11 @@ from labeltools.command_line import ENDING, hold_signals, standard_output
 from labeltools.engine import LABELS_FAILED, Engine, run_labels
 from labeltools.letters import Letters
 from labeltools.lines_file import OBJECT, LineRecord, read_lines
-from labeltools.messages import Silence, ToolError, sentence, visible
+from labeltools.messages import Silence, ToolError, sentence, visible, write_message
 from labeltools.network import Broken
 from labeltools.press import Press, PrintJob
 from labeltools.print_job import DrawnLines, Prepared, PrintOptions, prepared
+from labeltools.report import places_text
 from labeltools.sending import OUTPUT, Sender
 from labeltools.text import NOTHING, Text, translated
 
@@ -43,6 +45,7 @@ TOO_LONG = Text("longer than {} bytes", LONGEST)
 TWO_OBJECTS = Text("there are two objects before it")
 LONG_OBJECT = Text("the object before it is longer than {} bytes", LONGEST)
 NO_FIFO = Text("make the FIFO anew by mkfifo, then give the same command again")
+TOOL = "label-print"  # begins what is a message and no answer
 TAKEN = "taken"
 REFUSED = "refused"
 KNOWN = "known"
@@ -225,6 +228,8 @@ class Stream:
         self.letters = Letters(job.fonts)
         self.presses: dict[bool, Press] = {}
         self.seen: set[tuple[str, bytes]] = set()
+        self.said: set[str] = set()
+        self.latest: Optional[Prepared] = None
         self.status = 0
 
     def answer(self, parts: Sequence[Part]) -> tuple[str, Text]:
@@ -272,7 +277,24 @@ class Stream:
                 self.raise_known(record)
         if self.options.is_unique and self.sender.journal is None:
             self.seen.add(record.key)
+        self.latest = found
         return size
+
+    def notes(self) -> Iterator[Text]:
+        """Yields what is said of the label that went out last: that a text is shortened, and what
+        has not been said of its design before.
+        """
+        found, self.latest = self.latest, None
+        if found is None:
+            return
+        for _, text in found.laid_out.said:
+            if str(text) not in self.said:
+                self.said.add(str(text))
+                yield text
+        pen = self.press(found).pen
+        if any(map(pen.is_shortened, found.labels)):
+            place = found.records[0].place
+            yield Text("{}: shortened to fit, with an ellipsis", places_text([place], False))
 
     def require_reader(self) -> None:
         """Raises `ToolError` where labels go to standard output, and nobody reads it."""
@@ -343,6 +365,8 @@ def run(options: PrintOptions, job: PrintJob, path: Optional[str], sender: Sende
             status = status if word == TAKEN else 1
             said = visible(translated(text))
             try:
+                for note in stream.notes():
+                    write_message(TOOL, note)
                 print(word, parts[-1].number, said, file=sys.stderr, flush=True)
             except OSError:
                 return 1

@@ -24,6 +24,7 @@ from labeltools.pango import library
 from labeltools.print_job import Prepared, PrintOptions, labels_of, planned
 
 TITLE = '<rect id="title" {}/>' + CODE
+LOST = [" words are as light as what is behind them"]
 WIDE = 'x="2" y="2" width="56" height="10"'
 ONE: Label = ("code128 A", {"title": "Title"})
 PICTURE = '<image x="2" y="2" width="5" height="5" href="data:image/{};base64,{}"/>' + CODE
@@ -464,6 +465,21 @@ class Names(OwnPages):
         found = self.found(place, [("code128 A", {"text": {"Price": "cheap"}})])
         self.assertEqual(texts_of(found), [])
         self.assertIn(" has no place for Price: not on the labels", self.said(found))
+        of_part = ": the place price is of a part, not of the column Price: give the column another"
+        self.assertTrue(any(said.startswith(of_part) for said in self.said(found)))
+        priced = self.found(place, [("code128 A", {"price": "9", "text": {"Price": "cheap"}})])
+        self.assertFalse(any(said.startswith(of_part) for said in self.said(priced)))
+
+    def test_what_has_no_place_does_not_count(self) -> None:
+        """Neither letters that no font has, nor a text that is longer than any paper takes."""
+        place = f'<rect id="Seat" {WIDE}/>{CODE}'
+        for text in ("\ue123", "x" * 2000):
+            found = self.found(place, [("code128 A", {"text": {"Seat": "1", "Other": text}})])
+            self.assertEqual(len(found.labels), 1)
+            self.assertEqual(self.said(found), [" has no place for Other: not on the labels"])
+            found = self.found(place, [("code128 A", {"text": {"Seat": text}})])
+            said = [*self.said(found), *reasons_of(found)]
+            self.assertRegex(said[0], "^no font has|shortened to fit")
 
     def test_what_has_no_place_and_places_that_have_nothing_are_said_once(self) -> None:
         labels = [("code128 A", {"title": "a", "text": {"Seat": "1"}})] * 3
@@ -594,6 +610,23 @@ class Texts(OwnPages):
         for form in ("pdf", "png"):
             found = self.found(place, [("code128 A", {"title": title})], to=form, dpi=600)
             self.assertEqual(self.said(found), ["line 2: shortened to fit, with an ellipsis"])
+
+    def test_a_number_is_not_parted(self) -> None:
+        """In two lines it would be two numbers."""
+        place = f'<rect id="Count" x="2" y="2" width="6" height="7"/>{CODE}'
+        for count, lines, said in (("999999", 1, 1), ("99 99", 2, 0), ("abcdefghi", 3, 0)):
+            found = self.found(place, [("code128 A", {"text": {"Count": count}})])
+            shortened = [one for one in self.said(found) if "shortened" in one]
+            self.assertEqual((texts_of(found)[0].lines, len(shortened)), (lines, said), count)
+
+    def test_signs_are_as_small_as_letters(self) -> None:
+        """A hyphen alone has the letters of a capital one, not the height of its place."""
+        place = '<rect id="title" x="2" y="1" width="56" height="9"/>' + CODE
+        sizes = set()
+        for title in ("H", "-", ".", "…", "_"):
+            (text,) = texts_of(self.found(place, [("code128 A", {"title": title})]))
+            sizes.add(text.size)
+        self.assertLess(max(sizes) / min(sizes), 1.35)  # what is below the line takes room, too
 
     def test_line_ends_are_spaces_where_there_is_no_room_for_them(self) -> None:
         place = '<rect data-place="title{}" x="2" y="2" width="56" height="{}"/>' + CODE
@@ -755,6 +788,35 @@ class Drawings(OwnPages):
             found = self.found(word.replace('<g id="Best before">', group) + place + CODE, labels)
             self.assertTrue(dots_of(found, 1)[:150].any())
 
+    def test_letters_can_be_read_without_the_group_behind_them(self) -> None:
+        """A black bar that goes with the old price has white letters on it, and black ones are
+        where it is not there.
+        """
+        bar = '<g id="was"><path d="M0 0H60V19H0Z"/></g>'
+        place = f'{bar}<rect id="title" x="2" y="2" width="56" height="12"/>{CODE}'
+        for fields in ({"title": "Title"}, {"title": "Title", "was": "9"}):
+            dots = dots_of(self.found(place, [("code128 A", fields)]))[20:110, 20:460]
+            self.assertGreater(dots.sum(), 2000)
+            self.assertGreater((1 - dots).sum(), 2000)
+        white = '<path d="M0 0H60V40H0Z"/><g id="was"><path fill="#fff" d="M0 18H60V40H0Z"/></g>'
+        with self.assertRaises(ToolError) as caught:
+            self.found(white + CODE)
+        why = "the drawing is not white in the place code"
+        self.assertTrue(designs.is_refused(caught.exception, why), caught.exception)
+
+    def test_words_that_are_lost_in_dots_are_said(self) -> None:
+        word = '<text x="2" y="9" font-size="5" font-family="DejaVu Sans" {}>Nuts</text>' + CODE
+        black = '<path d="M0 0H60V19H0Z" fill="#800"/>'
+        for body, form, is_lost in (
+            (word.format('fill="#c90"'), "png", True),
+            (word.format('fill="#c90"'), "pdf", False),
+            (word.format('fill="#700"'), "zpl", False),
+            (black + word.format(""), "zpl", True),
+            (black + word.format('fill="#fff"'), "zpl", False),
+        ):
+            said = self.said(self.found(body, [("code128 A", {})], to=form, dpi=203))
+            self.assertEqual([one.split(":")[1] for one in said], LOST * is_lost, body)
+
     def test_lines_thinner_than_a_dot_are_drawn(self) -> None:
         """At 203 dpi a line of 0.08 mm between two rows of dots is nowhere darker than half."""
         frame = '<path d="M{0} {0}H{1}V{1}H{0}Z" fill="none" stroke="black" stroke-width="0.08"/>'
@@ -872,8 +934,17 @@ class Drawings(OwnPages):
         for left, said in ((2, 0), (50, 1), (-4, 1), (99, 0)):
             found = self.found(word.format(left) + CODE, [("code128 A", {})])
             self.assertEqual(len(self.said(found)), said, left)
+        word = '<text x="9" y="{}" font-size="3" font-family="DejaVu Sans">Do</text>' + CODE
+        for base, said in ((2.1, 0), (1.8, 1)):  # letters are 2.2 mm high
+            found = self.found(word.format(base), [("code128 A", {})])
+            self.assertEqual(len(self.said(found)), said, base)
+        word = '<text x="2" y="9" font-size="5" font-family="DejaVu Sans">Door 2</text>'
+        faint = (
+            '<g style="opacity:.5"><text x="50" y="9" font-size="5" opacity=".9">Door 2</text></g>'
+        )
+        self.assertEqual(len(self.said(self.found(faint + CODE, [("code128 A", {})]))), 1)
         (said_of_edge,) = self.said(
-            self.found(word.format(2) + CODE, [("code128 A", {})], edge=(3.0, 0.0, 0.0, 0.0))
+            self.found(word + CODE, [("code128 A", {})], edge=(3.0, 0.0, 0.0, 0.0))
         )[:1]
         self.assertRegex(
             said_of_edge, '^: smaller than drawn|^: "Door 2" is cut at the edge by 0.6'

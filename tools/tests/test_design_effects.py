@@ -71,10 +71,6 @@ OFFSETS = (
     '<radialGradient id="r"><stop {}/><stop {} stop-color="#fff"/><stop {} stop-color="#fff"/>'
     '</radialGradient><path fill="url(#r)" d="M2 2H22V19H2Z"/>'
 )
-REPEATED = (
-    '<linearGradient id="r" spreadMethod="repeat" x2=".3">{}<stop offset=".2" stop-color="#fff"/>'
-    '<stop offset=".6"/>{}</linearGradient><path fill="url(#r)" d="M2 2H50V19H2Z"/>'
-)
 ASKEW = '<path transform="rotate({})" d="M9 2H19V9H9Z" {}/>'
 CIRCLE = f'<clipPath id="c" clipPathUnits="{BOX_UNITS}"><circle cx=".5" cy=".5" r=".5"/></clipPath>'
 MASK = f'<mask id="c" maskContentUnits="{BOX_UNITS}"><circle cx=".5" cy=".5" r=".5"/></mask>'
@@ -145,10 +141,6 @@ ALIKE = (
         OFFSETS.format('offset=".8"', 'offset=".2"', 'offset="10%"'),
         OFFSETS.format('offset=".8"', 'offset=".8"', 'offset="80%"'),
     ),
-    (
-        REPEATED.format("", ""),
-        REPEATED.format('<stop stop-color="#fff"/>', '<stop offset="1"/>'),
-    ),
     (SHOWN.format("hidden"), '<path d="M9 9H14V14H9Z"/>'),
     (SHOWN.format("visible"), '<path d="M4 4H14V14H4Z"/>'),
     (f"<style>/* @import 'a.css'; */</style>{BOX}", BOX),
@@ -166,6 +158,10 @@ TINY = (
     '<pattern id="t" patternUnits="userSpaceOnUse" width="9" height="{}" patternTransform="{}">'
     '<path d="M0 0H9"/></pattern><path fill="url(#t)" d="M2 2H9V9z"/>'
 )
+SHADED = (
+    '<linearGradient id="h" {}><stop/><stop offset="1"/></linearGradient>'
+    '<path fill="none" stroke="url(#h)" d="M2 2L9 5L4 9z"/>'
+)
 POINT = '<line stroke="#000" x1="4" x2="4" y1="9" y2="9"/>'
 PART = (
     '<mask id="m"{}><rect width="50%" height="20%"/></mask>'
@@ -176,11 +172,6 @@ DOT = f"data:image/png;base64,{BLACK}"
 FULL = f' width="4" height="4" href="{DOT}"'
 # what Chromium draws otherwise, and what is said of it
 SAID = (
-    (
-        '<linearGradient id="g" spreadMethod="repeat"><stop offset=".5"/>'
-        '<stop offset=".5" stop-color="#fff"/></linearGradient>',
-        "<linearGradient spreadMethod>",
-    ),
     (f"<style>:root{{--ink:#fff}}</style>{BOX.format('fill:var(--ink)')}", "fill:var(--ink)"),
     (BOX.format("fill:none;fill:var(--ink)"), "fill:var(--ink)"),
     (BOX.format("stroke:#000;stroke-width:calc(1px + 1px)"), "stroke-width:calc(1px + 1px)"),
@@ -205,6 +196,12 @@ SAID = (
     ('<filter id="f"><feConvolveMatrix kernelMatrix="1"/></filter>', "feConvolveMatrix"),
     (f'<text {WORDS} y="9">e<tspan>\u0301</tspan></text>', "<text tspan>"),
     ('<g font-size="-5"/>', 'font-size="-5"'),
+    ('<clipPath id="c"><path d="M5 2V9H9V2z"/><use href="#p"/></clipPath>', "<clipPath>"),
+    ("<filter id='f'/>" + SHADED.format(""), "<path stroke>"),
+    ("<linearGradient spreadMethod='reflect'/>", 'spreadMethod="reflect"'),
+    (SHADED.format("").replace("<stop/>", '<stop stop-opacity=".5"/>'), "<path stroke>"),
+    (f'{SYMBOL.format("")}<use href="#s" width="9" height="9" mask="url(#c)"/>', "<use mask>"),
+    (f'{CIRCLE}{SYMBOL.format("")}<use href="#s" clip-path="url(#c)"/>', "<use clip-path>"),
     (BOX.format("transform:ROTATE(9deg)"), "transform:ROTATE(9deg)"),
     (BOX.format("stroke-dasharray:2 !important"), "stroke-dasharray:2 !important"),
     (BOX.format("fill:url(#a)!important"), "fill:url(#a)!important"),
@@ -225,7 +222,7 @@ SAID = (
     ('<polygon marker-start="url(#k)" points="2 2 9 2 9 9 2 9"/>', "<polygon marker-start>"),
     ('<path d="M-60000 2H9V9H-6e4z"/>', "<path d>"),
     ('<g transform="scale(9)"><rect width="9999" height="1"/></g>', "<rect width>"),
-    (TINY.format("1.2", "scale(.1)"), "<pattern width>"),
+    (TINY.format("3", "scale(.1)"), "<pattern width>"),
     (PART.format(' height="50%"', "svg", "svg"), "<rect height>, <rect width>"),
     (f'<g clip-path="url(#c)">{CIRCLE}<image transform="scale(-1 1)"{FULL}/></g>', "<g clip-path>"),
     (BOX.format("fill:#ddd;fill:color(srgb 0 0 0)"), "fill:color(srgb 0 0 0)"),
@@ -387,7 +384,8 @@ NOT_SAID = (
     '<path marker-start="url(#k)" marker-mid="url(#k)" marker-end="url(#k)" d="M2 2h9v9"/>',
     '<path marker-end="url(#k)" d="M2 2h9v9z"/>',
     '<path d="M-6000 2H9V9H-6e3z"/>',
-    TINY.format("2", "scale(.1)"),
+    SHADED.format("spreadMethod='pad'"),
+    TINY.format("5", "scale(.1)"),
     f'<text {WORDS} letter-spacing="1" x="2" y="5">ab<tspan x="2" y="9">c</tspan></text>',
     PART.format("", "g", "g"),
     f'<g clip-path="url(#c)">{CIRCLE}<g transform="scale(-1 1)"><image{FULL}/></g></g>',

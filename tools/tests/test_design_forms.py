@@ -101,6 +101,14 @@ class Drawings(unittest.TestCase):
             self.assertEqual({dots // 10 for dots in wide} - {29, 30}, set(), listed.stdout)
             self.assertTrue(wide)
 
+    def test_dashes_without_a_length_take_no_fill_away(self) -> None:
+        body = '<path stroke="#000" stroke-dasharray="0 1.5" d="M2 2H42V9H2Z"/>' + designs.CODE
+        with tempfile.TemporaryDirectory() as folder:
+            path = designs.written(Path(folder, "own.svg"), body)
+            done = support.printed("--design", str(path), input=LINE)
+        dots = rendered(["pdftoppm", "-r", "254", "-mono", "FILE", "out"], done.stdout)
+        self.assertTrue(dots[30:80, 30:400].all())
+
     def test_a_pattern_is_alike_in_each_cell(self) -> None:
         """Ghostscript shows one that is drawn in two places as in the first one."""
         tile = '<path d="M0 0H2V2H0Z"/></pattern><path fill="url(#p)" d="M2 2H42V9H2Z"/>'
