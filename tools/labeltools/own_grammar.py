@@ -43,7 +43,7 @@ from labeltools.own_effects import (
 )
 from labeltools.own_limits import beyond
 from labeltools.own_stretched import LINK as NAMED_BY
-from labeltools.own_stretched import is_clone, linked, stretched
+from labeltools.own_stretched import BOX, is_clone, linked, stretched
 from labeltools.pango import Pango
 
 NUMBER = r"[-+]?(?:\d+(?:\.\d*)?|\.\d+)(?:e[-+]?\d+)?"
@@ -198,7 +198,8 @@ NOWHERE = {
 }
 ELEMENTS = frozenset(
     "animate animateColor animateMotion animateTransform feConvolveMatrix feDiffuseLighting"
-    " feImage feSpecularLighting feTile script set {http://www.w3.org/1999/xhtml}style".split()
+    " feImage feMorphology feSpecularLighting feTile script set"
+    " {http://www.w3.org/1999/xhtml}style".split()
 )
 ORIGINS = ("transform-box", "transform-origin")  # they change what is moved alone
 SIDES = ("height", "width")
@@ -415,6 +416,8 @@ def misused(
         yield from (side for side in SIDES if sides[side] == "auto")
     if is_clone(element, ids) and is_set(values, "mask"):
         yield "mask"
+    if values.get("clipPathUnits") == BOX and is_set(values, "transform"):
+        yield "transform"
     if tag in SERVERS and link and link not in ids:
         yield "href"
     if tag in SERVERS and (values.get("r") == "0" or is_point(values)):

@@ -1,8 +1,9 @@
 """What is stretched or turned in a drawing, so that librsvg draws it otherwise than other programs.
 
 It is wrong about how wide stretched letters are together: parts of a text are over one another, and
-a text in the middle is not there. For the box of what is askew it takes that of its corners, and
-for that of words their ink: what clips, masks or paints them by their box does so elsewhere.
+a text in the middle is not there. Cairo takes the corners of lines as they are stretched. For the
+box of what is askew librsvg takes that of its corners, and for that of words their ink: what clips,
+masks or paints them by their box does so elsewhere.
 """
 
 import math
@@ -11,7 +12,7 @@ from typing import Iterator, Mapping, NamedTuple, Optional
 from xml.etree.ElementTree import Element
 
 from labeltools.own_drawing import LINKS, tag_of, walked
-from labeltools.own_effects import GRADIENTS, TEXTS, Sheets, styles_of
+from labeltools.own_effects import GRADIENTS, TEXTS, Sheets, inherited, styles_of
 
 CALL = re.compile(r"([a-z]+)\s*\(([^)]*)\)", re.IGNORECASE)
 NUMBER = re.compile(r"[-+]?(?:\d+\.?\d*|\.\d+)(?:e[-+]?\d+)?", re.IGNORECASE)
@@ -22,6 +23,9 @@ BOXED = ("clip-path", "mask", "fill", "stroke", "filter")
 MOST_LINKS = 9  # from one paint to another
 LINK = re.compile(r"url\(\s*[\"']?(#[^\"')]+)")
 BOX = "objectBoundingBox"
+STROKE = "stroke"
+JOIN = "stroke-linejoin"
+CORNERED = ("path", "polygon", "polyline")
 REGION = ("x", "y", "width", "height")
 
 
@@ -112,9 +116,10 @@ def framed(values: Mapping[str, str]) -> Linear:
 
 def stretched(root: Element, sheets: Sheets) -> Iterator[str]:
     """Yields what stretches words that librsvg then draws in wrong places: texts of several parts,
-    and texts that do not begin where they are placed; and what clips, masks or paints by their box
-    words, or what is askew.
+    and texts that do not begin where they are placed; what stretches corners of lines that may be
+    pointed or not; and what clips, masks or paints by their box words, or what is askew.
     """
+    lines = inherited(root, sheets, (STROKE, JOIN))
     ids = {f"#{one.get('id')}": one for one in root.iter()}
     known = {root: Linear()}
     anchors = {root: "start"}
@@ -131,6 +136,9 @@ def stretched(root: Element, sheets: Sheets) -> Iterator[str]:
         has_words = not known[element].is_even and has_shifted(element, anchors[element], ids)
         if has_words:
             yield f"<{tag_of(element)} transform>"
+        is_line = tag_of(element) in CORNERED and lines[element][STROKE] not in ("", "none")
+        if is_line and not known[element].is_even and lines[element][JOIN] in ("", "miter"):
+            yield f"<{tag_of(element)} {JOIN}>"
     for element, key in boxed:
         inner = [*element.iter()]
         has_words = key != "filter" and any(tag_of(one) == "text" for one in inner)

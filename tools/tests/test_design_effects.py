@@ -162,6 +162,7 @@ SHADED = (
     '<linearGradient id="h" {}><stop/><stop offset="1"/></linearGradient>'
     '<path fill="none" stroke="url(#h)" d="M2 2L9 5L4 9z"/>'
 )
+CORNER = '<path stroke-linejoin="{}" d="M2 2L9 5L4 9z"/>'
 POINT = '<line stroke="#000" x1="4" x2="4" y1="9" y2="9"/>'
 PART = (
     '<mask id="m"{}><rect width="50%" height="20%"/></mask>'
@@ -202,6 +203,12 @@ SAID = (
     (SHADED.format("").replace("<stop/>", '<stop stop-opacity=".5"/>'), "<path stroke>"),
     (f'{SYMBOL.format("")}<use href="#s" width="9" height="9" mask="url(#c)"/>', "<use mask>"),
     (f'{CIRCLE}{SYMBOL.format("")}<use href="#s" clip-path="url(#c)"/>', "<use clip-path>"),
+    ('<filter id="f"><feMorphology radius="1"/></filter>', "feMorphology"),
+    (CIRCLE.replace("id=", 'transform="rotate(9)" id='), "<clipPath transform>"),
+    (
+        f'<g stroke="#000" transform="scale(2 1)">{CORNER.format("miter")}</g>',
+        "<path stroke-linejoin>",
+    ),
     (BOX.format("transform:ROTATE(9deg)"), "transform:ROTATE(9deg)"),
     (BOX.format("stroke-dasharray:2 !important"), "stroke-dasharray:2 !important"),
     (BOX.format("fill:url(#a)!important"), "fill:url(#a)!important"),
@@ -385,6 +392,9 @@ NOT_SAID = (
     '<path marker-end="url(#k)" d="M2 2h9v9z"/>',
     '<path d="M-6000 2H9V9H-6e3z"/>',
     SHADED.format("spreadMethod='pad'"),
+    f'<g stroke="#000" transform="scale(2 1)">{CORNER.format("round")}</g>',
+    f'<g stroke="#000" transform="rotate(9)">{CORNER.format("miter")}</g>',
+    f'<g transform="scale(2 1)">{CORNER.format("miter")}</g>',
     TINY.format("5", "scale(.1)"),
     f'<text {WORDS} letter-spacing="1" x="2" y="5">ab<tspan x="2" y="9">c</tspan></text>',
     PART.format("", "g", "g"),
