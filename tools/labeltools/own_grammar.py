@@ -416,6 +416,8 @@ def misused(
         yield from (side for side in SIDES if sides[side] == "auto")
     if is_clone(element, ids) and is_set(values, "mask"):
         yield "mask"
+    if tag == "pattern" and is_framed(values):
+        yield "viewBox"
     if values.get("clipPathUnits") == BOX and is_set(values, "transform"):
         yield "transform"
     if tag in SERVERS and link and link not in ids:
@@ -545,6 +547,19 @@ def of_other_pages(root: Element) -> Iterator[str]:
         for one in parts:
             shares = sorted(key for key in SHARES if one.get(key, "").strip().endswith("%"))
             yield from (f"<{tag_of(one)} {key}>" for key in shares)
+
+
+def is_framed(values: Mapping[str, str]) -> bool:
+    """Returns whether the viewBox of a pattern may have other proportions than its parts: librsvg
+    puts it elsewhere in them.
+    """
+    box = re.findall(NUMBER, values.get("viewBox", ""))
+    if len(box) != 4 or values.get("preserveAspectRatio", "").startswith("none"):
+        return False
+    sides = [re.fullmatch(NUMBER, values.get(side, "")) for side in SIDES]
+    high, wide = (float(one[0]) if one else 0.0 for one in sides)
+    is_user = values.get("patternUnits") == OF_PAGE
+    return not is_user or not isclose(high * float(box[2]), wide * float(box[3]), rel_tol=ALIKE)
 
 
 def is_resized(shown: Optional[Element], sides: Mapping[str, str]) -> bool:

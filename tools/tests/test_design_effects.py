@@ -163,6 +163,7 @@ SHADED = (
     '<path fill="none" stroke="url(#h)" d="M2 2L9 5L4 9z"/>'
 )
 CORNER = '<path stroke-linejoin="{}" d="M2 2L9 5L4 9z"/>'
+FRAMED = '<pattern patternUnits="userSpaceOnUse" width="{}" height="4" viewBox="0 0 6 3"/>'
 POINT = '<line stroke="#000" x1="4" x2="4" y1="9" y2="9"/>'
 PART = (
     '<mask id="m"{}><rect width="50%" height="20%"/></mask>'
@@ -209,6 +210,7 @@ SAID = (
         f'<g stroke="#000" transform="scale(2 1)">{CORNER.format("miter")}</g>',
         "<path stroke-linejoin>",
     ),
+    (FRAMED.format(9), "<pattern viewBox>"),
     (BOX.format("transform:ROTATE(9deg)"), "transform:ROTATE(9deg)"),
     (BOX.format("stroke-dasharray:2 !important"), "stroke-dasharray:2 !important"),
     (BOX.format("fill:url(#a)!important"), "fill:url(#a)!important"),
@@ -392,6 +394,8 @@ NOT_SAID = (
     '<path marker-end="url(#k)" d="M2 2h9v9z"/>',
     '<path d="M-6000 2H9V9H-6e3z"/>',
     SHADED.format("spreadMethod='pad'"),
+    FRAMED.format(8),
+    FRAMED.format(9).replace("viewBox", 'preserveAspectRatio="none" viewBox'),
     f'<g stroke="#000" transform="scale(2 1)">{CORNER.format("round")}</g>',
     f'<g stroke="#000" transform="rotate(9)">{CORNER.format("miter")}</g>',
     f'<g transform="scale(2 1)">{CORNER.format("miter")}</g>',
