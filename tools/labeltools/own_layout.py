@@ -33,7 +33,8 @@ STEPS = 160  # of these: from the largest letters to less than a hundredth of th
 PRICES = ("price", "unit", "was")
 WHOLE = frozenset((*PRICES, "code", "note"))  # parts that are as long as they are
 NUMBER = re.compile(r"\W*\d[\d\W]+")
-NO_LETTER = "H"  # as large as which signs are that have no letter beside them
+LOW = 0.5  # of the size of letters: ink that is lower, as of hyphens, is as of a letter
+LETTER = "H"
 MOST_LINES = 20  # of a text in a place
 ENLARGE = Text("enlarge it")
 NO_FRAME = Frame("own", {}, {}, 0, 0, 0, 0, 0, 0, True, 0.0)
@@ -164,9 +165,9 @@ class Room:
 
     def take(self, counts: Counter[str]) -> None:
         """Finds the letters of all texts that come here, which are given with how often."""
-        lines = {line for text in counts for line in text.split("\n")}
-        has_letters = any(map(str.isalnum, "".join(lines)))
-        self.take_lines(lines if has_letters else {*lines, NO_LETTER})
+        self.take_lines({line for text in counts for line in text.split("\n")})
+        if max(sign.bottom - sign.top for sign in self.signs.values()) < LOW:
+            self.take_lines({LETTER})
         *_, tops, bottoms = zip(*self.signs.values())
         self.top, self.bottom = min(tops), max(bottoms)
         if self.bottom - self.top <= 0:

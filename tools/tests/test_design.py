@@ -627,6 +627,9 @@ class Texts(OwnPages):
             (text,) = texts_of(self.found(place, [("code128 A", {"title": title})]))
             sizes.add(text.size)
         self.assertLess(max(sizes) / min(sizes), 1.35)  # what is below the line takes room, too
+        _, _, top, bottom = self.ink(self.found(place, [("code128 A", {"title": "▲"})]))
+        self.assertAlmostEqual(top, 1, delta=0.3)
+        self.assertAlmostEqual(bottom, 10, delta=0.3)
 
     def test_line_ends_are_spaces_where_there_is_no_room_for_them(self) -> None:
         place = '<rect data-place="title{}" x="2" y="2" width="56" height="{}"/>' + CODE
