@@ -13,7 +13,7 @@ from labeltools.forms.pdf import POINTS
 from labeltools.layout import LaidOut
 from labeltools.letters import Fonts, Letters
 from labeltools.messages import ToolError, quoted
-from labeltools.own_drawing import with_thin_lines
+from labeltools.own_drawing import DARKEST, with_thin_lines
 from labeltools.own_design import BLACK, NEAR, WHITE, Colour, OwnDesign, Place
 from labeltools.own_layout import OwnLayout, OwnSymbol, OwnText
 from labeltools.pen import Medium, Page, Pen, Placed, is_light, light_of, padded
@@ -34,8 +34,6 @@ SPOTTED = 0.05
 FRAME = 0.5
 CONTRAST = 0.3  # between letters and what is behind them, of that between black and white
 SEEN = 35  # by which dots of words are lighter or darker than what is behind them
-LEAST_SHOWN = 0.25  # of these dots
-DOTS_DARK = b"\1" * 128 + bytes(128)
 DIGITS = bytes.maketrans(b"\0\1", b"01")
 UPRIGHT = cairo.Matrix()
 
@@ -247,7 +245,7 @@ def with_colours(design: OwnDesign, is_dots: bool) -> OwnDesign:
             ", ".join(spotted),
         )
         said = *said, Text("{}: {}", what, Text("move the place, or look at the letters there"))
-    if is_dots and (lost := lost_words(design, rows)):
+    if is_dots and (lost := lost_words(design)):
         what = Text(
             "{}: words are as light as what is behind them: {}", design.file, ", ".join(lost)
         )
@@ -257,23 +255,28 @@ def with_colours(design: OwnDesign, is_dots: bool) -> OwnDesign:
     return replace(design, places=tuple(places), remarks=said)
 
 
-def lost_words(design: OwnDesign, rows: list[bytes]) -> list[str]:
-    """Returns the words of a drawing that are not there in black dots, or hardly; its rows are
-    given.
+def lost_words(design: OwnDesign) -> list[str]:
+    """Returns the words of a drawing that are not there in black dots, or hardly: the dot of them
+    that differs most from what is behind them is white as that is, or black.
     """
-    wide, high = len(rows[0]), len(rows)
-    bare = lightness(design.without_words(), wide, high) if design.words else rows
+    if not design.words:
+        return []
+    wide, high = (max(1, round(side * CHECKED)) for side in design.label)
+    spared = [Place("", "", 0.0, 0.0, *design.label)]  # lines there stay as light as they are
+    rows, bare = (
+        lightness(drawn, wide, high, frozenset(), spared)
+        for drawn in (design, design.without_words())
+    )
     lost = []
     for words, box in design.words:
         left, top, right, bottom = (max(0, round(end * CHECKED)) for end in box)
-        pairs = [
+        pairs = (
             (one, other)
             for row, plain in zip(rows[top : bottom + 1], bare[top : bottom + 1])
             for one, other in zip(row[left : right + 1], plain[left : right + 1])
-        ]
-        inked = sum(abs(one - other) > SEEN for one, other in pairs)
-        shown = sum(DOTS_DARK[one] != DOTS_DARK[other] for one, other in pairs)
-        if shown < LEAST_SHOWN * inked:
+        )
+        one, other = max(pairs, key=lambda pair: abs(pair[0] - pair[1]), default=(0, 0))
+        if abs(one - other) > SEEN and (one < DARKEST) == (other < DARKEST):
             lost.append(quoted(words))
     return lost
 

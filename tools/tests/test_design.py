@@ -812,6 +812,8 @@ class Drawings(OwnPages):
         black = '<path d="M0 0H60V19H0Z" fill="#800"/>'
         for body, form, is_lost in (
             (word.format('fill="#c90"'), "png", True),
+            (word.replace('"5"', '"1.8"').format('fill="#bbb"'), "png", True),
+            (word.replace('"5"', '"1.8"').format(""), "png", False),
             (word.format('fill="#c90"'), "pdf", False),
             (word.format('fill="#700"'), "zpl", False),
             (black + word.format(""), "zpl", True),
