@@ -21,7 +21,6 @@ SPACE = "{http://www.w3.org/2000/svg}"
 NO_SPACE = 'xmlns=""'
 BEGIN = '<svg xmlns="http://www.w3.org/2000/svg"'
 LINKS = ("href", "{http://www.w3.org/1999/xlink}href")
-CONDITIONS = ("requiredFeatures", "systemLanguage")
 DPI = 96.0  # of CSS, in which lengths without a unit are; librsvg takes 90 where nothing is said
 MOST_BYTES = 8_000_000
 BEFORE = b"\xef\xbb\xbf\xff\xfe\0 \t\r\n"  # what may be before the first <
@@ -113,7 +112,8 @@ def make_plain(element: Element) -> None:
             element.attrib.pop(key, None)
     elif tag_of(element) == "switch":
         drawn = [child for child in element if not child.get("requiredExtensions")]
-        if drawn and not any(map(drawn[0].get, CONDITIONS)):
+        if drawn and not drawn[0].get("systemLanguage"):
+            drawn[0].attrib.pop("requiredFeatures", None)  # which no browser asks any more
             element.tag = f"{SPACE}g"
             element[:] = drawn[:1]
 

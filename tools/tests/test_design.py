@@ -413,6 +413,17 @@ class Names(OwnPages):
         (text,) = texts_of(self.found(f"<switch>{ai}<g>{TITLE.format(WIDE)}</g></switch>"))
         self.assertEqual(text.text, "Title")
 
+    def test_a_switch_of_drawio(self) -> None:
+        """Its words are for programs that do not know what is before them; browsers take that."""
+        words = (
+            '<text x="2" y="9" font-family="DejaVu Sans">Text is not SVG - cannot display</text>'
+        )
+        features = "http://www.w3.org/TR/SVG11/feature#Extensibility"
+        switch = f'<switch><g requiredFeatures="{features}"/><a>{words}</a></switch>'
+        found = self.found(switch + CODE, [("code128 A", {})])
+        self.assertEqual(self.said(found), [])
+        self.assertFalse(dots_of(found)[:150].any())
+
     def test_case_and_underscores_do_not_count(self) -> None:
         for name, column in (("Seat_No", "seat no"), ("ОПИСАНИЕ", "Описание"), ("Größe", "größe")):
             place = f'<rect id="{name}" {WIDE}/>{CODE}'
