@@ -113,9 +113,9 @@ def lengthen_dots(root: Element, sheets: Sheets) -> None:
     for element, how in inherited(root, sheets, keys).items():
         dashes = SEPARATED.split(how[DASHES].strip(" ,"))
         are_points = [bool(ZERO.fullmatch(one)) for one in dashes]
-        is_odd = len(dashes) % 2 == 1
-        if how[CAPS] not in AROUND_POINTS and not is_odd and all(are_points[::2]) and dashes[0]:
-            # a PDF of such dashes, which are not seen, has nothing of the shape
+        is_unseen = len(dashes) % 2 == 0 and all(are_points[::2])
+        if is_unseen and how[CAPS] not in AROUND_POINTS and not len(element):
+            # a PDF of such dashes has nothing of the shape
             element.set("style", f"{element.get('style', '')};stroke:none")
         if how[CAPS] in AROUND_POINTS and any(are_points) and not all(are_points):
             width = MEASURE.fullmatch(how[WIDTH])

@@ -270,11 +270,11 @@ def lost_words(design: OwnDesign) -> list[str]:
     lost = []
     for words, box in design.words:
         left, top, right, bottom = (max(0, round(end * CHECKED)) for end in box)
-        pairs = (
-            (one, other)
-            for row, plain in zip(rows[top : bottom + 1], bare[top : bottom + 1])
-            for one, other in zip(row[left : right + 1], plain[left : right + 1])
+        across = slice(left, right + 1)
+        lines = (
+            (row[across], plain[across]) for row, plain in zip(rows[top:], bare[top : bottom + 1])
         )
+        pairs = (pair for row, plain in lines if row != plain for pair in zip(row, plain))
         one, other = max(pairs, key=lambda pair: abs(pair[0] - pair[1]), default=(0, 0))
         if abs(one - other) > SEEN and (one < DARKEST) == (other < DARKEST):
             lost.append(quoted(words))

@@ -145,6 +145,10 @@ ALIKE = (
     (SHOWN.format("visible"), '<path d="M4 4H14V14H4Z"/>'),
     (f"<style>/* @import 'a.css'; */</style>{BOX}", BOX),
     (
+        '<g stroke="#000" stroke-dasharray="0 2"><path stroke-dasharray="none" d="M2 5H9"/></g>',
+        '<path stroke="#000" d="M2 5H9"/>',
+    ),
+    (
         LINE.format("stroke-dasharray:4,3,0,3", "M4 9H23"),
         LINE.format("", "M4 9h4m3 0h.02m3 0h4m3 0h.02"),
     ),
