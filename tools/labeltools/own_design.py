@@ -41,7 +41,7 @@ from labeltools.own_drawing import (
     walked,
     words_of,
 )
-from labeltools.own_effects import hidden_in, make_alike
+from labeltools.own_effects import has_pictures, hidden_in, make_alike
 from labeltools.own_grammar import unlike
 from labeltools.stock import Size, size_text
 from labeltools.symbologies import SYMBOLOGIES
@@ -63,7 +63,7 @@ PARTS = ("code", "title", "text", "price", "unit", "was", "note")
 PX = 25.4 / DPI  # millimetres
 UNITS = {"px": 1.0, "mm": 1 / PX, "cm": 10 / PX, "in": DPI, "pt": DPI / 72, "pc": DPI / 6}
 NEAR = 1.0  # millimetres by which a page may differ from a label
-SEEN = 0.2  # of letters that nobody misses
+SEEN = 0.2  # of letters that an edge cuts: less is not seen
 ALIKE = 0.015  # by which the proportions of a page without millimetres may
 MOST_SAID = 9  # of what may be drawn otherwise
 PLAIN_HINT = Text("write a plain style, such as fill:#000 or 2px, or make it a path or a picture")
@@ -91,7 +91,6 @@ PARTED = re.compile(r"[\s,]+")
 AGAIN = re.compile(r"(.+?) \d+")
 AFTER_HYPHEN = re.compile(r"-\d+\s*$")
 SHAPES = ("path", "circle", "ellipse", "polygon", "polyline", "line", "image", "use", "text")
-PICTURED = ("filter", "mask")
 BLANKS = " _-"
 ACROSS = {"left": -1, "middle": 0, "right": 1}
 DOWN = {"top": 0.0, "centre": 0.5, "bottom": 1.0}
@@ -183,11 +182,8 @@ class OwnDesign:
 
     @cached_property
     def has_pictures(self) -> bool:
-        """Whether librsvg makes pictures of parts of it, in dots of what it draws on."""
-        return any(
-            tag_of(one) in PICTURED or any(map(is_filter, properties_of(one)))
-            for one in self.root.iter()
-        )
+        """Whether librsvg makes pictures of parts of it."""
+        return has_pictures(self.root)
 
     @cached_property
     def has_patterns(self) -> bool:
@@ -208,12 +204,6 @@ class OwnDesign:
         area = rectangle(*self.corner, *self.size, scale)
         root = without_groups(self.root, absent) if absent else self.root
         draw(self.file, handle_of(self.file, root), canvas, area)
-
-
-def is_filter(property_of: tuple[str, str]) -> bool:
-    """Returns whether a property with its value is a filter."""
-    key, value = property_of
-    return key == "filter" and not value.strip().startswith("none")
 
 
 class Page(NamedTuple):

@@ -7,6 +7,7 @@ import re
 import unicodedata
 from collections import defaultdict
 from copy import deepcopy
+from itertools import starmap
 from typing import Iterator, Mapping, Optional, Sequence
 from xml.etree.ElementTree import Element
 
@@ -27,6 +28,7 @@ NAME = re.compile(r"[#.]?[\w-]+")
 GRADIENTS = ("linearGradient", "radialGradient")
 LEAST_STEP = 1e-5  # between a stop and those at the ends, of which Cairo else takes one
 OFFSET = re.compile(r"\s*([-+]?(?:\d+\.?\d*|\.\d+))\s*(%?)\s*")
+PICTURED = ("filter", "mask")
 DASHES = "stroke-dasharray"
 CAPS = "stroke-linecap"
 WIDTH = "stroke-width"
@@ -179,6 +181,21 @@ def strings_in(
             yield from strings_in(child, preserved)
         if child.tail:
             yield child, "tail", is_kept
+
+
+def has_pictures(root: Element) -> bool:
+    """Returns whether librsvg makes pictures of parts of a drawing, in dots of what it draws on: of
+    those with a mask or a filter.
+    """
+    return any(
+        tag_of(one) in PICTURED or any(starmap(is_filter, properties_of(one)))
+        for one in root.iter()
+    )
+
+
+def is_filter(key: str, value: str) -> bool:
+    """Returns whether a property is a filter."""
+    return key == "filter" and not value.strip().startswith("none")
 
 
 def rules_of(sheet: str) -> Iterator[tuple[str, str]]:

@@ -34,6 +34,7 @@ from labeltools.own_effects import (
     NAME,
     TEXTS,
     classes_of,
+    has_pictures,
     inherited,
     places_in,
     rules_of,
@@ -43,7 +44,7 @@ from labeltools.own_effects import (
 )
 from labeltools.own_limits import beyond
 from labeltools.own_stretched import LINK as NAMED_BY
-from labeltools.own_stretched import BOX, is_clone, linked, stretched
+from labeltools.own_stretched import BOX, USER, is_clone, linked, stretched
 from labeltools.pango import Pango
 
 NUMBER = r"[-+]?(?:\d+(?:\.\d*)?|\.\d+)(?:e[-+]?\d+)?"
@@ -167,7 +168,6 @@ OTHER = re.compile(r"[^-+.,\de\s]", re.IGNORECASE)  # than numbers
 GEOMETRY = frozenset("cx cy height r rx ry width x y".split())
 SHARES = GEOMETRY | {"fx", "fy", "x1", "x2", "y1", "y2"}
 ELSEWHERE = ("clipPath", "marker", "mask", "pattern", *GRADIENTS)
-OF_PAGE = "userSpaceOnUse"
 # of a path: parts without a length
 POINTS = re.compile(
     rf"m\s*({NUMBER})[\s,]*({NUMBER})[\s,]*(?:(?:[hv]\s*0|l\s*0[\s,]+0|(?-i:H\s*\1|V\s*\2"
@@ -183,7 +183,6 @@ INNER = (CAPS, SPACING, ANCHOR, "direction", "stroke", "stroke-opacity", *UNMARK
 TRANSPARENT = re.compile(
     r"^\s*(?:0?\.\d+|0|\d{1,2}%)\s*$|(?:rgb|hsl)a\(|/|#(?:[\da-f]{4}){1,2}\s*$", re.IGNORECASE
 )
-PICTURED = ("filter", "mask")  # with these a PDF is drawn in dots, in which Cairo loses gradients
 FROM_RIGHT = ("AL", "AN", "R")  # kinds of letters
 SIZED = ("circle", "ellipse", "image", "rect")  # by properties of CSS
 SERVERS = (*GRADIENTS, "pattern")
@@ -223,7 +222,7 @@ def unlike(root: Element, unit: float) -> Iterator[str]:
     yield from of_other_pages(root)
     yield from beyond(root, unit, sheets)
     inner = inherited(root, sheets, INNER)
-    has_pictures = any(tag_of(one) in PICTURED for one in root.iter())
+    is_in_dots = has_pictures(root)  # so its PDF is, in which Cairo then loses gradients of lines
     for parent, element, _ in [(root, root, 0), *walked(root)]:
         tag = tag_of(element)
         if tag in ELEMENTS:
@@ -234,7 +233,7 @@ def unlike(root: Element, unit: float) -> Iterator[str]:
         values = {**element.attrib, **styles}
         names = {*misplaced(tag, values, inner[element], inner[parent]), *moved(element, styles)}
         names |= {*misused(element, values, ids), *joined(element, inner)}
-        if tag not in ("g", "svg") and is_shaded_line(inner[element], ids, has_pictures):
+        if tag not in ("g", "svg") and is_shaded_line(inner[element], ids, is_in_dots):
             names.add("stroke")
         yield from (f"<{tag} {name}>" for name in sorted(names))
         if tag == "clipPath":
@@ -465,7 +464,7 @@ def joined(element: Element, inner: Mapping[Element, Mapping[str, str]]) -> Iter
         yield SPACING
 
 
-def is_shaded_line(how: Mapping[str, str], ids: Mapping[str, Element], has_pictures: bool) -> bool:
+def is_shaded_line(how: Mapping[str, str], ids: Mapping[str, Element], is_in_dots: bool) -> bool:
     """Returns whether a line has a gradient that a PDF may not show: in a drawing with pictures, or
     one that is transparent in part.
     """
@@ -477,7 +476,7 @@ def is_shaded_line(how: Mapping[str, str], ids: Mapping[str, Element], has_pictu
     stops = [stop for one in (found, first) if one is not None for stop in one]
     written = (value for stop in stops for key, value in properties_of(stop) if key != "offset")
     is_whole = how["stroke-opacity"] in ("", "1", "100%")
-    return has_pictures or not is_whole or any(map(TRANSPARENT.search, written))
+    return is_in_dots or not is_whole or any(map(TRANSPARENT.search, written))
 
 
 def unmarked(element: Element, how: Mapping[str, str]) -> Iterator[str]:
@@ -543,7 +542,7 @@ def of_other_pages(root: Element) -> Iterator[str]:
     holders = [one for one in root.iter() if tag_of(one) in ELSEWHERE and one not in inner]
     for holder in holders if pages else ():
         first, *others = holder.iter()
-        parts = [first, *others] if OF_PAGE in first.attrib.values() else others
+        parts = [first, *others] if USER in first.attrib.values() else others
         for one in parts:
             shares = sorted(key for key in SHARES if one.get(key, "").strip().endswith("%"))
             yield from (f"<{tag_of(one)} {key}>" for key in shares)
@@ -558,7 +557,7 @@ def is_framed(values: Mapping[str, str]) -> bool:
         return False
     sides = [re.fullmatch(NUMBER, values.get(side, "")) for side in SIDES]
     high, wide = (float(one[0]) if one else 0.0 for one in sides)
-    is_user = values.get("patternUnits") == OF_PAGE
+    is_user = values.get("patternUnits") == USER
     return not is_user or not isclose(high * float(box[2]), wide * float(box[3]), rel_tol=ALIKE)
 
 

@@ -33,7 +33,7 @@ STEPS = 160  # of these: from the largest letters to less than a hundredth of th
 PRICES = ("price", "unit", "was")
 WHOLE = frozenset((*PRICES, "code", "note"))  # parts that are as long as they are
 NUMBER = re.compile(r"\W*\d[\d\W]+")
-LOW = 0.5  # of the size of letters: ink that is lower, as of hyphens, is as of a letter
+LOW = 0.5  # of the size of letters: signs with lower ink, as hyphens, are as beside a LETTER
 LETTER = "H"
 MOST_LINES = 20  # of a text in a place
 ENLARGE = Text("enlarge it")
@@ -603,7 +603,7 @@ class OwnLayouts:
 
     def enough(self, dots: int, side: float) -> float:
         """Returns the side in millimetres of a place that has so many whole dots wherever it is; a
-        dot less where another side is so small that this says why.
+        dot less will do where a place is so small that this says why it has no room.
         """
         found, more = (math.ceil(one * self.area.dot * 10) / 10 for one in (dots, dots + 1))
         return more if found <= side else found
@@ -631,7 +631,7 @@ class OwnLayouts:
             what = Text(
                 "{}: the place {} is of a part, not of the column {}", file, key, columns[key]
             )
-            yield first, Text("{}: {}", what, Text("give the column another name, and the place"))
+            yield first, Text("{}: {}", what, Text("give the column and the place another name"))
         lost = [name for key, name in names.items() if key not in self.known]
         if lost:
             named = ", ".join(lost)

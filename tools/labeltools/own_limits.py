@@ -9,14 +9,13 @@ from xml.etree.ElementTree import Element
 
 from labeltools.own_drawing import tag_of, walked
 from labeltools.own_effects import Sheets, styles_of
-from labeltools.own_stretched import NUMBER, Linear, linear_in
+from labeltools.own_stretched import NUMBER, USER, Linear, linear_in
 
 LEAST_PART = 0.4  # millimetres: a point, and a bit more
 FARTHEST = 50_000.0  # millimetres: at 4,000 dpi Cairo counts no farther
 FAR = re.compile(r"\d{4}|e\+?\d", re.IGNORECASE)  # what is in a large number
 PLACES = ("d", "points", *"cx cy height r rx ry width x x1 x2 y y1 y2".split())
 SIDES = ("height", "width")
-USER = "userSpaceOnUse"
 
 
 def beyond(root: Element, unit: float, sheets: Sheets) -> Iterator[str]:

@@ -23,6 +23,7 @@ BOXED = ("clip-path", "mask", "fill", "stroke", "filter")
 MOST_LINKS = 9  # from one paint to another
 LINK = re.compile(r"url\(\s*[\"']?(#[^\"')]+)")
 BOX = "objectBoundingBox"
+USER = "userSpaceOnUse"
 STROKE = "stroke"
 JOIN = "stroke-linejoin"
 CORNERED = ("path", "polygon", "polyline")

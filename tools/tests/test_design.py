@@ -476,7 +476,7 @@ class Names(OwnPages):
         found = self.found(place, [("code128 A", {"text": {"Price": "cheap"}})])
         self.assertEqual(texts_of(found), [])
         self.assertIn(" has no place for Price: not on the labels", self.said(found))
-        of_part = ": the place price is of a part, not of the column Price: give the column another"
+        of_part = ": the place price is of a part, not of the column Price: give the column and"
         self.assertTrue(any(said.startswith(of_part) for said in self.said(found)))
         priced = self.found(place, [("code128 A", {"price": "9", "text": {"Price": "cheap"}})])
         self.assertFalse(any(said.startswith(of_part) for said in self.said(priced)))

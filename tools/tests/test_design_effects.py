@@ -204,6 +204,7 @@ SAID = (
     ('<g font-size="-5"/>', 'font-size="-5"'),
     ('<clipPath id="c"><path d="M5 2V9H9V2z"/><use href="#p"/></clipPath>', "<clipPath>"),
     ("<filter id='f'/>" + SHADED.format(""), "<path stroke>"),
+    (BOX.format("filter:blur(1px)") + SHADED.format(""), "<path stroke>"),
     ("<linearGradient spreadMethod='reflect'/>", 'spreadMethod="reflect"'),
     (SHADED.format("").replace("<stop/>", '<stop stop-opacity=".5"/>'), "<path stroke>"),
     (f'{SYMBOL.format("")}<use href="#s" width="9" height="9" mask="url(#c)"/>', "<use mask>"),
