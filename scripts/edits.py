@@ -58,7 +58,7 @@ class Copy:
     """A function once more, under another name, which `body` has in place of the function's.
 
     `function` is the path of the one that it is a copy of, and `end` the place in the file at
-    which that one ends; `text` has the attributes too.
+    which that one ends; `text` has the attributes too, and begins in the column of that one.
     """
 
     body: Body
@@ -276,7 +276,8 @@ def copy_of(body: Body, ending: str, folder: str) -> Copy | None:
     attributes = file.text[one.attributes[0].start : begin] if one.attributes else ""
     text = re.sub(rf"\bfn {one.name}\b", f"fn {one.name}_{ending}", text, count=1)
     renamed = dataclasses.replace(body, functions=(f"{function}_{ending}",), is_alone=False)
-    return Copy(renamed, function, found.name, end, attributes + text)
+    margin = " " * one.tokens[0].column
+    return Copy(renamed, function, found.name, end, margin + attributes + text)
 
 
 def as_it_is(copy: Copy, folder: str) -> Copy | None:

@@ -43,10 +43,15 @@ from typing import Any, Sequence
 import edits
 import libraries
 import sources
+import stand_ins
 from edits import Body, Copy
 
+# The line of a function that is proved, given those that it calls: these have holes for proofs.
+PROVED = re.compile(r"no holes$|depends on a hole in `[^`]*\.Proof\.\w+_spec`")
 # The line of a function that was not proved for what is written in it, and not for what it calls.
 REFUSED = re.compile(r"not proved|no proof: expected answers|.*did not prove")
+# The line of a function whose given proof has errors, or rests on a lemma that has.
+STANDS_ON = re.compile(r"not proved; it stands on (.*?), which antt refuses")
 # An error in a given proof that names a place which the body does not have. Such a proof refuses a
 # right body too.
 OF_FORM = re.compile(
@@ -79,20 +84,32 @@ def is_of_form(function: str, said: str) -> bool:
     return bool(own) and all(OF_FORM.match(error) for error in own)
 
 
-def outcome(crate: str, body: Body, said: str) -> Outcome:
-    """Returns what a check says of a body. A right one that fails only by what it calls is as good
-    as proved, if all its goals were tried.
+def is_refused(line: str, of_others: tuple[str, ...]) -> bool:
+    """Whether a line says that a function is not proved for what is written in it: by an error that
+    is in the proof of no other function that was asked for.
     """
+    stands_on = STANDS_ON.match(line)
+    if not stands_on:
+        return bool(REFUSED.match(line))
+    return any(not it.startswith(of_others) for it in re.findall("`([^`]*)`", stands_on[1]))
+
+
+def outcome(crate: str, body: Body, asked: Sequence[Body], said: str) -> Outcome:
+    """Returns what a check of the bodies that were asked for says of one. A right one that fails
+    only by what it calls is as good as proved, if all its goals were tried.
+    """
+    others = [name for it in asked for name in it.functions if name not in body.functions]
+    of_others = tuple(f"Rattle.{crate}.proofs.{it.replace('::', '.')}." for it in others)
     found = [
         re.search(rf"^fn {crate}::{re.escape(it)}: (.*)$", said, re.M) for it in body.functions
     ]
     lines = [line[1] if line else "" for line in found]
-    are_proved = [line.startswith("proved") for line in lines]
+    are_proved = [bool(PROVED.match(line)) for line in lines]
     if all(are_proved):
         return Outcome.PROVED
     if any(are_proved) or not all(lines):
         return Outcome.NEITHER
-    if all(REFUSED.match(line) for line in lines):
+    if all(is_refused(line, of_others) for line in lines):
         is_alone = any(is_of_form(it, said) for it in body.functions)
         return Outcome.OF_FORM if is_alone else Outcome.REFUSED
     are_tried = not any(NOT_TRIED.format(crate, it) in said for it in body.functions)
@@ -114,7 +131,7 @@ class Tried:
 
     def judge(self, bodies: Sequence[Body], said: str) -> list[Body]:
         """Counts what a check says of bodies, and returns those that it does not judge."""
-        found = {body: outcome(self.crate, body, said) for body in bodies}
+        found = {body: outcome(self.crate, body, bodies, said) for body in bodies}
         for body, one in found.items():
             if one is not Outcome.UNKNOWN:
                 self.count(body, one)
@@ -148,7 +165,8 @@ def check(
     copies: Sequence[Copy] = (),
 ) -> str:
     """Returns what a check of these functions says over a copy of the crate with these texts."""
-    with tempfile.TemporaryDirectory(prefix="wrong-bodies-") as room:
+    with tempfile.TemporaryDirectory(prefix="wrong-bodies-") as top:
+        room = f"{top}/crates/{crate.name}"
         for part in rtlib.PARTS:
             if os.path.isdir(f"{crate.folder}/{part}"):
                 shutil.copytree(f"{crate.folder}/{part}", f"{room}/{part}")
@@ -157,7 +175,8 @@ def check(
         for copy in copies:
             if copy.has_proof:
                 edits.copy_proof(copy, crate.name, room)
-        words = [*crate.words(["--jobs", "1"], keeps=False), "--incremental", kept]
+        stand_ins.put(top, crate.name, functions)
+        words = [*crate.words(["--jobs", "1"], keeps=False), "--incremental", kept, "--allow-holes"]
         asked = [it for name in functions for it in ("--only", name)]
         return libraries.check(rtlib, room, [*words, *asked])
 

@@ -27,6 +27,8 @@ believed = module("believed")
 pages = module("pages")
 run_recipes = module("run_recipes")
 pictures = module("pictures")
+sources = module("sources")
+stand_ins = module("stand_ins")
 wrong_bodies = module("wrong_bodies")
 
 
@@ -71,6 +73,8 @@ class WrongBodies(InFolder):
 # A check that the kit made: what it says of a function, and its last line.
 SAID = "fn small::one: {}\nonly=1 proved=0\n"
 CALLS = "no proof: it calls `small::other`"
+HOLED = "depends on a hole in `Rattle.small.proofs.{}_spec`"
+RESTS = "not proved; it stands on `Rattle.small.proofs.{}`, which antt refuses; it calls `small::other`, which is not"
 ONE = """/// One.
 pub fn one() -> u8
     ensures { result ≡ 1 }
@@ -105,12 +109,17 @@ class Outcomes(InFolder):
         rows: tuple[tuple[Any, ...], ...] = (
             ("wrong-bodies", SAID.format("not proved"), (1, 0, [])),
             ("wrong-bodies", SAID.format("no proof: expected answers for it"), (1, 0, [])),
-            ("wrong-bodies", SAID.format("proved"), (0, 0, ["one: NOT REFUSED"])),
+            ("wrong-bodies", SAID.format(RESTS.format("one.Answers.returns")), (1, 0, [])),
+            ("wrong-bodies", SAID.format(RESTS.format("OneLaws.is_one")), (1, 0, [])),
+            ("wrong-bodies", SAID.format(HOLED.format("other.Proof.other")), (0, 0, ["one: NOT REFUSED"])),
+            ("wrong-bodies", *[SAID.format(HOLED.format("one.Answers.returns"))] * 2, (0, 0, ["one: not judged"])),
+            ("wrong-bodies", SAID.format("no holes"), (0, 0, ["one: NOT REFUSED"])),
             ("wrong-bodies", "only=1 proved=0\n", (0, 0, ["one: NOT REFUSED"])),
             ("wrong-bodies", *[SAID.format(CALLS)] * 2, (0, 0, ["one: not judged"])),
             ("wrong-bodies", *[SAID.format("was not reached")] * 2, (0, 0, ["one: not judged"])),
             ("wrong-bodies", unended, (1, 0, ["the check did not reach its end:", *unended.split("\n")])),
-            ("right-bodies", SAID.format("proved"), (0, 1, [])),
+            ("right-bodies", SAID.format("no holes"), (0, 1, [])),
+            ("right-bodies", SAID.format(HOLED.format("other.Proof.other")), (0, 1, [])),
             ("right-bodies", SAID.format("not proved"), (0, 0, wrong)),
             ("right-bodies", "only=1 proved=0\n", (0, 0, wrong)),
         )
@@ -151,8 +160,8 @@ class Outcomes(InFolder):
         refused = "not proved"
         control = "one as it is: it is right, and not reported as not refused"
         for said, wanted in (
-            ((refused, refused, "proved"), (2, 1, [])),
-            ((refused, "proved", "proved"), (1, 1, ["two: NOT REFUSED"])),
+            ((refused, refused, "no holes"), (2, 1, [])),
+            ((refused, "no holes", "no holes"), (1, 1, ["two: NOT REFUSED"])),
             ((refused, refused, refused), (2, 0, [control])),
             ((refused, refused, CALLS), (2, 1, [])),
         ):
@@ -164,15 +173,15 @@ class Outcomes(InFolder):
         """They are tried again: one that fails only by what it calls, and a control whose goals were not all tried."""
         self.edit(EDIT.format("2"))
         self.edit(EDIT.format("3"), name="two")
-        unknown = self.of_copies(CALLS, "not proved", "proved")
+        unknown = self.of_copies(CALLS, "not proved", "no holes")
         waits = "note: `search` has not tried the goals of `small::one_as_it_is`, which wait for a callee's proof\n"
         untried = waits + self.of_copies("not proved", "not proved", CALLS)
         control = "one as it is: it is right, and not reported as not refused"
         for first, name, said, wanted in (
             (unknown, "one_0", "not proved", (2, 1, [])),
-            (unknown, "one_0", "proved", (1, 1, ["one: NOT REFUSED"])),
+            (unknown, "one_0", "no holes", (1, 1, ["one: NOT REFUSED"])),
             (unknown, "one_0", CALLS, (1, 1, ["one: not judged"])),
-            (untried, "one_as_it_is", "proved", (2, 1, [])),
+            (untried, "one_as_it_is", "no holes", (2, 1, [])),
             (untried, "one_as_it_is", "not proved", (2, 0, [control])),
         ):
             with self.subTest(name=name, said=said):
@@ -202,6 +211,7 @@ class Outcomes(InFolder):
             ([refused, unknown, unknown], (1, 0, ["other: not judged"])),
             ([unknown, SAID.format("not proved"), again], (2, 0, [])),
             ([unknown] * 3, (0, 0, ["one: not judged", "other: not judged"])),
+            ([both.format("not proved", RESTS.format("one.Answers.returns")), again], (2, 0, [])),
         ):
             with self.subTest(said):
                 self.assertEqual(self.tried(*said), wanted)
@@ -242,7 +252,7 @@ class Outcomes(InFolder):
         said = "fn small::one_0: {}\nfn small::one_calling_itself: {}\nonly=2 proved=1\n"
         self.assertEqual(self.tried(said.format("not proved", "proved")), (1, 1, []))
         self.assertEqual(self.tried(said.format("not proved", CALLS)), (1, 1, []))
-        self.assertEqual(self.tried(said.format("proved", "proved")), (0, 1, ["one: NOT REFUSED"]))
+        self.assertEqual(self.tried(said.format("no holes", "no holes")), (0, 1, ["one: NOT REFUSED"]))
         self.assertEqual(self.tried(said.format("not proved", "not proved")), (1, 0, [control_says]))
 
     def test_controls(self) -> None:
@@ -368,7 +378,7 @@ class Outcomes(InFolder):
 
         one = ("src/part.rt", "{ 1 }", "{ 2 }")
         copy = copy_of(["part::Some::one"], [one])
-        self.assertEqual(copy.text, "#[inline]\n    fn one_0() -> u8 { 2 }")
+        self.assertEqual(copy.text, "    #[inline]\n    fn one_0() -> u8 { 2 }")
         for functions, changes in (
             (["part::SomeTrait::one"], [("src/part.rt", "{ 11 }", "{ 2 }")]),
             (["part::Some::one"], [("src/part.rt", "{ 11 }", "{ 2 }")]),
@@ -380,6 +390,76 @@ class Outcomes(InFolder):
         ):
             with self.subTest(functions=functions, changes=changes):
                 self.assertIsNone(copy_of(functions, changes))
+
+
+class StandIns(InFolder):
+    """What a check of other functions takes by their contracts alone."""
+
+    PART = """const A: u8 = 7;
+
+impl<T> Some<T> {
+    fn one() -> u8 {
+        1
+    }
+
+    fn two() -> u8 {
+        Self::one() + 1
+    }
+}
+
+trait Counts {
+    fn count(&self) -> u8;
+
+    fn is_one(&self) -> bool {
+        self.count() == 1
+    }
+}
+
+impl Counts for Some {
+    fn count(&self) -> u8 {
+        A
+    }
+}
+
+impl From<u8> for Some {
+    fn from(number: u8) -> Some {
+        Some
+    }
+}
+
+impl From<u16> for Some {
+    fn from(number: u16) -> Some {
+        Some
+    }
+}
+
+#[cycle(called)]
+fn called() {
+    called()
+}
+"""
+
+    def test_functions(self) -> None:
+        """All have a hole and a body that calls nothing: but one that is asked for, and what the kit names otherwise."""
+        folder = self.path("crates", "small")
+        write(f"{folder}/src/lib.rt", ONE)
+        write(f"{folder}/src/part.rt", self.PART)
+        write(f"{folder}/src/main.rt", "fn main() {\n    one();\n}\n")
+        for function in ("Some/one", "Some/two", "SomeCounts/count"):
+            write(f"{folder}/proofs/part/{function}/Answers.antt", "")
+        stand_ins.put(self.folder, "small", ["part::Some::two"])
+        wanted = self.PART
+        for text in ("        1\n    }", "        self.count() == 1\n    }", "        A\n    }"):
+            wanted = wanted.replace("{\n" + text, "{ loop {} }")
+        self.assertEqual(read(f"{folder}/src/part.rt"), wanted)
+        self.assertTrue(read(f"{folder}/src/lib.rt").endswith("\n{ loop {} }\n"))
+        self.assertIn("one();", read(f"{folder}/src/main.rt"))
+        proofs = [os.path.relpath(it, f"{folder}/proofs") for it in sources.files_below(f"{folder}/proofs", ".antt")]
+        holes = ["one", "part/Counts/is_one", "part/Some/one", "part/SomeCounts/count"]
+        self.assertEqual(proofs, sorted([*(f"{it}/Proof.antt" for it in holes), "part/Some/two/Answers.antt"]))
+        hole = read(f"{folder}/proofs/part/SomeCounts/count/Proof.antt")
+        self.assertIn("use Rattle.small.proofs.part.SomeCounts.count.Statement.{statement}\n", hole)
+        self.assertTrue(hole.endswith("\ncount_spec 𝓤 𝓛 𝓜 𝓡 w = ?\n"))
 
 
 class Subjects(InFolder):
