@@ -36,8 +36,9 @@ def name_of_holder(name: str) -> str:
 
 
 def functions_in(file: reader.File, items: Iterable[reader.Declaration], path: str) -> Iterator[Function]:
-    """The functions that items of a file have, but for `main`, those that call themselves, which are proved in a folder
-    of their cycle, and those of an `impl` that is not the only one of its name, for which the kit has other names."""
+    """The functions that items of a file have, but for `main`; those that call themselves, which are proved in the
+    folder of their cycle; and those of an `impl` that is not the only one of its name: the kit has others for these.
+    """
     items = [*items]
     holders = [item.name for item in items if item.kind in ("impl", "trait")]
     for item in items:

@@ -13,8 +13,9 @@ in which the prover must find nothing wrong: a copy is judged as a function is.
 
 Any other body is tried in its function's place, and so are those that change something else too,
 or are of a trait. A proof reads of other functions their contracts alone, so one check tries
-several functions, copies too. What fails only because it calls another is not judged, and is tried
-again without it.
+several functions, copies too, and those that are not tried have a hole for a proof
+(scripts/stand_ins.py). What fails only because it calls another is not judged, and is tried again
+without it.
 
 A wrong body should be refused for what it says. Where all that is wrong with its proof is that it
 names places which the changed body does not have, a right body would be refused too. Such bodies

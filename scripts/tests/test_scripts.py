@@ -440,7 +440,7 @@ fn called() {
 """
 
     def test_functions(self) -> None:
-        """All have a hole and a body that calls nothing: but one that is asked for, and what the kit names otherwise."""
+        """All have a hole and a body that calls nothing, but one that is asked for and those of other names."""
         folder = self.path("crates", "small")
         write(f"{folder}/src/lib.rt", ONE)
         write(f"{folder}/src/part.rt", self.PART)
