@@ -51,7 +51,7 @@ class Three(unittest.TestCase):
         pass
 """
 BODIES = "crates/device/wrong-bodies"
-BODY = "buffered-failed_send_passed_over.edit"
+BODY = "write-failed_write_tried_again.edit"
 DIFFER = "crates.txt and the folders crates/*/src differ in: "
 # What is moved away for each step, and what that step says.
 MOVED = {
