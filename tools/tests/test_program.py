@@ -272,7 +272,10 @@ class Arguments(InFolder):
 
 class Files(InFolder):
     def test_a_file_is_read(self) -> None:
-        self.assertEqual(self.ran("--height", "1", "a-file"), (0, pbm([EAN8]), b""))
+        """And the input is not."""
+        Path(self.folder, "two").write_bytes(b"ean8 7351353\npdf x\n")
+        found = ran("--height", "1", "two", data=b"upca 03600029145\n", cwd=self.folder)
+        self.assertEqual(found, (1, pbm([EAN8]), b"line 2: unknown symbology\n"))
 
     def test_a_folder_cannot_be_read(self) -> None:
         """The system opens a folder, and then fails to read it."""
