@@ -9,7 +9,8 @@
 - Each link from one file of the repository to another leads to a file and a heading.
 - Each name between backticks in the pages of NAMING, such as `Filter::feed`, is of words that the code has.
 - Each crate has a page of at most 40 lines. Each line of a block of Rust in it, but for imports and comments, is a
-  line of the function page_of_NAME in crates/tests/src/pages.rt, in the same order, white space apart.
+  line of the function page_of_NAME in crates/tests/src/pages.rt, in the same order, white space apart; of the page of
+  `command` it is one of the `main` in crates/labels/src/main.rt.
 - README.md has at most MOST_OF_README lines, and it and docs/*.md have at most MOST_BY_HAND lines by hand. All lines
   count, blank ones too, but what scripts make or compare name by name: tables of MADE, and what is between marks.
 
@@ -57,7 +58,10 @@ LONGEST = 40
 FILE = re.compile(r"\b(?:crates/[\w/]+\.rt|lib/[\w/]+\.\w+)\b")
 # A name of the code: words that are joined by colons or points, as in `Filter::feed`, `answer.length`.
 NAME = re.compile(r"[^\W\d]\w*(?:(?:::|\.)[^\W\d]\w*)*(?:\(\))?")
-EXAMPLE = re.compile(r"^fn page_of_(\w+)\(.*?\{\n(.*?)^\}", re.MULTILINE | re.DOTALL)
+# The functions that have the lines of the pages' examples, by their names, and in which files they are.
+FUNCTION = re.compile(r"^fn (\w+)\(.*?\{\n(.*?)^\}", re.MULTILINE | re.DOTALL)
+OF_PAGES = "crates/tests/src/pages.rt"
+OF_COMMAND = "crates/labels/src/main.rt"
 NOT_CHECKED = "Not checked:"
 MARKDOWN = MarkdownIt().enable("table")
 
@@ -221,20 +225,26 @@ def words_of(code: str) -> str:
     return re.sub(r" , (?=[)\]}]|$)", " ", f" {' '.join(words)} ")
 
 
-def faults_of_example(
-    name: str, page: str, blocks: Iterable[Block], tests: Mapping[str, str]
-) -> Iterator[tuple[int, str]]:
-    """What is wrong with a crate's page: its length, and each line that its test does not have in its place."""
+def example_of(name: str) -> tuple[str, str]:
+    """The function that has the lines of a crate's example, and its words."""
+    function, path = ("main", OF_COMMAND) if name == "command" else (f"page_of_{name}", OF_PAGES)
+    bodies = dict(FUNCTION.findall(sources.read(path)))
+    return f"{function} of {path}", words_of(bodies.get(function, ""))
+
+
+def faults_of_example(name: str, page: str, blocks: Iterable[Block]) -> Iterator[tuple[int, str]]:
+    """What is wrong with a crate's page: its length, and each line that the code does not have in its place."""
     if page.count("\n") > LONGEST:
         yield 1, f"{page.count(chr(10))} lines, and at most {LONGEST} are wanted"
-    words, place, is_empty = words_of(tests.get(name, "")), 0, True
+    function, words = example_of(name)
+    place, is_empty = 0, True
     for block in blocks:
         for line in block.code.split("\n") if block.language == "rust" else []:
             wanted = words_of(line)
             if wanted.strip() and not wanted.startswith(" use "):
                 is_empty, found = False, words.find(wanted, place)
                 if found < 0:
-                    yield block.line, f"page_of_{name} of crates/tests/src/pages.rt lacks: {line.strip()}"
+                    yield block.line, f"{function} lacks: {line.strip()}"
                 else:
                     place = found + len(wanted) - 1
     if is_empty and name not in WITHOUT_EXAMPLE:
@@ -245,7 +255,6 @@ def main() -> int:
     sources.parser_of(__doc__, has_top=False).parse_args()
     os.chdir(sources.TOP)
     pages = texts()
-    tests = dict(EXAMPLE.findall(sources.read("crates/tests/src/pages.rt")))
     faults = [*faults_of_length(pages)]
     count = 0
     names = sum(len([*names_in(pages[page])]) for page in NAMING)
@@ -257,7 +266,7 @@ def main() -> int:
         if page in NAMING:
             found += faults_of_names(text)
         if page.startswith("crates/"):
-            found += faults_of_example(page.split("/")[1], text, blocks, tests)
+            found += faults_of_example(page.split("/")[1], text, blocks)
         faults += [f"{page}:{number}: {fault}" for number, fault in found]
     counts = f"{len(pages)} pages, {count} blocks, {names} names, {lines_by_hand(pages)} lines by hand"
     return sources.ended(faults, f"{counts}, {len(faults)} faults")

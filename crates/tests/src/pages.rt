@@ -1,6 +1,5 @@
 //! The examples of the crates' pages (`crates/*/README.md`). `scripts/pages.py` compares them with the pages.
 use capi::{CallOptions, CallRegion, draw_into, read_bits_into, read_into, read_modules_into};
-use command::{ArgumentsFault, options_of};
 use device::{Buffered, Sink, write_whole};
 use filter::{Status, run};
 use gf256::{Generator, mul, pow_alpha};
@@ -14,7 +13,6 @@ use reading::{
     BitRegion, Bits, Dots, labels_are_read, modules_are_read, read, read_modules,
     readings_are_alone,
 };
-use std::test::Fail;
 use testing::{FailAt, MemSink, MemSource};
 
 #[test]
@@ -148,11 +146,11 @@ fn page_of_picture(rt: HostRuntime) {
 
 #[test]
 fn page_of_labelcore(rt: HostRuntime) {
-    let mut options = Options::default();
-    let Some(label) = options.label.with_height(30) else {
-        panic!(rt; "30 is a height");
-    };
-    options.label = label;
+    let Options { run, label } = Options::default();
+    let run = run.with_format(Format::Ascii).with_escapes(true);
+    let run = run.with_scale(4).expect(&rt, "4 is a scale");
+    let label = label.with_height(30).expect(&rt, "30 is a height");
+    let options = Options { run, label };
     let mut line = LineBuf::new();
     line.extend(b"ean8 7351353");
     let mut scratch = Scratch::new();
@@ -175,23 +173,6 @@ fn page_of_filter(rt: HostRuntime) {
     assert!(rt; result == Ok(Status::Refused));
     assert!(rt; images.bytes().len() == 91);
     assert!(rt; messages.bytes() == b"line 2: unknown symbology\n".as_slice());
-}
-
-#[test]
-fn page_of_command(rt: HostRuntime) -> Result<(), Fail> {
-    let alloc = rt.alloc();
-    let mut arguments = Vec::new(alloc);
-    arguments.push(String::from_str(alloc, "--scale=4")?)?;
-    arguments.push(String::from_str(alloc, "labels.txt")?)?;
-    match options_of(alloc, arguments.as_slice()) {
-        Ok(choice) => {
-            assert!(rt; choice.options.run.scale() == 4);
-            assert!(rt; choice.file.as_deref() == Some("labels.txt"));
-        }
-        Err(ArgumentsFault::Memory) => {}
-        Err(_fault) => panic!(rt; "refused"),
-    }
-    Ok(())
 }
 
 #[test]
