@@ -6,14 +6,19 @@ import os
 import re
 import tempfile
 import sys
-from typing import Any, Sequence
+from dataclasses import dataclass
+from typing import Any, Iterator, Sequence
 
 import libraries
 import reader
 import sources
 from changes import HOME, SIGNS, Change, Crate, with_values
+from reader import File
 
-AT_ONCE = 100  # copies in one check
+AT_ONCE = (
+    100  # copies in one check, of crates of any number: each check takes seconds before the first
+)
+FEW = 10  # changes that are judged by all of their files at once: another check takes longer
 NO_DEFINITION = "no-definition"
 # The modules that have words, where a file does not bring one in.
 MODULES = {
@@ -44,8 +49,28 @@ itself a = a
 """
 CODE = "//! Nothing.\n#![tactic(auto)]\n\n/// One.\npub fn one() -> u8 {\n    1\n}\n"
 ERROR = re.compile(r"^\./proofs/V(\d+)/(\w+)\.antt:\d+:\d+: error: (.*)", re.M)
-# A change and the text of the worked values that are to refuse it.
-Copied = tuple[Change, str]
+
+
+@dataclass(frozen=True)
+class Copy:
+    """A change, its crate, and a file of worked values with the names of those that are to refuse
+    the change.
+    """
+
+    change: Change
+    crate: Crate
+    file: File
+    values: frozenset[str]
+
+    @property
+    def text(self) -> str:
+        """The text of the file with these worked values alone; nothing where it has none."""
+        return with_values(self.file, self.values)
+
+    @property
+    def title(self) -> str:
+        """The crate of the change, and the file."""
+        return f"{self.change.file.crate}, {self.file.module}"
 
 
 def with_imports(text: str, new: str) -> str:
@@ -58,14 +83,14 @@ def with_imports(text: str, new: str) -> str:
     return text.replace("\nuse ", f"\nuse Rattle.{module}.{{{name}}}\nuse ", 1)
 
 
-def put_copy(room: str, crate: Crate, name: str, copied: Copied, number: int) -> None:
+def put_copy(room: str, copy: Copy, number: int) -> None:
     """Writes a copy of a file of worked values, of the changed file, and of those by which the one
     rests on the other. Where more was copied, the code's own types would speak of records that are
     not the copy's.
     """
-    change, examples = copied
+    change, examples = copy.change, copy.text
     own, changed = f"Rattle.{change.file.crate}.specs", change.file.module
-    texts = {module: file.text for module, file in crate.specs.items()}
+    texts = {module: file.text for module, file in copy.crate.specs.items()}
 
     def named_in(text: str) -> list[str]:
         return re.findall(rf"{own}\.(\w+)", text)
@@ -77,7 +102,7 @@ def put_copy(room: str, crate: Crate, name: str, copied: Copied, number: int) ->
 
     between = {it for it in reached(examples) if changed in reached(texts[it])} | {changed}
     new = {it: texts[it] for it in between}
-    new |= {changed: with_imports(change.text(), change.new), name: examples}
+    new |= {changed: with_imports(change.text(), change.new), copy.file.module: examples}
     for one, text in new.items():
         for other in between:
             text = re.sub(rf"{own}\.{other}\b", f"Rattle.judge.proofs.V{number}.{other}", text)
@@ -86,15 +111,15 @@ def put_copy(room: str, crate: Crate, name: str, copied: Copied, number: int) ->
 
 
 def errors_in(
-    rtlib: Any, words: Sequence[str], crate: Crate, name: str, copies: Sequence[Copied]
+    rtlib: Any, words: Sequence[str], copies: Sequence[Copy]
 ) -> dict[int, list[tuple[str, str]]]:
     """Checks copies, and returns the errors of each by its number: the file, and the worked value
     or else what the error says.
     """
     with tempfile.TemporaryDirectory(prefix="believed-rows-") as room:
         sources.write(f"{room}/src/lib.rt", CODE)
-        for number, copied in enumerate(copies):
-            put_copy(room, crate, name, copied, number)
+        for number, copy in enumerate(copies):
+            put_copy(room, copy, number)
         sources.write(f"{room}/proofs/Differ.antt", DIFFER)
         modules = "".join(f"mod V{it}\n" for it in range(len(copies)))
         sources.write(f"{room}/proofs/Lib.antt", f"pub mod Differ\n{modules}")
@@ -108,64 +133,88 @@ def errors_in(
     return found
 
 
-def words_for(crate: Any, as_left: bool) -> list[str]:
-    """Builds what is not built of a crate of the kit and of those below it, or takes what `rt ci`
-    left, and returns the words of a check of a crate above it.
+def words_for(crates: Sequence[Any], as_left: bool) -> list[str]:
+    """Builds what is not built of crates of the kit and of those below them, or takes what `rt ci`
+    left, and returns the words of a check of a crate above them.
     """
-    with open(os.devnull, "w", encoding="utf-8") as nowhere:
-        for one in [*crate.below(), crate]:
-            one.out = nowhere
-        if not_proved := libraries.build([*crate.below(), crate], as_left):
-            sys.exit(f"{not_proved} is not proved: run rt check in its folder")
-    words = crate.words(["--jobs", "1"], keeps=False)
-    links = words.index("--links")
-    own = ["--crate-name", "judge", "--extern", f"{crate.name}={crate.rlib}"]
-    return [*own, *words[2:links], *words[links + 2 :]]
+    places: list[tuple[str, str]] = []
+    for crate in crates:
+        with open(os.devnull, "w", encoding="utf-8") as nowhere:
+            for one in [*crate.below(), crate]:
+                one.out = nowhere
+            if not_proved := libraries.build([*crate.below(), crate], as_left):
+                sys.exit(f"{not_proved} is not proved: run rt check in its folder")
+        words = crate.words(["--jobs", "1"], keeps=False)
+        places += [("--extern", f"{crate.name}={crate.rlib}")]
+        places += [it for it in zip(words, words[1:]) if it[0] in ("--extern", "-L")]
+    first, links = words.index("--antt-project"), words.index("--links")
+    found = [word for place in dict.fromkeys(places) for word in place]
+    return ["--crate-name", "judge", words[2], *found, *words[first:links], *words[links + 2 :]]
 
 
-def judge_copies(
-    rtlib: Any, words: Sequence[str], crate: Crate, name: str, copies: Sequence[Copied]
-) -> int:
-    """Notes in the changes of copies what refuses them, and returns how many are refused. Stops
-    where the file of worked values is refused as it is.
+def as_they_are(copies: Sequence[Copy]) -> Iterator[Copy]:
+    """Yields for each file a copy of the worked values that are to judge, with no change."""
+    for title in dict.fromkeys(it.title for it in copies):
+        here = [it for it in copies if it.title == title]
+        first = here[0].change
+        no_change = Change(first.definition, first.file, 0, "", "")
+        values = frozenset().union(*(it.values for it in here))
+        yield Copy(no_change, here[0].crate, here[0].file, values)
+
+
+def judge_copies(rtlib: Any, words: Sequence[str], copies: Sequence[Copy]) -> list[Copy]:
+    """Notes in the changes of copies what refuses them, and returns the copies that are refused.
+    Stops where worked values are refused as they are. The copies of one change are in the order of
+    their files, and the first that is refused counts.
     """
-    first = copies[0][0]
-    as_it_is = Change(first.definition, first.file, 0, "", "")
-    control = as_it_is, crate.examples[name].text
-    errors = errors_in(rtlib, words, crate, name, [*copies, control])
-    if len(copies) in errors:
-        value = errors[len(copies)][0][1]
-        sys.exit(f"{name}: {value} fails in a copy: it rests on proofs of its crate")
-    for number, of_one in errors.items():
+    controls = [*as_they_are(copies)]
+    errors = errors_in(rtlib, words, [*copies, *controls])
+    for number, control in enumerate(controls, len(copies)):
+        if number in errors:
+            value = errors[number][0][1]
+            sys.exit(f"{control.title}: {value} fails in a copy: it rests on proofs of its crate")
+    refused = [(it, errors[number]) for number, it in enumerate(copies) if number in errors]
+    for copy, of_one in refused:
         # Where the changed definition itself is refused, it is none.
-        is_value = all(where == name for where, _ in of_one)
-        copies[number][0].by = of_one[0][1] if is_value else NO_DEFINITION
-    return len(errors)
+        is_value = all(where == copy.file.module for where, _ in of_one)
+        copy.change.by = copy.change.by or (of_one[0][1] if is_value else NO_DEFINITION)
+    return [it for it, _ in refused]
+
+
+def copies_of(change: Change, crate: Crate, values: dict[str, list[str]] | None) -> Iterator[Copy]:
+    """Yields a copy for each file of worked values that are to judge a change, the quick first."""
+    for file in crate.examples.values():
+        resting = {*crate.resting_on(change.definition.name, file)}
+        if values:
+            resting &= {*values[change.file.title]}
+        copy = Copy(change, crate, file, frozenset(resting))
+        if copy.text:
+            yield copy
 
 
 def judge(
     top: str,
     as_left: bool,
-    crate: Crate,
+    crates: dict[str, Crate],
     changes: Sequence[Change],
     values: dict[str, list[str]] | None = None,
 ) -> None:
-    """Notes in each change of a crate the worked value that refuses it; `values` are the names of
-    those that alone are to judge the changes of a file, by its title.
+    """Notes in each change the worked value that refuses it; `values` are the names of those that
+    alone are to judge the changes of a file, by its title. One check has changes of all crates,
+    each with its first file. Those that are left are judged by the next, or by all where they are
+    few.
     """
-    rtlib, of_crate = libraries.kit(), changes[0].file.crate
-    home = HOME.get(of_crate, of_crate)
-    words = words_for(next(it for it in rtlib.crates_below(top) if it.name == home), as_left)
-    for name, file in crate.examples.items():
-        left = []
-        for change in changes:
-            resting = {*crate.resting_on(change.definition.name, file)}
-            if values:
-                resting &= {*values[change.file.title]}
-            text = with_values(file, resting)
-            if text and not change.by:
-                left.append((change, text))
-        for at in range(0, len(left), AT_ONCE):
-            part = left[at : at + AT_ONCE]
-            refused = judge_copies(rtlib, words, crate, name, part)
-            print(f"{of_crate}, {name}: {refused} of {len(part)} refused", flush=True)
+    rtlib = libraries.kit()
+    homes = {HOME.get(it.file.crate, it.file.crate) for it in changes}
+    words = words_for([it for it in rtlib.crates_below(top) if it.name in homes], as_left)
+    waiting = [[*copies_of(it, crates[it.file.crate], values)] for it in changes if not it.by]
+    while waiting := [it for it in waiting if it and not it[0].change.by]:
+        size = max(map(len, waiting)) if len(waiting) <= FEW else 1
+        now = [copy for it in waiting for copy in it[:size]]
+        waiting = [it[size:] for it in waiting]
+        for at in range(0, len(now), AT_ONCE):
+            part = now[at : at + AT_ONCE]
+            refused = [it.title for it in judge_copies(rtlib, words, part)]
+            for title in dict.fromkeys(it.title for it in part):
+                count = sum(it.title == title for it in part)
+                print(f"{title}: {refused.count(title)} of {count} refused", flush=True)

@@ -212,11 +212,11 @@ class Judging(unittest.TestCase):
             self.rooms.append({path.removeprefix(f"{room}/"): read(path) for path in paths})
             return "".join(said)
 
-        text = self.crate.examples["Examples"].text
+        file = self.crate.examples["Examples"]
+        values = frozenset(one.name for one in file.declarations)
         with mock.patch.object(judging.libraries, "check", check):
-            copies = [(change, text) for change in self.found]
-            refused: int = judging.judge_copies(None, [], self.crate, "Examples", copies)
-            return refused
+            copies = [judging.Copy(change, self.crate, file, values) for change in self.found]
+            return len(judging.judge_copies(None, [], copies))
 
     def test_what_a_check_says(self) -> None:
         self.assertEqual(self.judged(SAID, "logic=refuted\n"), 2)
@@ -262,32 +262,81 @@ class Judging(unittest.TestCase):
         """Each that rests on the definition judges it, or of these just those that are named."""
         seen: list[tuple[str, str]] = []
 
-        def judge_copies(_kit: Any, _words: Any, _crate: Any, name: str, copies: Any) -> int:
-            seen.extend((name, text) for _, text in copies)
-            return 0
+        def judge_copies(_kit: Any, _words: Any, copies: Any) -> list[Any]:
+            seen.extend((copy.file.module, copy.text) for copy in copies)
+            return []
 
         kit = mock.Mock()
         kit.crates_below.return_value = [types.SimpleNamespace(name="gf256")]
         stands_in = mock.patch.multiple(judging, words_for=lambda *_: [], judge_copies=judge_copies, AT_ONCE=2)
         with stands_in, mock.patch.object(judging.libraries, "kit", lambda: kit):
             with contextlib.redirect_stdout(io.StringIO()):
-                file = self.crate.examples["Examples"]
+                crates, file = {"gf256": self.crate}, self.crate.examples["Examples"]
                 resting = self.crate.resting_on(self.found[0].definition.name, file)
                 names = [one.name for one in file.declarations if changes.is_worked(one) and one.name in resting]
                 self.assertGreater(len(names), 1)
                 for values in (names, names[:1], names[-1:], []):
-                    judging.judge(TOP, True, self.crate, self.found[:1], {self.found[0].file.title: values})
-                judging.judge(TOP, True, self.crate, self.found[:1])
+                    judging.judge(TOP, True, crates, self.found[:1], {self.found[0].file.title: values})
+                judging.judge(TOP, True, crates, self.found[:1])
                 self.found[0].by = names[0]
-                judging.judge(TOP, True, self.crate, self.found[:1])
+                judging.judge(TOP, True, crates, self.found[:1])
                 wanted = [changes.with_values(file, values) for values in (names, names[:1], names[-1:], names)]
                 self.assertEqual(seen, [("Examples", text) for text in wanted])
                 # All are judged, at most two of them in one check.
                 self.found[0].by = ""
                 for count in range(1, 4):
                     seen.clear()
-                    judging.judge(TOP, True, self.crate, self.found[:count])
+                    judging.judge(TOP, True, crates, self.found[:count])
                     self.assertEqual(len(seen), count)
+
+    def checks_of(self, found: Any, few: int, refuses: bool) -> list[list[Any]]:
+        """The copies of each check of changes, where each copy is refused or none is."""
+        checks: list[list[Any]] = []
+
+        def judge_copies(_kit: Any, _words: Any, copies: list[Any]) -> list[Any]:
+            checks.append(copies)
+            refused = copies if refuses else []
+            for copy in refused:
+                copy.change.by = copy.file.module
+            return refused
+
+        kit = mock.Mock()
+        kit.crates_below.return_value = []
+        stands_in = mock.patch.multiple(judging, words_for=lambda *_: [], judge_copies=judge_copies, FEW=few)
+        with stands_in, mock.patch.object(judging.libraries, "kit", lambda: kit):
+            with contextlib.redirect_stdout(io.StringIO()):
+                judging.judge(TOP, True, changes.read_crates(TOP), found)
+        return checks
+
+    def test_each_change_is_judged_by_its_files_in_turn(self) -> None:
+        """Those that are refused by the first file by no other one; those that are few by all at once."""
+        crates = changes.read_crates(TOP)
+        every = changes.all_changes({name: crates[name] for name in ("gf256", "linear", "qrmatrix")})
+        found = [next(it for it in every if it.file.crate == name) for name in ("gf256", "linear", "qrmatrix")]
+        copies = [[*judging.copies_of(it, crates[it.file.crate], None)] for it in found]
+        titles = [[it.title for it in of_one] for of_one in copies]
+        self.assertGreater(max(map(len, titles)), 1)
+        for few, count in ((0, max(map(len, titles))), (3, 1)):
+            checks = self.checks_of(found, few, refuses=False)
+            judged = [[it.title for check in checks for it in check if it.change is one] for one in found]
+            self.assertEqual((len(checks), judged), (count, titles))
+        (check,) = self.checks_of(found, 0, refuses=True)
+        self.assertEqual([it.title for it in check], [of_one[0] for of_one in titles])
+        self.assertEqual([it.by for it in found], [of_one[0].split(", ")[1] for of_one in titles])
+        self.assertEqual(self.checks_of(found, 0, refuses=True), [])
+
+    def test_what_judges_is_checked_as_it_is(self) -> None:
+        """For each file of worked values a copy of no change has all those that are to judge, and no other one."""
+        (file,) = self.crate.examples.values()
+        names = [one.name for one in file.declarations if changes.is_worked(one)]
+        first, *others = names
+        copies = [judging.Copy(it, self.crate, file, frozenset([first])) for it in self.found]
+        (control,) = judging.as_they_are(copies)
+        self.assertEqual(control.text, changes.with_values(file, [first]))
+        self.assertEqual(control.change.text(), self.found[0].file.text)
+        copies.append(judging.Copy(self.found[0], self.crate, file, frozenset(others)))
+        (control,) = judging.as_they_are(copies)
+        self.assertEqual(control.text, file.text)
 
 
 class Sample(unittest.TestCase):
@@ -296,10 +345,10 @@ class Sample(unittest.TestCase):
     def sampled(self, refuses: Callable[[Any], bool]) -> tuple[int, str]:
         """The status of --sample and its last line, where `refuses` says whether a change is refused."""
 
-        def judge(_top: str, _as_left: bool, _crate: Any, changes: Iterable[Any], values: Container[str]) -> None:
-            of_crate = [*changes]
-            self.assertEqual(len({*map(id, of_crate)}), len(of_crate), "one is judged twice")
-            for change in of_crate:
+        def judge(_top: str, _as_left: bool, _crates: Any, changes: Iterable[Any], values: Container[str]) -> None:
+            every = [*changes]
+            self.assertEqual(len({*map(id, every)}), len(every), "one is judged twice")
+            for change in every:
                 self.assertIn(change.file.title, values)
                 change.by = "value" if refuses(change) else ""
 
