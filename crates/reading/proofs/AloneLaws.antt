@@ -30,20 +30,12 @@ module _ {A B : Type 0} (ask : A → Option B) (v : B) (each : (x : A) → (ask 
   ]
 
 -- the place of a symbology
-place : Symbology → ℕ
-place Ean13 = 0
-place Ean8 = 1
-place UpcA = 2
-place Code128 = 3
-place Qr = 4
-
-at_place : (symbology : Symbology) → (place symbology < length symbologies) × (get_or symbologies (place symbology) Ean13 ≡ symbology)
-unfolding place
-at_place Ean13 = (omega arith, refl)
-at_place Ean8 = (omega arith, refl)
-at_place UpcA = (omega arith, refl)
-at_place Code128 = (omega arith, refl)
-at_place Qr = (omega arith, refl)
+place_of : (a : Symbology) → (i : ℕ) × (i < length symbologies) × (get_or symbologies i Ean13 ≡ a)
+place_of Ean13 = (0, omega arith, refl)
+place_of Ean8 = (1, omega arith, refl)
+place_of UpcA = (2, omega arith, refl)
+place_of Code128 = (3, omega arith, refl)
+place_of Qr = (4, omega arith, refl)
 
 module _ (p : Picture) (symbology : Symbology) (scale : ℕ) (full : List ℕ) (some : 0 < scale)
     (read : read_dots symbology scale (raster p) ≡ Some full) where
@@ -69,9 +61,9 @@ module _ (p : Picture) (symbology : Symbology) (scale : ℕ) (full : List ℕ) (
   unfolding it
   here =
       let whole : scale - 1 + 1 ≡ scale = omega (arith, some) in
-      let found = at_place symbology in
-      first_is (reading_as 0 p (scale - 1 + 1)) it (by_each (scale - 1)) symbologies (place symbology) Ean13 found.0
-      (ap (reading_as 0 p (scale - 1 + 1)) found.1 ∙ rw (whole, read) refl)
+      let place = place_of symbology in
+      first_is (reading_as 0 p (scale - 1 + 1)) it (by_each (scale - 1)) symbologies place.0 Ean13 place.1
+      (ap (reading_as 0 p (scale - 1 + 1)) place.2 ∙ rw (whole, read) refl)
 
   upright : upright_reading 0 p ≡ Some it
   upright =
