@@ -1,13 +1,51 @@
 //! Modules read as bars.
-ghost use Rattle.std.specs.Prelude.{◌≡◌, option_map, option_and_then};
+ghost use Rattle.std.specs.Prelude.{◌≡◌, ◌<◌, ◌-◌, length, option_map, option_and_then};
+ghost use Rattle.std.specs.Bool.{beq, then_some};
+ghost use Rattle.std.specs.Cmp.Lexicographic.{pointwise};
+ghost use Rattle.std.specs.List.{list_all, range_with_len};
 ghost use Rattle.linear_reading.specs.Reading.{read_row};
 ghost use Rattle.picture.specs.Reading.{common_row, raster};
+ghost use Rattle.picture.specs.Text.{pixel_row};
 
-use crate::one_row::common_row;
 use linear::MAX_MODULES;
 use linear_reading::LinearReading;
 use picture::Grid;
 use qr_reading::SymbolData;
+
+/// Returns whether `row` has the pixels of the row `y`.
+fn has_row<G: Grid>(grid: &G, row: &[bool], y: usize) -> bool
+    requires high { y < (G.picture grid.now).height }
+    requires wide { length row.now ≡ (G.picture grid.now).width }
+    ensures { result ≡ pointwise beq row.now (pixel_row (G.picture grid.now) y) }
+{
+    for x in 0..row.len() {
+        if row[x] != grid.dark(x, y) {
+            return false;
+        }
+    }
+    true
+}
+
+/// Returns whether all rows from one on have the pixels of `row`.
+fn have_row<G: Grid>(grid: &G, row: &[bool], from: usize) -> bool
+    requires { length row.now ≡ (G.picture grid.now).width }
+    ensures { result ≡ list_all (λ y. pointwise beq row.now (pixel_row (G.picture grid.now) y))
+        (range_with_len from ((G.picture grid.now).height - from)) }
+{
+    (from..grid.height()).all(|y| has_row(grid, row, y))
+}
+
+/// Returns whether there are rows and all of them are equal, and puts the first of them into `row`, which is as long.
+fn common_row<G: Grid>(grid: &G, row: &mut [bool]) -> bool
+    requires { length row.old ≡ (G.picture grid.now).width }
+    ensures { common_row (raster (G.picture grid.now)).rows ≡ then_some result row.new }
+{
+    if grid.height() == 0 {
+        return false;
+    }
+    grid.read_row(0, row);
+    have_row(grid, row, grid.equal_rows(0))
+}
 
 /// Reads modules as bars: the row that all rows are equal to.
 pub fn read_bars<L: LinearReading, G: Grid>(modules: &G) -> Option<SymbolData>

@@ -1,11 +1,10 @@
 //! Labels read from dots of which nothing is told.
 ghost use Rattle.std.specs.Prelude.{◌≡◌, ◌<◌, ◌≤◌, IfSome, min, option_map};
 ghost use Rattle.std.specs.Option.{option_or};
-ghost use Rattle.reading.specs.Found.{ReadingIsAlone, any_reading, found_of, reading_as, reading_at};
-ghost use Rattle.reading.specs.Found.{upright_reading};
+ghost use Rattle.reading.specs.Found.{ReadingIsAlone, any_reading, found_of, quarter, reading_as};
+ghost use Rattle.reading.specs.Found.{reading_at, upright_reading};
 
 use crate::labels::read;
-use crate::turned::Quarter;
 use labelcore::Symbology;
 use picture::Grid;
 use qr_reading::SymbolData;
@@ -67,6 +66,28 @@ fn or_upright<G: Grid>(read: Option<Reading>, dots: &G, turns: u8) -> Option<Rea
     match read {
         Some(reading) => Some(reading),
         None => read_upright(dots, turns),
+    }
+}
+
+/// A picture, turned clockwise by a quarter turn.
+#[derive(Drop)]
+pub struct Quarter<'a, G: Grid> {
+    pub dots: &'a G,
+}
+
+impl<'a, G: Grid> Grid for Quarter<'a, G> {
+    ghost picture = { λ s. quarter (G.picture s.dots.now) };
+
+    fn width(&self) -> usize {
+        self.dots.height()
+    }
+
+    fn height(&self) -> usize {
+        self.dots.width()
+    }
+
+    fn dark(&self, x: usize, y: usize) -> bool {
+        self.dots.dark(y, self.dots.height() - 1 - x)
     }
 }
 

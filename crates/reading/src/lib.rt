@@ -10,10 +10,8 @@ mod dots;
 mod equal_rows;
 mod found;
 mod labels;
-mod one_row;
 mod sampled;
 mod squares;
-mod turned;
 
 pub use bits::{BitRegion, Bits};
 pub use dots::Dots;

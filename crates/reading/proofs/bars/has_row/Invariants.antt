@@ -3,7 +3,7 @@ use Rattle.std.specs.Bool.{beq}
 use Rattle.std.specs.Cmp.Lexicographic.{pointwise}
 use Rattle.std.specs.List.{range_with_len}
 use Rattle.picture.specs.Text.{pixel_row}
-use Rattle.reading.proofs.one_row.has_row.Given as goal
+use Rattle.reading.proofs.bars.has_row.Given as goal
 
 -- the pixels to come decide
 abbrev pub invariant-loop-x : goal.invariant-loop-x

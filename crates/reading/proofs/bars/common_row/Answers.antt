@@ -1,7 +1,7 @@
 use Rattle.std.proofs.Common.{sym, ap, ◌∙◌, arith, Bool}
 use Rattle.std.specs.Bool.{then_some}
 use Rattle.reading.proofs.DotLaws.{rest_decides}
-use Rattle.reading.proofs.one_row.common_row.Goals as goal
+use Rattle.reading.proofs.bars.common_row.Goals as goal
 
 pub returns : goal.returns
 returns g c =
