@@ -1,16 +1,11 @@
 //! The full data of a symbol that is read back from its dots, into a caller's room.
-ghost use Rattle.std.specs.Prelude.{◌≡◌, ◌<◌, Ok, option_and_then, option_map};
+ghost use Rattle.std.specs.Prelude.{Ok, option_map};
 ghost use Rattle.capi.specs.Calls.{PutsWhole};
 ghost use Rattle.capi.specs.Read.{AnswersRead, modules_asked, read_asked, room_alone};
-ghost use Rattle.filter.specs.Reading.{read_modules};
-ghost use Rattle.picture.specs.Reading.{raster};
-ghost use Rattle.reading.specs.Dots.{bytes_read};
-ghost use Rattle.reading.specs.Labels.{read_dots, read_short};
 
 use crate::draw::declined;
 use crate::numbers::{Answer, BAD_OPTION, BAD_SYMBOLOGY, DONE, NO_ROOM, symbology_of};
 use crate::room::put;
-use labelcore::Symbology;
 use qr_reading::SymbolData;
 use reading::Dots;
 
@@ -30,36 +25,6 @@ pub fn offer(bytes: &[u8], room: &mut [u8]) -> Answer
         at: 0,
         message_length: 0,
     }
-}
-
-/// Reads the dots of a picture, a digit `0` or `1` each, as a symbol of a symbology.
-fn read_picture(
-    symbology: Symbology,
-    scale: u32,
-    width: u32,
-    height: u32,
-    digits: &[u8],
-) -> Option<SymbolData>
-    requires { 0 < scale }
-    ensures { option_map (λ bytes. bytes.items) result
-        ≡ option_and_then (λ p. read_dots symbology scale (raster p)) (bytes_read 48 49 width height digits.now) }
-{
-    let dots = Dots::new(b'0', b'1', width as usize, height as usize, digits)?;
-    reading::read(symbology, &dots, scale as usize)
-}
-
-/// Reads modules, a byte 0 or 1 each, as a symbol of a symbology.
-fn read_module_bytes(
-    symbology: Symbology,
-    width: u32,
-    rows: u32,
-    bytes: &[u8],
-) -> Option<SymbolData>
-    ensures { option_map (λ bytes. bytes.items) result ≡ option_and_then
-        (λ p. read_short (read_modules symbology) (raster p).rows) (bytes_read 0 1 width rows bytes.now) }
-{
-    let modules = Dots::new(0, 1, width as usize, rows as usize, bytes)?;
-    reading::read_modules(symbology, &modules)
 }
 
 /// Puts the full data of what was read into a room; nothing where that is nothing.
@@ -87,7 +52,10 @@ pub fn read_modules_into(
     let Some(symbology) = symbology_of(symbology) else {
         return declined(BAD_SYMBOLOGY);
     };
-    answered(read_module_bytes(symbology, width, rows, modules), out)
+    match Dots::new(0, 1, width as usize, rows as usize, modules) {
+        Some(modules) => answered(reading::read_modules(symbology, &modules), out),
+        None => declined(NOT_READ),
+    }
 }
 
 /// Reads the dots of a picture as a symbol of a symbology in its quiet zone, each module `scale` dots wide, and puts
@@ -110,5 +78,8 @@ pub fn read_into(
     let Some(symbology) = symbology_of(symbology) else {
         return declined(BAD_SYMBOLOGY);
     };
-    answered(read_picture(symbology, scale, width, height, dots), out)
+    match Dots::new(b'0', b'1', width as usize, height as usize, dots) {
+        Some(dots) => answered(reading::read(symbology, &dots, scale as usize), out),
+        None => declined(NOT_READ),
+    }
 }

@@ -1,6 +1,6 @@
 //! The full data of a symbol of which nothing is told, read from bits into a caller's room.
 ghost use Rattle.std.specs.Prelude.{◌≡◌, ◌^◌, ◌<◌, Ok, IfSome, List, ℕ, option_map};
-ghost use Rattle.capi.specs.Read.{AnswersFound, DeclinesFound, TellsFound, bits_asked, region_numbered};
+ghost use Rattle.capi.specs.Read.{AnswersFound, DeclinesFound, bits_asked, region_numbered};
 ghost use Rattle.reading.specs.Found.{found_of};
 
 use crate::draw::declined;
@@ -20,10 +20,7 @@ fn region_of(numbers: &CallRegion) -> Option<BitRegion>
     ensures { result ≡ region_numbered numbers.now }
 {
     let dark = flag_of(numbers.dark)?;
-    if !are_unused(&numbers.reserved) {
-        return None;
-    }
-    Some(BitRegion {
+    are_unused(&numbers.reserved).then_some(BitRegion {
         stride: numbers.stride,
         left: numbers.left,
         top: numbers.top,
@@ -48,19 +45,6 @@ fn nothing_found(code: u32) -> ToldFound
     }
 }
 
-/// Returns what is told of what was read.
-fn info_of(reading: &Reading) -> FoundInfo
-    requires { reading.now.scale < 2 ^ 32 }
-    ensures { TellsFound result (found_of reading.now) }
-{
-    FoundInfo {
-        symbology: number_of(reading.symbology),
-        scale: reading.scale as u32,
-        turns: u32::from(reading.turns),
-        reserved: [0; 5],
-    }
-}
-
 /// Puts the full data of what was read into a room, and tells what it was.
 fn found(read: Option<Reading>, room: &mut [u8]) -> ToldFound
     requires { IfSome read (λ reading. reading.scale < 2 ^ 32) }
@@ -69,7 +53,12 @@ fn found(read: Option<Reading>, room: &mut [u8]) -> ToldFound
     match read {
         Some(reading) => ToldFound {
             answer: offer(reading.data.as_slice(), room),
-            info: info_of(&reading),
+            info: FoundInfo {
+                symbology: number_of(reading.symbology),
+                scale: reading.scale as u32,
+                turns: u32::from(reading.turns),
+                reserved: [0; 5],
+            },
         },
         None => nothing_found(NOT_READ),
     }

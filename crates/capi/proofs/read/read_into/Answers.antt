@@ -15,3 +15,8 @@ pub returns-in_default : goal.returns-in_default
 unfolding read_asked
 returns-in_default c = rw (not_zero c.args.scale c.if-scale-eq0.false, ← c.in_default.ensures)
     (c.declined-in_default.ensures c.args.out.now [])
+
+pub returns-in-None : goal.returns-in-None
+unfolding read_asked
+returns-in-None c = rw (not_zero c.args.scale c.if-scale-eq0.false, ← c.in-Some.ensures, ← c.in-None.ensures)
+    (c.declined-in-None.ensures c.args.out.now [])
