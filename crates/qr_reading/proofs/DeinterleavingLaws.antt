@@ -1,8 +1,9 @@
 -- Blocks are taken back out of interleaved codewords one after another, and each is tested by its remainder.
 use Rattle.std.proofs.Common.{◌≡◌, ℕ, suc, ◌+◌, ◌-◌, ◌<◌, ◌≤◌, List, [], ◌∷◌, ◌++◌, map, drop, All, min}
 use Rattle.std.proofs.Common.{length, refl, sym, ap, ◌∙◌, append_assoc, length-append, arith, Bool, true, false}
+use Rattle.std.proofs.Common.{◌*◌, eq-eqb, replicate, take}
 use Rattle.std.specs.Bool.{then_some}
-use Rattle.std.specs.Prelude.{Option, bytes_eq}
+use Rattle.std.specs.Prelude.{None, Option, bytes_eq, if◌then◌else◌}
 use Rattle.std.specs.List.{sum_by, concat, list_all, range_with_len, zip}
 use Rattle.std.proofs.lemmas.Bool.Decides.{nat_tests}
 use Rattle.std.proofs.lemmas.List.Elements.{All-append}
@@ -12,7 +13,11 @@ use Rattle.gf256.specs.Field.{IsElement}
 use Rattle.gf256.specs.ErrorCorrection.{AreEcCodewords, wrong_codewords}
 use Rattle.gf256.proofs.DistanceLaws.{close_codewords}
 use Rattle.qr_reading.specs.Private.Blocks.{block_at, sound_blocks}
-use Rattle.qrdata.specs.Reading.{deinterleaving, has_roots}
+use Rattle.qrdata.specs.declared.level.Level.{Level}
+use Rattle.qrdata.specs.Reading.{data_in, deinterleaving, has_roots, segments_at}
+use Rattle.qrdata.specs.Segments.{byte_bits}
+use Rattle.qrdata.specs.Steps.{◌>>=◌}
+use Rattle.qrdata.specs.Versions.{block_lengths, data_codewords, ec_codewords_per_block, total_codewords}
 use Rattle.qrdata.proofs.BitStringLaws.{drop_front}
 use Rattle.qrdata.proofs.DamageLaws.{HasRoots-has_roots}
 use Rattle.qrdata.proofs.DataReadingLaws.{roots_pass}
@@ -20,11 +25,6 @@ use Rattle.qrdata.proofs.DataReadingLaws.{roots_pass}
 -- at most as many codewords as the places, for each block
 pub few_below : (place : ℕ) (lengths : List ℕ) → place ≤ 255 → length lengths ≤ 8 → sum_by (min place) lengths ≤ 2040
 few_below place lengths low few = omega (arith, few, sum_by-le (min place) 255 lengths (λ k d inside. omega (arith, low)))
-
--- the places that are left are the next one and those after it
-pub place_next : {A : Type 0} (f : ℕ → A) (place n : ℕ) → place < n
-    → map f (range_with_len place (n - place)) ≡ f place ∷ map f (range_with_len (place + 1) (n - (place + 1)))
-place_next f place n h = let more : n - place ≡ suc (n - (place + 1)) = omega arith in rw more refl
 
 -- ---- the test of a block
 
@@ -103,3 +103,26 @@ module _ (k : ℕ) (lengths ec_lengths codewords ec_codewords : List ℕ) where
   one_block message block ec_block b n inside is ec_is passes =
       let more : n - b ≡ suc (n - (b + 1)) = omega arith in
       rw (more, is, rw (is, ec_is) at passes, append_assoc message) refl
+
+if_sound : {A B : Type 0} (is_sound : Bool) (x : A) (f : A → Option B)
+    → (then_some is_sound x >>= f) ≡ (if is_sound then f x else None)
+if_sound true x f = refl
+if_sound false x f = refl
+
+-- the data of a symbol is that of its blocks, where there are as many codewords as the version has
+pub data_in-blocks : (version : ℕ) (level : Level) (codewords : List ℕ) → length codewords ≡ total_codewords version
+    → (let k = ec_codewords_per_block version level in
+    let lengths = block_lengths version level in
+    let size = data_codewords version level in
+    sound_blocks k lengths (replicate (length lengths) k) (take size codewords) (drop size codewords) >>= λ message.
+    segments_at version (8 * size) (byte_bits message)) ≡ data_in version level codewords
+unfolding data_in sound_blocks
+data_in-blocks version level codewords all =
+    let k = ec_codewords_per_block version level in
+    let lengths = block_lengths version level in
+    let size = data_codewords version level in
+    let blocks = deinterleaving lengths (take size codewords) in
+    let ec_blocks = deinterleaving (replicate (length lengths) k) (drop size codewords) in
+    rw (eq-eqb (length codewords) (total_codewords version) all)
+    (if_sound (list_all (has_roots k) (zip blocks ec_blocks)) (concat blocks)
+    (λ (message : List ℕ). segments_at version (8 * size) (byte_bits message)))

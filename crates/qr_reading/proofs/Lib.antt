@@ -1,5 +1,4 @@
 mod BitListLaws
-mod BlockDataLaws
 mod DeinterleavingLaws
 mod PatternReadingLaws
 mod PayloadStepLaws

@@ -1,6 +1,6 @@
 -- What a symbol is read as, by its side, the first modules of row 8, its patterns and the walk.
 use Rattle.std.proofs.Common.{◌≡◌, ℕ, ◌-◌, ◌*◌, ◌/◌, ◌<◌, ◌≤◌, refl, sym, ap, subst, ◌∙◌, arith, Bool, true, false}
-use Rattle.std.proofs.Common.{List, [], ◌∷◌, length, map, Option, Some, None, ◌&&◌, ◌==◌}
+use Rattle.std.proofs.Common.{List, [], ◌∷◌, ◌++◌, length, map, Option, Some, None, ◌&&◌, ◌==◌}
 use Rattle.std.specs.Prelude.{All, find, if◌then◌else◌, nat_le, nat_lt, option_and_then, slice_index_or}
 use mathlib.Core.Bool.{xor}
 use Rattle.std.specs.List.{filter, flat_map, list_all, range_with_len}
@@ -22,7 +22,7 @@ use Rattle.qrmatrix.specs.Placement.{remainder_bits}
 use Rattle.qrmatrix.specs.Square.{value_at}
 use Rattle.qrmatrix.specs.Private.Drawing.{MarksFree}
 use Rattle.qrmatrix.specs.Reading.{read_bits, read_format, read_matrix, read_with, shows_functions, shows_version, walk}
-use Rattle.qr_reading.specs.Private.Walking.{DrawsPatterns, format_named, place_at, shows_row, walked_bit}
+use Rattle.qr_reading.specs.Private.Walking.{DrawsPatterns, bit_if, format_named, place_at, shows_row, walked_bit}
 use Rattle.qr_reading.proofs.PatternReadingLaws.{patterns_shown}
 use Rattle.qrmatrix.proofs.ComputedLaws.{by_version, same_at}
 use Rattle.qrmatrix.proofs.FoundLaws.{IsFormat-of, find_in_range, format_of, reading_of}
@@ -43,19 +43,15 @@ kept : (n : ℕ) (free modules : ℕ → ℕ → Bool) (ks : List ℕ)
     → map (λ (p : ℕ × ℕ). modules p.0 p.1) (filter (λ (p : ℕ × ℕ). free p.0 p.1) (map (place_at n) ks))
     ≡ flat_map (walked_bit n free modules) ks
 kept n free modules [] = refl
-kept n free modules (k ∷ ks) = at (free (place_at n k).0 (place_at n k).1) refl (kept n free modules ks)
-  where
-    module_at : ℕ × ℕ → Bool
-    module_at p = modules p.0 p.1
-
-    is_free_at : ℕ × ℕ → Bool
-    is_free_at p = free p.0 p.1
-
-    at : (b : Bool) → is_free_at (place_at n k) ≡ b
-        → map module_at (filter is_free_at (map (place_at n) ks)) ≡ flat_map (walked_bit n free modules) ks
-        → map module_at (filter is_free_at (map (place_at n) (k ∷ ks))) ≡ flat_map (walked_bit n free modules) (k ∷ ks)
-    at true is rest = rw is (ap (λ l. module_at (place_at n k) ∷ l) rest)
-    at false is rest = rw is rest
+kept n free modules (k ∷ ks) =
+    let p = place_at n k in
+    let others = filter (λ (p : ℕ × ℕ). free p.0 p.1) (map (place_at n) ks) in
+    let rest = kept n free modules ks in
+    elim (free p.0 p.1) as (λ is_free. map (λ (p : ℕ × ℕ). modules p.0 p.1) (if is_free then p ∷ others else others)
+    ≡ bit_if is_free (modules p.0 p.1) ++ flat_map (walked_bit n free modules) ks) [
+      | true ↦ ap (λ l. modules p.0 p.1 ∷ l) rest
+      | false ↦ rest
+    ]
 
 module _ (v : ℕ) (least : 1 ≤ v) (most : v ≤ 10) where
   -- the walk reads the free modules with the mask taken off

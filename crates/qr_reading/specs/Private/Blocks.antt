@@ -1,10 +1,8 @@
 -- The blocks of a symbol as they are taken back out of it (ISO/IEC 18004, 7.5, 7.6 and 12).
-use Rattle.std.specs.Prelude.{ℕ, List, Option, drop, length, map, replicate, slice_index, take}
+use Rattle.std.specs.Prelude.{ℕ, List, Option, map, slice_index}
 use Rattle.std.specs.Bool.{then_some}
 use Rattle.std.specs.List.{concat, list_all, range_with_len, zip}
-use Rattle.qrdata.specs.declared.level.Level.{Level}
 use Rattle.qrdata.specs.Reading.{deinterleaving, has_roots, interleaving_place}
-use Rattle.qrdata.specs.Versions.{block_lengths, data_codewords, ec_codewords_per_block}
 
 -- block b of these lengths, whose codewords are interleaved
 abbrev pub block_at : List ℕ → List ℕ → ℕ → List ℕ
@@ -16,11 +14,3 @@ unfoldable pub sound_blocks : (k : ℕ) (lengths ec_lengths codewords ec_codewor
 sound_blocks k lengths ec_lengths codewords ec_codewords =
     let blocks = deinterleaving lengths codewords in
     then_some (list_all (has_roots k) (zip blocks (deinterleaving ec_lengths ec_codewords))) (concat blocks)
-
--- the same of a version and a level
-unfoldable pub message_in : ℕ → Level → List ℕ → Option (List ℕ)
-message_in version level codewords =
-    let k = ec_codewords_per_block version level in
-    let lengths = block_lengths version level in
-    let size = data_codewords version level in
-    sound_blocks k lengths (replicate (length lengths) k) (take size codewords) (drop size codewords)

@@ -1,28 +1,60 @@
-use Rattle.std.proofs.Common.{ap, arith, length, ◌*◌, ◌≡◌, ◌∙◌}
+use Rattle.std.proofs.Common.{ap, arith, drop, length, replicate, rules, sum, take, ◌*◌, ◌≡◌, ◌∙◌, Some}
+use Rattle.std.proofs.lemmas.Bool.{leb-true}
+use Rattle.std.proofs.lemmas.List.Sums.{AllPass-from_list_all}
+use Rattle.qrdata.proofs.DataReadingLaws.{lengths_hold}
+use Rattle.qrdata.proofs.PaddingLaws.{length-byte_bits}
+use Rattle.qrdata.proofs.VersionLaws.{IsSound-of, data_codewords-few}
 use Rattle.qrdata.specs.Reading.{segments_at}
 use Rattle.qrdata.specs.Segments.{byte_bits}
-use Rattle.qrdata.specs.Versions.{data_codewords}
-use Rattle.qr_reading.proofs.BlockDataLaws.{data_in-message}
-use Rattle.qrdata.proofs.PaddingLaws.{length-byte_bits}
-use Rattle.qrdata.proofs.VersionLaws.{data_codewords-few}
+use Rattle.qrdata.specs.Versions.{block_lengths, data_codewords, ec_codewords_per_block}
+use Rattle.qr_reading.specs.Private.Blocks.{sound_blocks}
+use Rattle.qr_reading.proofs.DeinterleavingLaws.{data_in-blocks}
 use Rattle.qr_reading.proofs.data_reading.read_data.Goals as goal
+
+pub split_at-requires : goal.split_at-requires
+split_at-requires c =
+    let sound = IsSound-of c.args.version c.args.level c.prove_range.ensures in
+    omega (arith, sound.all, c.data_codewords.ensures, c.if-codewords-total_codewords.false, c.total_codewords.ensures)
+
+pub sound_blocks-requires-clause-short : goal.sound_blocks-requires-clause-short
+sound_blocks-requires-clause-short c =
+    let sound = IsSound-of c.args.version c.args.level c.prove_range.ensures in
+    let short = AllPass-from_list_all _ (block_lengths c.args.version c.args.level) sound.short_blocks in
+    rw (c.deref.ensures.0, c.lengths-lengths.ensures, c.ec_codewords_per_block-count.ensures.value)
+    (λ k d inside. leb-true _ 255 (short k d inside))
+
+pub sound_blocks-requires-clause-few : goal.sound_blocks-requires-clause-few
+sound_blocks-requires-clause-few c =
+    let sound = IsSound-of c.args.version c.args.level c.prove_range.ensures in
+    let holds = lengths_hold c.args.version c.args.level in
+    let lengths = c.deref.ensures.0 ∙ c.lengths-lengths.ensures in (
+      omega (arith, ap length lengths, holds.1, sound.few_blocks),
+      omega (arith, ap sum lengths, holds.0, sound.all, sound.few_codewords),
+    )
 
 pub bits_of_codewords-requires : goal.bits_of_codewords-requires
 bits_of_codewords-requires c =
+    let size = c.in_ok-message.ensures.len ∙ ap sum (c.deref.ensures.0 ∙ c.lengths-lengths.ensures)
+    ∙ (lengths_hold c.args.version c.args.level).0 in
     omega (
       arith,
-      data_codewords-few c.args.version c.args.level
-          (ap length c.deref.ensures.0 ∙ c.in_ok-message.ensures.len) c.prove_range.ensures,
+      data_codewords-few c.args.version c.args.level (ap length c.deref-3.ensures.0 ∙ size) c.prove_range.ensures,
     )
 
 pub returns : goal.returns
 returns c =
-    let bits = c.deref-2.ensures.0 ∙ c.bits_of_codewords.ensures ∙ ap byte_bits c.deref.ensures.0 in
-    let size : length c.deref-2.result.now ≡ 8 * data_codewords c.args.version c.args.level =
-    omega (arith, ap length bits, length-byte_bits c.in_ok-message.message.items, c.in_ok-message.ensures.len) in
-    rw (
-      ← data_in-message c.args.version c.args.level c.args.codewords.now
-          (c.if-codewords-total_codewords.false ∙ c.total_codewords.ensures),
-      ← c.in_ok-message.ensures.value,
-    )
-    (c.read_segments.ensures ∙ (λ i. segments_at c.args.version (size i) (bits i)))
+    let version = c.args.version in
+    let level = c.args.level in
+    let codewords = c.args.codewords.now in
+    let k = ec_codewords_per_block version level in
+    let lengths = block_lengths version level in
+    let size = data_codewords version level in
+    let sound : Some c.in_ok-message.message.items
+    ≡ sound_blocks k lengths (replicate (length lengths) k) (take size codewords) (drop size codewords) = search rules in
+    let bits = c.deref-4.ensures.0 ∙ c.bits_of_codewords.ensures ∙ ap byte_bits c.deref-3.ensures.0 in
+    let all = c.in_ok-message.ensures.len ∙ ap sum (c.deref.ensures.0 ∙ c.lengths-lengths.ensures)
+    ∙ (lengths_hold version level).0 in
+    let many : length c.deref-4.result.now ≡ 8 * size =
+    omega (arith, ap length bits, length-byte_bits c.in_ok-message.message.items, all) in
+    rw (← data_in-blocks version level codewords (c.if-codewords-total_codewords.false ∙ c.total_codewords.ensures), ← sound)
+    (c.read_segments.ensures ∙ (λ i. segments_at version (many i) (bits i)))
