@@ -1,7 +1,7 @@
 -- Lists of bits, and the numbers that they represent.
 use Rattle.std.proofs.Common.{◌≡◌, ℕ, suc, ◌+◌, ◌*◌, ◌%◌, ◌^◌, ◌<◌, ◌≤◌, List, [], ◌∷◌, ◌++◌, Bool, true, false}
-use Rattle.std.proofs.Common.{length, drop, refl, append_assoc, append-nil, arith, get_or, ◌∙◌, ap}
-use Rattle.std.proofs.Math.Nat.{add-mul, mul_assoc, pow-suc}
+use Rattle.std.proofs.Common.{length, drop, refl, append_assoc, append-nil, arith, get_or, ◌∙◌}
+use Rattle.std.proofs.Math.Nat.{pow-suc}
 use Rattle.std.proofs.Math.Pow.{pow_mono}
 use Rattle.std.proofs.lemmas.List.{drop_all, drop_more}
 use Rattle.std.specs.Int.{from_bool}
@@ -19,8 +19,7 @@ whole n k length_after low few =
 
 -- twice a number and a bit, before more bits
 twice : (n bit l : ℕ) → (2 * n + bit) * 2 ^ l ≡ n * 2 ^ suc l + bit * 2 ^ l
-twice n bit l =
-    omega (arith, add-mul (2 * n) bit (2 ^ l), mul_assoc 2 n (2 ^ l), ap (λ p. n * p) (pow-suc 2 l), mul_assoc n (2 ^ l) 2)
+twice n bit l = rw (pow-suc 2 l) (omega arith)
 
 fold_more : (bits : List Bool) (n k : ℕ) → n < 2 ^ k → k + length bits ≤ 16
     → folded n bits ≡ n * 2 ^ length bits + number_of bits

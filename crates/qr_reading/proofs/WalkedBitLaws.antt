@@ -22,7 +22,7 @@ module _ (f : ℕ → List Bool) (written all : List Bool) (k count : ℕ) (insi
   next_walked new e = rw (e, append_assoc written (f k)) split_next
 
 -- a module as a number
-pub one_bit : (dark : Bool) (n : ℕ) → n ≡ from_bool dark → bits_of 1 n ≡ dark ∷ []
+pub one_bit : (dark : Bool) → bits_of 1 (from_bool dark) ≡ dark ∷ []
 unfolding bits_of
-one_bit true n is = rw is refl
-one_bit false n is = rw is refl
+one_bit true = refl
+one_bit false = refl
