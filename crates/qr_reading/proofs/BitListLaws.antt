@@ -1,13 +1,11 @@
 -- Lists of bits, and the numbers that they represent.
-use Rattle.std.proofs.Common.{◌≡◌, ℕ, suc, ◌+◌, ◌*◌, ◌%◌, ◌^◌, ◌<◌, ◌≤◌, List, [], ◌∷◌, ◌++◌, Bool, true, false}
-use Rattle.std.proofs.Common.{length, drop, refl, append_assoc, append-nil, arith, get_or, ◌∙◌}
+use Rattle.std.proofs.Common.{◌≡◌, ℕ, suc, ◌+◌, ◌*◌, ◌%◌, ◌^◌, ◌<◌, ◌≤◌, List, [], ◌∷◌, Bool, true, false}
+use Rattle.std.proofs.Common.{length, arith, ◌∙◌}
 use Rattle.std.proofs.Math.Nat.{pow-suc}
 use Rattle.std.proofs.Math.Pow.{pow_mono}
-use Rattle.std.proofs.lemmas.List.{drop_all, drop_more}
 use Rattle.std.specs.Int.{from_bool}
 use Rattle.std.specs.List.{fold}
-use Rattle.qrdata.specs.Bits.{bits_of, number_of}
-use Rattle.qrdata.specs.Segments.{byte_bits}
+use Rattle.qrdata.specs.Bits.{number_of}
 
 -- the number of bits before these, and theirs
 abbrev pub folded : ℕ → List Bool → ℕ
@@ -35,15 +33,3 @@ fold_more (false ∷ bits) n k low few =
 pub fold_bits : (bits : List Bool) → length bits ≤ 16
     → folded 0 bits ≡ number_of bits
 fold_bits bits few = fold_more bits 0 0 (omega arith) (omega (arith, few)) ∙ omega arith
-
--- the bits of a codeword more
-pub codeword_bits_next : (bits : List Bool) (codewords : List ℕ) (i : ℕ) → i < length codewords
-    → (bits ++ bits_of 8 (get_or codewords i 0)) ++ byte_bits (drop (i + 1) codewords)
-    ≡ bits ++ byte_bits (drop i codewords)
-unfolding byte_bits
-codeword_bits_next bits codewords i inside = rw (drop_more codewords i 0 inside, append_assoc bits) refl
-
-pub codeword_bits_all : (bits : List Bool) (codewords : List ℕ) (i : ℕ) → length codewords ≤ i
-    → bits ≡ bits ++ byte_bits (drop i codewords)
-unfolding byte_bits
-codeword_bits_all bits codewords i none = rw (drop_all i codewords none, append-nil) refl

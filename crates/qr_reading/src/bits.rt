@@ -57,7 +57,8 @@ pub(crate) fn is_end(bits: &[bool]) -> bool
 #[tactic(auto, unfolding(qrdata::specs::Bits::bits_of))]
 fn push_codeword(codeword: u8, bits: &mut BitList)
     requires { array_vec_len bits.old + 8 ≤ MAX_DATA_BITS }
-    ensures { bits.new.items ≡ bits.old.items ++ bits_of 8 codeword }
+    ensures bits { bits.new.items ≡ bits.old.items ++ bits_of 8 codeword }
+    ensures len { array_vec_len bits.new ≡ array_vec_len bits.old + 8 }
 {
     let at = |place: u8| (codeword >> place) % 2 == 1;
     // There is space for them, so that it cannot fail.
@@ -65,6 +66,7 @@ fn push_codeword(codeword: u8, bits: &mut BitList)
 }
 
 /// Returns the bits of codewords.
+#[tactic(auto, unfolding(qrdata::specs::Segments::byte_bits))]
 pub(crate) fn bits_of_codewords(codewords: &[u8]) -> BitList
     requires { 8 * length codewords.now ≤ MAX_DATA_BITS }
     ensures { result.items ≡ byte_bits codewords.now }
