@@ -8,7 +8,7 @@ use Rattle.labelcore.specs.declared.symbology.Symbology.TheVariants.{Ean13, Ean8
 use Rattle.picture.specs.Picture.{Picture}
 use Rattle.picture.specs.Reading.{raster}
 use Rattle.picture.specs.Text.{below}
-use Rattle.reading.specs.Found.{Found, ReadingIsAlone, first_some, reading_as, reading_at, upright_reading, symbologies}
+use Rattle.reading.specs.Found.{Found, first_some, reading_as, reading_at, upright_reading, symbologies}
 use Rattle.reading.specs.Labels.{read_dots}
 use Rattle.reading.proofs.ScaleLaws.{one_reading, scale_within}
 
@@ -39,11 +39,10 @@ place_of Qr = (4, omega arith, refl)
 
 module _ (p : Picture) (symbology : Symbology) (scale : ℕ) (full : List ℕ) (some : 0 < scale)
     (read : read_dots symbology scale (raster p) ≡ Some full) where
-  it : Found
+  abbrev pub it : Found
   it = record { symbology = symbology; scale = scale; turns = 0; full = full }
 
   by_each : (k : ℕ) (other : Symbology) → (reading_as 0 p (k + 1) other ≡ None) ⊎ (reading_as 0 p (k + 1) other ≡ Some it)
-  unfolding it
   by_each k other = at (read_dots other (k + 1) (raster p)) refl
     where
       at : (o : Option (List ℕ)) → read_dots other (k + 1) (raster p) ≡ o
@@ -58,22 +57,17 @@ module _ (p : Picture) (symbology : Symbology) (scale : ℕ) (full : List ℕ) (
   at_each k = no_other (reading_as 0 p (k + 1)) it (by_each k) symbologies
 
   here : reading_at 0 p (scale - 1 + 1) ≡ Some it
-  unfolding it
   here =
       let whole : scale - 1 + 1 ≡ scale = omega (arith, some) in
       let place = place_of symbology in
       first_is (reading_as 0 p (scale - 1 + 1)) it (by_each (scale - 1)) symbologies place.0 Ean13 place.1
       (ap (reading_as 0 p (scale - 1 + 1)) place.2 ∙ rw (whole, read) refl)
 
-  upright : upright_reading 0 p ≡ Some it
-  upright =
+  pub read_upright : upright_reading 0 p ≡ Some it
+  read_upright =
       let within = scale_within (raster p) symbology scale full some read in
       let inside : scale - 1 < min p.width p.height = omega (arith, some, within.0, within.1) in
       first_is (λ k. reading_at 0 p (k + 1)) it at_each (below (min p.width p.height)) (scale - 1) 0
       (omega (arith, inside, length-range_with_len 0 (min p.width p.height)))
       (ap (λ k. reading_at 0 p (k + 1)) (get_or-range_with_len 0 (min p.width p.height) (scale - 1) 0 inside
       ∙ zero-add (scale - 1)) ∙ here)
-
-pub is_alone : ReadingIsAlone
-unfolding it
-is_alone p symbology scale full some read = rw (upright p symbology scale full some read) refl

@@ -1,5 +1,5 @@
 -- Pixels of cells, and the modules that they show.
-use Rattle.std.proofs.Common.{None, ◌≡◌, ◌≢◌, ℕ, zero, suc, ◌+◌, ◌-◌, ◌*◌, ◌/◌, ◌%◌, ◌<◌, ◌≤◌, ◌⊎◌, Bool, true, false, ◌&&◌}
+use Rattle.std.proofs.Common.{◌≡◌, ◌≢◌, ℕ, zero, suc, ◌+◌, ◌-◌, ◌*◌, ◌/◌, ◌%◌, ◌<◌, ◌≤◌, ◌⊎◌, Bool, true, false, ◌&&◌}
 use Rattle.std.proofs.Common.{refl, sym, ap, ◌∙◌, arith, inl, inr, nat_le, nat_lt, map}
 use Rattle.std.specs.Bool.{beq, then_some}
 use Rattle.std.specs.List.{list_all, range_with_len}
@@ -7,7 +7,7 @@ use Rattle.std.specs.Cmp.{booleans_Decides}
 use Rattle.std.proofs.lemmas.Bool.{cases_eq, cases_lt}
 use Rattle.std.proofs.lemmas.Bool.Decides.{nat_tests}
 use Rattle.std.proofs.lemmas.Nat.{div-add-mod'}
-use Rattle.std.proofs.Math.Nat.{div-mul-le_self, div-lt_iff_lt-mul, le-div_iff_mul-le, mul-div_cancel}
+use Rattle.std.proofs.Math.Nat.{div-le_self, div-mul-le_self, div-lt_iff_lt-mul, le-div_iff_mul-le, mul-div_cancel}
 use native.Mathlib.Numerals.{unary_clauses}
 use Rattle.qrmatrix.proofs.ComputedLaws.{passes, passes_on, same_tests}
 use Rattle.picture.specs.Picture.{Picture}
@@ -22,6 +22,10 @@ pub begins : (length scale cell : ℕ) → 0 < scale → cell < length / scale �
 begins length scale cell some inside =
     let whole : suc cell * scale ≤ length = (le-div_iff_mul-le some).0 inside in
     omega (arith, whole, some)
+
+-- there are no more cells than pixels
+pub few_cells : (length scale cell : ℕ) → cell < length / scale → cell < length
+few_cells length scale cell inside = omega (arith, inside, div-le_self length scale)
 
 -- a number that is not the first of its cell is of the same cell as the one before
 pub same_cell : (scale y : ℕ) → 0 < scale → y % scale ≢ 0 → y / scale ≡ (y - 1) / scale
@@ -78,14 +82,11 @@ module _ (p : Picture) (scale : ℕ) (zone : QuietZone) (some : 0 < scale) where
       (begins p.height scale (zone.top + row) some (omega (arith, high)))))
 
   -- what is sampled
-  pub sample_is : (whole cells : Bool) → whole ≡ are_whole_cells p scale zone
-      → cells ≡ list_all (is_row_of_cells p scale zone) (below p.height)
-      → sample (raster p) scale zone ≡ then_some (whole && cells) (raster (modules_in p scale zone)).rows
+  pub sample_is : sample (raster p) scale zone
+      ≡ then_some (are_whole_cells p scale zone && list_all (is_row_of_cells p scale zone) (below p.height))
+      (raster (modules_in p scale zone)).rows
   unfolding sample
-  sample_is whole cells is are = rw (cells_are, modules_are, is, are) refl
-
-  pub not_whole : false ≡ are_whole_cells p scale zone → sample (raster p) scale zone ≡ None
-  not_whole is = sample_is false (list_all (is_row_of_cells p scale zone) (below p.height)) is refl
+  sample_is = rw (cells_are, modules_are) refl
 
   -- a row with the pixels of the one before has the colours of its cells where that one has: where they are the same
   -- cells, or no quiet zone is above and below

@@ -48,6 +48,7 @@ fn common_row<G: Grid>(grid: &G, row: &mut [bool]) -> bool
 }
 
 /// Reads modules as bars: the row that all rows are equal to.
+#[tactic(auto, using(crate::proofs::WidthLaws::too_wide))]
 pub fn read_bars<L: LinearReading, G: Grid>(modules: &G) -> Option<SymbolData>
     ensures { option_map (λ bytes. bytes.items) result
         ≡ option_and_then (read_row L.reading) (common_row (raster (G.picture modules.now)).rows) }

@@ -69,6 +69,7 @@ impl<'a> Grid for Bits<'a> {
         (byte >> (7 - at % 8) & 1 == 1) == self.region.dark
     }
 
+    #[tactic(auto, using(crate::proofs::BitLaws::rows_inside))]
     fn equal_rows(&self, y: usize) -> usize {
         let first = self.region.left as usize / 8;
         let end = (self.region.left as usize + self.region.width as usize).div_ceil(8);

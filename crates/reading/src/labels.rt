@@ -60,6 +60,7 @@ pub fn read<G: Grid>(symbology: Symbology, dots: &G, scale: usize) -> Option<Sym
 }
 
 /// Modules in their quiet zone, at any scale, are read as the modules are. It does nothing when it runs.
+#[tactic(auto, using(crate::proofs::LabelLaws::modules_read))]
 pub fn modules_are_read()
     ensures { ModulesAreRead }
 {}

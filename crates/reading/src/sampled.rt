@@ -106,6 +106,7 @@ fn are_cells<G: Grid>(dots: &G, scale: usize, zone: &QuietZone) -> Option<bool>
 }
 
 /// Returns the first dot of the cell that comes `place` cells after the first `before`.
+#[tactic(auto, using(crate::proofs::CellLaws::begins, crate::proofs::CellLaws::few_cells))]
 fn first_dot(length: usize, scale: usize, before: usize, place: usize) -> usize
     requires some { 0 < scale }
     requires inside { before + place < length / scale }
@@ -133,6 +134,7 @@ fn are_whole_cells<G: Grid>(dots: &G, scale: usize, zone: &QuietZone) -> bool
 impl<'a, G: Grid> Sampled<'a, G> {
     /// Returns the modules that dots show inside a quiet zone, each a square of `scale` by `scale` dots; `None` where
     /// that is not what they show.
+    #[tactic(auto, using(crate::proofs::CellLaws::sample_is))]
     pub fn new(dots: &'a G, scale: usize, zone: QuietZone) -> Option<Self>
         requires { 0 < scale }
         ensures { MatchOption result (sample (raster (G.picture dots.now)) scale zone ≡ None)

@@ -1,5 +1,5 @@
-use Rattle.reading.proofs.AloneLaws.{is_alone}
+use Rattle.reading.proofs.AloneLaws.{read_upright}
 use Rattle.reading.proofs.found.readings_are_alone.Goals as goal
 
 pub returns : goal.returns
-returns c = is_alone
+returns c = λ p symbology scale full some read. rw (read_upright p symbology scale full some read)
