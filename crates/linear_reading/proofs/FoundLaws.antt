@@ -1,7 +1,7 @@
 -- The tables by which groups are looked up have what the rules find in them (ISO/IEC 15420 and 15417, symbol characters).
-use Rattle.std.proofs.Common.{◌≡◌, ◌<◌, ◌+◌, ◌/◌, ◌%◌, ◌==◌, if◌then◌else◌, ℕ, Bool, true, false, Option, Some, None, List, [], length}
-use Rattle.std.proofs.Common.{refl, sym, ap, ◌∙◌, eqb, get_or, arith}
-use Rattle.std.proofs.lemmas.Bool.{false≢true}
+use Rattle.std.proofs.Common.{◌≡◌, ◌<◌, ◌+◌, ◌/◌, ◌%◌, ◌==◌, if◌then◌else◌, ℕ, zero, suc, Bool, true, false, ◌&&◌, Option, Some, None}
+use Rattle.std.proofs.Common.{List, [], ◌∷◌, length, refl, sym, ap, ◌∙◌, eqb, get_or, arith}
+use Rattle.std.proofs.lemmas.Bool.{and_parts, false≢true}
 use Rattle.std.proofs.lemmas.Bool.Decides.{Decides-eqb}
 use Rattle.std.proofs.lemmas.Bool.{ltb-true}
 use Rattle.std.proofs.lemmas.List.{take_all}
@@ -22,7 +22,24 @@ use Rattle.linear.proofs.ReadRowLaws.{character_drawn, same_modules-same}
 use Rattle.linear.proofs.TableLaws.{all_characters, characters-all_characters, CHARACTERS-character_modules}
 use Rattle.linear_reading.specs.declared.tables.TheConstants.{DIGITS, VALUES}
 use Rattle.linear_reading.specs.Private.Groups.{number_of}
-use Rattle.linear_reading.proofs.GroupNumberLaws.{all_rows, passes_row}
+
+-- whether all rows of this many modules pass a test
+unfoldable pub all_rows : ℕ → (List Bool → Bool) → Bool
+all_rows zero test = test []
+all_rows (suc n) test = all_rows n (λ row. test (true ∷ row)) && all_rows n (λ row. test (false ∷ row))
+
+pub passes_row : (n : ℕ) (test : List Bool → Bool) (row : List Bool) → all_rows n test ≡ true → length row ≡ n
+    → test row ≡ true
+unfolding all_rows
+passes_row zero test [] all long = all
+passes_row zero test (dark ∷ row) all long = absurd (omega (arith, long))
+passes_row (suc n) test [] all long = absurd (omega (arith, long))
+passes_row (suc n) test (true ∷ row) all long =
+    passes_row n (λ rest. test (true ∷ rest)) row (and_parts _ _ all).0 (omega (arith, long))
+passes_row (suc n) test (false ∷ row) all long =
+    passes_row n (λ rest. test (false ∷ rest)) row (and_parts _ _ all).1 (omega (arith, long))
+
+-- ---- EAN and UPC
 
 -- the number of a number set in the table of digits
 abbrev kind_of : NumberSet → ℕ

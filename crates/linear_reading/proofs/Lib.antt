@@ -2,5 +2,4 @@ pub mod Examples
 pub mod GroupReadingLaws
 pub mod SymbolDataLaws
 pub mod FoundLaws
-pub mod GroupNumberLaws
 pub mod ValueStepLaws

@@ -44,18 +44,8 @@ fn meaning_of(set: CodeSet, value: u8) -> Meaning
     }
 }
 
-/// Returns the set in which the next value is read: the other one of A and B after a shift.
-fn set_at(set: CodeSet, is_shifted: bool) -> CodeSet
-    ensures { result ≡ (if is_shifted then other_set set else set) }
-{
-    match (set, is_shifted) {
-        (CodeSet::A, true) => CodeSet::B,
-        (CodeSet::B, true) => CodeSet::A,
-        _ => set,
-    }
-}
-
-/// Reads a value, appends its text, and returns the set that holds after it and whether the next one is shifted.
+/// Reads a value, after a shift in the other set of A and B, appends its text, and returns the set that holds after it
+/// and whether the next one is shifted.
 fn read_value(
     full: &mut FullData,
     set: CodeSet,
@@ -67,7 +57,12 @@ fn read_value(
         ≡ step full.old.items set is_shifted (meaning (if is_shifted then other_set set else set) value) }
     ensures len { array_vec_len full.new ≤ array_vec_len full.old + 2 }
 {
-    match meaning_of(set_at(set, is_shifted), value) {
+    let set_here = match (set, is_shifted) {
+        (CodeSet::A, true) => CodeSet::B,
+        (CodeSet::B, true) => CodeSet::A,
+        _ => set,
+    };
+    match meaning_of(set_here, value) {
         Meaning::Character(byte) => {
             full.push(byte);
             Some((set, false))
