@@ -1,9 +1,8 @@
 -- The first answer, and the scale of what is found.
-use Rattle.std.proofs.Common.{◌≡◌, ◌≤◌, ◌+◌, ℕ, zero, suc, min, true, false, Option, Some, None, List, [], ◌∷◌, ◌∙◌, refl, sym, subst, arith}
+use Rattle.std.proofs.Common.{◌≡◌, ◌<◌, ◌≤◌, ◌+◌, ◌-◌, ℕ, zero, suc, min, Option, Some, None, List, [], ◌∷◌, ◌∙◌, refl, sym, subst, arith}
 use Rattle.std.specs.List.{range_with_len}
-use Rattle.std.specs.Option.{is_some, option_map, option_or}
+use Rattle.std.specs.Option.{option_map, option_or}
 use Rattle.std.specs.Prelude.{IfSome}
-use Rattle.std.proofs.lemmas.Bool.{false≢true}
 use Rattle.labelcore.specs.declared.symbology.Symbology.{Symbology}
 use Rattle.picture.specs.Picture.{Picture}
 use Rattle.picture.specs.Reading.{raster}
@@ -13,16 +12,10 @@ use Rattle.reading.specs.Labels.{read_dots}
 use Rattle.reading.specs.declared.found.Reading.{Reading}
 use Rattle.reading.proofs.ScaleLaws.{scale_within}
 
-module _ {B D : Type 0} (told : D → B) (ask : ℕ → Option B) where
-  pub hit_at : (o : Option D) (a n m : ℕ) → n ≡ suc m → is_some o ≡ true → option_map told o ≡ ask a
-      → first_some ask (range_with_len a n) ≡ option_map told o
-  hit_at None a n m more is e = absurd (false≢true is)
-  hit_at (Some d) a n m more is e = rw (more, ← e) refl
-
-  pub miss_at : (o : Option D) (a n m : ℕ) → n ≡ suc m → is_some o ≡ false → option_map told o ≡ ask a
-      → first_some ask (range_with_len a n) ≡ first_some ask (range_with_len (a + 1) m)
-  miss_at None a n m more is e = rw (more, ← e) refl
-  miss_at (Some d) a n m more is e = absurd (false≢true (sym is))
+-- the answers from one question on
+pub next_asked : {B : Type 0} (ask : ℕ → Option B) (a n : ℕ) (o : Option B) → a < n → o ≡ ask a
+    → first_some ask (range_with_len a (n - a)) ≡ option_or o (first_some ask (range_with_len (a + 1) (n - (a + 1))))
+next_asked ask a n o inside is = let more : n - a ≡ suc (n - (a + 1)) = omega arith in rw (more, is) refl
 
 -- what holds of each answer holds of the first one
 first_has : {A B : Type 0} (P : B → Type 0) (ask : A → Option B) → ((x : A) → IfSome (ask x) P) → (xs : List A)

@@ -14,30 +14,18 @@ use Rattle.picture.specs.Reading.{common_row, raster}
 use Rattle.picture.specs.Text.{pixel_row}
 use Rattle.reading.specs.Labels.{read_short}
 
-too_long : (n : ℕ) → MAX_MODULES < n → nat_le n MAX_MODULES ≡ false
-too_long n long = grind (arith, nat_tests)
-
-long_row : (reading : List Bool → Option (List ℕ)) (row : List Bool) → MAX_MODULES < length row
-    → read_row reading row ≡ None
-long_row reading row long = rw (too_long (length row) long) refl
-
 pub too_wide : (reading : List Bool → Option (List ℕ)) (p : Picture) → MAX_MODULES < p.width
     → option_and_then (read_row reading) (common_row (raster p).rows) ≡ None
 too_wide reading p wide = at p.height
   where
-    length_row : length (pixel_row p 0) ≡ p.width
-    length_row = length-map-range_with_len (λ x. p.dark x 0) 0 p.width
-
-    is_long : MAX_MODULES < length (pixel_row p 0)
-    is_long = omega (arith, length_row, wide)
-
-    case : (b : Bool) → option_and_then (read_row reading) (then_some b (pixel_row p 0)) ≡ None
-    case true = long_row reading (pixel_row p 0) is_long
-    case false = refl
+    is_long : nat_le (length (pixel_row p 0)) MAX_MODULES ≡ false
+    is_long = let row = length-map-range_with_len (λ x. p.dark x 0) 0 p.width in grind (arith, nat_tests)
 
     at : (n : ℕ) → option_and_then (read_row reading) (common_row (map (pixel_row p) (range_with_len 0 n))) ≡ None
     at zero = refl
-    at (suc n) = case (list_all (pointwise beq (pixel_row p 0)) (map (pixel_row p) (range_with_len 1 n)))
+    at (suc n) =
+        elim (list_all (pointwise beq (pixel_row p 0)) (map (pixel_row p) (range_with_len 1 n)))
+        as (λ b. option_and_then (read_row reading) (then_some b (pixel_row p 0)) ≡ None) [ true ↦ rw is_long refl | false ↦ refl ]
 
 -- the first row of modules that are no wider than the widest symbol
 first_short : (p : Picture) → p.width ≤ MAX_MODULES → length (slice_index_or (raster p).rows 0 []) ≤ MAX_MODULES
@@ -55,8 +43,6 @@ read_if_short reading p short = rw (le-leb _ MAX_MODULES (first_short p short)) 
 -- what a rule does not read is not read
 pub none_if_short : (reading : List (List Bool) → Option (List ℕ)) (rows : List (List Bool)) → reading rows ≡ None
     → read_short reading rows ≡ None
-none_if_short reading rows none = at (nat_le (length (slice_index_or rows 0 [])) MAX_MODULES)
-  where
-    at : (b : Bool) → (if b then reading rows else None) ≡ None
-    at true = none
-    at false = refl
+none_if_short reading rows none =
+    elim (nat_le (length (slice_index_or rows 0 [])) MAX_MODULES) as (λ b. (if b then reading rows else None) ≡ None)
+    [ true ↦ none | false ↦ refl ]

@@ -50,9 +50,8 @@ fn read_upright<G: Grid>(dots: &G, turns: u8) -> Option<Reading>
     ensures { option_map found_of result ≡ upright_reading turns (G.picture dots.now) }
 {
     for before in 0..dots.width().min(dots.height()) {
-        let reading = read_at(dots, turns, before + 1);
-        if reading.is_some() {
-            return reading;
+        if let Some(reading) = read_at(dots, turns, before + 1) {
+            return Some(reading);
         }
     }
     None
