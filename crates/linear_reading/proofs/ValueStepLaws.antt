@@ -1,5 +1,6 @@
 -- The values of a Code 128 symbol are read one after another (ISO/IEC 15417, code sets).
 use Rattle.std.proofs.Common.{◌≡◌, ◌<◌, ℕ, ◌+◌, Bool, true, false, drop, get_or, length, Option, Some, None, List, [], ◌++◌, refl, sym, ap, append_assoc}
+use Rattle.std.proofs.lemmas.Iterator.Adapters.{option_map_id}
 use Rattle.std.proofs.lemmas.List.{append-nil, drop_more}
 use Rattle.std.specs.Bool.{then_some}
 use Rattle.std.specs.Prelude.{option_and_then, option_map, if◌then◌else◌, not}
@@ -43,11 +44,7 @@ value_read before set is_shifted values i read inside is =
 
 pub nothing_before : (set : CodeSet) (values : List ℕ) → with_values [] set false values ≡ read_values set false values
 unfolding with_values
-nothing_before set values = same (read_values set false values)
-  where
-    same : (rest : Option (List ℕ)) → option_map (λ more. [] ++ more) rest ≡ rest
-    same None = refl
-    same (Some rest) = refl
+nothing_before set values = option_map_id (read_values set false values)
 
 -- at the end a shift has shifted nothing
 pub no_value : {A : Type 0} (bytes : A → List ℕ) (full : A) (set : CodeSet) (is_shifted : Bool)

@@ -2,6 +2,7 @@
 use Rattle.std.proofs.Common.{◌≡◌, ℕ, zero, suc, ◌-◌, ◌<◌, List, [], ◌++◌, Bool, true, false, refl, sym, ap}
 use Rattle.std.proofs.Common.{append_assoc, ◌∙◌}
 use Rattle.std.proofs.Common.{arith}
+use Rattle.std.proofs.lemmas.Iterator.Adapters.{option_map_id}
 use Rattle.std.proofs.lemmas.List.{append-nil}
 use Rattle.std.proofs.lemmas.Option.{none-some, same_Some}
 use Rattle.std.specs.Prelude.{None, Option, Some}
@@ -57,5 +58,4 @@ module _ (version : ℕ) (before : List ℕ) (bits : List Bool) where
 
 pub nothing_read : (before : List ℕ) (found : Option (List ℕ)) → before ≡ [] → with_rest before found ≡ found
 unfolding with_rest
-nothing_read before None none = refl
-nothing_read before (Some rest) none = rw none refl
+nothing_read before found none = rw none (option_map_id found)

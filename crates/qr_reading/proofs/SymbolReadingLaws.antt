@@ -5,6 +5,7 @@ use Rattle.std.specs.Prelude.{All, find, if◌then◌else◌, nat_le, nat_lt, op
 use mathlib.Core.Bool.{xor}
 use Rattle.std.specs.List.{filter, flat_map, list_all, range_with_len}
 use Rattle.std.proofs.lemmas.Bool.{and_parts, eqb-true, leb-true, ltb-true}
+use Rattle.std.proofs.Math.Bool.{and-false}
 use Rattle.std.proofs.lemmas.Bool.Decides.{nat_tests}
 use Rattle.std.proofs.lemmas.List.{length-map}
 use Rattle.std.proofs.lemmas.List.Elements.{recursion_from_All}
@@ -100,10 +101,6 @@ named_by_word message low =
     same_at 0 32 (λ message. format_of (format_word message)) (λ message. let word = format_word message in
     format_named (λ x. bit word (14 - x))) refl message (omega arith) low
 
-no_reading : {A : Type 0} (a : Bool) (x : A) → (if a && false then Some x else None) ≡ None
-no_reading true x = refl
-no_reading false x = refl
-
 module _ (n : ℕ) (m : ℕ → ℕ → Bool) where
   -- the level and the mask that the first five modules of row 8 name
   abbrev named : Level × ℕ
@@ -145,8 +142,7 @@ module _ (n : ℕ) (m : ℕ → ℕ → Bool) where
             → option_and_then (read_with v m) (read_format n m) ≡ None
         at None e = rw e refl
         at (Some format) e =
-            rw (e, named_is format e, wrong)
-            (no_reading (shows_version v (side_of v) m) _)
+            rw (e, named_is format e, wrong, and-false (shows_version v (side_of v) m)) refl
 
     is_read : shows_functions v named.0 named.1 m ≡ true → read_matrix n m ≡ Some (reading_of v named m)
     unfolding read_matrix
