@@ -4,7 +4,7 @@ use Rattle.std.proofs.Common.{refl, sym, ap, ◌∙◌, arith, inl, inr, nat_le,
 use Rattle.std.specs.Bool.{beq, then_some}
 use Rattle.std.specs.List.{list_all, range_with_len}
 use Rattle.std.specs.Cmp.{booleans_Decides}
-use Rattle.std.proofs.lemmas.Bool.{cases_eq, cases_lt}
+use Rattle.std.proofs.lemmas.Bool.{cases_eq}
 use Rattle.std.proofs.lemmas.Bool.Decides.{nat_tests}
 use Rattle.std.proofs.lemmas.Nat.{div-add-mod'}
 use Rattle.std.proofs.Math.Nat.{div-le_self, div-mul-le_self, div-lt_iff_lt-mul, le-div_iff_mul-le, mul-div_cancel}
@@ -38,20 +38,14 @@ same_cell scale y some inner =
     omega (arith, least, most)
 
 -- numbers that pass do not decide
-pub pass_all : (test : ℕ → Bool) (m a n : ℕ) → ((k : ℕ) → a ≤ k → k < a + m → k < n → test k ≡ true)
+pub pass_all : (test : ℕ → Bool) (m a n : ℕ) → a + m ≤ n → ((k : ℕ) → a ≤ k → k < a + m → test k ≡ true)
     → list_all test (range_with_len a (n - a)) ≡ list_all test (range_with_len (a + m) (n - (a + m)))
-pass_all test zero a n each = simp unary_clauses refl
-pass_all test (suc m) a n each = elim (cases_lt a n) [
-  | inl more ↦
-      let next : a + 1 + m ≡ a + suc m = omega arith in
-      passes_on test a (a + 1) (n - a) (n - (a + 1)) (omega (arith, more)) refl (sym (each a (omega arith) (omega arith) more))
-      ∙ pass_all test m (a + 1) n (λ k after early. each k (omega (arith, after)) (omega (arith, early)))
-      ∙ ap (λ b. list_all test (range_with_len b (n - b))) next
-  | inr past ↦
-      let none : n - a ≡ 0 = omega (arith, past) in
-      let none_after : n - (a + suc m) ≡ 0 = omega (arith, past) in
-      rw (none, none_after) refl
-]
+pass_all test zero a n inside each = simp unary_clauses refl
+pass_all test (suc m) a n inside each =
+    let next : a + 1 + m ≡ a + suc m = omega arith in
+    passes_on test a (a + 1) (n - a) (n - (a + 1)) (omega arith) refl (sym (each a (omega arith) (omega arith)))
+    ∙ pass_all test m (a + 1) n (omega arith) (λ k after early. each k (omega (arith, after)) (omega (arith, early)))
+    ∙ ap (λ b. list_all test (range_with_len b (n - b))) next
 
 twice : (a b : Bool) → (a && (a && b)) ≡ (a && b)
 twice true b = refl

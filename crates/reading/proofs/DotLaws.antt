@@ -35,6 +35,6 @@ rest_decides p count row some is are =
     let test = λ (y : ℕ). pointwise beq row (pixel_row p y) in
     let last : 1 + (count - 1) ≡ count = omega (arith, are.some) in
     first_row p (p.height - 1) row (omega (arith, some)) is
-    ∙ ap (λ (b : Bool). then_some b row) (pass_all test (count - 1) 1 p.height (λ y _ before _.
+    ∙ ap (λ (b : Bool). then_some b row) (pass_all test (count - 1) 1 p.height (omega (arith, last, are.inside)) (λ y _ before.
     rw (pixel_row-equal p y count are (omega (arith, before, are.some)), is) (pointwise-same (pixel_row p 0)))
     ∙ ap (λ (a : ℕ). list_all test (range_with_len a (p.height - a))) last)
