@@ -17,6 +17,14 @@ pub next_asked : {B : Type 0} (ask : ℕ → Option B) (a n : ℕ) (o : Option B
     → first_some ask (range_with_len a (n - a)) ≡ option_or o (first_some ask (range_with_len (a + 1) (n - (a + 1))))
 next_asked ask a n o inside is = let more : n - a ≡ suc (n - (a + 1)) = omega arith in rw (more, is) refl
 
+pub or_later : {A : Type 0} (a b c : Option A) → option_or (option_or a b) c ≡ option_or a (option_or b c)
+or_later (Some x) b c = refl
+or_later None b c = refl
+
+pub or_none : {A : Type 0} (a : Option A) → option_or a None ≡ a
+or_none (Some x) = refl
+or_none None = refl
+
 -- what holds of each answer holds of the first one
 first_has : {A B : Type 0} (P : B → Type 0) (ask : A → Option B) → ((x : A) → IfSome (ask x) P) → (xs : List A)
     → IfSome (first_some ask xs) P
