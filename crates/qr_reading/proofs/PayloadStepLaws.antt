@@ -47,21 +47,21 @@ bytes_before before bytes (Some others) =
 module _ (before : List ℕ) (mode : Mode) (left : ℕ) (bits : List Bool) where
   pub one_group : (n : ℕ) (rest : List Bool) → 0 < left
       → Some (n, rest) ≡ number_at (next_group mode left).limit (next_group mode left).width bits
-      → after (before ++ group_bytes mode left n) (payload_at mode (left - (next_group mode left).size) rest)
-      ≡ after before (payload_at mode left bits)
+      → after before (payload_at mode left bits)
+      ≡ after (before ++ group_bytes mode left n) (payload_at mode (left - (next_group mode left).size) rest)
   one_group n rest some found = rw (in_groups mode left bits some, ← found)
-      (bytes_before before (group_bytes mode left n) (payload_at mode (left - (next_group mode left).size) rest))
+      (sym (bytes_before before (group_bytes mode left n) (payload_at mode (left - (next_group mode left).size) rest)))
 
   pub no_group : 0 < left → None ≡ number_at (next_group mode left).limit (next_group mode left).width bits
-      → None ≡ after before (payload_at mode left bits)
+      → after before (payload_at mode left bits) ≡ None
   unfolding after
   no_group some found = rw (in_groups mode left bits some, ← found) refl
 
-  pub all_groups : left ≡ 0 → Some (before, bits) ≡ after before (payload_at mode left bits)
+  pub all_groups : left ≡ 0 → after before (payload_at mode left bits) ≡ Some (before, bits)
   unfolding after digits_at characters_at bytes_at
   all_groups none = rw none (at_end mode)
     where
-      at_end : (mode : Mode) → Some (before, bits) ≡ after before (payload_at mode 0 bits)
-      at_end Numeric = ap (λ (all : List ℕ). Some (all, bits)) (sym (append-nil before))
-      at_end Alphanumeric = ap (λ (all : List ℕ). Some (all, bits)) (sym (append-nil before))
-      at_end Byte = ap (λ (all : List ℕ). Some (all, bits)) (sym (append-nil before))
+      at_end : (mode : Mode) → after before (payload_at mode 0 bits) ≡ Some (before, bits)
+      at_end Numeric = ap (λ (all : List ℕ). Some (all, bits)) (append-nil before)
+      at_end Alphanumeric = ap (λ (all : List ℕ). Some (all, bits)) (append-nil before)
+      at_end Byte = ap (λ (all : List ℕ). Some (all, bits)) (append-nil before)

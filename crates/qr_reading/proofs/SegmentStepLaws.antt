@@ -35,7 +35,7 @@ joined before bytes rest later (Some first) is =
 module _ (version : ℕ) (before : List ℕ) (bits : List Bool) where
   -- where a segment is wrong, nothing is read
   pub no_segment : (most : ℕ) → is_end bits ≡ false → None ≡ after before (segment_at version bits)
-      → None ≡ with_rest before (segments_at version most bits)
+      → with_rest before (segments_at version most bits) ≡ None
   unfolding segments_at with_rest
   no_segment zero more found = rw more refl
   no_segment (suc most) more found = rw (more, none_after before (segment_at version bits) found) refl
@@ -51,10 +51,10 @@ module _ (version : ℕ) (before : List ℕ) (bits : List Bool) where
       rw (less, more) (joined before bytes rest (segments_at version most) (segment_at version bits) found)
 
   -- at the end all is read
-  pub all_segments : (most : ℕ) → is_end bits ≡ true → Some before ≡ with_rest before (segments_at version most bits)
+  pub all_segments : (most : ℕ) → is_end bits ≡ true → with_rest before (segments_at version most bits) ≡ Some before
   unfolding segments_at with_rest
-  all_segments zero end = rw end (ap Some (sym (append-nil before)))
-  all_segments (suc most) end = rw end (ap Some (sym (append-nil before)))
+  all_segments zero end = rw end (ap Some (append-nil before))
+  all_segments (suc most) end = rw end (ap Some (append-nil before))
 
 pub nothing_read : (before : List ℕ) (found : Option (List ℕ)) → before ≡ [] → with_rest before found ≡ found
 unfolding with_rest

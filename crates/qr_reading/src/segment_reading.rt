@@ -88,6 +88,7 @@ fn append_group(mode: Mode, left: usize, number: u32, out: &mut SymbolData)
 }
 
 /// Reads the payload of characters of a mode, appends these to the data, and returns the bits after it.
+#[tactic(auto, using(crate::proofs::PayloadStepLaws::one_group, crate::proofs::PayloadStepLaws::no_group, crate::proofs::PayloadStepLaws::all_groups))]
 fn read_payload<'a>(
     bits: &'a [bool],
     mode: Mode,
@@ -140,6 +141,7 @@ fn read_segment<'a>(version: Version, bits: &'a [bool], out: &mut SymbolData) ->
 }
 
 /// Reads segments to their end, and returns their bytes.
+#[tactic(auto, using(crate::proofs::SegmentStepLaws::no_segment, crate::proofs::SegmentStepLaws::all_segments))]
 pub(crate) fn read_segments(version: Version, bits: &[bool]) -> Option<SymbolData>
     requires { length bits.now ≤ 2192 }
     ensures { option_map (λ bytes. bytes.items) result ≡ segments_at version (length bits.now) bits.now }

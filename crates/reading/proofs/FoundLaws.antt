@@ -13,9 +13,13 @@ use Rattle.reading.specs.declared.found.Reading.{Reading}
 use Rattle.reading.proofs.ScaleLaws.{scale_within}
 
 -- the answers from one question on
-pub next_asked : {B : Type 0} (ask : ℕ → Option B) (a n : ℕ) (o : Option B) → a < n → o ≡ ask a
-    → first_some ask (range_with_len a (n - a)) ≡ option_or o (first_some ask (range_with_len (a + 1) (n - (a + 1))))
-next_asked ask a n o inside is = let more : n - a ≡ suc (n - (a + 1)) = omega arith in rw (more, is) refl
+pub asked_in_vain : {B : Type 0} (ask : ℕ → Option B) (a n : ℕ) → a < n → None ≡ ask a
+    → first_some ask (range_with_len a (n - a)) ≡ first_some ask (range_with_len (a + 1) (n - (a + 1)))
+asked_in_vain ask a n inside none = let more : n - a ≡ suc (n - (a + 1)) = omega arith in rw (more, ← none) refl
+
+pub answered : {B : Type 0} (ask : ℕ → Option B) (a n : ℕ) (v : B) → a < n → Some v ≡ ask a
+    → first_some ask (range_with_len a (n - a)) ≡ Some v
+answered ask a n v inside some = let more : n - a ≡ suc (n - (a + 1)) = omega arith in rw (more, ← some) refl
 
 pub or_later : {A : Type 0} (a b c : Option A) → option_or (option_or a b) c ≡ option_or a (option_or b c)
 or_later (Some x) b c = refl

@@ -57,6 +57,7 @@ fn read_at<G: Grid>(dots: &G, turns: u8, scale: usize) -> Option<Reading>
 }
 
 /// Reads dots at the first scale at which they are read.
+#[tactic(auto, using(crate::proofs::FoundLaws::asked_in_vain))]
 fn read_upright<G: Grid>(dots: &G, turns: u8) -> Option<Reading>
     ensures { option_map found_of result ≡ upright_reading turns (G.picture dots.now) }
 {

@@ -1,5 +1,5 @@
 use Rattle.std.proofs.Common.{ap, arith, length, sym, ◌-◌, ◌∙◌}
-use Rattle.qr_reading.proofs.SegmentStepLaws.{all_segments, no_segment, nothing_read, one_segment}
+use Rattle.qr_reading.proofs.SegmentStepLaws.{nothing_read, one_segment}
 use Rattle.qr_reading.proofs.segment_reading.read_segments.Goals as goal
 
 pub loop-rest-init : goal.loop-rest-init
@@ -9,11 +9,6 @@ loop-rest-init c = record {
   all = nothing_read c.new-out.result.items _ c.new-out.ensures;
   room = omega (arith, c.requires, ap length c.new-out.ensures);
 }
-
-pub returns-in_err-rest : goal.returns-in_err-rest
-returns-in_err-rest c =
-    rw c.from_residual.ensures (no_segment c.args.version c.loop-rest.out.items _ c.loop-rest.invariant.most
-    (sym c.loop-rest-test.ensures) c.in_err-rest.ensures.read ∙ c.loop-rest.invariant.all)
 
 pub loop-rest-preserved : goal.loop-rest-preserved
 loop-rest-preserved c = record {
@@ -25,9 +20,3 @@ loop-rest-preserved c = record {
       ∙ c.loop-rest.invariant.all;
   room = c.in_ok-rest.ensures.room;
 }
-
-pub returns : goal.returns
-returns c =
-    all_segments c.args.version c.loop-rest.out.items _ c.loop-rest.invariant.most
-    (sym c.loop-rest-test.ensures)
-    ∙ c.loop-rest.invariant.all
