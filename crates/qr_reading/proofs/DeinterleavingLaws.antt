@@ -99,7 +99,7 @@ module _ (k : ℕ) (lengths ec_lengths codewords ec_codewords : List ℕ) where
   -- a block that passes, and those after it
   pub one_block : (message block ec_block : List ℕ) (b n : ℕ) → b < n → block ≡ block_at lengths codewords b
       → ec_block ≡ block_at ec_lengths ec_codewords b → has_roots k (block, ec_block) ≡ true
-      → with_blocks (message ++ block) (b + 1) (n - (b + 1)) ≡ with_blocks message b (n - b)
+      → with_blocks message b (n - b) ≡ with_blocks (message ++ block) (b + 1) (n - (b + 1))
   one_block message block ec_block b n inside is ec_is passes =
       let more : n - b ≡ suc (n - (b + 1)) = omega arith in
       rw (more, is, rw (is, ec_is) at passes, append_assoc message) refl

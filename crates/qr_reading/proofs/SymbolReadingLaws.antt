@@ -131,7 +131,7 @@ module _ (n : ℕ) (m : ℕ → ℕ → Bool) where
           absurd (omega (arith, wide, range.2, eqb-true (side_of v) n range.0))
 
   module _ (v : ℕ) (found : find (λ v. side_of v == n) (range_with_len 1 10) ≡ Some v) where
-    pub is_side : n ≡ side_of v
+    is_side : n ≡ side_of v
     is_side = sym (eqb-true (side_of v) n (find_in_range (λ v. side_of v == n) 1 10 v found).0)
 
     unread : shows_functions v named.0 named.1 m ≡ false → read_matrix n m ≡ None

@@ -1,5 +1,5 @@
 //! The reading of a symbol's modules, with no correction (ISO/IEC 18004, 12).
-ghost use Rattle.std.specs.Prelude.{◌≡◌, ◌≤◌, ◌<◌, ◌==◌, length, option_map, slice_index};
+ghost use Rattle.std.specs.Prelude.{◌≡◌, ◌≤◌, ◌<◌, ◌==◌, IfSome, length, option_map, slice_index};
 ghost use Rattle.std.specs.List.{find, list_all, range_with_len};
 ghost use Rattle.qrdata.specs.Versions.{side_of};
 ghost use Rattle.qrmatrix.specs.Bits.{bit};
@@ -15,7 +15,8 @@ use qrmatrix::{SIDE, Square, draw_format, draw_functions};
 
 /// Returns the version whose symbols have this many modules on a side.
 fn version_of_side(side: usize) -> Option<Version>
-    ensures { result ≡ find (λ v. side_of v == side) (range_with_len 1 10) }
+    ensures found { result ≡ find (λ v. side_of v == side) (range_with_len 1 10) }
+    ensures side { IfSome result (λ v. side ≡ side_of v) }
 {
     if side < 21 || side > SIDE || side % 4 != 1 {
         return None;
@@ -84,6 +85,7 @@ fn are_shown(free: &Square, dark: &Square, rows: &[u64]) -> bool
 /// of the format and version information and every module of the other patterns have to be right. There are as many
 /// rows as modules on a side, and bit x of number y is the module at column x and row y, dark where set; the bits from
 /// the side on are not read.
+#[tactic(auto, using(crate::proofs::SymbolReadingLaws::unknown_side))]
 pub fn read(rows: &[u64]) -> Option<SymbolData>
     ensures { option_map (λ bytes. bytes.items) result
         ≡ read_square (length rows.now) (λ x y. bit (slice_index rows.now y) x) }

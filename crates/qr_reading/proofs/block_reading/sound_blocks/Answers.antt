@@ -1,5 +1,5 @@
-use Rattle.std.proofs.Common.{rules, ap, arith, get_or, length, length-append, sym, ◌≡◌, ◌-◌, ◌++◌, ◌∙◌}
-use Rattle.std.proofs.lemmas.List.{get_or-replicate, length-replicate}
+use Rattle.std.proofs.Common.{rules, ap, arith, length, length-append, sym, ◌≡◌, ◌-◌, ◌++◌, ◌∙◌}
+use Rattle.std.proofs.lemmas.List.{length-replicate}
 use Rattle.std.proofs.lemmas.List.Sums.{sum_by-drop_more}
 use Rattle.qr_reading.proofs.DeinterleavingLaws.{all_blocks, one_block}
 use Rattle.qr_reading.proofs.block_reading.sound_blocks.Goals as goal
@@ -15,25 +15,17 @@ loop-block-init c =
       room = omega (arith, ap length c.new-message.ensures);
     }
 
-pub is_multiple-requires-clause-count : goal.is_multiple-requires-clause-count
-is_multiple-requires-clause-count c = (
-  c.new-generator.ensures,
-  ap length c.deref-in-loop-block.ensures.0 ∙ c.block_at-remainder.ensures.len
-      ∙ ap (λ lengths. get_or lengths c.loop-block.block 0) c.requires.equal
-      ∙ get_or-replicate (length c.args.lengths.now) c.loop-block.block c.args.count 0 c.loop-block-test.true,
-)
-
 pub loop-block-preserved : goal.loop-block-preserved
 loop-block-preserved c =
     let message = c.loop-block.message.items in
     let data_is = c.deref-in-loop-block-2.ensures.0 ∙ sym c.deref.ensures.0 in
     let pushed = c.push_codewords.ensures ∙ ap (λ l. message ++ l) data_is in
     record {
-      all = rw pushed (one_block c.args.count c.args.lengths.now c.args.ec_lengths.now c.args.codewords.now
+      all = rw pushed (sym (one_block c.args.count c.args.lengths.now c.args.ec_lengths.now c.args.codewords.now
           c.args.ec_codewords.now message _ _ c.loop-block.block _ c.loop-block-test.true
           (c.deref.ensures.0 ∙ c.block_at-data.ensures.block)
           (c.deref-in-loop-block.ensures.0 ∙ c.block_at-remainder.ensures.block)
-          (search rules)) ∙ c.loop-block.invariant.all;
+          (search rules))) ∙ c.loop-block.invariant.all;
       room = omega (
         arith,
         ap length pushed,
