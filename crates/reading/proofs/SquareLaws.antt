@@ -3,6 +3,7 @@ use mathlib.Core.Path.{fun_ext}
 use Rattle.std.proofs.Common.{◌≡◌, ◌≢◌, ℕ, zero, suc, ◌+◌, ◌<◌, ◌≤◌, refl, sym, ap, ◌∙◌, arith, Bool, true, false, inl, inr}
 use Rattle.std.proofs.Common.{List, Option, [], None, length, map, take, get_or, ◌&&◌, ◌||◌, ◌==◌, ◌*◌, ◌^◌, ◌%◌}
 use Rattle.std.specs.Prelude.{bit_or, nat_lt, option_and_then, slice_index}
+use Rattle.std.specs.Int.{from_bool}
 use Rattle.std.specs.List.{list_all, range_with_len}
 use Rattle.std.proofs.lemmas.Bool.{cases_eq, cases_lt, eq-eqb, ne_eqb}
 use Rattle.std.proofs.lemmas.Bool.Decides.{nat_tests}
@@ -83,21 +84,17 @@ module _ (p : Picture) where
 -- ---- words
 
 -- one module more in a word
-pub module_added : (row b k x : ℕ) (dark : Bool) → k < 57 → (dark ≡ true → b ≡ 1) → (dark ≡ false → b ≡ 0)
-    → bit (bit_or row (b * 2 ^ k % 2 ^ 64)) x ≡ (bit row x || (x == k && dark))
-module_added row b k x dark few on off =
-    or_bit row (b * 2 ^ k % 2 ^ 64) x ∙ ap (λ z. bit row x || z) (at dark refl)
+pub module_added : (line : ℕ → Bool) (row b k x : ℕ) → k < 57 → b ≡ from_bool (line k)
+    → bit row x ≡ (nat_lt x k && line x) → bit (bit_or row (b * 2 ^ k % 2 ^ 64)) x ≡ (nat_lt x (k + 1) && line x)
+module_added line row b k x few is before =
+    or_bit row (b * 2 ^ k % 2 ^ 64) x ∙ ap (λ z. bit row x || z) (at (line k) is) ∙ rw before (elim (cases_eq x k) [
+      | inl e ↦ rw e (grind (arith, nat_tests))
+      | inr ne ↦ grind (arith, nat_tests)
+    ])
   where
-    at : (d : Bool) → dark ≡ d → bit (b * 2 ^ k % 2 ^ 64) x ≡ (x == k && dark)
-    at true is = rw (on is, two_bits 1 k x (omega arith) (omega arith)) (grind arith)
-    at false is = rw (off is, two_bits 0 k x (omega arith) (omega arith)) (grind arith)
-
--- the columns of a row so far, and one more
-pub column_added : (line : ℕ → Bool) (k x : ℕ) → ((nat_lt x k && line x) || (x == k && line k)) ≡ (nat_lt x (k + 1) && line x)
-column_added line k x = elim (cases_eq x k) [
-  | inl e ↦ rw e (grind (arith, nat_tests))
-  | inr ne ↦ grind (arith, nat_tests)
-]
+    at : (dark : Bool) → b ≡ from_bool dark → bit (b * 2 ^ k % 2 ^ 64) x ≡ (x == k && dark)
+    at true on = rw (on, two_bits 1 k x (omega arith) (omega arith)) (grind arith)
+    at false off = rw (off, two_bits 0 k x (omega arith) (omega arith)) (grind arith)
 
 -- words that have the rows of a square are read as the square
 pub square_of_words : (p : Picture) (rows : List ℕ) (n : ℕ) → p.width ≡ n → p.height ≡ n → n ≤ length rows

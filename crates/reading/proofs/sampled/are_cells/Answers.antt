@@ -1,20 +1,12 @@
 use Rattle.std.proofs.Common.{◌≡◌, ◌+◌, ◌-◌, ◌<◌, true, refl, sym, ap, ◌∙◌, arith, inl, inr}
 use Rattle.std.proofs.lemmas.Bool.{and_parts, cases_lt, eqb-true}
 use Rattle.reading.specs.Private.{is_row_of_cells}
-use Rattle.qrmatrix.proofs.ComputedLaws.{fails_at, passes_on}
+use Rattle.qrmatrix.proofs.ComputedLaws.{passes_on}
 use Rattle.reading.proofs.CellLaws.{cells_again}
 use Rattle.reading.proofs.sampled.are_cells.Goals as goal
 use Rattle.reading.proofs.sampled.are_cells.Goals.{then-is_again, else-is_again, then-y-equal, else-y-equal}
 use Rattle.reading.proofs.sampled.are_cells.Goals.{else-not-is_again-via-then-not-is_again+else-not-is_row_of_cells}
 use Rattle.reading.proofs.sampled.are_cells.Goals.{else-not-is_again-via-else-not-is_again}
-
-pub returns-then-not-is_row_of_cells-clause-cells : goal.returns-then-not-is_row_of_cells-clause-cells
-returns-then-not-is_row_of_cells-clause-cells g c =
-    let p = g.G.Grid.picture c.args.dots.now in
-    let y = c.loop-y.y in
-    sym (c.loop-y.invariant.decide
-    ∙ fails_at (is_row_of_cells p c.args.scale c.args.zone.now) y (p.height - y) (p.height - (y + 1)) (omega arith)
-    (sym c.if-not-is_row_of_cells.true ∙ c.is_row_of_cells.ensures))
 
 pub loop-y-preserved : goal.loop-y-preserved
 loop-y-preserved g c =
