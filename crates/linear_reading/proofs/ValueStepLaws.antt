@@ -1,7 +1,7 @@
 -- The values of a Code 128 symbol are read one after another (ISO/IEC 15417, code sets).
-use Rattle.std.proofs.Common.{◌≡◌, ◌<◌, ℕ, ◌+◌, Bool, true, false, drop, get_or, length, Option, Some, None, List, [], ◌++◌, refl, sym, ap, append_assoc}
+use Rattle.std.proofs.Common.{◌≡◌, ◌<◌, ℕ, ◌+◌, Bool, true, false, drop, get_or, length, Option, Some, None, List, [], ◌++◌, refl, sym, ap, append_assoc, ◌∙◌, ◌≤◌}
 use Rattle.std.proofs.lemmas.Iterator.Adapters.{option_map_id}
-use Rattle.std.proofs.lemmas.List.{append-nil, drop_more}
+use Rattle.std.proofs.lemmas.List.{append-nil, drop_all, drop_more}
 use Rattle.std.specs.Bool.{then_some}
 use Rattle.std.specs.Prelude.{option_and_then, option_map, if◌then◌else◌, not}
 use Rattle.linear.specs.declared.switching.CodeSet.{CodeSet}
@@ -31,24 +31,33 @@ then_values before set true rest shift = refl
 then_values before set false rest shift = refl
 then_values before set is_shifted rest none = refl
 
-pub value_read : (before : List ℕ) (set : CodeSet) (is_shifted : Bool) (values : List ℕ) (i : ℕ)
-    (read : Option (List ℕ × (CodeSet × Bool))) → i < length values
-    → read ≡ step before set is_shifted (meaning (if is_shifted then other_set set else set) (get_or values i 0))
-    → option_and_then (λ next. with_values next.0 next.1.0 next.1.1 (drop (i + 1) values)) read
-    ≡ with_values before set is_shifted (drop i values)
-unfolding with_values read_next
-value_read before set is_shifted values i read inside is =
-    let at = if is_shifted then other_set set else set in
-    rw (is, drop_more values i 0 inside)
-    (then_values before set is_shifted (drop (i + 1) values) (meaning at (get_or values i 0)))
+module _ (before : List ℕ) (set : CodeSet) (is_shifted : Bool) (values : List ℕ) (i : ℕ) where
+  -- what one value does
+  abbrev step_at : Option (List ℕ × (CodeSet × Bool))
+  step_at = step before set is_shifted (meaning (if is_shifted then other_set set else set) (get_or values i 0))
+
+  next_values : i < length values → with_values before set is_shifted (drop i values)
+      ≡ option_and_then (λ next. with_values next.0 next.1.0 next.1.1 (drop (i + 1) values)) step_at
+  unfolding with_values read_next
+  next_values inside =
+      let at = if is_shifted then other_set set else set in
+      rw (drop_more values i 0 inside)
+      (sym (then_values before set is_shifted (drop (i + 1) values) (meaning at (get_or values i 0))))
+
+  pub value_read : (bytes : List ℕ) (next : CodeSet × Bool) → i < length values → Some (bytes, next) ≡ step_at
+      → with_values before set is_shifted (drop i values) ≡ with_values bytes next.0 next.1 (drop (i + 1) values)
+  value_read bytes next inside is = next_values inside ∙ rw (← is) refl
+
+  pub no_value_read : i < length values → None ≡ step_at → with_values before set is_shifted (drop i values) ≡ None
+  no_value_read inside is = next_values inside ∙ rw (← is) refl
 
 pub nothing_before : (set : CodeSet) (values : List ℕ) → with_values [] set false values ≡ read_values set false values
 unfolding with_values
 nothing_before set values = option_map_id (read_values set false values)
 
 -- at the end a shift has shifted nothing
-pub no_value : {A : Type 0} (bytes : A → List ℕ) (full : A) (set : CodeSet) (is_shifted : Bool)
-    → option_map bytes (then_some (not is_shifted) full) ≡ with_values (bytes full) set is_shifted []
+pub all_read : (before : List ℕ) (set : CodeSet) (is_shifted : Bool) (values : List ℕ) (i : ℕ) → length values ≤ i
+    → with_values before set is_shifted (drop i values) ≡ then_some (not is_shifted) before
 unfolding with_values
-no_value bytes full set true = refl
-no_value bytes full set false = ap Some (sym (append-nil (bytes full)))
+all_read before set true values i end = rw (drop_all i values end) refl
+all_read before set false values i end = rw (drop_all i values end) (ap Some (append-nil before))

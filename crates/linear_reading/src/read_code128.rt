@@ -79,6 +79,7 @@ fn read_value(
 }
 
 /// Returns the bytes of values, from a set on.
+#[tactic(auto, using(crate::proofs::ValueStepLaws::nothing_before, crate::proofs::ValueStepLaws::value_read, crate::proofs::ValueStepLaws::no_value_read, crate::proofs::ValueStepLaws::all_read))]
 fn read_values(start: CodeSet, values: &[u8]) -> Option<FullData>
     requires { length values.now ≤ MAX_VALUES }
     ensures { option_map (λ full. full.items) result ≡ read_values start false values.now }

@@ -7,10 +7,6 @@ use Rattle.linear_reading.proofs.groups.each_group.Goals as goal
 one_more : (count i : ℕ) → i < count → count - i ≡ suc (count - (i + 1))
 one_more count i inside = omega arith
 
-pub split_at-requires : goal.split_at-requires
-split_at-requires g c =
-    omega (arith, rw (one_more c.args.count c.loop-group._group c.loop-group-test.true) at c.loop-group.invariant.groups)
-
 pub loop-group-preserved : goal.loop-group-preserved
 loop-group-preserved g c =
     let more = one_more c.args.count c.loop-group._group c.loop-group-test.true in
