@@ -47,6 +47,7 @@ fn push_if(is_free: bool, dark: bool, bits: &mut Bits)
 }
 
 /// Returns the codewords that the free modules of a symbol are, with a mask taken off, in the order of the walk.
+#[tactic(auto, using(crate::proofs::WalkedBitLaws::next_walked))]
 pub(crate) fn read_codewords(version: Version, free: &Square, rows: &[u64], mask: Mask) -> Codewords
     requires side { length rows.now ≡ side_of version }
     requires free { MarksFree version free.now }

@@ -5,7 +5,7 @@ use Rattle.qrmatrix.specs.Bits.{bit}
 use Rattle.qrmatrix.specs.Square.{value_at}
 use Rattle.qr_reading.specs.Private.Walking.{unmasked, walked_bit}
 use Rattle.qr_reading.proofs.SymbolReadingLaws.{bits_fit, codewords_read, walk_read}
-use Rattle.qr_reading.proofs.WalkedBitLaws.{has_room, next_walked}
+use Rattle.qr_reading.proofs.WalkedBitLaws.{has_room}
 use Rattle.qr_reading.proofs.walk.read_codewords.Goals as goal
 
 pub loop-k-init : goal.loop-k-init
@@ -25,13 +25,6 @@ push_if-requires c =
     (has_room (walked_bit (side_of c.args.version) (value_at c.args.free.now) modules) (bits_in c.loop-k.bits) _
     c.loop-k.k _ (rw c.side-side.ensures.value at c.loop-k-test.true) c.loop-k.invariant
     (bits_fit c.args.version known.0 known.1 c.args.mask (λ x y. bit (slice_index c.args.rows.now y) x)))
-
-pub loop-k-preserved : goal.loop-k-preserved
-loop-k-preserved c =
-    let modules = unmasked c.args.rows.now c.args.mask in
-    next_walked (walked_bit (side_of c.args.version) (value_at c.args.free.now) modules) (bits_in c.loop-k.bits) _
-    c.loop-k.k _ (rw c.side-side.ensures.value at c.loop-k-test.true) c.loop-k.invariant (bits_in c.push_if.new.bits)
-    (rw (c.get.ensures, c.unmasked.ensures, c.place_at-x.ensures.place) at c.push_if.ensures)
 
 pub returns : goal.returns
 returns c =
