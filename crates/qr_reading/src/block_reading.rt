@@ -1,13 +1,17 @@
-//! Blocks taken back out of interleaved codewords, and the test of each (ISO/IEC 18004, 7.5, 7.6 and 12).
+//! The data of blocks, which are taken back out of interleaved codewords and tested (ISO/IEC 18004, 7.5, 7.6 and 12).
 ghost use Rattle.arrayvec.specs.ArrayVec.{array_vec_len};
 ghost use Rattle.gf256.specs.ErrorCorrection.{IsEcCodewordCount};
-ghost use Rattle.qrdata.specs.Reading.{has_roots, interleaving_place};
+ghost use Rattle.qrdata.specs.Reading.{data_in, has_roots, interleaving_place};
 ghost use Rattle.qr_reading.specs.Private.Blocks.{block_at, sound_blocks};
 ghost use Rattle.std.specs.Prelude.{◌≡◌, ◌+◌, ◌<◌, ◌≤◌, All, IfSome, length, option_map};
 ghost use Rattle.std.specs.Prelude.{replicate, slice_index, sum};
 
+use crate::bits::bits_of_codewords;
+use crate::segment_reading::{SymbolData, read_segments};
 use gf256::Generator;
-use qrdata::{Codewords, MAX_CODEWORDS, are_bytes, push_codewords};
+use qrdata::{
+    Codewords, Lengths, Level, MAX_CODEWORDS, Version, are_bytes, push_codewords, push_lengths,
+};
 
 /// Returns where the codeword at a place of a block is among those of all blocks.
 fn interleaving_place(lengths: &[usize], block: usize, place: usize) -> usize
@@ -55,7 +59,7 @@ fn is_multiple(generator: &Generator, count: usize, block: &[u8], ec_codewords: 
 
 /// Returns the codewords of the blocks of interleaved ones, block by block. `None`: a block is no multiple of the
 /// generator with its error correction codewords.
-pub(crate) fn sound_blocks(
+fn sound_blocks(
     count: usize,
     lengths: &[usize],
     ec_lengths: &[usize],
@@ -81,4 +85,24 @@ pub(crate) fn sound_blocks(
         push_codewords(&mut message, &data);
     }
     Some(message)
+}
+
+/// Reads the data that the codewords of a symbol hold, with no correction (ISO/IEC 18004, 12). They are in the order in
+/// which they are placed. `None`: they are not as many as the version has, a block is no multiple of its generator, or
+/// what the blocks hold are no segments in the numeric, the alphanumeric and the byte mode.
+#[tactic(auto, unfolding(qrdata::specs::Reading::data_in, crate::specs::Private::Blocks::sound_blocks))]
+pub(crate) fn read_data(version: Version, level: Level, codewords: &[u8]) -> Option<SymbolData>
+    ensures { option_map (λ bytes. bytes.items) result ≡ data_in version level codewords.now }
+{
+    if codewords.len() != version.total_codewords() {
+        return None;
+    }
+    version.prove_range();
+    let count = version.ec_codewords_per_block(level);
+    let lengths = version.lengths(level);
+    let (data, ec_codewords) = codewords.split_at(version.data_codewords(level));
+    let mut ec_lengths = Lengths::new();
+    push_lengths(&mut ec_lengths, lengths.len(), count);
+    let message = sound_blocks(count, &lengths, &ec_lengths, data, ec_codewords)?;
+    read_segments(version, &bits_of_codewords(&message))
 }

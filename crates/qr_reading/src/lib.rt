@@ -5,13 +5,12 @@
 //! heap.
 //!
 //! Inside, `module_reading` compares a square with the patterns of the symbol that it names, and `walk` reads its bits.
-//! `data_reading` takes the blocks back out of the codewords and tests each (`block_reading`), and reads the segments
-//! that they hold (`segment_reading`), whose numbers are read from a list of `bits`.
+//! `block_reading` takes the blocks back out of the codewords and tests each, and `segment_reading` reads the segments
+//! that they hold, whose numbers are read from a list of `bits`.
 #![tactic(auto)]
 
 mod bits;
 mod block_reading;
-mod data_reading;
 mod module_reading;
 mod segment_reading;
 mod walk;

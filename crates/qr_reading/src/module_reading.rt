@@ -7,7 +7,7 @@ ghost use Rattle.qrmatrix.specs.Reading.{read_square};
 ghost use Rattle.qrmatrix.specs.Square.{value_at};
 ghost use Rattle.qr_reading.specs.Private.Walking.{DrawsPatterns, format_named, shows_row};
 
-use crate::data_reading::read_data;
+use crate::block_reading::read_data;
 use crate::segment_reading::SymbolData;
 use crate::walk::read_codewords;
 use qrdata::{Level, Mask, Version};

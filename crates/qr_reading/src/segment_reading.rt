@@ -3,9 +3,7 @@ ghost use Rattle.arrayvec.specs.ArrayVec.{array_vec_len};
 ghost use Rattle.qr_reading.specs.Private.Groups.{group_bytes, next_group};
 ghost use Rattle.qr_reading.specs.Private.ReadSoFar.{HasRoom, Leaves, after};
 ghost use Rattle.qrdata.specs.Reading.{alphanumeric_character, payload_at, segment_at, segments_at};
-ghost use Rattle.qrdata.specs.Segments.{mode_indicator, modes};
-ghost use Rattle.std.specs.List.{find};
-ghost use Rattle.std.specs.Prelude.{◌≡◌, ◌++◌, ◌+◌, ◌*◌, ◌≤◌, ◌<◌, ◌==◌, IfSome, length, option_map};
+ghost use Rattle.std.specs.Prelude.{◌≡◌, ◌++◌, ◌+◌, ◌*◌, ◌≤◌, ◌<◌, IfSome, length, option_map};
 
 use crate::bits::{is_end, number_at};
 use arrayvec::ArrayVec;
@@ -112,18 +110,6 @@ fn read_payload<'a>(
     Some(rest)
 }
 
-/// Returns the mode that an indicator names.
-fn mode_of(indicator: u32) -> Option<Mode>
-    ensures { result ≡ find (λ mode. mode_indicator mode == indicator) modes }
-{
-    match indicator {
-        1 => Some(Mode::Numeric),
-        2 => Some(Mode::Alphanumeric),
-        4 => Some(Mode::Byte),
-        _ => None,
-    }
-}
-
 /// Reads a segment, appends its bytes to the data, and returns the bits after it.
 #[tactic(auto, unfolding(qrdata::specs::Reading::segment_at, crate::specs::Private::ReadSoFar::after))]
 fn read_segment<'a>(version: Version, bits: &'a [bool], out: &mut SymbolData) -> Option<&'a [bool]>
@@ -134,7 +120,12 @@ fn read_segment<'a>(version: Version, bits: &'a [bool], out: &mut SymbolData) ->
     ensures less { IfSome result (λ end. length end.now + 4 ≤ length bits.now) }
 {
     let (indicator, rest) = number_at(16, 4, bits)?;
-    let mode = mode_of(indicator)?;
+    let mode = match indicator {
+        1 => Mode::Numeric,
+        2 => Mode::Alphanumeric,
+        4 => Mode::Byte,
+        _ => return None,
+    };
     let width = mode.count_width(version);
     let (count, rest) = number_at(power_of_two(width), width, rest)?;
     read_payload(rest, mode, count as usize, out)

@@ -9,7 +9,7 @@ use Rattle.qrdata.specs.Segments.{byte_bits}
 use Rattle.qrdata.specs.Versions.{block_lengths, data_codewords, ec_codewords_per_block}
 use Rattle.qr_reading.specs.Private.Blocks.{sound_blocks}
 use Rattle.qr_reading.proofs.DeinterleavingLaws.{data_in-blocks}
-use Rattle.qr_reading.proofs.data_reading.read_data.Goals as goal
+use Rattle.qr_reading.proofs.block_reading.read_data.Goals as goal
 
 pub split_at-requires : goal.split_at-requires
 split_at-requires c =
