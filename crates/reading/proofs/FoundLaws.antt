@@ -1,7 +1,8 @@
 -- The first answer, and the scale of what is found.
-use Rattle.std.proofs.Common.{◌≡◌, ◌<◌, ◌≤◌, ◌+◌, ◌-◌, ℕ, zero, suc, min, Option, Some, None, List, [], ◌∷◌, ◌∙◌, refl, sym, subst, arith}
+use Rattle.std.proofs.Common.{◌≡◌, ◌<◌, ◌≤◌, ◌+◌, ◌-◌, ℕ, zero, suc, min, false, Option, Some, None, List, [], ◌∷◌, ◌∙◌, refl, sym, subst, arith}
 use Rattle.std.specs.List.{range_with_len}
-use Rattle.std.specs.Option.{option_map, option_or}
+use Rattle.std.specs.Option.{is_some, option_map, option_or}
+use Rattle.std.proofs.lemmas.Bool.{false≢true}
 use Rattle.std.specs.Prelude.{IfSome}
 use Rattle.labelcore.specs.declared.symbology.Symbology.{Symbology}
 use Rattle.picture.specs.Picture.{Picture}
@@ -28,6 +29,11 @@ or_later None b c = refl
 pub or_none : {A : Type 0} (a : Option A) → option_or a None ≡ a
 or_none (Some x) = refl
 or_none None = refl
+
+pub or_absent : {B D : Type 0} (told : D → B) (o : Option D) (a : Option B) → is_some o ≡ false
+    → option_or (option_map told o) a ≡ a
+or_absent told None a none = refl
+or_absent told (Some d) a none = absurd (false≢true (sym none))
 
 -- what holds of each answer holds of the first one
 first_has : {A B : Type 0} (P : B → Type 0) (ask : A → Option B) → ((x : A) → IfSome (ask x) P) → (xs : List A)

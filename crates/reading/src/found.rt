@@ -56,28 +56,21 @@ fn read_at<G: Grid>(dots: &G, turns: u8, scale: usize) -> Option<Reading>
     or_as(linear, Symbology::Qr, dots, turns, scale)
 }
 
-/// Reads dots at the first scale at which they are read.
+/// Returns what was read, or else reads dots at the first scale at which they are read.
 #[tactic(auto, using(crate::proofs::FoundLaws::asked_in_vain))]
-fn read_upright<G: Grid>(dots: &G, turns: u8) -> Option<Reading>
-    ensures { option_map found_of result ≡ upright_reading turns (G.picture dots.now) }
+fn or_upright<G: Grid>(found: Option<Reading>, dots: &G, turns: u8) -> Option<Reading>
+    ensures { option_map found_of result
+        ≡ option_or (option_map found_of found) (upright_reading turns (G.picture dots.now)) }
 {
+    if found.is_some() {
+        return found;
+    }
     for before in 0..dots.width().min(dots.height()) {
         if let Some(reading) = read_at(dots, turns, before + 1) {
             return Some(reading);
         }
     }
     None
-}
-
-/// Returns what was read, or else reads dots that are turned.
-fn or_upright<G: Grid>(read: Option<Reading>, dots: &G, turns: u8) -> Option<Reading>
-    ensures { option_map found_of result
-        ≡ option_or (option_map found_of read) (upright_reading turns (G.picture dots.now)) }
-{
-    match read {
-        Some(reading) => Some(reading),
-        None => read_upright(dots, turns),
-    }
 }
 
 /// A picture, turned clockwise by a quarter turn.
@@ -112,7 +105,7 @@ pub fn read_any<G: Grid>(dots: &G) -> Option<Reading>
     let once = Quarter { dots };
     let twice = Quarter { dots: &once };
     let thrice = Quarter { dots: &twice };
-    let found = or_upright(read_upright(dots, 0), &once, 1);
+    let found = or_upright(or_upright(None, dots, 0), &once, 1);
     or_upright(or_upright(found, &twice, 2), &thrice, 3)
 }
 

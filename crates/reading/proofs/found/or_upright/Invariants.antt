@@ -1,7 +1,7 @@
 use Rattle.std.proofs.Common.{◌≡◌, ◌+◌, ◌-◌, min}
 use Rattle.std.specs.List.{range_with_len}
 use Rattle.reading.specs.Found.{first_some, reading_at, upright_reading}
-use Rattle.reading.proofs.found.read_upright.Given as goal
+use Rattle.reading.proofs.found.or_upright.Given as goal
 
 -- the scales to come decide
 abbrev pub invariant-loop-before : goal.invariant-loop-before
