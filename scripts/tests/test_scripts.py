@@ -136,6 +136,7 @@ class Outcomes(InFolder):
             (both.replace("old:     1", "old:     3"), "an old: text is not in its file just once"),
             (both.replace("src/lib.rt", "specs/One.antt"), "it changes specs/One.antt, which is no file of src/"),
             (both.replace("src/lib.rt", "src/../x.rt"), "it changes src/../x.rt, which is no file of src/"),
+            (both.replace("src/lib.rt", "src/gone.rt"), "it changes src/gone.rt, which is no file of src/"),
             (both + clause, "it changes a clause, a ghost item or an attribute"),
             (both.replace("new:     2", "new:   1"), "it changes no code"),
         ):
