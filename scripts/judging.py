@@ -15,10 +15,10 @@ import sources
 from changes import HOME, SIGNS, Change, Crate, with_values
 from reader import File
 
-AT_ONCE = (
-    100  # copies in one check, of crates of any number: each check takes seconds before the first
-)
-FEW = 10  # changes that are judged by all of their files at once: another check takes longer
+# Copies in one check, of any number of crates: each check takes seconds before the first.
+AT_ONCE = 100
+# Changes that are judged by all of their files at once: another check takes longer.
+FEW = 10
 NO_DEFINITION = "no-definition"
 # The modules that have words, where a file does not bring one in.
 MODULES = {
