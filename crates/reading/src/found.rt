@@ -75,8 +75,8 @@ fn or_upright<G: Grid>(found: Option<Reading>, dots: &G, turns: u8) -> Option<Re
 
 /// A picture, turned clockwise by a quarter turn.
 #[derive(Drop)]
-pub struct Quarter<'a, G: Grid> {
-    pub dots: &'a G,
+struct Quarter<'a, G: Grid> {
+    dots: &'a G,
 }
 
 impl<'a, G: Grid> Grid for Quarter<'a, G> {
