@@ -19,21 +19,11 @@ pub struct Reading {
     pub data: SymbolData,
 }
 
-/// Returns what was read, or else reads dots as a symbol of a symbology at a scale.
-fn or_as<G: Grid>(
-    found: Option<Reading>,
-    symbology: Symbology,
-    dots: &G,
-    turns: u8,
-    scale: usize,
-) -> Option<Reading>
+/// Reads dots as a symbol of a symbology at a scale.
+fn read_as<G: Grid>(symbology: Symbology, dots: &G, turns: u8, scale: usize) -> Option<Reading>
     requires { 0 < scale }
-    ensures { option_map found_of result ≡ option_or (option_map found_of found)
-        (reading_as turns (G.picture dots.now) scale symbology) }
+    ensures { option_map found_of result ≡ reading_as turns (G.picture dots.now) scale symbology }
 {
-    if found.is_some() {
-        return found;
-    }
     let data = read(symbology, dots, scale)?;
     Some(Reading {
         symbology,
@@ -44,16 +34,15 @@ fn or_as<G: Grid>(
 }
 
 /// Reads dots at a scale, by the first symbology that reads them.
-#[tactic(auto, using(crate::proofs::FoundLaws::or_later, crate::proofs::FoundLaws::or_none))]
 fn read_at<G: Grid>(dots: &G, turns: u8, scale: usize) -> Option<Reading>
     requires { 0 < scale }
     ensures { option_map found_of result ≡ reading_at turns (G.picture dots.now) scale }
 {
-    let ean13 = or_as(None, Symbology::Ean13, dots, turns, scale);
-    let ean = or_as(ean13, Symbology::Ean8, dots, turns, scale);
-    let ean_upc = or_as(ean, Symbology::UpcA, dots, turns, scale);
-    let linear = or_as(ean_upc, Symbology::Code128, dots, turns, scale);
-    or_as(linear, Symbology::Qr, dots, turns, scale)
+    read_as(Symbology::Ean13, dots, turns, scale)
+        .or_else(|| read_as(Symbology::Ean8, dots, turns, scale))
+        .or_else(|| read_as(Symbology::UpcA, dots, turns, scale))
+        .or_else(|| read_as(Symbology::Code128, dots, turns, scale))
+        .or_else(|| read_as(Symbology::Qr, dots, turns, scale))
 }
 
 /// Returns what was read, or else reads dots at the first scale at which they are read.
