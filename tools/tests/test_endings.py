@@ -291,10 +291,9 @@ class Signals(unittest.TestCase):
             self.assertEqual((done.returncode, done.stderr), (0, b""), form)
             output, seen = done.stdout, set()
             for moment, (found, said) in enumerate(self.outputs(form, data, len(output))):
-                same = len(os.path.commonprefix([output, found]))
-                self.assertTrue(
-                    output.startswith(found), (form, moment, same, found[same - 40 : same + 80])
-                )
+                if not output.startswith(found):
+                    same = len(os.path.commonprefix([output, found]))
+                    self.fail(f"{form}, {moment}, {same}: {found[same - 40 : same + 80]!r}")
                 count = len(decode[form](found)) if found else 0
                 self.assertIn(said, said_after(form, count), (form, moment))
                 seen.add(count)

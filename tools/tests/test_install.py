@@ -1,6 +1,5 @@
-"""What `make install` and `make deb` make: it runs, it goes again, and two builds are equal."""
+"""What `make install` makes: it runs, and it goes again; the version, and the notices of the kit."""
 
-import hashlib
 import os
 import re
 import shutil
@@ -15,16 +14,6 @@ import support
 TOOLS = sorted(path.name for path in support.TOOLS.glob("label-*"))
 PROVED = support.TOP / "crates/labels_c/out/liblabels_c.a"
 PROVED_ARM64 = support.TOP / "crates/labels_c/out/arm64/liblabels_c.a"
-# Each package, and the processors that it is for.
-PACKAGES = {
-    ("labels", "amd64"),
-    ("label-tools", "all"),
-    ("liblabels1", "amd64"),
-    ("liblabels1", "arm64"),
-    ("liblabels-dev", "amd64"),
-    ("liblabels-dev", "arm64"),
-    ("python3-liblabels", "all"),
-}
 
 
 def command_of(*words: str, cwd: Path = support.TOP) -> str:
@@ -160,26 +149,7 @@ class Versions(InFolder):
         self.assertEqual(self.version_of_head(), newest)
 
 
-class Packages(InFolder):
-    def build(self, name: str) -> Dict[str, str]:
-        """Builds the packages of a new clone, and returns the checksum of each file."""
-        clone = self.folder / name
-        command_of("git", "clone", "-q", str(support.TOP), str(clone))
-        make("deb", top=clone)
-        packages = (clone / "out/deb").glob("*.deb")
-        return {path.name: hashlib.sha256(path.read_bytes()).hexdigest() for path in packages}
-
-    def test_two_builds_are_equal_and_lintian_finds_nothing(self) -> None:
-        support.needs("dpkg-buildpackage", "dh", "lintian", "aarch64-linux-gnu-gcc")
-        if not PROVED_ARM64.exists():
-            support.skip(f"{PROVED_ARM64} is not built: run scripts/plain_builds.py")
-        one = self.build("one")
-        self.assertEqual(one, self.build("another"))
-        names = [name.removesuffix(".deb").split("_") for name in one]
-        self.assertLessEqual(PACKAGES, {(name, processor) for name, _, processor in names})
-        changes = map(str, (self.folder / "one/out/deb").glob("*.changes"))
-        self.assertEqual(command_of("lintian", "--allow-root", "-EIL", "+pedantic", *changes), "")
-
+class Notices(unittest.TestCase):
     def test_the_notices_are_those_of_the_kit(self) -> None:
         """Each crate of the kit in the program, and what it takes, is in debian/copyright."""
         rt = shutil.which("rt")

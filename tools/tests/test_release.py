@@ -1,4 +1,6 @@
-"""What `make release` makes: packages and source as an apt repository, the same each time."""
+"""What `make deb` and `make release` make: packages and source as an apt repository, the same each
+time.
+"""
 
 import hashlib
 import os
@@ -11,9 +13,19 @@ from pathlib import Path
 from typing import Dict, Set
 
 import support
-from test_install import command_of, make
+from test_install import PROVED_ARM64, command_of, make
 
 MOST_OF_LABELS = 250_000  # bytes of the program's package
+# Each package, and the processors that it is for.
+PACKAGES = {
+    ("labels", "amd64"),
+    ("label-tools", "all"),
+    ("liblabels1", "amd64"),
+    ("liblabels1", "arm64"),
+    ("liblabels-dev", "amd64"),
+    ("liblabels-dev", "arm64"),
+    ("python3-liblabels", "all"),
+}
 OF_THE_WINDOW = ("share/applications/", "share/metainfo/", "share/icons/", "bin/label-window")
 
 
@@ -31,6 +43,9 @@ class Release(unittest.TestCase):
     def setUpClass(cls) -> None:
         """Makes two releases of new clones, the second one by a user who hides his files."""
         support.needs("dpkg-buildpackage", "dh", "dpkg-scanpackages", "lintian")
+        support.needs("aarch64-linux-gnu-gcc")
+        if not PROVED_ARM64.exists():
+            support.skip(f"{PROVED_ARM64} is not built: run scripts/plain_builds.py")
         folder = tempfile.TemporaryDirectory()
         cls.addClassCleanup(folder.cleanup)
         cls.folder = Path(folder.name)
@@ -50,6 +65,13 @@ class Release(unittest.TestCase):
 
     def test_two_releases_are_equal(self) -> None:
         self.assertEqual(sums_of(self.release), sums_of(self.other))
+
+    def test_all_packages_are_there_and_lintian_finds_nothing(self) -> None:
+        names = [path.stem.split("_") for path in self.release.glob("*.deb")]
+        self.assertLessEqual(PACKAGES, {(name, processor) for name, _, processor in names})
+        changes = [str(path) for path in (self.folder / "a/out/deb").glob("*.changes")]
+        self.assertEqual(len(changes), 2)
+        self.assertEqual(command_of("lintian", "--allow-root", "-EIL", "+pedantic", *changes), "")
 
     def test_sums_are_of_all_files(self) -> None:
         lines = (self.release / "SHA256SUMS").read_text(encoding="utf-8").split("\n")
