@@ -1,5 +1,5 @@
 -- What is computed for each number of a range holds for each of them.
-use Rattle.std.proofs.Common.{◌≡◌, ℕ, ◌+◌, ◌-◌, ◌<◌, ◌≤◌, sym, ap, subst, ◌∙◌, arith, map, Bool, true, false, zero-add, suc, zero, refl}
+use Rattle.std.proofs.Common.{◌≡◌, ℕ, ◌+◌, ◌-◌, ◌<◌, ◌≤◌, sym, ap, subst, ◌∙◌, arith, map, Bool, true, zero-add, suc, zero, refl}
 use Rattle.std.specs.Prelude.{slice_index_or}
 use Rattle.std.specs.List.{list_all, range_with_len}
 use Rattle.std.proofs.lemmas.List.FromFn.{get_or-map-range_with_len, get_or-range_with_len, length-range_with_len}
@@ -35,10 +35,6 @@ pairs_pass test n j k all first second =
 pub passes_on : (test : ℕ → Bool) (a b n m : ℕ) → n ≡ suc m → b ≡ a + 1 → true ≡ test a
     → list_all test (range_with_len a n) ≡ list_all test (range_with_len b m)
 passes_on test a b n m more next passes = rw (more, next, ← passes) refl
-
-pub fails_at : (test : ℕ → Bool) (a n m : ℕ) → n ≡ suc m → false ≡ test a
-    → list_all test (range_with_len a n) ≡ false
-fails_at test a n m more fails = rw (more, ← fails) refl
 
 -- two tests agree on the numbers below n
 pub same_tests : (p q : ℕ → Bool) (n : ℕ) → ((k : ℕ) → k < n → p k ≡ q k)
