@@ -190,6 +190,7 @@ class Guesses(unittest.TestCase):
         for names, wanted in (("EAN;UPC", {"code": 0}), ("EAN;EAN neu", {}), ("Barcode;EAN", {})):
             self.assertEqual(guessed("\n".join([names, *rows])).columns, wanted, names)
 
+    @support.slow
     def test_label_table_proposes_columns(self) -> None:
         names, row, _ = TABLES[7]
         with tempfile.TemporaryDirectory() as folder:

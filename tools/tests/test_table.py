@@ -1269,6 +1269,7 @@ class Arguments(TableTest):
         )
         return done.returncode, done.stdout.decode().splitlines(), done.stderr.decode().splitlines()
 
+    @support.slow
     def test_outputs_that_fail(self) -> None:
         table = f"code\n{SMALL}\n73513538\n"
         row = "label-table: row 3: 73513538: the check digit is 8, should be 7"

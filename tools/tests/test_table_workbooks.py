@@ -635,6 +635,7 @@ class Formats(WorkbookTest):
             self.shown(1 / 3, "General"), f'label-table: row 2: column 2 ("x") {problem}'
         )
 
+    @support.slow
     def test_the_signs_are_said_where_no_option_gives_them(self) -> None:
         data = xlsx(
             rows(["EAN", "x"], [PENCIL, cell(1, style=2)], [SMALL, cell(1234.5, style=1)]),
