@@ -193,9 +193,8 @@ def found_anywhere(function: str, folder: str) -> Found | None:
 def fault_of_changes(body: Body, folder: str) -> str:
     """Returns what is wrong with a body of changes, or nothing."""
     for one in body.changes:
-        if not re.fullmatch(r"src/[\w/]+\.rt", one.file) or not os.path.isfile(
-            f"{folder}/{one.file}"
-        ):
+        is_named = re.fullmatch(r"src/[\w/]+\.rt", one.file)
+        if not is_named or not os.path.isfile(f"{folder}/{one.file}"):
             return f"it changes {one.file}, which is no file of src/"
     texts = changed({}, body, folder)
     if texts is None:

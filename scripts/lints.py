@@ -39,7 +39,9 @@ BRANCHES = "    if two:\n        pass\n" * MOST_WAYS
 WRONG = f"import os  # noqa\n\n\ndef one():\n    two = three\n\n\ndef four(two):  # noqa\n{BRANCHES}"
 FINDS = ("F401", "F841", "F821", "C901")
 # The scripts that are laid out as the tools are, 100 columns wide.
-AS_TOOLS = tuple(f"scripts/{name}.py" for name in ("believed_rows", "changes", "edits", "judging", "wrong_bodies"))
+AS_TOOLS = tuple(
+    f"scripts/{name}.py" for name in ("believed_rows", "changes", "edits", "judging", "stand_ins", "wrong_bodies")
+)
 # The folders whose Python is typed, those together that import one another: modules of others may have the same name.
 TYPED = (("scripts", "debian"), ("lib",), ("tools", "completions"))
 # black puts a space before the colon of a slice, which E203 is against.

@@ -1,8 +1,8 @@
 """Functions of a copy of a crate that a check takes by their contracts alone.
 
-Such a function has a hole for its proof, and a body that calls nothing and never ends. So a check of those that
-call it reads neither its code nor what that calls. Its contract is the one that the crate has: a function that calls
-it is proved, or refused, as in the crate.
+Such a function has a hole in place of its proof, and a body that calls nothing and never ends. So
+a check of those that call it reads neither its code nor what that calls. Its contract is the one
+that the crate has: a function that calls it is proved, or refused, as in the crate.
 """
 
 import os
@@ -22,7 +22,9 @@ BODY = "{ loop {} }"
 
 @dataclass(frozen=True)
 class Function:
-    """A function with a body: its path below the crate, and where the body begins and ends in its file."""
+    """A function with a body: its path below the crate, and where the body begins and ends in its
+    file.
+    """
 
     path: str
     begin: int
@@ -30,14 +32,17 @@ class Function:
 
 
 def name_of_holder(name: str) -> str:
-    """The name by which the kit's paths have a type, a trait, or an `impl` of a trait for a type."""
+    """Returns the name that the kit's paths have for a type, a trait, or an `impl` of a trait."""
     trait, _, of_type = name.partition(" for ")
     return of_type + trait
 
 
-def functions_in(file: reader.File, items: Iterable[reader.Declaration], path: str) -> Iterator[Function]:
-    """The functions that items of a file have, but for `main`; those that call themselves, which are proved in the
-    folder of their cycle; and those of an `impl` that is not the only one of its name: the kit has others for these.
+def functions_in(
+    file: reader.File, items: Iterable[reader.Declaration], path: str
+) -> Iterator[Function]:
+    """Yields the functions that items of a file have. Left out are `main`, those that call
+    themselves, which are proved in the folder of their cycle, and those of an `impl` that is not
+    the only one of its name, for which the kit has another.
     """
     items = [*items]
     holders = [item.name for item in items if item.kind in ("impl", "trait")]
@@ -51,7 +56,7 @@ def functions_in(file: reader.File, items: Iterable[reader.Declaration], path: s
 
 
 def functions_of(file: reader.File) -> list[Function]:
-    """The functions of a file of the code, in its order."""
+    """Returns the functions of a file of the code, in its order."""
     module = "" if file.module in ("lib", "main") else file.module.replace(".", "::") + "::"
     return [*functions_in(file, file.declarations, module)]
 
@@ -68,8 +73,9 @@ def put_hole(function: Function, crate: str, folder: str) -> None:
 
 
 def put(top: str, crate: str, asked: Collection[str]) -> None:
-    """Has each function stand in for itself by its contract in the copy of a crate in `crates` below `top`, but those
-    that are asked for."""
+    """Leaves of each function its contract alone, in the copy of a crate that is in `crates` below
+    `top`, but of those that are asked for.
+    """
     folder = f"{top}/crates/{crate}"
     for file in reader.files_at(top, sources.files_below(f"{folder}/src", ".rt")):
         functions = [it for it in functions_of(file) if it.path not in asked]

@@ -309,16 +309,18 @@ class Judging(unittest.TestCase):
         return checks
 
     def test_each_change_is_judged_by_its_files_in_turn(self) -> None:
-        """Those that are refused by the first file by no other one; those that are few by all at once."""
+        """One that its first file refuses is judged by no other; those that are few by all at once."""
         crates = changes.read_crates(TOP)
-        every = changes.all_changes({name: crates[name] for name in ("gf256", "linear", "qrmatrix")})
-        found = [next(it for it in every if it.file.crate == name) for name in ("gf256", "linear", "qrmatrix")]
+        names = ("gf256", "linear", "qrmatrix")
+        every = changes.all_changes({name: crates[name] for name in names})
+        found = [next(it for it in every if it.file.crate == name) for name in names]
         copies = [[*judging.copies_of(it, crates[it.file.crate], None)] for it in found]
         titles = [[it.title for it in of_one] for of_one in copies]
         self.assertGreater(max(map(len, titles)), 1)
         for few, count in ((0, max(map(len, titles))), (3, 1)):
             checks = self.checks_of(found, few, refuses=False)
-            judged = [[it.title for check in checks for it in check if it.change is one] for one in found]
+            copied = [it for check in checks for it in check]
+            judged = [[it.title for it in copied if it.change is one] for one in found]
             self.assertEqual((len(checks), judged), (count, titles))
         (check,) = self.checks_of(found, 0, refuses=True)
         self.assertEqual([it.title for it in check], [of_one[0] for of_one in titles])
@@ -326,7 +328,7 @@ class Judging(unittest.TestCase):
         self.assertEqual(self.checks_of(found, 0, refuses=True), [])
 
     def test_what_judges_is_checked_as_it_is(self) -> None:
-        """For each file of worked values a copy of no change has all those that are to judge, and no other one."""
+        """A copy of no change has all worked values of a file that are to judge, and no other."""
         (file,) = self.crate.examples.values()
         names = [one.name for one in file.declarations if changes.is_worked(one)]
         first, *others = names

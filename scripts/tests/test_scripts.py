@@ -74,7 +74,10 @@ class WrongBodies(InFolder):
 SAID = "fn small::one: {}\nonly=1 proved=0\n"
 CALLS = "no proof: it calls `small::other`"
 HOLED = "depends on a hole in `Rattle.small.proofs.{}_spec`"
-RESTS = "not proved; it stands on `Rattle.small.proofs.{}`, which antt refuses; it calls `small::other`, which is not"
+RESTS = (
+    "not proved; it stands on `Rattle.small.proofs.{}`, which antt refuses; "
+    "it calls `small::other`, which is not proved"
+)
 ONE = """/// One.
 pub fn one() -> u8
     ensures { result ≡ 1 }
@@ -441,7 +444,9 @@ fn called() {
 """
 
     def test_functions(self) -> None:
-        """All have a hole and a body that calls nothing, but one that is asked for and those of other names."""
+        """All have a hole and a body that calls nothing, but one that is asked for and those of
+        other names.
+        """
         folder = self.path("crates", "small")
         write(f"{folder}/src/lib.rt", ONE)
         write(f"{folder}/src/part.rt", self.PART)
@@ -455,9 +460,11 @@ fn called() {
         self.assertEqual(read(f"{folder}/src/part.rt"), wanted)
         self.assertTrue(read(f"{folder}/src/lib.rt").endswith("\n{ loop {} }\n"))
         self.assertIn("one();", read(f"{folder}/src/main.rt"))
-        proofs = [os.path.relpath(it, f"{folder}/proofs") for it in sources.files_below(f"{folder}/proofs", ".antt")]
-        holes = ["one", "part/Counts/is_one", "part/Some/one", "part/SomeCounts/count"]
-        self.assertEqual(proofs, sorted([*(f"{it}/Proof.antt" for it in holes), "part/Some/two/Answers.antt"]))
+        files = sources.files_below(f"{folder}/proofs", ".antt")
+        proofs = [os.path.relpath(it, f"{folder}/proofs") for it in files]
+        holed = ["one", "part/Counts/is_one", "part/Some/one", "part/SomeCounts/count"]
+        holes = [f"{it}/Proof.antt" for it in holed]
+        self.assertEqual(proofs, sorted([*holes, "part/Some/two/Answers.antt"]))
         hole = read(f"{folder}/proofs/part/SomeCounts/count/Proof.antt")
         self.assertIn("use Rattle.small.proofs.part.SomeCounts.count.Statement.{statement}\n", hole)
         self.assertTrue(hole.endswith("\ncount_spec 𝓤 𝓛 𝓜 𝓡 w = ?\n"))

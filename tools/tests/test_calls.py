@@ -17,13 +17,15 @@ from typing import List, Sequence, Tuple
 import support
 from test_program import DRAWN, EAN8, OPTIONS, REFUSED, pbm
 
-# A call: where it reads or writes, how many bytes it asks for, and how many it moves; -1 where it fails.
+# A call: where it reads or writes, how many bytes it asks for, and how many it moves; -1 where it
+# fails.
 Call = Tuple[int, int, int]
 # A line, and the picture and the message that it makes.
 Line = Tuple[bytes, bytes, bytes]
 
 INPUT, IMAGES, MESSAGES = range(3)
-# How many bytes the program asks for at each read, and how many of its pictures it keeps until it writes them.
+# How many bytes the program asks for at each read, and how many of its pictures it keeps until it
+# writes them.
 BUFFER = 4096
 ROOM = 32768
 ALL = 1 << 30
@@ -34,7 +36,8 @@ ENDS = {
     MESSAGES: b"labels: write failed\n",
 }
 
-# Notes each read and each write, moves at most so many bytes, and fails at the call of this number, counted from 1.
+# Notes each read and each write, moves at most so many bytes, and fails at the call of this number,
+# counted from 1.
 NOTING = """
 #include <errno.h>
 #include <stdio.h>
@@ -55,8 +58,13 @@ static ssize_t move(long call, int file, const void *bytes, size_t asked, const 
     return moved;
 }
 
-ssize_t read(int file, void *bytes, size_t asked) { return move(SYS_read, file, bytes, asked, "READ"); }
-ssize_t write(int file, const void *bytes, size_t asked) { return move(SYS_write, file, bytes, asked, "WRITTEN"); }
+ssize_t read(int file, void *bytes, size_t asked) {
+    return move(SYS_read, file, bytes, asked, "READ");
+}
+
+ssize_t write(int file, const void *bytes, size_t asked) {
+    return move(SYS_write, file, bytes, asked, "WRITTEN");
+}
 """
 
 
@@ -98,8 +106,8 @@ def input_of(lines: Sequence[Line]) -> bytes:
 
 
 def right_run(lines: Sequence[Line], most: Most) -> Ran:
-    """The run over lines: pictures are written before each read and each message that follows them, at the end, and
-    where no more can be kept.
+    """The run over lines: pictures are written before each read and each message that follows
+    them, at the end, and where no more can be kept.
     """
     data = input_of(lines)
     calls: List[Call] = []
@@ -111,7 +119,7 @@ def right_run(lines: Sequence[Line], most: Most) -> Ran:
             kept = 0
             given = min(most.read, BUFFER, len(data) - place)
             calls.append((INPUT, BUFFER, given))
-            # A read that gives nothing is the end of the last line, as a line feed is that of another one.
+            # A read that gives nothing ends the last line, as a line feed ends another one.
             place += given or 1
         kept += len(image)
         while kept > ROOM:
@@ -125,7 +133,7 @@ def right_run(lines: Sequence[Line], most: Most) -> Ran:
     return Ran(calls, int(bool(messages)), images, messages)
 
 
-# Each line that is drawn with one that is refused or skipped after it, and then those that are left.
+# Lines of each kind: those that are drawn, that are refused, and that are skipped.
 KINDS: List[Line] = [
     *((line, pbm(rows), b"") for line, rows in DRAWN),
     *((line, b"", said) for line, said in REFUSED),
@@ -184,8 +192,8 @@ class Calls(unittest.TestCase):
     def assert_stops(
         self, right: Ran, lines: Sequence[Line], most: Most, failing: int, error: int = errno.EIO
     ) -> None:
-        """What was done before the call that fails is done, and after it the line of the end alone is written: a
-        second call of the same kind would succeed.
+        """What was done before the call that fails is done, and after it the line of the end alone
+        is written: a second call of the same kind would succeed.
         """
         before, (file, asked, _) = right.calls[: failing - 1], right.calls[failing - 1]
         ends = most.calls_of(MESSAGES, len(ENDS[file]))
@@ -197,7 +205,9 @@ class Calls(unittest.TestCase):
         self.assertEqual(self.ran(lines, most, failing, error), wanted, (failing, error))
 
     def test_the_calls_of_300_lines_are_in_order(self) -> None:
-        """Reads of fewer bytes than the program asks for, of as many, and writes of few; each is asked for all."""
+        """Reads of fewer bytes than the program asks for, of as many, and writes of few; each is
+        asked for all.
+        """
         self.assertEqual(len(LINES), 300)
         for most in (Most(1), Most(13), Most(BUFFER), Most(), Most(BUFFER, 10)):
             self.assertEqual(self.ran(LINES, most), right_run(LINES, most), most)
@@ -226,7 +236,7 @@ class Calls(unittest.TestCase):
                 self.assert_stops(right, lines, most, failing)
 
     def test_each_error_is_a_failure(self) -> None:
-        """Each error that the system has, at a read, at a write of pictures and at one of messages."""
+        """Each error of the system, at a read, at a write of pictures and at one of messages."""
         most = Most(13)
         right = right_run(IN_TURN, most)
         first = [[file for file, *_ in right.calls].index(file) + 1 for file in ENDS]

@@ -1,4 +1,4 @@
-"""What `make install` makes: it runs, and it goes again; the version, and the notices of the kit."""
+"""What `make install` makes runs, and goes again; the version, and the notices of the kit."""
 
 import os
 import re

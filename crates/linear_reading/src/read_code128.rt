@@ -44,8 +44,8 @@ fn meaning_of(set: CodeSet, value: u8) -> Meaning
     }
 }
 
-/// Reads a value, after a shift in the other set of A and B, appends its text, and returns the set that holds after it
-/// and whether the next one is shifted.
+/// Reads a value in the set that holds, or after a shift in the other one of A and B, and appends its text. Returns the
+/// set that holds after it, and whether the next value is shifted.
 fn read_value(
     full: &mut FullData,
     set: CodeSet,
