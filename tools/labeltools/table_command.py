@@ -8,7 +8,7 @@ import sys
 from pathlib import Path
 from typing import Any, Callable, Sequence, TypeVar
 
-from labeltools.text import NOTHING, Text
+from labeltools.text import NOTHING, Text, joined
 from labeltools.codes import AUTO, NAMES, CodeRules
 from labeltools.columns import column_word
 from labeltools.command_line import CommandTalk, Parser, main_of, read_input, standard_output
@@ -321,14 +321,13 @@ def check(parser: Parser, arguments: argparse.Namespace) -> None:
 
 def proposed(arguments: argparse.Namespace) -> Text:
     """Returns the words that may fit a table, and the columns among which only the keeper knows the
-    codes; none where it is not a file, or has no codes.
+    codes or the price; none where it is not a file, or has no codes.
     """
     if arguments.table in (None, "-"):
         return NOTHING
     name, data = read_input(arguments.table)
     guess = guess_of(data, name, TableOptions(file=file_options(arguments)), Silence())
-    codes = [column_word(guess.names, place) for place in guess.doubts.get("code", ())]
-    if "code" not in guess.columns and not codes:
+    if "code" not in guess.columns and "code" not in guess.doubts:
         return NOTHING
     options: dict[str, Any] = {
         option: column_word(guess.names, place) for option, place in guess.columns.items()
@@ -337,9 +336,15 @@ def proposed(arguments: argparse.Namespace) -> Text:
     options["header-row"] = guess.header if guess.header > 1 else 0
     options["no-header"] = not guess.header
     words = shlex.join([TOOL, *words_of(options), arguments.table])
-    if codes:
-        return Text("--code may be {}; try {}", ", ".join(map(shlex.quote, codes)), words)
-    return Text("try {}", words)
+    asked = [
+        Text(
+            "--{} may be {}",
+            kind,
+            ", ".join(shlex.quote(column_word(guess.names, at)) for at in places),
+        )
+        for kind, places in guess.doubts.items()
+    ]
+    return joined("; ", [*asked, Text("try {}", words)])
 
 
 def older_lines(path: str) -> LinesFile:

@@ -7,13 +7,12 @@ from pathlib import Path
 from typing import Sequence
 
 import support
-from labeltools import code_names, column_words, price_names
 from labeltools import guess as guesses
 from labeltools.guess import Guess, guess, guess_of
 from labeltools.messages import Silence
 from labeltools.table_options import FileOptions, TableOptions
 
-# the names of the columns, a row, and what is to be guessed
+# the names of the columns, a row, and what is to be guessed; what has a `?` is asked
 TABLES = (
     (
         "Warengruppe;Artikel;GTIN;Preis EUR",
@@ -53,12 +52,12 @@ TABLES = (
     (
         "Produkt;Strichcode;Alter Preis;Neuer Preis;Anzahl Etiketten",
         "Honig Linde;4006381333931;3,50 €;2,99 €;4",
-        "title code - price copies",
+        "title code ?price ?price copies",
     ),
     (
         "Artikelnr;Omschrijving;EAN;Inkoopprijs;Adviesprijs",
         "A1;Drop zoet;4006381333931;1,00;1,95",
-        "- title code - price",
+        "- title code ?price ?price",
     ),
     (
         "Autor;Titel;ISBN;Ladenpreis",
@@ -70,32 +69,32 @@ TABLES = (
         "4100;Birnen Conference;Italien;2,99;2,33 €/kg;4006381333931",
         "- title - price - code",
     ),
-    ("Inventarnummer;Gegenstand;Raum", "INV-00118;Drehstuhl;2.14", "code title -"),
+    ("Inventarnummer;Gegenstand;Raum", "INV-00118;Drehstuhl;Büro", "code title -"),
     ("Charge;Sorte;Datum", "L26-0011A;Apfelsaft;11.03.2026", "code title -"),
     ("Regal;Inhalt;Adresse", "R3;Schrauben M3;https://lager.example/r/3", "- title code"),
     ("Artikelbezeichnung;GTIN;CHF", "Rivella rot;4006381333931;2.50", "title code price"),
     ("Käse;EAN;Fr. / 100 g;Fr. / Stück", "Tilsiter;4006381333931;1.95;4.85", "title code - price"),
-    ("Zolltarifnr.;EAN;Art.-Nr.", "731814;4006381333931;100-22 Schraube", "- code -"),
+    ("Zolltarifnr.;EAN;Art.-Nr.", "731814;4006381333931;100-22", "- code -"),
     (
         "Code article;Jeans;EAN;PU TTC",
         "V12 Denim;Bleu nuit;4006381333931;39,90",
-        "- title code price",
+        "title - code ?price",
     ),
-    ("Bestellnummer;Artikelnummer;Ware", "4500012345;M-10023;Kugellager", "- code title"),
+    ("Bestellnummer;Artikelnummer;Ware", "4500012345;M-10023;Kugellager", "?code ?code title"),
     (
         "EAN artikel;EAN omdoos;Omschrijving;Prijs per stuk;Prijs per doos",
         "4006381333931;4012345678901;Drop zoet;1,95;19,50",
-        "code - title price -",
+        "?code ?code title ?price ?price",
     ),
     (
         "EAN Einzelpflanze;EAN Tray;Pflanze;Preis",
         "4006381333931;4012345678901;Lavendel;4,95",
-        "code - title price",
+        "?code ?code title price",
     ),
     (
         "UPC-A;EAN-13;Board game;MSRP",
         "036000291452;0036000291452;Chess, wood;19.95",
-        "- code title price",
+        "code - title price",
     ),
 )
 # tables in which two columns may be meant, and those that are
@@ -118,20 +117,20 @@ DOUBTS: Sequence[tuple[str, str, dict[str, list[str]]]] = (
     (
         "EAN Karton;EAN Stück;Artikel;EK;UVP",
         "4006381333931;4012345678901;Honig Linde;3,10;5,49",
-        {},
+        {"code": ["EAN Karton", "EAN Stück"]},
     ),
     (
         "EAN;Seriennummer;Modell",
         "4006381333931;SN-20144;Kamera Reflex",
-        {"code": ["EAN", "Seriennummer"]},
+        {},
     ),
     (
         "Artikelnummer;SKU;Ware",
         "M-10023;SK-77120;Kugellager",
         {"code": ["Artikelnummer", "SKU"]},
     ),
-    ("N° billet;Place;Tarif", "FR26-0099123;B14;45,00", {"code": ["N° billet"]}),
-    ("Etikett;Eingang;Spender;Tel.", "C00812;03.11.2026;Anna;0151-2233445", {"code": ["Etikett"]}),
+    ("N° billet;Place", "FR26-0099123;B14", {"code": ["N° billet"]}),
+    ("Etikett;Eingang;Spender;Ort", "C00812;03.11.2026;Anna;Ulm", {"code": ["Etikett"]}),
 )
 SYMBOLOGIES = {
     "Inventarnummer": "code128",
@@ -151,6 +150,7 @@ class Guesses(unittest.TestCase):
         for names, row, wanted in TABLES:
             found = guessed(f"{names}\n{row}\n")
             kinds = {place: kind for kind, place in found.columns.items()}
+            kinds |= {at: f"?{kind}" for kind, all in found.doubts.items() for at in all}
             said = [kinds.get(place, "-") for place in range(len(found.names))]
             self.assertEqual(" ".join(said), wanted, names)
             self.assertEqual(found.header, 1)
@@ -161,8 +161,10 @@ class Guesses(unittest.TestCase):
         names = "EAN;Artikel;EK netto"
         row = "4006381333931;Salbe, kühlend;2,10 €"
         self.assertNotIn("price", guessed(f"{names}\n{row}\n").columns)
-        found = guessed(f"{names};Apothekenpreis\n{row};4,95 €\n")
+        found = guessed(f"{names};Verkaufspreis\n{row};4,95 €\n")
         self.assertEqual(found.columns["price"], 3)
+        found = guessed(f"{names};Apothekenpreis\n{row};4,95 €\n")  # a word that is not known
+        self.assertEqual(found.doubts, {"price": [2, 3]})
 
     def test_what_only_the_keeper_knows(self) -> None:
         for names, row, wanted in DOUBTS:
@@ -185,10 +187,11 @@ class Guesses(unittest.TestCase):
         said = guessed(f"{row}\n{names}\n", TableOptions(file=FileOptions(header_row=1)))
         self.assertEqual(said.header, 1)
 
-    def test_codes_that_most_articles_lack(self) -> None:
+    def test_two_columns_of_codes_are_asked_about(self) -> None:
         rows = [f"{code};{other}" for code, other in zip(CODES, ("", "", "036000291452"))]
-        for names, wanted in (("EAN;UPC", {"code": 0}), ("EAN;EAN neu", {}), ("Barcode;EAN", {})):
-            self.assertEqual(guessed("\n".join([names, *rows])).columns, wanted, names)
+        for names in ("EAN;UPC", "EAN;EAN neu", "Barcode;EAN"):
+            found = guessed("\n".join([names, *rows]))
+            self.assertEqual((found.columns, found.doubts), ({}, {"code": [0, 1]}), names)
 
     @support.slow
     def test_label_table_proposes_columns(self) -> None:
@@ -197,12 +200,13 @@ class Guesses(unittest.TestCase):
             path = Path(folder, "Hofladen Mai.csv")
             path.write_text(f"Hofladen;\n{names}\n{row}\n")
             done = support.run("label-table", path)
-            proposed = support.messages(done)[-1].partition("; try ")[2]
+            asked, _, proposed = support.messages(done)[-1].partition("; try ")
+            self.assertIn("--price may be 'Alter Preis', 'Neuer Preis'", asked)
             self.assertEqual((done.returncode, done.stdout), (2, b""))
             self.assertEqual(
                 proposed,
-                "label-table --code Strichcode --title Produkt --price 'Neuer Preis' "
-                f"--copies 'Anzahl Etiketten' --header-row 2 '{path}'",
+                "label-table --code Strichcode --title Produkt --copies 'Anzahl Etiketten' "
+                f"--header-row 2 '{path}'",
             )
             path.write_text("Ware;Code;SKU;VK\nKugellager;M-10023;S-77120;4,20\n")
             self.assertIn(
@@ -366,53 +370,21 @@ AMOUNTS = (
     # the net price beside what the maker recommends with its tax
     ("Händler;5,00 7,00 8,00 9,99;UVP inkl. MwSt.;12,00 24,00 6,00 3,60;unser Preis;10 20 5 3", 3),
 )
-# names of two columns of numbers where no article has an EAN, and the one that is the shop's; ""
-# where only the keeper knows it, or it has none
-OWN_CODES = (
-    ("Producer code;Item no.", "Item no."),
-    ("Distributor SKU;Stock number", "Stock number"),
-    ("MPN;Product code", "Product code"),
-    ("Herstellerartikelnummer;Artikelnummer", "Artikelnummer"),
-    ("Liefer-Art.-Nr.;Art.-Nr.", "Art.-Nr."),
-    ("Fremdnummer;Materialnummer", "Materialnummer"),
-    ("Code fabricant;Code article", "Code article"),
-    ("Réf. distributeur;Réf.", "Réf."),
-    ("Ref. fabricante;Ref. interna", "Ref. interna"),
-    ("Codice costruttore;Codice articolo", "Codice articolo"),
-    ("Artikelcode fabrikant;Artikelnr.", "Artikelnr."),
-    ("Kod producenta;Indeks towaru", "Indeks towaru"),
-    ("Kód výrobce;Kód zboží", "Kód zboží"),
-    ("Tillverkarens kod;Artikelnummer", "Artikelnummer"),
-    ("Valmistajan koodi;Tuotenumero", "Tuotenumero"),
-    ("Gyártói kód;Cikkszám", "Cikkszám"),
-    ("Cod producător;Cod produs", "Cod produs"),
-    ("Üretici kodu;Stok kodu", "Stok kodu"),
-    ("Код поставщика;Артикул", "Артикул"),
-    ("Κωδικός προμηθευτή;Κωδικός", "Κωδικός"),
-    ("Item number;Internal number", "Internal number"),
-    ("Client reference;Reference", "Reference"),
-    ("International code;Reference", ""),
-    ("Lieferantennummer;Hersteller-Nr.", ""),
-    ("Stock number;SKU", ""),
-)
 NUMBERS = (("30-11821", "30-11822", "77-40013"), ("KB-2001", "KB-2002", "KB-2003"))
 CODES = ("4006381333931", "9780306406157", "5901234123457")
 LOW, HIGH = ("1,20", "8,40", "2,05"), ("1,99", "12,49", "3,10")
 
 
 class Codes(unittest.TestCase):
-    def test_numbers_of_other_parties_are_no_codes(self) -> None:
-        for names, wanted in OWN_CODES:
-            for order in (1, -1):
-                both = list(zip(names.split(";"), NUMBERS))[::order]
-                found = guess([["Title", "Tea", "Book", "Gum"], *([n, *c] for n, c in both)], 1)
-                place = found.columns.get("code")
-                self.assertEqual("" if place is None else found.names[place], wanted, names)
-
-    def test_what_is_asked_has_no_number_of_another_party(self) -> None:
-        numbers = [["Kennung", *NUMBERS[0]], ["Vendor code", *NUMBERS[1]]]
-        found = guess([["Title", "Tea", "Book", "Gum"], *numbers], 1)
-        self.assertEqual(found.doubts, {"code": [1]})
+    def test_two_numbers_of_articles_are_asked_about(self) -> None:
+        """Nothing says which of them a scanner is to read: the shop's, or the maker's."""
+        for names in ("Producer code;Item no.", "Stock number;SKU", "Kennung;Artikelnummer"):
+            both = [[name, *numbers] for name, numbers in zip(names.split(";"), NUMBERS)]
+            found = guess([["Title", "Tea", "Book", "Gum"], *both], 1)
+            self.assertEqual((found.doubts, "code" in found.columns), ({"code": [1, 2]}, False))
+        for name, is_asked in (("Artikelnummer", False), ("SKU", False), ("Kennung", True)):
+            found = guess([["Title", "Tea", "Book", "Gum"], [name, *NUMBERS[0]]], 1)
+            self.assertEqual("code" in found.doubts, is_asked, name)
 
     def test_a_number_that_all_rows_share_is_no_code(self) -> None:
         for name in ("GLN Hersteller", "Depot"):
@@ -421,16 +393,6 @@ class Codes(unittest.TestCase):
         families = ["Code famille", "F-1001", "F-1001", "F-1002"]
         self.assertEqual(guess([families, ["Référence", *NUMBERS[1]]], 1).columns["code"], 1)
 
-    def test_numbers_may_be_short_where_their_name_says_that_they_are_of_articles(self) -> None:
-        numbers = ("1001", "1002", "1003")
-        for name, wanted in (("Ref.", {"code": 0}), ("Nr.", {})):
-            self.assertEqual(guess([[name, *numbers]], 1).columns, wanted, name)
-
-    def test_a_link_to_a_picture_is_no_code(self) -> None:
-        links = [f"https://shop.example/{number}.jpg" for number in NUMBERS[0]]
-        found = guess([["Image URL", *links], ["SKU", *NUMBERS[1]]], 1)
-        self.assertEqual((found.columns["code"], found.symbology), (1, "code128"))
-
     def test_numbers_of_articles_are_no_titles(self) -> None:
         columns = [["Item", *NUMBERS[1]], ["UPC", *CODES], ["Desc", "Tea", "Book", "Gum"]]
         self.assertEqual(guess(columns, 1).columns["title"], 2)
@@ -438,17 +400,24 @@ class Codes(unittest.TestCase):
 
 class Prices(unittest.TestCase):
     def test_the_price_is_the_one_that_customers_pay_or_it_is_asked(self) -> None:
-        asked = 0
+        right = 0
         for names, place in PRICES:
             texts = [("Tea, green", "A long book", "Gum"), CODES, LOW, HIGH]
             columns = [[name, *column] for name, column in zip(names.split(";"), texts)]
             found = guess(columns, 1)
             self.assertEqual(found.columns.get("code"), 1, names)
-            self.assertEqual(found.columns.get("price", -1) + 1, place, names)
-            asked += place == 0
-        self.assertLessEqual(3 * asked, len(PRICES))
+            self.check_price(found, place, names)
+            right += "price" in found.columns
+        self.assertGreater(4 * right, len(PRICES))
 
-    def test_amounts_tell_where_names_do_not(self) -> None:
+    def check_price(self, found: Guess, place: int, names: str) -> None:
+        """The price is that column, or it is asked, with that column among others."""
+        asked = found.doubts.get("price", ())
+        self.assertIn(found.columns.get("price", -1) + 1, {place, 0}, names)
+        self.assertEqual("price" in found.columns, not asked, names)
+        self.assertTrue(not (asked and place) or place - 1 in asked, names)
+
+    def test_amounts_without_a_sure_name_are_asked_about(self) -> None:
         for columns, place in AMOUNTS:
             words = columns.split(";")
             prices = [
@@ -456,8 +425,7 @@ class Prices(unittest.TestCase):
                 for name, cells in zip(words[::2], words[1::2])
             ]
             found = guess([["EAN", *CODES, "96385074"], *prices], 1)
-            self.assertEqual(found.columns.get("price", 0), place, columns)
-            self.assertEqual("price" in found.doubts, place == 0, columns)
+            self.check_price(found, place + 1 if place else 0, columns)
 
     def test_what_is_not_named_a_price_is_none(self) -> None:
         for name in NO_PRICES:
@@ -475,7 +443,7 @@ class Prices(unittest.TestCase):
 def load_tests(
     loader: unittest.TestLoader, tests: unittest.TestSuite, _: object
 ) -> unittest.TestSuite:
-    for module in (guesses, code_names, column_words, price_names):
+    for module in (guesses,):
         tests.addTests(doctest.DocTestSuite(module))
     return tests
 
