@@ -12,8 +12,8 @@ import unicodedata
 from dataclasses import dataclass
 from decimal import Decimal
 from enum import Enum, auto
-from functools import lru_cache
-from typing import Iterable, NamedTuple, Union
+from itertools import pairwise
+from typing import NamedTuple, Sequence, Union
 
 from labeltools.codes import IS_ROUNDED_DATA, PROGRAM_ERROR, ROUNDED, ROUNDED_HINT
 from labeltools.messages import RowError, named, quoted
@@ -36,25 +36,9 @@ UNSEEN_TEXT = re.compile("Cc|Z[lp]|Cf .*(?:EMBEDDING|OVERRIDE|ISOLATE|DIRECTIONA
 UNSEEN_PRICE = re.compile("C[cf]|Z[lp]")
 STRUCK = Text("has letters that are struck through")
 UNSEEN = Text("has letters that nobody sees")
-OF_SIGNS = Text("has letters of a font that shows signs in their place")
 WITHOUT = Text("enter it again without them")
 SIZES = Text("has digits of two sizes side by side, as for cents without a decimal sign")
 SAME_SIZE = 0.9  # of two sizes of letters: a smaller share is another size
-# of the three parts of a colour: letters that differ less from what is behind them are not seen
-LEAST_CONTRAST = 8
-WHITE, BLACK = "FFFFFF", "000000"
-RED_GREEN_BLUE = re.compile("[0-9A-F]{6}")
-# fonts that show a tick for ü, or a hand for 7
-FONT_OF_SIGNS = re.compile(
-    r"(?:wing|web)dings *[0-9]?|symbol[0-9]?|marlett|mt extra|(?:itc )?zapf *dingbats(?: itc)?",
-    re.IGNORECASE,
-)
-SUPERSCRIPT = "superscript"
-SUBSCRIPT = "subscript"
-PLACES = {
-    SUPERSCRIPT: str.maketrans("0123456789", "⁰¹²³⁴⁵⁶⁷⁸⁹"),
-    SUBSCRIPT: str.maketrans("0123456789", "₀₁₂₃₄₅₆₇₈₉"),
-}
 RAISED = Text("is a number that is raised or lowered")
 
 
@@ -149,31 +133,6 @@ class Fault(Special):
 
 
 @dataclass(frozen=True)
-class Signs(Special):
-    """Letters of a font that shows signs in their place, which choose rows, as a tick does, but
-    which no label can show.
-    """
-
-    value: str
-
-    def shown(self) -> str:
-        """Returns its letters."""
-        return self.value
-
-    def printed(self) -> str:
-        """Raises `RowError`."""
-        raise RowError(OF_SIGNS, AS_TEXT)
-
-    def digits(self) -> str:
-        """Raises `RowError`."""
-        raise RowError(OF_SIGNS, AS_TEXT)
-
-    def data(self) -> str:
-        """Raises `RowError`."""
-        raise RowError(OF_SIGNS, AS_TEXT)
-
-
-@dataclass(frozen=True)
 class Truth(Special):
     """A truth value, which chooses rows, but which no label can show; `value` is its text."""
 
@@ -193,60 +152,84 @@ class Truth(Special):
 Cell = Union[str, Special]
 
 
-class Run(NamedTuple):
-    """Letters of one form in a cell; `place` is `SUPERSCRIPT`, `SUBSCRIPT`, empty for the usual
-    one, `size` is in points, and `wrong` is why these letters are none: `STRUCK`, `UNSEEN`,
-    `OF_SIGNS`.
+class Mark(Enum):
+    """What a form of letters does to what they mean: raised digits are other signs, and letters
+    that are struck through, or white where nothing is behind them, are none.
     """
 
-    text: str
-    place: str = ""
+    NONE = ""
+    RAISED = "⁰¹²³⁴⁵⁶⁷⁸⁹"
+    LOWERED = "₀₁₂₃₄₅₆₇₈₉"
+    STRUCK = "-"
+    WHITE = " "
+
+    @property
+    def moves(self) -> bool:
+        """Whether letters are above or below the others."""
+        return self in (Mark.RAISED, Mark.LOWERED)
+
+
+class Form(NamedTuple):
+    """How letters look, in so far as that changes what they mean; the size is in points, 0 where
+    it is not known; `is_filled` is whether their cell has a colour.
+    """
+
+    mark: Mark = Mark.NONE
     size: float = 0
-    wrong: Text = NOTHING
+    is_filled: bool = False
+
+    def within(self, cell: "Form") -> "Form":
+        """Returns the form of letters in a cell, whose size they have where they have none."""
+        is_seen = self.mark is Mark.WHITE and cell.is_filled
+        return Form(Mark.NONE if is_seen else self.mark, self.size or cell.size, cell.is_filled)
 
 
-def text_of_runs(runs: Iterable[Run], around: Text = NOTHING) -> str | Fault:
+PLAIN = Form()
+Runs = Sequence[tuple[str, Form]]  # letters of a cell, each with their form
+
+
+def text_of_runs(runs: Runs, around: Mark = Mark.NONE) -> str | Fault:
     """Returns the text of runs: digits that are raised or lowered are such digits. There is none
-    where some letters are none, but for what is wrong with the whole cell, and where a number
-    goes on in letters of another size.
+    where some letters are none, but for the mark of the whole cell, and where a number goes on in
+    letters of another size.
 
-    >>> text_of_runs([Run("7"), Run("99", place="superscript")])
+    >>> text_of_runs([("7", PLAIN), ("99", Form(Mark.RAISED))])
     '7⁹⁹'
-    >>> text_of_runs([Run("9", wrong=STRUCK), Run("7,99")]).value
+    >>> text_of_runs([("9", Form(Mark.STRUCK)), ("7,99", PLAIN)]).value
     '97,99'
-    >>> text_of_runs([Run("7", size=12), Run("99", size=8)]).what
+    >>> text_of_runs([("7", Form(size=12)), ("99", Form(size=8))]).what
     'has digits of two sizes side by side, as for cents without a decimal sign'
     """
-    found = [run._replace(text=run.text.translate(PLACES.get(run.place, {}))) for run in runs]
-    found = [run for run in found if run.text]
-    text = "".join(run.text for run in found)
-    for run in found:
-        if run.wrong != around and run.text.strip():
-            return Fault(run.wrong or around, WITHOUT, text)
-    if any(map(are_cut, found, found[1:])):
-        return Fault(SIZES, AS_TEXT, text)
+    if len(runs) == 1 and runs[0][1].mark is around is Mark.NONE:
+        return runs[0][0]  # most cells, at once
+    found = [(moved(text, form.mark), form) for text, form in runs if text]
+    text = "".join(text for text, _ in found)
+    marks = {form.mark for part, form in found if part.strip()}
+    if Mark.STRUCK in marks:
+        return Fault(STRUCK, WITHOUT, text)
+    if Mark.WHITE in marks and around is not Mark.WHITE:
+        return Fault(UNSEEN, WITHOUT, text)
+    for (one, form), (other, after) in pairwise(found):
+        is_number = one[-1].isdecimal() and other[0].isdecimal()
+        if is_number and min(form.size, after.size) < SAME_SIZE * max(form.size, after.size):
+            return Fault(SIZES, AS_TEXT, text)
     return text
 
 
-def are_cut(run: Run, after: Run) -> bool:
-    """Returns whether a number goes on in letters that are clearly larger or smaller."""
-    if not (run.text[-1].isdecimal() and after.text[0].isdecimal()):
-        return False
-    return min(run.size, after.size) < SAME_SIZE * max(run.size, after.size)
+def moved(text: str, mark: Mark) -> str:
+    """Returns a text with the signs of digits that are raised or lowered."""
+    if not mark.moves:
+        return text
+    return text.translate(str.maketrans("0123456789", mark.value))
 
 
-@lru_cache(maxsize=256)
-def are_unseen(letters: str, ground: str) -> bool:
-    """Returns whether letters have nearly the colour of what is behind them: both are `RRGGBB`, or
-    else the name of a colour that only the file knows; empty where it is not known.
-
-    >>> are_unseen("FFFFFF", "FEFEFE"), are_unseen("FFFFFF", "F0F0F0"), are_unseen("theme 4", "")
-    (True, False, False)
-    """
-    if not (RED_GREEN_BLUE.fullmatch(letters) and RED_GREEN_BLUE.fullmatch(ground)):
-        return letters == ground != ""
-    parts = zip(bytes.fromhex(letters), bytes.fromhex(ground))
-    return all(abs(one - other) < LEAST_CONTRAST for one, other in parts)
+def formed(cell: Cell, form: Form) -> Cell:
+    """Returns a cell all of whose letters have a form."""
+    if form.mark is Mark.STRUCK and cell:
+        return Fault(STRUCK, WITHOUT, cell if isinstance(cell, str) else cell.value)
+    if not form.mark.moves or isinstance(cell, (Fault, Truth)):
+        return cell
+    return moved(cell, form.mark) if isinstance(cell, str) else Fault(RAISED, AS_TEXT, cell.value)
 
 
 def taken(cell: Cell, use: Use) -> str:

@@ -1,94 +1,38 @@
 """Reads .ods (ISO/IEC 26300)."""
 
 import re
+from collections.abc import Iterator, Mapping, Sequence
 from dataclasses import dataclass, field
 from datetime import date, datetime
 from decimal import Decimal
-from functools import cache
-from itertools import chain, groupby, product
-from typing import Iterator, Mapping, Sequence
-from xml.etree.ElementTree import Element, SubElement
+from functools import lru_cache
+from itertools import groupby
 from zipfile import ZipFile
 
-from labeltools.text import NOTHING, Text
+from labeltools.text import Text
 from labeltools.messages import RowError, ToolError, quoted
-from labeltools.money import currency_of
 from labeltools.number_format import DAY_ZERO, Formatter, date_section, date_text, digits_of
-from labeltools.cells import OF_SIGNS, RAISED, STRUCK, Cell, Fault, Kind, Run, Signs, Special, Truth
-from labeltools.cells import text_of_runs
-from labeltools.ods_styles import CELL, LETTERS, NO_FORM, PARAGRAPH, SPAN, Form, Styles
-from labeltools.ods_styles import common_styles
-from labeltools.prices import is_same
+from labeltools.cells import RAISED, Cell, Fault, Form, Kind, Mark, Special, Truth
+from labeltools.cells import no_value, text_of_runs
 from labeltools.rows import Doubt, Merge, Row
-from labeltools.short_elements import BARE, VALUE, Short, short
-from labeltools.workbook import (
-    LARGEST_ROW,
-    MOST_COLUMNS,
-    NOT_SAVED,
-    NOT_SAVED_HINT,
-    SAVE_AGAIN,
-)
-from labeltools.workbook import (
-    TOO_LARGE,
-    TYPED,
-    Sheet,
-    Walk,
-    areas_of,
-    chosen,
-    doubt,
-    elements,
-    elements_or_short,
-    exact_of,
-    filled,
-    has_word,
-    merges_at,
-)
-from labeltools.workbook import pieces, repeats, rows_from, whole
+from labeltools.workbook import LARGEST_ROW, MOST_COLUMNS, NOT_SAVED, NOT_SAVED_HINT, SAVE_AGAIN
+from labeltools.workbook import TOO_LARGE, TYPED, Sheet, areas_of, chosen, elements, events
+from labeltools.workbook import exact_of, filled, merges_at, repeats, rows_from, whole
 
+TABLE = "body/spreadsheet/table"
+NAMES = ("table", "table-column", "table-row")
 # groups of rows and columns, which may be in one another, and count nothing
-GROUPS = (
-    *("table-row-group", "table-header-rows", "table-rows"),
-    *("table-column-group", "table-header-columns", "table-columns"),
-)
-TABLE = "/document-content/body/spreadsheet/table"
-COLUMN = f"{TABLE}/table-column"
-STYLE = "/document-content/automatic-styles/style"
-CONDITION = f"{TABLE}/conditional-formats/conditional-format"
-MAP = f"{STYLE}/map"
-HEADS = (
-    *(STYLE, f"{STYLE}/table-properties", f"{STYLE}/text-properties"),
-    *(f"{STYLE}/table-cell-properties", MAP, TABLE, COLUMN),
-)
+GROUPS = re.compile("/table-(?:row-group|header-rows|rows|column-group|header-columns|columns)")
+# a style, and what is right in it; formats of numbers have properties, too
+STYLE = re.compile("(?:automatic-)?styles/(?:default-)?style(?:/[^/]*)?")
+CELL, SPAN = "table-cell", "text"  # families of styles
+PROPERTIES = ("text-properties", "table-cell-properties")
+MOST_PARENTS = 32  # of a style; a file that has more, or a ring of them, is no spreadsheet's
+LINES = ("text-line-through-style", "text-line-through-type")
+HEIGHT = re.compile(r"(super|[1-9][0-9]*(?:\.[0-9]+)?%)|(sub|-).*")
 # the corner of an area behind the name of its sheet
 CORNER = re.compile(r"(?:^|\.)\$?([A-Z]{1,3})\$?([0-9]{1,7})(?![^\s:])")
-# the attributes of short cells in the order of LibreOffice; a later one of a local name is taken
-ATTRIBUTES = (
-    *("table:style-name", "table:number-columns-repeated", "office:value-type"),
-    *("office:currency", "office:value", "office:date-value", "calcext:value-type"),
-)
-LOCAL_NAMES = [name.partition(":")[2] for name in ATTRIBUTES]
-PREFIXES = ("table", "office", "text", "calcext")
-
-
-def cell_form(names: Sequence[str], value: str, bare: str) -> str:
-    """Returns the expression of cells that have at most these attributes, and one line of text."""
-    attributes = "".join(f'(?: {name}="({value})")?' for name in names)
-    return (
-        f"<table:table-cell{attributes} ?(?:/>|>(?:<text:p>({bare})</text:p>)?</table:table-cell>)"
-    )
-
-
-def short_row(names: Sequence[str], *prefixes: str) -> Short:
-    """Returns the form of rows whose cells have at most these attributes."""
-    return short("table:table-row", f"(?:{cell_form(names, VALUE, BARE)})*+", *prefixes)
-
-
-SHORT_CELL = re.compile(cell_form(ATTRIBUTES, '[^"]+', "[^<]*"))
-SHORT_ROW = short_row(ATTRIBUTES, *PREFIXES)
-PLAIN_ROW = short_row(ATTRIBUTES[:-1], *PREFIXES[:-1])  # of files without LibreOffice's names
-MOST_KEPT = 4096  # numbers of a file
 NUMBERS = ("float", "percentage", "currency", "date", "time")
-FIGURES = "-+−()0123456789.,'’ \u00a0\u202f"  # of an amount, beside its currency
 # white space that counts, by signs that no XML has, and other white space
 SIGNS = {"s": "\0", "tab": "\1", "line-break": "\2"}
 UNSIGNED = {0: " ", 1: "\t", 2: "\n"}
@@ -96,23 +40,21 @@ SPACE = re.compile("[ \t\r\n]+")
 PLAINLY_SHOWN = re.compile(r"[0-9.,'’\s]+(?:E[+][0-9]+)?")
 THOUSANDS = re.compile(r"(?<=[0-9])[.,'’\s](?=(?:[0-9]{3})+(?![0-9]))")
 DIGITS = re.compile(r"[0-9][0-9.,'’\u00a0\u202f ]*")
-# exponents, fractions and digits of other scripts are not compared with the value
+# exponents and fractions are not compared with the value
 UNREAD = re.compile(r"[Ee][-+−]?[0-9]|[0-9] ?/ ?[0-9]|[^\x00-\x7f\W\d_]*[^\x00-\x7f\D]")
 WHOLE = re.compile("[0-9]+")
 DAY = re.compile("([0-9]{4})-([0-9]{2})-([0-9]{2})")
 LAST_SIGN = re.compile(r"[.,]([0-9]+)[^0-9]*\Z")
-SCALES = (0, -3, -6)  # as it is, thousands, millions
 ROUNDING = Decimal("0.5000001")  # of the last digit that is shown
 # they calculate a formula before they save it, so one without a text has none to show
 CALCULATES = ("LibreOffice", "OpenOffice", "Collabora", "NeoOffice")
 
 
-@dataclass(slots=True)  # not frozen: each number of a table is made anew
+@dataclass(slots=True)
 class Number(Special):
     """A cell with a number, a date or a time, and the text that is shown.
 
-    `exact` is its number, None for a date; `moment` is the date and `currency` the code of the
-    currency, as the file has them.
+    `exact` is its number, None for a date; `moment` is the date as the file has it.
     """
 
     value: str
@@ -121,35 +63,24 @@ class Number(Special):
     moment: str
     formatter: Formatter
     kind: Kind = Kind.NUMBER
-    currency: str = ""
-    is_agreed: bool = False  # the value and the text were compared
 
     def number(self) -> Decimal | None:
         """Returns the number that it has."""
         return self.exact
 
     def agree(self) -> None:
-        """Raises `RowError` where the text has a number, a date or a currency that is not that of
-        the value.
-        """
-        if self.is_agreed:
-            return
-        value = self.value
+        """Raises `RowError` where the text has a number or a date that is not the value."""
+        if self.exact is None and self.kind is Kind.NUMBER and self.text:
+            what = Text("has a number without its value, and the text {}", quoted(self.text))
+            raise RowError(what, SAVE_AGAIN)
+        value = self.moment if self.exact is None else self.value
         if self.exact is None:
-            value = self.moment
-            if self.kind is Kind.NUMBER and self.text:
-                what = Text("has a number without its value, and the text {}", quoted(self.text))
-                raise RowError(what, SAVE_AGAIN)
             is_right = not value or is_date_of(self.text, value)
         else:
-            is_right = is_surely(self.text, value) or is_text_of(self.text, self.exact)
+            is_right = is_text_of(self.text, value)
         if not is_right:
             what = Text("has the value {} and the text {}", value, quoted(self.text))
             raise RowError(what, SAVE_AGAIN)
-        if self.currency and is_other_sign(self.text.strip(FIGURES), self.currency):
-            what = Text("has the currency {} and the text {}", self.currency, quoted(self.text))
-            raise RowError(what, SAVE_AGAIN)
-        self.is_agreed = True
 
     def shown(self) -> str:
         """Returns the text that is shown."""
@@ -178,42 +109,201 @@ class Number(Special):
 
 
 @dataclass
+class Styles:
+    """The styles of a file by their families and names: what they say themselves, and their
+    parents; the name of a default style is empty. `targets` are the styles that a condition puts in
+    the place of another one.
+    """
+
+    own: dict[tuple[str, str], dict[str, str]] = field(default_factory=dict)
+    parents: dict[tuple[str, str], str] = field(default_factory=dict)
+    targets: dict[str, list[str]] = field(default_factory=dict)
+    hidden: set[str] = field(default_factory=set)  # styles of tables that nobody sees
+    last: tuple[str, str] = ("", "")  # the style that is read
+    forms: dict[tuple[str, str], Form] = field(default_factory=dict)  # those that were asked for
+
+    def take(self, name: str, found: Mapping[str, str]) -> None:
+        """Takes an element of a style."""
+        if name in ("style", "default-style"):
+            self.last = found.get("family", ""), found.get("name", "")
+            self.own[self.last] = {}
+            self.parents[self.last] = found.get("parent-style-name", "")
+        elif name in PROPERTIES:
+            self.own[self.last] |= found
+        elif name == "table-properties" and found.get("display") == "false":
+            self.hidden.add(self.last[1])
+        elif name == "map":
+            self.targets.setdefault(self.last[1], []).append(found.get("apply-style-name", ""))
+
+    def said(self, family: str, name: str) -> dict[str, str]:
+        """Returns what a style and its parents say, up to the default style."""
+        found: dict[str, str] = {}
+        for _ in range(MOST_PARENTS):
+            found = {**self.own.get((family, name), {}), **found}
+            if not name:
+                break
+            name = self.parents.get((family, name), "")
+        return found
+
+    def form(self, cell: str, span: str = "") -> Form:
+        """Returns the form of the letters of a cell by its style, and by that of letters in it."""
+        key = cell, span
+        if key not in self.forms:
+            own = self.said(SPAN, span) if span else {}
+            self.forms[key] = form_of({**self.said(CELL, cell), **own})
+        return self.forms[key]
+
+    def doubt(self, name: str) -> Doubt | None:
+        """Returns what is doubtful of cells of a style."""
+        if self.form(name).mark is Mark.WHITE:
+            return Doubt.UNSEEN
+        targets = self.targets.get(name)
+        return Doubt.CONDITION if targets and any(map(self.strikes, targets)) else None
+
+    def strikes(self, name: str) -> bool:
+        """Returns whether a style strikes the letters of cells through."""
+        return self.form(name).mark is Mark.STRUCK
+
+
+def form_of(said: Mapping[str, str]) -> Form:
+    """Returns the form of letters by what styles say.
+
+    >>> form_of({"text-position": "super 58%", "font-size": "6pt"})
+    Form(mark=<Mark.RAISED: '⁰¹²³⁴⁵⁶⁷⁸⁹'>, size=6.0)
+    """
+    size = said.get("font-size", "")
+    points = float(exact_of(size[:-2])) if size.endswith("pt") else 0.0
+    height = HEIGHT.fullmatch(said.get("text-position", "").partition(" ")[0])
+    if any(said.get(line, "none") != "none" for line in LINES):
+        return Form(Mark.STRUCK, points)
+    if height:
+        return Form(Mark.RAISED if height[1] else Mark.LOWERED, points)
+    is_bare = said.get("background-color", "transparent") == "transparent"
+    is_white = said.get("color", "").casefold() == "#ffffff" and is_bare
+    return Form(Mark.WHITE if is_white else Mark.NONE, points)
+
+
+@dataclass
 class Content:
-    """What is known of a file while its content is read. `conditions` are areas of each sheet with
-    the styles that a condition may give to their cells; no style shows no value.
+    """What a file has beside its rows: its styles; its sheets, each with whether it can be seen;
+    the areas that conditions show as something else, by sheet.
     """
 
     formatter: Formatter
     is_calculated: bool
-    styles: Styles
-    conditions: Mapping[str, Sequence[tuple[Merge, str]]]
-    hidden: set[str] = field(default_factory=set)
-    sheet: tuple[str, bool] = ("", True)
-    columns: list[str] = field(default_factory=list)  # the styles of their cells
-    row: str = ""  # the style of the cells of the row that is read
+    styles: Styles = field(default_factory=Styles)
+    sheets: list[tuple[str, bool]] = field(default_factory=list)
+    conditions: list[list[Merge]] = field(default_factory=list)
+
+
+def content_of(archive: ZipFile, formatter: Formatter) -> Content:
+    """Returns what a file has beside its rows."""
+    content = Content(formatter, is_calculated(archive))
+    has_common = "styles.xml" in archive.namelist()
+    for name, found in elements(archive, "styles.xml" if has_common else ""):
+        if STYLE.fullmatch(name):
+            content.styles.take(name.rpartition("/")[2], found)
+    areas: list[Merge] = []  # of the conditions that are read
+    for name, found in elements(archive, "content.xml", ["table-row"]):
+        outer, _, last = name.rpartition("/")
+        if STYLE.fullmatch(name):
+            content.styles.take(last, found)
+        elif name == TABLE:
+            is_visible = found.get("style-name") not in content.styles.hidden
+            content.sheets.append((found.get("name", ""), is_visible))
+            content.conditions.append([])
+        elif last == "conditional-format":
+            references = found.get("target-range-address", "").split()
+            areas = areas_of(" ".join(map(bare_area, references)))
+        elif outer.endswith("/conditional-format") and content.conditions:
+            is_struck = content.styles.strikes(found.get("apply-style-name", ""))
+            if is_struck or found.get("show-value") == "false":
+                content.conditions[-1] += areas
+    return content
+
+
+def is_calculated(archive: ZipFile) -> bool:
+    """Returns whether the program that wrote a file calculates its formulas before."""
+    part = "meta.xml" if "meta.xml" in archive.namelist() else ""
+    ends = (
+        text for name, found, text in events(archive, part) if name == "generator" and not found
+    )
+    return any(text.startswith(CALCULATES) for text in ends)
+
+
+def rows_of_ods(archive: ZipFile, wanted: str | None, formatter: Formatter) -> Iterator[Row]:
+    """Yields the rows of the sheet that is wanted, else of the only one that is visible and has
+    data.
+    """
+    content = content_of(archive, formatter)
+    found = groupby(Reader(content).rows(archive), lambda one: one[0])
+    sheets = (Sheet(*content.sheets[at], (row for _, row in rows)) for at, rows in found)
+    return chosen(sheets, wanted)
+
+
+@dataclass
+class Reader:
+    """Reads the rows of a file; `sheet` is the place of the sheet that is read, `columns` are the
+    styles of its columns, and what follows is of the row and of the cell that are read.
+    """
+
+    content: Content
+    sheet: int = -1
+    columns: list[str] = field(default_factory=list)
     number: int = 1
     merges: list[Merge] = field(default_factory=list)
-    numbers: dict[tuple[str, ...], Number] = field(default_factory=dict)  # those that are kept
+    row: Mapping[str, str] = field(default_factory=dict)
+    cells: list[Cell] = field(default_factory=list)
+    links: dict[int, str] = field(default_factory=dict)
+    doubts: dict[int, Doubt] = field(default_factory=dict)
+    place: int = 0
+    letters: int = 0  # of the row
+    cell: Mapping[str, str] = field(default_factory=dict)
+    lines: list[list[tuple[str, str]]] = field(default_factory=list)  # letters, and their style
+    spans: list[str] = field(default_factory=list)  # styles of letters that are open
+    addresses: set[str] = field(default_factory=set)
 
-    def cell_of_number(
-        self, kind: str, value: str, text: str, moment: str, currency: str
-    ) -> Number:
-        """Returns the cell of a number, a date or a time; those that were read last are kept."""
-        key = kind, value, text, moment, currency
-        kept = self.numbers.get(key)
-        if kept is not None:
-            return kept
-        if len(self.numbers) >= MOST_KEPT:
-            self.numbers.clear()
-        exact = exact_of(value) if value else None
-        own = Kind.MOMENT if kind in ("date", "time") else Kind.NUMBER
-        found = Number(value or text, text, exact, moment, self.formatter, own, currency)
-        self.numbers[key] = found
-        return found
+    def rows(self, archive: ZipFile) -> Iterator[tuple[int, Row]]:
+        """Yields each row behind the place of its sheet; an empty one for each sheet."""
+        path: list[str] = []  # around the rows
+        depth = in_row = in_cell = 0  # the depths of the row and of the cell that are read
+        for name, found, text in events(archive, "content.xml", ["table-row"]):
+            if found is None:
+                if depth == in_cell:
+                    in_cell = 0
+                    self.end_cell()
+                elif in_cell:
+                    self.end(text)
+                elif depth == in_row:
+                    in_row = 0
+                    for row in self.end_row():
+                        yield self.sheet, row
+                if not in_row:
+                    path.pop()
+                depth -= 1
+                continue
+            depth += 1
+            if in_cell:
+                self.begin(name, found, text, depth - in_cell)
+                continue
+            if in_row:
+                in_cell = depth
+                self.begin_cell(found)
+                continue
+            path.append(name)
+            at = GROUPS.sub("", "/".join(path[1:])) if name in NAMES else ""
+            if at == TABLE:
+                self.begin_sheet()
+                yield self.sheet, Row(0, ())
+            elif at == f"{TABLE}/table-column":
+                self.add_columns(found)
+            elif at == f"{TABLE}/table-row":
+                in_row = depth
+                self.begin_row(found)
 
-    def begin_sheet(self, name: str, is_visible: bool) -> None:
+    def begin_sheet(self) -> None:
         """Begins a sheet."""
-        self.sheet = name, is_visible
+        self.sheet += 1
         self.columns = []
         self.number = 1
         self.merges = []
@@ -224,115 +314,132 @@ class Content:
         style = attributes.get("default-cell-style-name", "")
         self.columns += [style] * min(count, MOST_COLUMNS - len(self.columns))
 
-    def style(self, cell: Element, place: int) -> str:
-        """Returns the style of a cell: one without has that of the row, or else that of the column
-        (ISO/IEC 26300, table:default-cell-style-name).
+    def begin_row(self, attributes: Mapping[str, str]) -> None:
+        """Begins a row."""
+        self.row = attributes
+        self.merges = merges_at(self.merges, self.number)
+        self.cells, self.links, self.doubts = [], {}, {}
+        self.place = self.letters = 0
+
+    def begin_cell(self, attributes: Mapping[str, str]) -> None:
+        """Begins a cell."""
+        self.cell = attributes
+        self.lines, self.spans, self.addresses = [], [], set()
+        if "number-rows-spanned" not in attributes and "number-columns-spanned" not in attributes:
+            return  # most cells
+        rows = repeats(attributes, "number-rows-spanned")
+        columns = repeats(attributes, "number-columns-spanned")
+        if rows > 1 or columns > 1:
+            last = self.number + rows - 1, self.place + columns - 1
+            self.merges.append(Merge(self.number, self.place, *last))
+
+    def begin(self, name: str, found: Mapping[str, str], text: str, depth: int) -> None:
+        """Takes what begins in a cell, at a depth; its lines are right in it, so neither comments
+        nor pictures.
         """
-        of_column = self.columns[place] if place < len(self.columns) else ""
-        return cell.get("style-name") or self.row or of_column
+        if not self.spans:
+            if name == "p" and depth == 1:
+                self.spans.append("")
+                self.lines.append([])
+            return
+        self.lines[-1].append((text, self.spans[-1]))
+        is_span = name == "span" and "style-name" in found
+        self.spans.append(found["style-name"] if is_span else self.spans[-1])
+        if name == "a":
+            self.addresses.add(found.get("href", ""))
+        elif name in SIGNS:
+            count = whole(found.get("c", "1"))
+            self.add_letters(count)
+            self.lines[-1].append((SIGNS[name] * count, self.spans[-1]))
 
-    def see_conditions(self, cells: Sequence[Cell], doubts: dict[int, Doubt]) -> None:
-        """Adds the cells of a row that a condition may strike through or hide."""
-        for area, style in self.conditions.get(self.sheet[0], ()):
-            if not style or self.styles.strikes(style):
-                doubt(cells, self.number, area, doubts)
+    def end(self, text: str) -> None:
+        """Takes what ends in a cell."""
+        if self.spans:
+            self.lines[-1].append((text, self.spans.pop()))
 
+    def add_letters(self, count: int) -> None:
+        """Counts letters of the row, of which there may be too many."""
+        self.letters += count
+        if self.letters > LARGEST_ROW:
+            raise ToolError(TOO_LARGE, SAVE_AGAIN)
 
-def rows_of_ods(archive: ZipFile, wanted: str | None, formatter: Formatter) -> Iterator[Row]:
-    """Yields the rows of the sheet that is wanted, else of the only one that is visible and has
-    data.
-    """
-    sheets = groupby(sheet_rows(archive, formatter), lambda one: one[0])
-    named = (Sheet(*key, (row for _, row in rows)) for key, rows in sheets)
-    return chosen(named, wanted)
+    def end_cell(self) -> None:
+        """Adds the cell that is read, as often as it is repeated: columns may differ in their
+        styles.
+        """
+        repeat = min(repeats(self.cell, "number-columns-repeated"), MOST_COLUMNS + 1)
+        place = self.place
+        self.place = min(place + repeat, MOST_COLUMNS)
+        if not (self.lines or "value-type" in self.cell or "formula" in self.cell):
+            return
+        own = self.cell.get("style-name", "") or self.row.get("default-cell-style-name", "")
+        for style, count in self.styles_of(own, place, repeat):
+            cell = self.cell_by(style)
+            if cell:
+                self.add_letters(count * (len(cell) if isinstance(cell, str) else 1))
+                filled(self.cells, place).extend([cell] * count)
+                if doubt := self.content.styles.doubt(style):
+                    self.doubts |= dict.fromkeys(range(place, place + count), doubt)
+            place += count
+        if len(self.addresses) == 1:
+            self.links[place - repeat] = self.addresses.pop()
 
+    def styles_of(self, own: str, place: int, repeat: int) -> Sequence[tuple[str, int]]:
+        """Returns the styles of a cell that is repeated, and of how many cells each is: those
+        without a style of their own have that of their column.
+        """
+        if own:
+            return [(own, repeat)]
+        columns = self.columns[place : place + repeat]
+        columns += [""] * (repeat - len(columns))
+        if repeat == 1:  # most cells
+            return [(columns[0], 1)]
+        return [(style, len(list(same))) for style, same in groupby(columns)]
 
-def sheet_rows(archive: ZipFile, formatter: Formatter) -> Iterator[tuple[tuple[str, bool], Row]]:
-    """Yields each row behind the name of its sheet, and whether that is visible; an empty one for
-    each sheet.
-    """
-    content = Content(
-        formatter, is_calculated(archive), common_styles(archive), conditions_of(archive)
-    )
-    walk = Walk(f"{TABLE}/table-row", HEADS, GROUPS)
-    form = short_form(archive)
-    for element, inside in elements_or_short(archive, "content.xml", walk, form):
-        if element.tag == "table-row":
-            for row in element_rows(element, inside, content):
-                yield content.sheet, row
-        elif element.tag == "style":
-            content.styles.begin(element.attrib)
-        elif element.tag == "table-properties":
-            if element.get("display") == "false":
-                content.hidden.add(content.styles.last[1])
-        elif element.tag in LETTERS:
-            content.styles.take(element.attrib)
-        elif element.tag == "map":
-            content.styles.take_condition(element.attrib)
-        elif element.tag == "table-column":
-            content.add_columns(element.attrib)
-        else:
-            is_visible = element.get("style-name") not in content.hidden
-            content.begin_sheet(element.get("name", ""), is_visible)
-            yield content.sheet, Row(0, ())
+    def end_row(self) -> Iterator[Row]:
+        """Yields the row that is read, as often as it is repeated, but none that is empty and not
+        hidden.
+        """
+        for area in self.content.conditions[self.sheet]:
+            if area.row <= self.number <= area.last_row:
+                places = range(area.place, min(area.last_place + 1, len(self.cells)))
+                self.doubts |= dict.fromkeys(places, Doubt.CONDITION)
+        is_hidden = self.row.get("visibility", "visible") != "visible"
+        repeat = repeats(self.row, "number-rows-repeated")
+        if is_hidden or any(self.cells):
+            merges = tuple(self.merges)
+            row = Row(self.number, self.cells, None, is_hidden, merges, self.links)
+            yield from rows_from(row._replace(doubts=self.doubts), repeat)
+        self.number += repeat
 
-
-def short_form(archive: ZipFile) -> Short:
-    """Returns what the short rows of a file look like."""
-    first = next(pieces(archive, "content.xml"), b"")
-    return SHORT_ROW if b" xmlns:calcext=" in first else PLAIN_ROW
-
-
-def elements_in(row: str) -> Iterator[Element]:
-    """Yields the cells of a short row by what is in it, as a parser does."""
-    for *values, line in SHORT_CELL.findall(row):
-        cell = Element("table-cell", {name: one for name, one in zip(LOCAL_NAMES, values) if one})
-        SubElement(cell, "p").text = line
-        yield cell
-
-
-def cells_in(row: str, content: Content) -> list[Cell]:
-    """Returns the cells of a short row by what is in it, where no style changes letters."""
-    letters = 0
-    cells: list[Cell] = []
-    place = 0
-    for _, repeated, first, currency, value, moment, later, line in SHORT_CELL.findall(row):
-        count = min(whole(repeated, 1), MOST_COLUMNS + 1) if repeated else 1
-        kind = later or first
-        text = spaced(line)
-        cell: Cell = text
+    def cell_by(self, style: str) -> Cell:
+        """Returns the cell that is read by its type, its text, and a style."""
+        styles = self.content.styles
+        form = styles.form(style)
+        lines: list[str] = []
+        for line in self.lines:
+            runs = [(one, styles.form(style, span) if span else form) for one, span in line if one]
+            text = text_of_runs(runs, form.mark)
+            if isinstance(text, Fault):
+                return text
+            lines.append(SPACE.sub(" ", text).strip(" "))
+        text = "\n".join(lines).translate(UNSIGNED)
+        kind = self.cell.get("value-type", "")
         if kind in NUMBERS:
-            cell = content.cell_of_number(kind, value, text, moment, currency)
-        elif kind != "string":
-            cell = cell_of_kind(kind, text)
-        if cell:
-            letters += (len(cell) if isinstance(cell, str) else 1) * count
-            if letters > LARGEST_ROW:
-                raise ToolError(TOO_LARGE, SAVE_AGAIN)
-            filled(cells, place).extend([cell] * count)
-        place = min(place + count, MOST_COLUMNS)
-    return cells
-
-
-def conditions_of(archive: ZipFile) -> dict[str, list[tuple[Merge, str]]]:
-    """Returns the areas of each sheet that have conditions, which are below its rows, and the
-    styles of these.
-    """
-    found: dict[str, list[tuple[Merge, str]]] = {}
-    if not has_word(archive, "content.xml", b"conditional-format"):
-        return found
-    sheet = ""
-    read = elements(archive, "content.xml", CONDITION, [TABLE], GROUPS, f"{TABLE}/table-row")
-    for element in read:
-        if element.tag == "table":
-            sheet = element.get("name", "")
-            continue
-        names = {one.get("apply-style-name", "") for one in element.iterfind("condition")}
-        names |= {"" for one in element.iter() if one.get("show-value") == "false"}
-        reference = element.get("target-range-address", "")
-        areas = areas_of(" ".join(map(bare_area, reference.split())))
-        found.setdefault(sheet, []).extend(product(areas, names))
-    return found
+            value, moment = self.cell.get("value", ""), self.cell.get("date-value", "")
+            if form.mark.moves:
+                return Fault(RAISED, TYPED, value or text)
+            exact = exact_of(value) if value else None
+            own = Kind.MOMENT if kind in ("date", "time") else Kind.NUMBER
+            return Number(value or text, text, exact, moment, self.content.formatter, own)
+        if kind == "error":
+            return Fault(no_value(text).what, value=text)
+        if kind == "boolean":
+            return Truth(text)
+        is_uncalculated = "formula" in self.cell and not self.content.is_calculated
+        if not kind and not text and is_uncalculated:
+            return Fault(NOT_SAVED, NOT_SAVED_HINT)
+        return text
 
 
 def bare_area(area: str) -> str:
@@ -344,195 +451,21 @@ def bare_area(area: str) -> str:
     return ":".join("".join(corner) for corner in CORNER.findall(area))
 
 
-def is_calculated(archive: ZipFile) -> bool:
-    """Returns whether the program that wrote a file calculates its formulas before."""
-    if "meta.xml" not in archive.namelist():
-        return False
-    for element in elements(archive, "meta.xml", "/document-meta/meta/generator"):
-        if (element.text or "").startswith(CALCULATES):
-            return True
-    return False
-
-
-def element_rows(element: Element, inside: str | None, content: Content) -> Iterator[Row]:
-    """Yields the rows of an element, as often as it is repeated, but none that is empty and not
-    hidden; `inside` is what was in one that is short.
-    """
-    number = content.number
-    content.row = element.get("default-cell-style-name", "")
-    content.merges = merges_at(content.merges, number)
-    links: dict[int, str] = {}
-    doubts: dict[int, Doubt] = {}
-    if inside is not None and content.styles.is_plain:
-        cells = cells_in(inside, content)
-    else:
-        element.extend(elements_in(inside or ""))
-        cells = cells_of(element, content, links, doubts)
-    if content.conditions:
-        content.see_conditions(cells, doubts)
-    is_hidden = element.get("visibility", "visible") != "visible"
-    repeat = repeats(element.attrib, "number-rows-repeated")
-    if is_hidden or any(cells):
-        merges = tuple(content.merges)
-        row = Row(number, cells, None, is_hidden, merges, links, doubts=doubts)
-        yield from rows_from(row, repeat)
-    content.number = number + repeat
-
-
-def cells_of(
-    row: Element, content: Content, links: dict[int, str], doubts: dict[int, Doubt]
-) -> list[Cell]:
-    """Returns the cells of a row; adds the merged cells that begin in it, the addresses that cells
-    lead to, and what is doubtful of them.
-    """
-    letters = mark_spaces(row)
-    has_links = next(row.iter("a"), None) is not None
-    cells: list[Cell] = []
-    place = 0
-    is_plain = content.styles.is_plain
-    for element in row:
-        attributes = element.attrib
-        repeat = repeats(attributes, "number-columns-repeated")
-        if "number-rows-spanned" in attributes or "number-columns-spanned" in attributes:
-            add_merge(attributes, content, place)
-        found: Sequence[tuple[int, Cell, Doubt | None]]
-        if is_plain:
-            found = ((min(repeat, MOST_COLUMNS + 1), cell_of(element, content, NO_FORM), None),)
-        else:
-            found = cells_from(element, content, place, repeat)
-        for count, cell, why in found:
-            if cell:
-                length = len(cell) if isinstance(cell, str) else 1
-                letters += length * count
-                if letters > LARGEST_ROW:
-                    raise ToolError(TOO_LARGE, SAVE_AGAIN)
-                if has_links:
-                    add_link(element, place, links)
-                filled(cells, place).extend([cell] * count)
-                if why:
-                    doubts.update(dict.fromkeys(range(place, len(cells)), why))
-            place = min(place + count, MOST_COLUMNS)
-    return cells
-
-
-def cells_from(
-    element: Element, content: Content, place: int, repeat: int
-) -> Sequence[tuple[int, Cell, Doubt | None]]:
-    """Returns the cells that an element is for, each with how often it follows, and what is
-    doubtful of it: columns may differ in their styles.
-    """
-    most = min(repeat, MOST_COLUMNS + 1)
-    styles = content.styles
-    found = []
-    for style, same in groupby(content.style(element, place + number) for number in range(most)):
-        cell = cell_of(element, content, styles.form(CELL, style))
-        found.append((len(list(same)), cell, styles.doubt(style)))
-    return found
-
-
-def mark_spaces(row: Element) -> int:
-    """Puts a sign for each white space that counts into a row; returns how many letters that
-    are.
-    """
-    letters = 0
-    for space in chain.from_iterable(map(row.iter, SIGNS)):
-        count = whole(space.get("c", "1"))
-        letters += count
-        if letters > LARGEST_ROW:
-            raise ToolError(TOO_LARGE, SAVE_AGAIN)
-        space.text = SIGNS[space.tag] * count
-    return letters
-
-
-def add_merge(attributes: Mapping[str, str], content: Content, place: int) -> None:
-    """Adds the merged cells that begin in a cell."""
-    rows = repeats(attributes, "number-rows-spanned")
-    columns = repeats(attributes, "number-columns-spanned")
-    if rows > 1 or columns > 1:
-        number = content.number
-        content.merges.append(Merge(number, place, number + rows - 1, place + columns - 1))
-
-
-def add_link(cell: Element, place: int, links: dict[int, str]) -> None:
-    """Adds the address that a cell leads to, if it has one alone."""
-    addresses = {link.get("href", "") for link in cell.iterfind("p//a")}
-    if len(addresses) == 1:
-        links[place] = addresses.pop()
-
-
-def cell_of(cell: Element, content: Content, form: Form) -> Cell:
-    """Returns a cell by its type and its text, which is what the spreadsheet shows."""
-    kind = cell.get("value-type", "")
-    text = text_of(cell, content, form)
-    if isinstance(text, Fault):
-        return text
-    if form is not NO_FORM and form.wrong is OF_SIGNS:
-        return Signs(text)
-    if kind in NUMBERS:
-        value = cell.get("value", "")
-        if form.place:
-            return Fault(RAISED, TYPED, value or text)
-        moment = cell.get("date-value", "")
-        return content.cell_of_number(kind, value, text, moment, cell.get("currency", ""))
-    if kind in ("error", "boolean"):
-        return cell_of_kind(kind, text)
-    if not kind and not text and "formula" in cell.attrib and not content.is_calculated:
-        return Fault(NOT_SAVED, NOT_SAVED_HINT)
-    own_text = cell.get("string-value")
-    if own_text is not None and own_text.split() != text.split():
-        what = Text("has the value {} and the text {}", quoted(own_text), quoted(text))
-        return Fault(what, SAVE_AGAIN, text)
-    return text
-
-
-def cell_of_kind(kind: str, text: str) -> Cell:
-    """Returns a cell that has no number by its type and its text."""
-    if kind == "error":
-        what = Text(
-            "has {}, which the spreadsheet writes where it has no value to show", quoted(text)
-        )
-        return Fault(what, value=text)
-    return Truth(text) if kind == "boolean" else text
-
-
-@cache
-def is_other_sign(sign: str, currency: str) -> bool:
-    """Returns whether what is beside an amount is another currency than that of its cell.
-
-    >>> [is_other_sign(sign, "EUR") for sign in ("€", "CHF", "", "€/kg")]
-    [False, True, False, False]
-    >>> is_other_sign("$", "CAD"), is_other_sign("kr", "DKK")
-    (False, False)
-    """
-    code = currency_of(sign)
-    return code is not None and code != "cent" and not is_same(code, currency)
-
-
-def is_surely(text: str, value: str) -> bool:
-    """Returns whether a text has the digits of a value and no others, as most have.
-
-    >>> is_surely("2,50 €", "2.5"), is_surely("2,50", "2.51"), is_surely("20", "2")
-    (True, False, False)
-    """
-    bare = text.rstrip(" €\u00a0").replace(",", ".", 1)
-    return bare == value or "." in bare and "." in value and bare.rstrip("0") == value.rstrip("0")
-
-
-def is_text_of(text: str, value: Decimal) -> bool:
+@lru_cache(maxsize=4096)
+def is_text_of(text: str, value: str) -> bool:
     """Returns whether one of the numbers in a text is a value that is rounded to as many digits; a
     text without digits, and one with signs of other forms, may be anything.
 
-    >>> [is_text_of("2,99 €", Decimal(one)) for one in ("2.99", "2.9912", "3.99", "299")]
+    >>> [is_text_of("2,99 €", one) for one in ("2.99", "2.9912", "3.99", "299")]
     [True, True, False, False]
     """
     if not DIGITS.search(text) or UNREAD.search(text):
         return True
-    size = abs(value).scaleb(2) if "%" in text else abs(value)
+    size = abs(exact_of(value)).scaleb(2 if "%" in text else 0)
     for found in (text, *DIGITS.findall(text)):  # 1234-567 is one number
         digits = Decimal(re.sub("[^0-9]", "", found))
-        for decimals, scale in product(decimals_of(found), SCALES):
-            shown = digits.scaleb(-decimals)
-            if abs(size.scaleb(scale) - shown) <= ROUNDING.scaleb(-decimals):
+        for decimals in decimals_of(found):
+            if abs(size - digits.scaleb(-decimals)) <= ROUNDING.scaleb(-decimals):
                 return True
     return False
 
@@ -561,48 +494,6 @@ def decimals_of(number: str) -> tuple[int, ...]:
     found = LAST_SIGN.search(number)
     count = len(found[1]) if found else 0
     return (3, 0) if count == 3 else (count,)
-
-
-def text_of(cell: Element, content: Content, form: Form) -> str | Fault:
-    """Returns the text of a cell, without the comments and pictures that it has."""
-    lines: list[str] = []
-    if content.styles.is_plain and len(cell) == 1 and cell[0].tag == "p" and not len(cell[0]):
-        return spaced(cell[0].text or "")  # most cells, at once
-    for line in cell:
-        if line.tag == "p":
-            text: str | Fault = "".join(line.itertext()) if len(line) else line.text or ""
-            if text and not content.styles.is_plain:
-                around = NOTHING if form.wrong is STRUCK else form.wrong
-                text = text_of_runs(runs_of(line, content.styles, form), around)
-            if isinstance(text, Fault):
-                return text
-            lines.append(spaced(text))
-    return "\n".join(lines).translate(UNSIGNED)
-
-
-def runs_of(element: Element, styles: Styles, around: Form) -> Iterator[Run]:
-    """Yields the letters in an element, which have the form of what is around them where it has
-    none of its own.
-    """
-    name = element.get("style-name", "")
-    family = PARAGRAPH if element.tag == "p" else SPAN
-    form = styles.form(family, name).over(around) if name else around
-    yield run_of(element.text, form)
-    for one in element:
-        yield from runs_of(one, styles, form)
-        yield run_of(one.tail, form)
-
-
-def run_of(text: str | None, form: Form) -> Run:
-    """Returns letters of a form."""
-    return Run(text or "", form.place or "", form.points, form.wrong)
-
-
-def spaced(text: str) -> str:
-    """Returns a line of a cell; runs of white space are one space."""
-    if "  " in text or not text.isprintable():
-        text = SPACE.sub(" ", text)
-    return text.strip(" ")
 
 
 def days_of(moment: str) -> Decimal:

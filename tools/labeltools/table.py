@@ -366,7 +366,7 @@ class TableRun:
         """
         for (column, doubt), row in self.reader.noticed.doubts.items():
             text = Text(
-                "{} has a condition from row {} on that strikes letters through or hides them",
+                "{} has a condition from row {} on that shows cells as something else",
                 column.title,
                 row,
             )

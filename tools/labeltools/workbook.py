@@ -7,20 +7,20 @@ are refused before they take memory.
 import re
 import struct
 import zlib
+from collections.abc import Container, Iterable, Iterator, Mapping
 from contextlib import contextmanager
 from decimal import Decimal
 from functools import lru_cache, partial, reduce
 from io import BytesIO
 from itertools import chain, pairwise
-from typing import Iterable, Iterator, Mapping, NamedTuple, Sequence
-from xml.etree.ElementTree import Element, ParseError, XMLParser, XMLPullParser
+from typing import NamedTuple
+from xml.parsers.expat import ExpatError, ParserCreate
 from zipfile import ZIP_DEFLATED, ZIP_STORED, BadZipFile, ZipFile
 
 from labeltools.text import Text, counted
 from labeltools.messages import BAD_ARGUMENTS, ToolError, quoted
 from labeltools.cells import Cell
-from labeltools.rows import Doubt, Merge, Row
-from labeltools.short_elements import Cutter, Short
+from labeltools.rows import Merge, Row
 
 MOST_ROWS = 1048576
 MOST_COLUMNS = 16384
@@ -30,7 +30,6 @@ LARGEST_ROW = 1 << 20  # bytes, or letters
 LARGEST_TEXTS = 1 << 27  # letters of all shared strings
 PIECE = 1 << 16
 DEEPEST = 100
-DEEPEST_SHORT = 8  # elements in one another in short ones
 MOST_PARTS = 1 << 14  # of the zip
 MOST_OTHERS = 1 << 20  # elements one after another that are no part of a row
 MOST_NAMES = 4096
@@ -38,7 +37,7 @@ LARGEST_EXPONENT = 307  # of a number
 MOST_DIGITS = 10  # of a count
 EACH = 16  # what a repeated row costs beside its letters
 DAMAGE = (
-    ParseError,
+    ExpatError,
     BadZipFile,
     zlib.error,
     struct.error,
@@ -55,6 +54,9 @@ TRUE = ("1", "true")
 NOT_SAVED = Text("has a formula without a saved value")
 NOT_SAVED_HINT = Text("open the table in the spreadsheet and save it")
 TYPED = Text("enter it again as text")
+# an element that begins: its name and attributes; one that ends: its name and None; and the text
+# between this and what was before; names have no namespaces
+Event = tuple[str, Mapping[str, str] | None, str]
 
 
 class Sheet(NamedTuple):
@@ -158,12 +160,12 @@ def has_word(archive: ZipFile, part: str, word: bytes) -> bool:
 
 
 class LocalNames(dict[str, str]):
-    """The names of elements and attributes without their namespaces."""
+    """The names of elements and attributes without their prefixes."""
 
     def __missing__(self, name: str) -> str:
         if len(self) >= MOST_NAMES:  # a hostile file has ever new ones
             self.clear()
-        local = name.rpartition("}")[2]
+        local = "xmlns" if name.startswith("xmlns:") else name.rpartition(":")[2]
         self[name] = local
         return local
 
@@ -171,163 +173,114 @@ class LocalNames(dict[str, str]):
 LOCAL = LocalNames()
 
 
-def localise(element: Element) -> None:
-    """Takes the namespaces from the names of an element and its attributes."""
-    element.tag = LOCAL[element.tag]
-    if element.attrib:
-        element.attrib = {LOCAL[name]: value for name, value in element.attrib.items()}
-
-
-class Walk:
-    """A walk through the elements of a part, which forgets those that nobody asked for.
-
-    `around` are the elements that are open, but for those within one that is asked for whole;
-    `inside` is the depth of that one, 0 where there is none; `size` counts the bytes since
-    something was forgotten. Elements at `passed` are passed over with all that is in them.
+class Parser:
+    """Finds what begins and ends in a part, `found`, and forgets it in time: `inside` is the depth
+    of an element of `rows` that is open, 0 where none is, which may have `LARGEST_ROW` bytes.
+    Nothing is found in elements of `passed`.
     """
 
-    def __init__(
-        self,
-        path: str,
-        heads: Sequence[str] = (),
-        without: Sequence[str] = (),
-        passed: str = "",
-    ) -> None:
-        self.path = path
-        self.heads = heads
-        self.without = without
+    def __init__(self, rows: Container[str], passed: Container[str]) -> None:
+        self.rows = rows
         self.passed = passed
-        self.is_passing = False
-        self.around = [Element("")]
-        self.depth = 0
-        self.inside = 0
-        self.size = 0
-        self.others = 0
+        self.found: list[Event] = []
+        self.texts: list[str] = []
+        self.depth = self.inside = self.passing = self.size = self.others = 0
+        self.parser = ParserCreate()
+        self.parser.buffer_text = True
+        self.parser.StartDoctypeDeclHandler = refuse_document_type
+        self.look()
 
-    def begin(self, element: Element) -> bool:
-        """Takes an element that begins; returns whether it is asked for as it begins."""
-        self.depth += 1
-        if self.depth >= DEEPEST:
+    def feed(self, piece: bytes) -> list[Event]:
+        """Takes a piece, or the end, which is empty; returns what is found in it."""
+        self.found = []
+        self.size += len(piece)
+        self.parser.Parse(piece, not piece)
+        if self.size > LARGEST_ROW or self.others > MOST_OTHERS:
             raise ToolError(TOO_LARGE, SAVE_AGAIN)
-        return False if self.inside else self.begin_outside(element)
+        return self.found
 
-    def begin_outside(self, element: Element) -> bool:
-        """Takes an element that is not within one that is asked for."""
-        localise(element)
-        self.around.append(element)
-        self.others += 1
-        if self.others > MOST_OTHERS:
-            raise ToolError(TOO_LARGE, SAVE_AGAIN)
-        if element.tag in self.without:
-            return False
-        at = "/".join(outer.tag for outer in self.around if outer.tag not in self.without)
-        if at in (self.path, self.passed):
-            self.is_passing = at == self.passed
+    def look(self) -> None:
+        """Looks at what comes."""
+        self.parser.StartElementHandler = self.begin
+        self.parser.EndElementHandler = self.end
+        self.parser.CharacterDataHandler = self.texts.append
+
+    def begin(self, name: str, attributes: dict[str, str]) -> None:
+        """Takes an element that begins."""
+        self.deepen()
+        local = LOCAL[name]
+        if not self.inside and local in self.rows:
             self.inside = self.depth
             self.others = 0
-        return at in self.heads
+        if attributes:
+            attributes = {LOCAL[one]: value for one, value in attributes.items()}
+        self.found.append((local, attributes, self.text()))
+        if local in self.passed:
+            self.passing = self.depth
+            self.parser.StartElementHandler = self.deepen
+            self.parser.EndElementHandler = self.end_passed
+            self.parser.CharacterDataHandler = None
 
-    def end(self) -> bool:
-        """Takes the end of an element; returns whether it is one that is asked for whole."""
-        self.depth -= 1
-        if self.inside > self.depth and not self.is_passing:
-            return True
-        if self.inside == 0 or self.inside > self.depth:
-            self.forget()
-        return False
+    def deepen(self, *_: object) -> None:
+        """Counts an element that begins."""
+        self.depth += 1
+        if self.depth > DEEPEST:
+            raise ToolError(TOO_LARGE, SAVE_AGAIN)
 
-    def is_between(self) -> bool:
-        """Returns whether an element that is asked for whole may come next."""
-        outer = "/".join(one.tag for one in self.around if one.tag not in self.without)
-        is_deep = self.depth + DEEPEST_SHORT >= DEEPEST
-        return not (self.inside or is_deep) and outer == self.path.rpartition("/")[0]
-
-    def whole(self, element: Element) -> Element:
-        """Returns an element that has ended, with the names of all in it without namespaces."""
-        for one in element:
-            for inner in one.iter():
-                localise(inner)
-        return element
-
-    def forget(self) -> None:
-        """Leaves the element that has ended."""
-        self.inside = 0
-        self.around.pop()
-        del self.around[-1][:]
+    def end_passed(self, name: str) -> None:
+        """Takes the end of an element that is passed, or in it."""
         self.size = 0
+        if self.depth == self.passing:
+            self.look()
+            self.end(name)
+        else:
+            self.depth -= 1
+
+    def end(self, name: str) -> None:
+        """Takes the end of an element."""
+        self.found.append((LOCAL[name], None, self.text()))
+        if self.inside == self.depth:
+            self.inside = 0
+        if not self.inside:
+            self.size = 0
+            self.others += 1
+        self.depth -= 1
+
+    def text(self) -> str:
+        """Returns the text since the event before."""
+        if not self.texts:
+            return ""
+        text = "".join(self.texts)
+        self.texts.clear()
+        return text
+
+
+def refuse_document_type(*_: object) -> None:
+    """Raises `ToolError`: the entities of a document type may become any size."""
+    raise ToolError(Text("has a document type (DOCTYPE), which no spreadsheet writes"), SAVE_AGAIN)
+
+
+def events(
+    archive: ZipFile, part: str, rows: Container[str] = (), passed: Container[str] = ()
+) -> Iterator[Event]:
+    """Yields what begins and ends in a part; of the elements `passed` nothing that is in them."""
+    if part:  # else the file has no such part
+        parser = Parser(rows, passed)
+        for piece in chain(pieces(archive, part), [b""]):
+            yield from parser.feed(piece)
 
 
 def elements(
-    archive: ZipFile,
-    part: str,
-    path: str,
-    heads: Sequence[str] = (),
-    without: Sequence[str] = (),
-    passed: str = "",
-) -> Iterator[Element]:
-    """Yields the elements at a path of local names, whole, and those at `heads` as they begin.
-
-    Elements with a name of `without` are left out of paths; those at `passed` are passed over. All
-    names are local ones.
-    """
-    for element, _ in elements_or_short(archive, part, Walk(path, heads, without, passed)):
-        yield element
-
-
-def elements_or_short(
-    archive: ZipFile, part: str, walk: Walk, form: Short | None = None
-) -> Iterator[tuple[Element, str | None]]:
-    """Yields the elements of a walk; those that are short have nothing in them, and what was in
-    them as text beside them.
-    """
-    if not part:  # the file has no such part
-        return
-    if has_word(archive, part, b"<!DOCTYPE"):  # its entities may become any size
-        raise ToolError(
-            Text("has a document type (DOCTYPE), which no spreadsheet writes"), SAVE_AGAIN
-        )
-    cutter = Cutter(form) if form else None
-    try:
-        yield from parsed(pieces(archive, part), walk, cutter)
-    except ParseError:
-        if cutter and cutter.has_cut:
-            refuse_whole(archive, part)
-        raise
-
-
-def parsed(
-    data: Iterator[bytes], walk: Walk, cutter: Cutter | None
-) -> Iterator[tuple[Element, str | None]]:
-    """Yields the elements of a walk through the pieces of a part, as `elements_or_short` does."""
-    parser = XMLPullParser(("start", "end"))
-    for feed in chain(cutter.feeds(data) if cutter else data, [b""]):
-        walk.size += len(feed)
-        if feed:
-            parser.feed(feed)
+    archive: ZipFile, part: str, passed: Container[str] = ()
+) -> Iterator[tuple[str, Mapping[str, str]]]:
+    """Yields the paths of the elements of a part below the outermost one, with their attributes."""
+    path: list[str] = []
+    for name, attributes, _ in events(archive, part, passed=passed):
+        if attributes is None:
+            path.pop()
         else:
-            parser.close()
-        has_ended = False
-        for event, element in parser.read_events():
-            if event == "start":
-                if walk.begin(element):
-                    yield element, None
-            elif walk.end():
-                has_ended = True
-                inside = cutter.kept.popleft() if cutter and cutter.kept else None
-                yield walk.whole(element), inside
-                walk.forget()
-        if cutter:
-            cutter.may_begin = has_ended and walk.is_between()
-        if walk.size > LARGEST_ROW:
-            raise ToolError(TOO_LARGE, SAVE_AGAIN)
-
-
-def refuse_whole(archive: ZipFile, part: str) -> None:
-    """Raises `ParseError` for a part that is no XML, with the place in all of it."""
-    parser = XMLParser(target=object())
-    for piece in pieces(archive, part):
-        parser.feed(piece)
-    parser.close()
+            path.append(name)
+            yield "/".join(path[1:]), attributes
 
 
 def rows_from(row: Row, repeat: int) -> Iterator[Row]:
@@ -421,11 +374,3 @@ def areas_of(references: str) -> list[Merge]:
     """Returns the areas of some references, as `A2:B3 C1`."""
     corners = (corners_of(one) for one in references.split())
     return [Merge(*found[0], *found[-1]) for found in corners if found]
-
-
-def doubt(cells: Sequence[Cell], number: int, area: Merge, doubts: dict[int, Doubt]) -> None:
-    """Adds the cells of a row that a condition in an area may strike through or hide."""
-    if area.row <= number <= area.last_row:
-        for place in range(area.place, min(area.last_place + 1, len(cells))):
-            if cells[place]:
-                doubts[place] = Doubt.CONDITION

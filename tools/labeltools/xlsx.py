@@ -4,62 +4,29 @@ import posixpath
 import re
 from dataclasses import dataclass, field
 from decimal import Decimal
-from typing import Iterator, Mapping, NamedTuple, Sequence
-from xml.etree.ElementTree import Element
+from typing import Iterator, Mapping, NamedTuple
 from zipfile import ZipFile
 
 from labeltools import number_format
-from labeltools.text import NOTHING, Text
+from labeltools.text import Text
 from labeltools.messages import RowError, ToolError, quoted
 from labeltools.number_format import BUILT_IN, BUILT_IN_DATES, LANGUAGE, Formatter
-from labeltools.cells import BLACK, FONT_OF_SIGNS, OF_SIGNS, RAISED, STRUCK, SUBSCRIPT, SUPERSCRIPT
-from labeltools.cells import UNSEEN, WHITE, WITHOUT, Cell, Fault, Kind, Run, Signs, Special, Truth
-from labeltools.cells import are_unseen, text_of_runs
+from labeltools.cells import PLAIN, Cell, Fault, Form, Kind, Mark, Special, Truth, no_value
+from labeltools.cells import formed, text_of_runs
 from labeltools.rows import Doubt, Merge, Row
-from labeltools.short_elements import BARE, short
-from labeltools.workbook import LARGEST_TEXTS, NOT_SAVED, NOT_SAVED_HINT
-from labeltools.workbook import (
-    SAVE_AGAIN,
-    TOO_LARGE,
-    TRUE,
-    TYPED,
-    Sheet,
-    Walk,
-    areas_of,
-    chosen,
-    corners_of,
-    doubt,
-    elements,
-    elements_or_short,
-    exact_of,
-)
-from labeltools.workbook import filled, has_word, merges_at, place_of, rows_from, whole
+from labeltools.workbook import LARGEST_TEXTS, NOT_SAVED, NOT_SAVED_HINT, SAVE_AGAIN, TOO_LARGE
+from labeltools.workbook import TRUE, TYPED, Sheet, areas_of, chosen, corners_of, elements, events
+from labeltools.workbook import exact_of, filled, merges_at, place_of, rows_from, whole
 
 ESCAPED = re.compile("_x([0-9A-Fa-f]{4})_")
 # an address and a text, as a formula has them
 HYPERLINK = re.compile(r'\s*HYPERLINK\("([^"]+)"[,)].*', re.DOTALL | re.IGNORECASE)
-ROW = "/worksheet/sheetData/row"
-COLUMN = "/worksheet/cols/col"
-CONDITION = "/worksheet/conditionalFormatting"
-LATER_CONDITION = "/worksheet/extLst/ext/conditionalFormattings/conditionalFormatting"
-CONDITIONAL = Text("has a number format that depends on a condition")
-NO_VALUE = Fault(NOT_SAVED, NOT_SAVED_HINT)
-PLAIN = Run("")  # the form of most letters
-# a cell that has a value or a text, and nothing else: the letters of its column, the number of its
-# style, its type, and what it has
-SHORT_CELL = (
-    '<c(?: r="([A-Z]{{1,3}})[0-9]{{1,7}}")?(?: s="([0-9]{{1,10}})")?'
-    '(?: t="(n|s|str|inlineStr)")?(?:/>|>'
-    '(?:<v>({bare})</v>|<is><t(?: xml:space="preserve")?>({bare})</t></is>)?</c>)'
-)
-CELL = re.compile(SHORT_CELL.format(bare="[^<]*"))
-SHORT_ROW = short("row", f"(?:{SHORT_CELL.format(bare=BARE)})*+")
-SHORT_STRING = short("si", f'<t(?: xml:space="preserve")?>{BARE}</t>')
+ROWS = "sheetData"  # a sheet has its rows in it
 FALSE = ("0", "false")
-MOST_KEPT = 4096  # numbers of a file
-# colours by the numbers of themes and of palettes (18.8.3, 18.8.27); others are compared by number
-THEME = {"0": WHITE, "1": BLACK}
-PALETTE = {"0": BLACK, "1": WHITE, "8": BLACK, "9": WHITE, "64": BLACK, "65": WHITE}
+PLACES = {"superscript": Mark.RAISED, "subscript": Mark.LOWERED}
+# white by the numbers of themes and of palettes (18.8.3, 18.8.27)
+WHITE_THEME = "0"
+WHITE_INDEXES = ("1", "9", "65")
 
 
 class Target(NamedTuple):
@@ -69,85 +36,53 @@ class Target(NamedTuple):
     path: str
 
 
-class Font(NamedTuple):
-    """How letters look: `form` is a run without letters, and the colour is as in `are_unseen`."""
+@dataclass
+class Letters:
+    """Reads the letters of a string, run by run; a run without a form has that of the cell."""
 
-    form: Run = PLAIN
-    colour: str = BLACK
+    runs: list[tuple[str, Form | None]] = field(default_factory=list)
+    form: Form | None = None
+    is_spoken: bool = False  # how letters are spoken is beside the text
 
+    def begin(self, name: str, attributes: Mapping[str, str]) -> None:
+        """Takes an element of a string that begins."""
+        if name in ("r", "rPr"):
+            self.form = PLAIN if name == "rPr" else None
+        elif name == "rPh":
+            self.is_spoken = True
+        elif self.form is not None:
+            self.form = having(self.form, name, attributes)
 
-class Look(NamedTuple):
-    """How the letters of a style look, and the colour behind them."""
+    def end(self, name: str, text: str) -> None:
+        """Takes the end of an element of a string."""
+        if name == "t" and text and not self.is_spoken:
+            self.runs.append((unescaped(text), self.form))
+        elif name == "r":
+            self.form = None
+        elif name == "rPh":
+            self.is_spoken = False
 
-    font: Font = Font()
-    ground: str = WHITE
+    def string(self) -> "str | Letters":
+        """Returns the string: a text, where all its letters have the form of the cell."""
+        is_rich = any(form is not None for _, form in self.runs)
+        return self if is_rich else "".join(text for text, _ in self.runs)
 
-    @property
-    def form(self) -> Run:
-        """The form of the letters, which may be those that nobody sees."""
-        form = self.font.form
-        if not form.wrong and are_unseen(self.font.colour, self.ground):
-            return form._replace(wrong=UNSEEN)
-        return form
-
-
-class Rich(NamedTuple):
-    """A text in letters of several forms; those without a font have that of the cell."""
-
-    runs: Sequence[tuple[str, Font | None]]
-
-    def within(self, cell: Look) -> str | Fault:
-        """Returns the text in a cell of a style."""
-        size = cell.font.form.size
-        runs = []
-        for text, font in self.runs:
-            form = cell._replace(font=font or cell.font).form
-            runs.append(form._replace(text=text, size=form.size or size))
-        return text_of_runs(runs, UNSEEN if cell.form.wrong is UNSEEN else NOTHING)
-
-
-@dataclass(frozen=True)
-class Styles:
-    """The styles of a file by their numbers: their number formats, how their letters look, and
-    the form of these where that changes what they mean. `conditional` are the numbers of the
-    formats that a condition gives to cells, where these have a number format; `striking` are those
-    that strike letters through, or hide them.
-    """
-
-    formats: list[str]
-    looks: list[Look]
-    letters: Mapping[int, Run]
-    conditional: frozenset[int]
-    striking: frozenset[int]
-
-
-class Conditions(NamedTuple):
-    """Areas of cells that a condition may show otherwise than their own number formats say, and
-    those whose letters it may strike through.
-    """
-
-    formats: list[Merge]
-    strikes: list[Merge]
+    def within(self, cell: Form) -> str | Fault:
+        """Returns the text in a cell whose letters have a form."""
+        runs = [(text, cell if form is None else form.within(cell)) for text, form in self.runs]
+        return text_of_runs(runs, cell.mark)
 
 
 @dataclass
-class Around:
-    """The styles of a row, and of columns, for cells without one: a reader may show them by these,
-    or by the first style of the file.
+class Styles:
+    """The styles of a file by their numbers: their number formats, and the forms of their letters.
+    `conditional` are the numbers of the forms that a condition gives to cells, and which show them
+    as something else.
     """
 
-    columns: list[tuple[int, int, int]] = field(default_factory=list)  # first and last place, style
-    row: int = 0
-
-    def add(self, column: Element) -> None:
-        """Adds the style of some columns."""
-        first, last = (whole(column.get(name, "0"), 1) for name in ("min", "max"))
-        self.columns.append((first - 1, last - 1, whole(column.get("style", "0"))))
-
-    def style(self, place: int) -> int:
-        """Returns the style of a cell that has none."""
-        of_columns = (style for first, last, style in self.columns if first <= place <= last)
-        return self.row or next(of_columns, 0)
+    formats: list[str] = field(default_factory=list)
+    forms: list[Form] = field(default_factory=list)
+    conditional: set[int] = field(default_factory=set)
 
 
 @dataclass(frozen=True)
@@ -158,26 +93,14 @@ class Book:
     nothing.
     """
 
-    strings: list[str | Rich]
+    strings: list[str | Letters]
     styles: Styles
     formatter: Formatter
     is_from_1904: bool
     is_stale: bool
-    numbers: dict[tuple[str, str], "Number"] = field(default_factory=dict)
-
-    def number(self, value: str, number_format: str) -> "Number":
-        """Returns the cell of a number; those that were read last are kept, by value and format."""
-        kept = self.numbers.get((value, number_format))
-        if kept is not None:
-            return kept
-        if len(self.numbers) >= MOST_KEPT:
-            self.numbers.clear()
-        found = Number(value, exact_of(value), number_format, self)
-        self.numbers[value, number_format] = found
-        return found
 
 
-@dataclass(slots=True)  # not frozen: it keeps its text, since files repeat their numbers
+@dataclass(slots=True)
 class Number(Special):
     """A cell with a number."""
 
@@ -185,7 +108,6 @@ class Number(Special):
     exact: Decimal
     number_format: str
     book: Book
-    text: str = ""  # as its format shows it, once that was asked for
 
     @property
     def kind(self) -> Kind:
@@ -199,10 +121,8 @@ class Number(Special):
 
     def shown(self) -> str:
         """Returns the number as its format shows it."""
-        if not self.text:
-            book = self.book
-            self.text = book.formatter.shown(self.number_format, self.exact, book.is_from_1904)
-        return self.text
+        book = self.book
+        return book.formatter.shown(self.number_format, self.exact, book.is_from_1904)
 
     def printed(self) -> str:
         """Returns the number as its format shows it, and keeps it as an example of the signs in
@@ -252,100 +172,102 @@ def rows_of_xlsx(archive: ZipFile, wanted: str | None, formatter: Formatter) -> 
     data.
     """
     path = dict(relations(archive, "").values())["officeDocument"]
-    targets = relations(archive, path)
-    return chosen(sheets_of(archive, path, targets, formatter), wanted)
+    return chosen(sheets_of(archive, path, formatter), wanted)
 
 
-def sheets_of(
-    archive: ZipFile, path: str, targets: Mapping[str, Target], formatter: Formatter
-) -> Iterator[Sheet]:
+def sheets_of(archive: ZipFile, path: str, formatter: Formatter) -> Iterator[Sheet]:
     """Yields the sheets of a workbook."""
-    book = book_of(archive, path, targets, formatter)
-    for sheet in elements(archive, path, "/workbook/sheets/sheet"):
-        kind, part = targets[sheet.attrib["id"]]
+    targets = relations(archive, path)
+    parts = dict(targets.values())
+    is_from_1904 = is_stale = False
+    sheets = []
+    for name, found in elements(archive, path):
+        if name == "sheets/sheet":
+            sheets.append(found)
+        elif name == "workbookPr":
+            is_from_1904 = found.get("date1904") in TRUE
+        elif name == "calcPr":
+            is_stale = found.get("fullCalcOnLoad") in TRUE
+            is_stale = is_stale or found.get("calcCompleted", "1") not in TRUE
+    strings = strings_of(archive, parts.get("sharedStrings", ""))
+    styles = styles_of(archive, parts.get("styles", ""))
+    book = Book(strings, styles, formatter, is_from_1904, is_stale)
+    for sheet in sheets:
+        kind, part = targets[sheet["id"]]
         if kind == "worksheet":
             is_visible = sheet.get("state", "visible") == "visible"
-            yield Sheet(sheet.attrib["name"], is_visible, sheet_rows(archive, part, book))
+            yield Sheet(sheet["name"], is_visible, sheet_rows(archive, part, book))
 
 
-def book_of(
-    archive: ZipFile, path: str, targets: Mapping[str, Target], formatter: Formatter
-) -> Book:
-    """Returns what all sheets share."""
-    parts = dict(targets.values())
-    properties = elements(archive, path, "/workbook/workbookPr")
-    calculation = elements(archive, path, "/workbook/calcPr")
-    return Book(
-        strings=strings_of(archive, parts.get("sharedStrings", "")),
-        styles=styles_of(archive, parts.get("styles", "")),
-        formatter=formatter,
-        is_from_1904=any(one.get("date1904") in TRUE for one in properties),
-        is_stale=any(map(is_uncalculated, calculation)),
-    )
-
-
-def is_uncalculated(calculation: Element) -> bool:
-    """Returns whether formulas are to be calculated when the file is opened, or were not when it
-    was saved.
-    """
-    is_asked = calculation.get("fullCalcOnLoad") in TRUE
-    return is_asked or calculation.get("calcCompleted", "1") not in TRUE
-
-
-def strings_of(archive: ZipFile, part: str) -> list[str | Rich]:
+def strings_of(archive: ZipFile, part: str) -> list[str | Letters]:
     """Returns the shared strings."""
-    strings: list[str | Rich] = []
-    letters = 0
-    for element, inside in elements_or_short(archive, part, Walk("/sst/si"), SHORT_STRING):
-        string = string_of(element) if inside is None else unescaped(inside[:-4].partition(">")[2])
-        strings.append(string)
-        if isinstance(string, str):
-            letters += len(string)
+    strings: list[str | Letters] = []
+    size = 0
+    letters = Letters()
+    for name, attributes, text in events(archive, part, ["si"]):
+        if name == "si" and attributes is None:
+            strings.append(letters.string())
+            letters = Letters()
+        elif attributes is not None:
+            letters.begin(name, attributes)
         else:
-            letters += sum(len(text) for text, _ in string.runs)
-        if letters > LARGEST_TEXTS:
-            raise ToolError(TOO_LARGE, SAVE_AGAIN)
+            letters.end(name, text)
+            size += len(text)
+            if size > LARGEST_TEXTS:
+                raise ToolError(TOO_LARGE, SAVE_AGAIN)
     return strings
 
 
 def styles_of(archive: ZipFile, part: str) -> Styles:
     """Returns the styles."""
+    styles = Styles()
     by_number = {**BUILT_IN, **BUILT_IN_DATES}
-    for element in elements(archive, part, "/styleSheet/numFmts/numFmt"):
-        by_number[element.attrib["numFmtId"]] = element.attrib["formatCode"]
-    fonts = list(map(font_of, elements(archive, part, "/styleSheet/fonts/font")))
-    grounds = list(map(ground_of, elements(archive, part, "/styleSheet/fills/fill")))
-    crossed = list(map(is_crossed, elements(archive, part, "/styleSheet/borders/border")))
-    formats: list[str] = []
-    looks: list[Look] = []
-    letters: dict[int, Run] = {}
-    for number, style in enumerate(elements(archive, part, "/styleSheet/cellXfs/xf")):
-        formats.append(by_number.get(style.get("numFmtId", "0"), LANGUAGE))
-        font = fonts[whole(style.get("fontId", "0"))] if fonts else Font()
-        if formats[-1].casefold().startswith("[white]"):
-            font = font._replace(colour=WHITE)
-        if crossed and crossed[whole(style.get("borderId", "0"))]:
-            font = font._replace(form=font.form._replace(wrong=STRUCK))
-        look = Look(font, grounds[whole(style.get("fillId", "0"))] if grounds else WHITE)
-        looks.append(look)
-        form = look.form._replace(size=0)
-        if form != PLAIN:
-            letters[number] = form
-    dxfs = list(elements(archive, part, "/styleSheet/dxfs/dxf"))
-    conditional = frozenset(at for at, dxf in enumerate(dxfs) if dxf.find("numFmt") is not None)
-    striking = frozenset(at for at, dxf in enumerate(dxfs) if strikes(dxf))
-    return Styles(formats or ["General"], looks or [Look()], letters, conditional, striking)
+    fonts: list[Form] = []
+    are_filled: list[bool] = []
+    count = -1  # of the forms of conditions
+    for path, found in elements(archive, part):
+        outer, _, name = path.rpartition("/")
+        if path == "numFmts/numFmt":
+            by_number[found["numFmtId"]] = found["formatCode"]
+        elif path == "fonts/font":
+            fonts.append(PLAIN)
+        elif outer == "fonts/font":
+            fonts[-1] = having(fonts[-1], name, found)
+        elif path == "fills/fill/patternFill":
+            are_filled.append(found.get("patternType", "none") != "none")
+        elif path == "fills/fill/gradientFill":
+            are_filled.append(True)
+        elif path == "cellXfs/xf":
+            styles.formats.append(by_number.get(found.get("numFmtId", "0"), LANGUAGE))
+            form = fonts[whole(found.get("fontId", "0"))] if fonts else PLAIN
+            is_filled = bool(are_filled) and are_filled[whole(found.get("fillId", "0"))]
+            styles.forms.append(form.within(Form(is_filled=is_filled)))
+        elif path == "dxfs/dxf":
+            count += 1
+        elif path == "dxfs/dxf/numFmt":
+            styles.conditional.add(count)
+        elif outer == "dxfs/dxf/font" and having(PLAIN, name, found).mark is Mark.STRUCK:
+            styles.conditional.add(count)
+    styles.formats = styles.formats or ["General"]
+    styles.forms = styles.forms or [PLAIN]
+    return styles
 
 
-def strikes(form: Element) -> bool:
-    """Returns whether the format of a condition strikes letters through, or hides them."""
-    font = form.find("font")
-    if font is None:
-        return False
-    fill = form.find("fill")
-    # the fill of a condition has its colour as that of the background
-    behind = None if fill is None else fill.find("patternFill/bgColor")
-    return Look(font_of(font), colour_of(behind, WHITE)).form.wrong in (STRUCK, UNSEEN)
+def having(form: Form, name: str, attributes: Mapping[str, str]) -> Form:
+    """Returns a form with a property of a font."""
+    value = attributes.get("val", "")
+    if name == "strike" and value not in FALSE:
+        return form._replace(mark=Mark.STRUCK)
+    if name == "vertAlign" and value in PLACES and form.mark is not Mark.STRUCK:
+        return form._replace(mark=PLACES[value])
+    if name == "sz":
+        return form._replace(size=float(exact_of(value or "0")))
+    if name == "color" and form.mark is Mark.NONE:
+        is_white = attributes.get("rgb", "")[-6:].upper() == "FFFFFF"
+        is_white = is_white or attributes.get("theme") == WHITE_THEME and "tint" not in attributes
+        if is_white or attributes.get("indexed") in WHITE_INDEXES:
+            return form._replace(mark=Mark.WHITE)
+    return form
 
 
 def relations(archive: ZipFile, path: str) -> dict[str, Target]:
@@ -355,55 +277,158 @@ def relations(archive: ZipFile, path: str) -> dict[str, Target]:
     folder, base = posixpath.split(path)
     part = posixpath.join(folder, "_rels", f"{base}.rels")
     targets: dict[str, Target] = {}
-    for element in elements(archive, part, "/Relationships/Relationship"):
-        kind = posixpath.basename(element.attrib["Type"])
-        target = element.attrib["Target"]
-        if element.get("TargetMode") != "External":
-            target = posixpath.normpath(posixpath.join("/", folder, target))[1:]
-        targets[element.attrib["Id"]] = Target(kind, target)
+    for name, found in elements(archive, part):
+        if name == "Relationship":
+            target = found["Target"]
+            if found.get("TargetMode") != "External":
+                target = posixpath.normpath(posixpath.join("/", folder, target))[1:]
+            targets[found["Id"]] = Target(posixpath.basename(found["Type"]), target)
     return targets
 
 
-def sheet_rows(archive: ZipFile, path: str, book: Book) -> Iterator[Row]:
-    """Yields the rows of a sheet; merged cells and links are below the rows in the file, and are
-    read first.
+@dataclass
+class Beside:
+    """What a sheet has beside its rows: the merged cells by their first row, the addresses that
+    cells lead to, by row and place, and the areas of conditions that show cells as something else.
     """
-    beginning = merges_of(archive, path)
-    links = links_of(archive, path)
-    conditions = conditions_of(archive, path, book.styles)
+
+    merges: dict[int, list[Merge]] = field(default_factory=dict)
+    links: dict[int, dict[int, str]] = field(default_factory=dict)
+    conditions: list[Merge] = field(default_factory=list)
+
+    def doubts(self, number: int, width: int) -> dict[int, Doubt]:
+        """Returns the places of a row that a condition may show as something else."""
+        areas = [one for one in self.conditions if one.row <= number <= one.last_row]
+        places = (range(one.place, min(one.last_place + 1, width)) for one in areas)
+        return {place: Doubt.CONDITION for some in places for place in some}
+
+
+def beside_of(archive: ZipFile, path: str, styles: Styles) -> Beside:
+    """Returns what a sheet has beside its rows, most of which is below them."""
+    beside = Beside()
+    targets: dict[str, Target] = {}
+    areas: list[Merge] = []  # of the conditions that are read
+    for name, found in elements(archive, path, [ROWS]):
+        if name == "mergeCells/mergeCell":
+            first, *_, last = corners_of(found["ref"]) * 2
+            beside.merges.setdefault(first[0], []).append(Merge(*first, *last))
+        elif name == "hyperlinks/hyperlink" and "id" in found:
+            targets = targets or relations(archive, path)
+            row, place = corners_of(found["ref"])[0]
+            place_in_page = f"#{found['location']}" if found.get("location") else ""
+            address = targets[found["id"]].path + place_in_page
+            beside.links.setdefault(row, {})[place] = address
+        elif name == "conditionalFormatting":
+            areas = areas_of(found.get("sqref", ""))
+        elif name.startswith("conditionalFormatting/"):
+            number = found.get("dxfId", "")
+            is_other = number and whole(number) in styles.conditional
+            if is_other or found.get("showValue") in FALSE:
+                beside.conditions += areas
+    return beside
+
+
+@dataclass
+class CellReader:
+    """What is read of a cell: its attributes, and what is in it; the value and the formula are None
+    where it has none.
+    """
+
+    book: Book
+    attributes: Mapping[str, str] = field(default_factory=dict)
+    value: str | None = None
+    formula: str | None = None
+    letters: Letters = field(default_factory=Letters)
+
+    def form(self) -> Form:
+        """Returns the form of its letters."""
+        return self.book.styles.forms[whole(self.attributes.get("s", "0"))]
+
+    def cell(self) -> Cell:
+        """Returns the cell by its type, and its value, if there is one."""
+        kind, value, book = self.attributes.get("t", "n"), self.value or "", self.book
+        number = whole(self.attributes.get("s", "0"))
+        shown, form = book.styles.formats[number], book.styles.forms[number]
+        if self.formula is not None:
+            is_empty_text = kind == "str" and self.value is not None
+            if book.is_stale or not value and not is_empty_text:
+                return Fault(NOT_SAVED, NOT_SAVED_HINT)
+        elif not value and kind != "inlineStr":
+            return ""
+        if kind == "s":
+            return text_of(book.strings[whole(value)], shown, form)
+        if kind == "n":
+            return formed(Number(value, exact_of(value), shown, book), form)
+        if kind in ("str", "inlineStr"):
+            return text_of(unescaped(value) or self.letters.string(), shown, form)
+        if kind == "e":
+            return Fault(no_value(value).what, value=value)
+        return formed(Truth({"1": "TRUE", "0": "FALSE"}.get(value, value)), form)
+
+
+def text_of(text: str | Letters, style: str, form: Form) -> Cell:
+    """Returns a text, with its format where that puts something around it."""
+    found = formed(text, form) if isinstance(text, str) else text.within(form)
+    if not isinstance(found, str) or "@" not in style or style == "@" or not found:
+        return found
+    return Framed(found, style)
+
+
+def sheet_rows(archive: ZipFile, path: str, book: Book) -> Iterator[Row]:
+    """Yields the rows of a sheet."""
+    beside = beside_of(archive, path, book.styles)
     merges: list[Merge] = []
     number = 0
-    around = Around()
-    form = None if book.styles.letters else SHORT_ROW
-    for element, inside in elements_or_short(archive, path, Walk(ROW, [COLUMN]), form):
-        if element.tag == "col":
-            around.add(element)
+    row: Mapping[str, str] = {}
+    cells: list[Cell] = []
+    links: dict[int, str] = {}
+    doubts: dict[int, Doubt] = {}
+    one = CellReader(book)
+    is_inside = False
+    for name, attributes, text in events(archive, path, ["row"]):
+        if name == ROWS:
+            is_inside = attributes is not None
+        elif not is_inside:
             continue
-        before = number
-        number = whole(element.get("r", str(before + 1)), 1)
-        if number <= before:
-            raise out_of_order(number)
-        row_links = dict(links.get(number, {}))
-        around.row = whole(element.get("s", "0"))
-        cells = (
-            cells_of(element, number, book, row_links)
-            if inside is None
-            else cells_in(inside, number, book)
-        )
-        doubts: dict[int, Doubt] = {}
-        if book.styles.letters:
-            take_letters(element, cells, around, book, doubts)
-        for area in conditions.formats:
-            if area.row <= number <= area.last_row:
-                refuse_condition(cells, area)
-        for area in conditions.strikes:
-            doubt(cells, number, area, doubts)
-        merges = merges_at(merges, number) + beginning.get(number, [])
-        row = Row(number, cells, None, is_unseen(element), merges, row_links, doubts=doubts)
-        yield from rows_from(row, 1)
+        elif name == "c" and attributes is not None:
+            one = CellReader(book, attributes)
+        elif name == "c":
+            place = place_in(one.attributes, len(cells))
+            if place < len(cells):
+                raise out_of_order(number)
+            filled(cells, place).append(one.cell())
+            if cells[-1] and one.form().mark is Mark.WHITE:
+                doubts[place] = Doubt.UNSEEN
+            if one.formula and (found := HYPERLINK.fullmatch(one.formula)):
+                links[place] = found[1]
+        elif name == "v" and attributes is None:
+            one.value = text
+        elif name == "f":
+            one.formula = text
+        elif name == "row" and attributes is not None:
+            before, number = number, whole(attributes.get("r", str(number + 1)), 1)
+            if number <= before:
+                raise out_of_order(number)
+            row, cells, doubts = attributes, [], {}
+            links = dict(beside.links.get(number, {}))
+        elif name == "row":
+            merges = merges_at(merges, number) + beside.merges.get(number, [])
+            doubts |= beside.doubts(number, len(cells))
+            found_row = Row(number, cells, None, is_unseen(row), merges, links, doubts=doubts)
+            yield from rows_from(found_row, 1)
+        elif attributes is not None:
+            one.letters.begin(name, attributes)
+        else:
+            one.letters.end(name, text)
 
 
-def is_unseen(row: Element) -> bool:
+def place_in(cell: Mapping[str, str], after: int) -> int:
+    """Returns the place of a cell in its row, which may not say it."""
+    reference = cell.get("r")
+    return place_of(reference.rstrip("0123456789")) if reference else after
+
+
+def is_unseen(row: Mapping[str, str]) -> bool:
     """Returns whether a row is hidden, or has no height."""
     height = row.get("ht")
     return row.get("hidden") in TRUE or height is not None and not height.strip("0.")
@@ -412,242 +437,6 @@ def is_unseen(row: Element) -> bool:
 def out_of_order(number: int) -> ToolError:
     """Returns the error of a row, or a cell of it, that is not behind the one before."""
     return ToolError(Text("has row {} or a cell of it out of order", number), SAVE_AGAIN)
-
-
-def cells_of(row: Element, number: int, book: Book, links: dict[int, str]) -> list[Cell]:
-    """Returns the cells of a row, and adds the addresses that its formulas lead to."""
-    cells: list[Cell] = []
-    for element in row:
-        if element.tag != "c":
-            continue
-        place = len(cells)
-        if reference := element.get("r"):
-            place = place_of(reference.rstrip("0123456789"))
-        if place < len(cells):
-            raise out_of_order(number)
-        filled(cells, place).append(cell_of(element, book))
-        formula = element.findtext("f")
-        if formula and (found := HYPERLINK.fullmatch(formula)):
-            links[place] = found[1]
-    return cells
-
-
-def cells_in(row: str, number: int, book: Book) -> list[Cell]:
-    """Returns the cells of a short row by what is in it."""
-    cells: list[Cell] = []
-    for letters, style, kind, value, inline in CELL.findall(row):
-        place = place_of(letters) if letters else len(cells)
-        if place < len(cells):
-            raise out_of_order(number)
-        own = whole(style or "0")
-        shown = book.styles.formats[own]
-        cell: Cell = ""
-        if kind == "inlineStr" or kind == "str" and value:
-            cell = text_of(unescaped(value or inline), shown, book.styles.looks[own])
-        elif value:
-            cell = cell_by(kind or "n", value, own, shown, book)
-        filled(cells, place).append(cell)
-    return cells
-
-
-def take_letters(
-    row: Element, cells: list[Cell], around: Around, book: Book, doubts: dict[int, Doubt]
-) -> None:
-    """Puts the form of letters into the cells of a row whose style has one; adds those that nobody
-    sees.
-    """
-    place = -1
-    for element in row.iterfind("c"):
-        reference = element.get("r")
-        place = place_of(reference.rstrip("0123456789")) if reference else place + 1
-        style = element.get("s")
-        form = book.styles.letters.get(whole(style) if style else around.style(place))
-        if form is not None and cells[place]:
-            cells[place] = formed(cells[place], form)
-            if form.wrong is UNSEEN:
-                doubts[place] = Doubt.UNSEEN
-
-
-def formed(cell: Cell, form: Run) -> Cell:
-    """Returns a cell whose letters have a form."""
-    text = cell if isinstance(cell, str) else cell.value
-    if form.wrong is STRUCK:
-        return Fault(STRUCK, WITHOUT, text)
-    if form.wrong is OF_SIGNS and not isinstance(cell, Fault):
-        return Signs(text)
-    if not form.place:
-        return cell
-    if isinstance(cell, str):
-        return text_of_runs([Run(cell, form.place)])
-    return Fault(RAISED, TYPED, text) if isinstance(cell, (Number, Framed)) else cell
-
-
-def merges_of(archive: ZipFile, path: str) -> dict[int, list[Merge]]:
-    """Returns the merged cells of a sheet by their first row; reads the sheet only where it has the
-    word.
-    """
-    merges: dict[int, list[Merge]] = {}
-    if has_word(archive, path, b"mergeCell"):
-        for element in elements(archive, path, "/worksheet/mergeCells/mergeCell", passed=ROW):
-            corners = corners_of(element.attrib["ref"])
-            merges.setdefault(corners[0][0], []).append(Merge(*corners[0], *corners[-1]))
-    return merges
-
-
-def conditions_of(archive: ZipFile, path: str, styles: Styles) -> Conditions:
-    """Returns the areas of a sheet that conditions may change."""
-    found = Conditions([], [])
-    if not has_word(archive, path, b"conditionalFormatting"):
-        return found
-    for element in elements(archive, path, CONDITION, passed=ROW):
-        rules = element.iter("cfRule")
-        numbers = {whole(rule.get("dxfId", "")) for rule in rules if rule.get("dxfId")}
-        areas = areas_of(element.get("sqref", ""))
-        found.formats.extend(areas if styles.conditional & numbers else ())
-        is_struck = styles.striking & numbers or shows_no_value(element)
-        found.strikes.extend(areas if is_struck else ())
-    for element in elements(archive, path, LATER_CONDITION, passed=ROW):
-        areas = areas_of(element.findtext("sqref", ""))
-        found.formats.extend(areas if element.find("cfRule/dxf/numFmt") is not None else ())
-        is_struck = any(map(strikes, element.iterfind("cfRule/dxf"))) or shows_no_value(element)
-        found.strikes.extend(areas if is_struck else ())
-    return found
-
-
-def shows_no_value(condition: Element) -> bool:
-    """Returns whether a condition shows a bar or an icon alone in place of a number."""
-    return any(one.get("showValue") in FALSE for one in condition.iter())
-
-
-def refuse_condition(cells: list[Cell], area: Merge) -> None:
-    """Puts a fault in place of the numbers of a row that are in an area."""
-    for place in range(area.place, min(area.last_place + 1, len(cells))):
-        cell = cells[place]
-        if isinstance(cell, Number):
-            cells[place] = Fault(CONDITIONAL, TYPED, cell.value)
-
-
-def links_of(archive: ZipFile, path: str) -> dict[int, dict[int, str]]:
-    """Returns the addresses that cells lead to, by row and place; reads the sheet only where it has
-    the word.
-    """
-    links: dict[int, dict[int, str]] = {}
-    folder, base = posixpath.split(path)
-    has_relations = posixpath.join(folder, "_rels", f"{base}.rels") in archive.namelist()
-    if has_relations and has_word(archive, path, b"<hyperlink"):
-        targets = relations(archive, path)
-        for element in elements(archive, path, "/worksheet/hyperlinks/hyperlink", passed=ROW):
-            row, place = corners_of(element.attrib["ref"])[0]
-            if element.get("id") in targets:
-                address = targets[element.attrib["id"]].path
-                links.setdefault(row, {})[place] = address + fragment(element.get("location", ""))
-    return links
-
-
-def fragment(location: str) -> str:
-    """Returns the end of an address that leads to a place of a page."""
-    return f"#{location}" if location else ""
-
-
-def cell_of(cell: Element, book: Book) -> Cell:
-    """Returns a cell by its type, and its value, if there is one."""
-    kind = cell.get("t", "n")
-    value = cell.findtext("v")
-    number = whole(cell.get("s", "0"))
-    style = book.styles.formats[number]
-    if cell.find("f") is not None:
-        if book.is_stale or not value and not (kind == "str" and value is not None):
-            return NO_VALUE
-    elif not value and kind != "inlineStr":
-        return ""
-    if kind in ("str", "inlineStr"):
-        return text_of(string_of(cell), style, book.styles.looks[number])
-    return cell_by(kind, value or "", number, style, book)
-
-
-def cell_by(kind: str, value: str, number: int, style: str, book: Book) -> Cell:
-    """Returns a cell by its type, its value, and the number and the format of its style."""
-    if kind == "n":
-        return book.number(value, style)
-    if kind == "s":
-        return text_of(book.strings[whole(value)], style, book.styles.looks[number])
-    if kind == "e":
-        what = Text(
-            "has {}, which the spreadsheet writes where it has no value to show", quoted(value)
-        )
-        return Fault(what, value=value)
-    return Truth({"1": "TRUE", "0": "FALSE"}.get(value, value))
-
-
-def text_of(text: str | Rich, style: str, look: Look) -> Cell:
-    """Returns a text, with its format where that puts something around it."""
-    found = text if isinstance(text, str) else text.within(look)
-    if isinstance(found, Fault) or "@" not in style or style == "@" or not found:
-        return found
-    return Framed(found, style)
-
-
-def font_of(properties: Element) -> Font:
-    """Returns the font that a style, or the properties of a run, give."""
-    values = {one.tag: one.get("val") for one in properties}
-    wrong = NOTHING
-    if "strike" in values and values["strike"] not in FALSE:
-        wrong = STRUCK
-    elif FONT_OF_SIGNS.fullmatch(values.get("rFont") or values.get("name") or ""):
-        wrong = OF_SIGNS
-    place = values.get("vertAlign") or ""
-    size = float(exact_of(values.get("sz") or "0"))
-    form = Run("", place if place in (SUPERSCRIPT, SUBSCRIPT) else "", size, wrong)
-    return Font(form, colour_of(properties.find("color"), BLACK))
-
-
-def is_crossed(border: Element) -> bool:
-    """Returns whether lines from corner to corner cross a cell out."""
-    line = border.find("diagonal")
-    is_drawn = line is not None and line.get("style", "none") != "none"
-    return is_drawn and any(border.get(one) in TRUE for one in ("diagonalUp", "diagonalDown"))
-
-
-def ground_of(fill: Element) -> str:
-    """Returns the colour behind the letters of a cell; empty where it has several."""
-    pattern = fill.find("patternFill")
-    if pattern is None:
-        return ""
-    kind = pattern.get("patternType", "none")
-    if kind == "none":
-        return WHITE
-    return colour_of(pattern.find("fgColor"), "") if kind == "solid" else ""
-
-
-def colour_of(element: Element | None, usual: str) -> str:
-    """Returns a colour, as in `are_unseen`."""
-    if element is None or element.get("auto") in TRUE:
-        return usual
-    if found := element.get("rgb"):
-        return found[-6:].upper()
-    if found := element.get("theme"):
-        tint = float(exact_of(element.get("tint", "0")))
-        return f"theme {found} {tint}" if tint or found not in THEME else THEME[found]
-    number = element.get("indexed", "")
-    return PALETTE.get(number, f"palette {number}")
-
-
-def run_of(element: Element) -> tuple[str, Font | None]:
-    """Returns a run of letters, and its font where it has its own."""
-    text = unescaped(element.findtext("t", "") or element.findtext("v", ""))
-    properties = element.find("rPr")
-    return text, None if properties is None else font_of(properties)
-
-
-def string_of(element: Element) -> str | Rich:
-    """Returns a string without its own escapes."""
-    if len(element) == 1 and element[0].tag == "t":  # most strings, at once
-        return unescaped(element[0].text or "")
-    parts = [element, *element.findall("r"), *element.findall("is"), *element.findall("is/r")]
-    runs = [run for run in map(run_of, parts) if run[0]]
-    if any(font for _, font in runs):
-        return Rich(runs)
-    return "".join(text for text, _ in runs)
 
 
 def unescaped(text: str) -> str:
