@@ -2,16 +2,16 @@
 
 import csv
 import re
-from dataclasses import dataclass, field
+from collections.abc import Container, Iterator, Sequence
+from dataclasses import dataclass
 from itertools import count, islice
-from typing import Iterator, NamedTuple, Sequence
+from typing import NamedTuple
 
 from labeltools.encoding import decoded
-from labeltools.text import Text, counted
+from labeltools.text import Text
 from labeltools.messages import BAD_ARGUMENTS, RowError, Talk, ToolError, named, quoted
 from labeltools.names import name_of, row_of_names
 from labeltools.rows import Row
-from labeltools.shape import HINT, Shape, cut_price, said_of_unnamed, shape_of
 from labeltools.table_options import TableOptions
 
 LARGEST_FILE = 40 << 20  # bytes
@@ -44,14 +44,6 @@ class Record(NamedTuple):
         return not self.problem and not any(map(str.strip, self.cells))
 
 
-class Cut(NamedTuple):
-    """Two cells of a row that may be one price."""
-
-    row: int
-    first: str
-    second: str
-
-
 class Fitness(NamedTuple):
     """How well a delimiter fits: it cuts the row of names, the names are there then, so many rows
     are as wide.
@@ -60,6 +52,49 @@ class Fitness(NamedTuple):
     is_cut: bool
     are_there: bool
     rows: int
+
+
+@dataclass(frozen=True)
+class Shape:
+    """The width of a table, in cells: `row` is the row of names, `names` are its cells to the last
+    name, `width` all its cells, and `rest` the empty ones that every row below has at its end
+    beside them. Places of `asked` need no name.
+    """
+
+    row: int
+    names: int
+    width: int
+    rest: int = 0
+    asked: Container[int] = ()
+
+    def problem(self, cells: Sequence[str]) -> RowError | None:
+        """Returns why cells of a row that is not blank may have moved.
+
+        >>> shape = Shape(row=1, names=2, width=3, rest=1)
+        >>> shape.problem(["1", "a", "", ""])
+        >>> print(shape.problem(["1", "a", "", "", ""]))
+        the row has 5 cells and row 1 has 3: a cell that contains the delimiter has to be in quotes
+        >>> print(shape.problem(["1"]))
+        the row has 1 of 2 cells: is it cut off?
+        >>> print(shape.problem(["1", "a", "b"]))
+        has "b" in column 3, which has no name: have cells moved?
+        """
+        if len(cells) < self.names:
+            what = Text("the row has {} of {} cells", len(cells), self.names)
+            return RowError(what, Text("is it cut off?"))
+        is_filled = any(cell.strip() for cell in cells[self.width :])
+        if len(cells) > self.width + self.rest or is_filled:
+            return RowError(
+                Text("the row has {} cells and row {} has {}", len(cells), self.row, self.width),
+                Text("a cell that contains the delimiter has to be in quotes"),
+            )
+        for place in range(self.names, len(cells)):
+            if cells[place].strip() and place not in self.asked:
+                what = Text(
+                    "has {} in column {}, which has no name", quoted(cells[place]), place + 1
+                )
+                return RowError(what, Text("have cells moved?"))
+        return None
 
 
 @dataclass
@@ -72,122 +107,38 @@ class CsvTable:
     begin: int
     delimiter: str
     options: TableOptions
-    talk: Talk
-    unnamed: dict[int, list[int]] = field(default_factory=dict)
-    first_cells: dict[int, str] = field(default_factory=dict)
-    cut: Cut | None = None
-    has_commas: bool = False  # in prices, between quotes
-    spaced: Cut | None = None  # the first text that a space behind a delimiter may have cut
-    spaced_rows: int = 0
+
+    def records(self) -> Iterator[Record]:
+        """Yields the rows of the text."""
+        return parsed(self.text, self.begin, self.delimiter)
 
     def rows(self) -> Iterator[Row]:
         """Yields the rows from the row of names on; one whose cells may have moved has a
         problem.
         """
-        header_row = self.options.file.header_row
-        head = first_row(parsed(self.text, self.begin, self.delimiter), header_row)
+        head = first_row(self.records(), self.options.file.header_row)
         if head is None or head.problem:
             yield from () if head is None else (Row(*head),)
             return
         shape = self.shape(head)
-        has_spaces = f"{self.delimiter} " in self.text
-        columns = self.options.columns
-        printed = self.places(head, [*columns.title, *columns.text])
-        below = 0
-        for row in parsed(self.text, self.begin, self.delimiter):
-            if row.number == head.number:
-                yield Row(*row)
-            elif row.number > head.number:
-                below += 1
-                checked = self.checked(row, shape)
-                if has_spaces and not checked.problem:
-                    self.look_at_spaces(row, printed)
-                yield checked
-        self.say_of_cuts(shape, below)
-        self.say_unnamed()
-
-    def say_of_cuts(self, shape: Shape, below: int) -> None:
-        """Says which cells may be one; a space is a sign of it where most rows have none."""
-        if shape.cut:
-            first, second = map(quoted, shape.cut)
-            text = Text("the cells {} and {} may be one price, in each row", first, second)
-            self.talk.say(text, HINT)
-        elif self.cut and self.has_commas:
-            number, first, second = self.cut
-            text = Text("row {} has {} and then {}: may be one price", number, first, second)
-            self.talk.say(text, HINT)
-        if self.spaced and 2 * self.spaced_rows <= below:
-            text = counted(
-                "row {1} has {2} and then {3}, behind a space: may be one text ({0} row)",
-                "row {1} has {2} and then {3}, behind a space: may be one text ({0} rows)",
-                self.spaced_rows,
-                self.spaced.row,
-                quoted(self.spaced.first),
-                quoted(self.spaced.second.strip()),
-            )
-            self.talk.say(text, HINT)
-
-    @staticmethod
-    def places(head: Record, columns: Sequence[str]) -> tuple[int, ...]:
-        """Returns the places of columns by the row of names."""
-        wanted = set(map(name_of, columns))
-        return tuple(
-            place
-            for place, name in enumerate(head.cells)
-            if name_of(name) in wanted or str(place + 1) in wanted
-        )
+        for row in self.records():
+            if row.number >= head.number:
+                is_read = row.number == head.number or row.problem or row.is_blank()
+                problem = row.problem if is_read else shape.problem(row.cells)
+                yield Row(row.number, row.cells, problem)
 
     def shape(self, head: Record) -> Shape:
-        """Returns the shape of the table."""
-        prices = self.places(head, self.options.columns.prices)
-        below = (
-            row.cells
-            for row in parsed(self.text, self.begin, self.delimiter)
-            if row.number > head.number and not row.problem and not row.is_blank()
-        )
-        return shape_of(head.number, head.cells, below, prices, self.delimiter)
-
-    def checked(self, row: Record, shape: Shape) -> Row:
-        """Returns a row, with its problem where cells of it may have moved."""
-        if row.problem or row.is_blank():
-            return Row(*row)
-        cells = row.cells
-        if not len(cells) == shape.names == shape.width:  # most rows have these
-            problem = shape.problem(cells)
-            if problem:
-                return Row(row.number, cells, problem)
-        if self.delimiter == "," and shape.prices:
-            self.look_at_prices(row, shape.prices)
-        if len(cells) > shape.names and self.options.file.has_header is not False:
-            asked = [int(one) - 1 for one in self.options.columns.asked if one.isdecimal()]
-            for place in shape.unnamed(cells, asked):
-                self.unnamed.setdefault(place, []).append(row.number)
-                self.first_cells.setdefault(place, cells[place])
-        return Row(row.number, cells)
-
-    def look_at_prices(self, row: Record, places: Sequence[int]) -> None:
-        """Keeps the first price that may be cut in two, and whether others have their comma."""
-        for place in places:
-            text = row.cells[place]
-            if "," in text:
-                self.has_commas = True
-            elif self.cut is None and text.isdecimal() and (both := cut_price(row.cells, [place])):
-                self.cut = Cut(row.number, quoted(both[0]), quoted(both[1]))
-
-    def look_at_spaces(self, row: Record, printed: Sequence[int]) -> None:
-        """Keeps a text that may be cut in two: the second cell begins with a space."""
-        for place in printed:
-            first, second = (*row.cells[place : place + 2], "", "")[:2]
-            if second[:1] == " " and second.strip() and any(map(str.isalpha, first)):
-                self.spaced = self.spaced or Cut(row.number, first, second)
-                self.spaced_rows += 1
-                return
-
-    def say_unnamed(self) -> None:
-        """Says which columns without a name have values."""
-        for place, rows in sorted(self.unnamed.items()):
-            text = said_of_unnamed(place, len(rows), rows[0], self.first_cells[place])
-            self.talk.say(text, Text("have cells moved?"))
+        """Returns the shape of the table: some exports end each row but the names by a
+        delimiter.
+        """
+        named = max((at for at, name in enumerate(head.cells, 1) if name.strip()), default=0)
+        width = len(head.cells)
+        below = (row for row in self.records() if row.number > head.number and not row.is_blank())
+        beside = [len(row.cells) - width for row in below if len(row.cells) >= named]
+        rest = beside[0] if len(beside) > 1 and len(set(beside)) == 1 else 0
+        asked = {int(one) - 1 for one in self.options.columns.asked if one.isdecimal()}
+        has_names = self.options.file.has_header is not False
+        return Shape(head.number, named, width, max(rest, 0), asked if has_names else range(width))
 
 
 def csv_table(data: bytes, name: str, options: TableOptions, talk: Talk) -> CsvTable:
@@ -212,7 +163,7 @@ def csv_table(data: bytes, name: str, options: TableOptions, talk: Talk) -> CsvT
     if separator:
         begin = separator.end()
         given = given or separator[1]
-    return CsvTable(text, begin, delimiter_of(text, begin, given, options), options, talk)
+    return CsvTable(text, begin, delimiter_of(text, begin, given, options), options)
 
 
 def first_row(rows: Iterator[Record], number: int | None) -> Record | None:
@@ -326,8 +277,8 @@ def parsed(text: str, begin: int, delimiter: str) -> Iterator[Record]:
 
 
 def is_of_rows(cells: Sequence[str], delimiter: str) -> bool:
-    """Returns whether a cell of several lines is made of rows, whose quotes began and ended by
-    chance: each line has as many cells as the row, and numbers where the others have them.
+    """Returns whether the last line of a cell makes a row with what is behind it, with figures
+    where this one has them: then quotes of two rows have met by chance.
 
     >>> is_of_rows(["40063", "Tea;1,20\\n40064;Salt", "0,90"], ";")
     True
@@ -335,17 +286,14 @@ def is_of_rows(cells: Sequence[str], delimiter: str) -> bool:
     False
     """
     for place, cell in enumerate(cells):
-        if delimiter not in cell:  # most cells, at once
-            continue
-        first, *more = re.split("\r\n|\r|\n", cell)
-        if not more:
-            continue
-        rows = [line.split(delimiter) for line in (first, *more)]
-        rows[0] = [*cells[:place], *rows[0]]
-        rows[-1] = [*rows[-1], *cells[place + 1 :]]
-        figures = {tuple(FIGURES.fullmatch(text) is not None for text in row) for row in rows}
-        if len(figures) == 1 and all(len(row) == len(cells) for row in rows):
-            return any(next(iter(figures)))
+        first, *_, last = re.split("[\r\n]+", cell) * 2
+        rows = [*cells[:place], *first.split(delimiter)], [
+            *last.split(delimiter),
+            *cells[place + 1 :],
+        ]
+        figures = [[FIGURES.fullmatch(text) is not None for text in row] for row in rows]
+        if first != cell and any(figures[0]) and figures[0] == figures[1]:
+            return len(figures[0]) == len(cells)
     return False
 
 

@@ -168,8 +168,9 @@ class Styles:
 def form_of(said: Mapping[str, str]) -> Form:
     """Returns the form of letters by what styles say.
 
-    >>> form_of({"text-position": "super 58%", "font-size": "6pt"})
-    Form(mark=<Mark.RAISED: '⁰¹²³⁴⁵⁶⁷⁸⁹'>, size=6.0)
+    >>> form = form_of({"text-position": "super 58%", "font-size": "6pt"})
+    >>> form.mark.name, form.size
+    ('RAISED', 6.0)
     """
     size = said.get("font-size", "")
     points = float(exact_of(size[:-2])) if size.endswith("pt") else 0.0

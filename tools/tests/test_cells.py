@@ -613,7 +613,6 @@ class Heads(CellTest):
         for head, row in (
             ("EAN;Name;EK;VK", f"{SMALL};Tea;1,11;2,22"),
             ("Name;EAN;Stock;VK", f"Tea;{SMALL};1;2,22"),
-            ("EAN;Name;;EK;VK", f"{SMALL};Tea;;1,11;2,22"),
             ("GTIN-13;Artikel;EK", f"{SMALL};Tea;1,11"),
         ):
             table = f"EAN;Name;VK;Stock;\n{PENCIL};Tea;3,33;7;\n"
@@ -635,43 +634,6 @@ class Heads(CellTest):
         free = ["--code", "Code", "--price", "VK", "--symbology", "code128"]
         prices, said = self.ran(data, *free)
         self.assertEqual((prices, "names other columns" in said[0]), ([], True))
-
-    def test_prices_that_are_cut_in_each_row_are_said(self) -> None:
-        """What is behind them takes the place of another column, so no row is longer."""
-        said = 'the cells "2" and "99" may be one price, in each row: '
-        said += "a cell that contains the delimiter has to be in quotes"
-        for first, second, is_said in (
-            ("2,99", "3,50", True),
-            ("2,99", "3,5", False),
-            ("2,99", "3.50,12", False),
-        ):
-            data = f"EAN,Name,VK,Stock\n{PENCIL},Tea,{first}\n{SMALL},Tea,{second}\n".encode()
-            messages = self.ran(data, "--code", "EAN", "--price", "VK")[1]
-            self.assertEqual(messages.count(said), int(is_said), second)
-        data = f"EAN;Name;VK;Stock\n{PENCIL};Tea;2;99\n".encode()
-        self.assertEqual(self.ran(data, "--code", "EAN", "--price", "VK"), (["2"], []))
-
-    def test_a_price_that_is_cut_is_said_where_others_are_in_quotes(self) -> None:
-        said = 'row 2 has "2" and then "99": may be one price; '
-        said += "a cell that contains the delimiter has to be in quotes"
-        for other, is_said in (('"3,50",7', True), ("3.50,7", False)):
-            data = f"EAN,Name,VK,Stock\n{PENCIL},Tea,2,99\n{SMALL},Tea,{other}\n".encode()
-            messages = self.ran(data, "--code", "EAN", "--price", "VK")[1]
-            self.assertEqual(messages.count(said), int(is_said), other)
-
-    def test_a_text_that_is_cut_before_a_space_is_said(self) -> None:
-        said = 'row 2 has "Tea" and then "loose", behind a space: may be one text (1 row); '
-        said += "a cell that contains the delimiter has to be in quotes"
-        for first, others, is_said in (
-            ("Tea; loose", ("Jam;M", "Bun;L"), True),
-            ("Tea; loose", ("Jam; M", "Bun; L"), False),
-            ('"Tea; loose";S', ("Jam;M", "Bun;L"), False),
-            ("Tea;loose", ("Jam;M", "Bun;L"), False),
-        ):
-            lines = zip((PENCIL, SMALL, BOOK), (first, *others))
-            data = "EAN;Name;Size\n" + "".join(f"{code};{more}\n" for code, more in lines)
-            messages = self.ran(data.encode(), *PRICED[:4])[1]
-            self.assertEqual(messages, [said] if is_said else [], first)
 
     def test_prices_of_many_are_said(self) -> None:
         said = "has prices of 100 or 1000 by its name, and is printed as it is: "

@@ -12,7 +12,7 @@ from unittest import mock
 
 import support
 from labeltools import codes, columns, csv_table, lines_file, messages, money, names, number_format
-from labeltools import ods, prices, shape, summary, symbologies, workbook, xlsx
+from labeltools import ods, prices, summary, symbologies, workbook, xlsx
 from labeltools.lines_file import Label, first_remark, label_lines, last_remark, read_lines
 from labeltools.messages import Place, ToolError, write_message
 from labeltools.symbologies import SYMBOLOGIES
@@ -142,7 +142,7 @@ def load_tests(
     loader: unittest.TestLoader, tests: unittest.TestSuite, _: object
 ) -> unittest.TestSuite:
     shared: list[ModuleType] = [messages, symbologies, lines_file]
-    readers: list[ModuleType] = [csv_table, workbook, xlsx, ods, number_format, shape]
+    readers: list[ModuleType] = [csv_table, workbook, xlsx, ods, number_format]
     rules: list[ModuleType] = [codes, columns, money, names, prices, summary]
     for module in (*shared, *readers, *rules):
         tests.addTests(doctest.DocTestSuite(module))

@@ -96,20 +96,18 @@ class Widths(RulesTest):
 
     def test_a_price_cut_in_two_where_row_1_ends_in_an_empty_name(self) -> None:
         text = f"EAN,Name,Price,\n{SMALL},Pen,1.99,\n{PENCIL},Pen,0,80\n"
-        problem = f'row 3: the cells "0" and "80" may be one price: {QUOTES}'
+        problem = 'row 3: has "80" in column 4, which has no name: have cells moved?'
         self.check(text, self.ARGUMENTS, [f"ean8 {SMALL}"], [problem], 1)
 
     def test_delimiters_at_the_end_of_each_row_but_the_first(self) -> None:
         text = f"EAN;Name;Price\n{SMALL};Pen;1,99;\n{PENCIL};Ink;2,99;\n"
         self.check(text, self.ARGUMENTS, [f"ean8 {SMALL}", f"ean13 {PENCIL}"])
 
-    def test_a_value_under_an_empty_name_is_said(self) -> None:
+    def test_a_value_under_an_empty_name_leaves_its_row_out(self) -> None:
         text = f"EAN;Name;Price;\n{SMALL};Pen;1,99;order\n{PENCIL};Ink;2,99;\n"
-        said = (
-            'column 4 has no name and has values in 1 row, first in row 2 "order": have cells'
-            " moved?"
-        )
-        self.check(text, self.ARGUMENTS, [f"ean8 {SMALL}", f"ean13 {PENCIL}"], [said])
+        problem = 'row 2: has "order" in column 4, which has no name: have cells moved?'
+        self.check(text, self.ARGUMENTS, [f"ean13 {PENCIL}"], [problem], 1)
+        self.check(text, [*self.ARGUMENTS, "--text", "4"], [f"ean8 {SMALL}", f"ean13 {PENCIL}"])
 
 
 class Prices(RulesTest):
