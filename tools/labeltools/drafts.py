@@ -10,7 +10,7 @@ from labeltools.text import NOTHING, Text
 from labeltools.cells import Cell, Kind
 from labeltools.codes import Code, CodeRules, code_of
 from labeltools.columns import Column, Columns, symbology_in
-from labeltools.leftovers import BEHIND, LEFT, left_in, twice_encoded
+from labeltools.leftovers import has_left, twice_encoded
 from labeltools.messages import RowError, quoted
 from labeltools.money import MOST_DECIMALS, Money, NotMoney, currency_of, parse
 from labeltools.money import parse_unit_price, plain, text_price
@@ -21,25 +21,9 @@ from labeltools.table_options import TableOptions
 
 DATE = re.compile(r"(?<![0-9.,])[0-9]{1,4}[./-][0-9]{1,2}(?:[./-](?:[0-9]{2,4})?)?(?![0-9,])")
 MARK = re.compile("[0-9][./-]")  # a text without one is like no date
-# a whole text that is a date: with its year, or its month in letters, or a point behind the month
-WHOLE_DATE = re.compile(
-    r"[0-9]{1,4}([./-])[0-9]{1,2}\1[0-9]{2,4}|[0-9]{1,2}\.[0-9]{1,2}\."
-    r"|[0-9]{1,2}[.-] ?[^\W\d_]{3,4}\.?|[^\W\d_]{3,4}[ -][0-9]{2}"
-)
-# a price that may be a day and its month, of which a spreadsheet has made a date before
-DAY_AND_MONTH = re.compile(r"(?:0?[1-9]|[12][0-9]|3[01])\.(?:0?[1-9]|1[0-2])")
-# what spreadsheets write for the answer to a question
-ANSWERS = frozenset(
-    "TRUE FALSE WAHR FALSCH VRAI FAUX VERO FALSO VERDADERO VERDADEIRO WAAR ONWAAR PRAWDA FAŁSZ"
-    " PRAVDA NEPRAVDA IGAZ HAMIS SANT FALSKT SAND FALSK TOSI EPÄTOSI DOĞRU YANLIŞ ИСТИНА"
-    " ЛОЖЬ".split()
-)
 OWN_TABLE = Text("make a table of its own of it")
 ZERO_HINT = Text("it is a zero, which its number format shows so")
-# a text without one of these has nothing that is looked at
-LOOKED_AT = re.compile(f"{LEFT.pattern}|{MARK.pattern}")
 LONGEST_SIGN = 3  # letters of a text that is no more than a sign
-LONGEST_DAY = 5  # letters of a day and its month
 HALF = Decimal("0.5")
 KIND_OF_CODES = re.compile(
     r"(?:EAN|GTIN|UPC|ISBN|JAN)(?:[- ]?(?:[0-9]{1,2}|code|A|E))?", re.IGNORECASE
@@ -95,15 +79,14 @@ class Found(NamedTuple):
 
 @dataclass
 class Noticed:
-    """What is said of the rows at the end, each once: what another program has left in texts, by
-    its template; dates, and texts like dates, by the places of their columns; values like those
-    that rows are chosen by, by the same; an old price that is not above the price; prices that
-    are shown rounded, by the places of their columns; cells that are doubtful, and texts that are
-    a zero or a sign, by their columns; words in columns of prices in rows without a code, by their
-    places.
+    """What is said of the rows at the end, each once: what a program has left in texts; dates, and
+    texts like dates, by the places of their columns; values like those that rows are chosen by,
+    by the same; an old price that is not above the price; prices that are shown rounded, by the
+    places of their columns; cells that are doubtful, and texts that are a zero or a sign, by their
+    columns.
     """
 
-    left: dict[str, Found] = field(default_factory=dict)
+    left: Found | None = None
     dates: dict[int, int] = field(default_factory=dict)
     like_dates: dict[int, Found] = field(default_factory=dict)
     like_values: dict[tuple[Column, str], Found] = field(default_factory=dict)
@@ -111,21 +94,17 @@ class Noticed:
     rounded: dict[int, Found] = field(default_factory=dict)
     doubts: dict[tuple[Column, Doubt], int] = field(default_factory=dict)
     signs: dict[Column, Found] = field(default_factory=dict)
-    units: dict[int, str] = field(default_factory=dict)
 
     def text(self, column: Column, row: Row, text: str) -> None:
         """Looks at a title or text; raises `RowError` for one that was encoded twice."""
         cell = row.cells[column.place]
-        if len(text) <= LONGEST_SIGN and is_sign(text) or text in ANSWERS:
+        if len(text) <= LONGEST_SIGN and is_sign(text):
             self.signs.setdefault(column, Found(row.number, text))
-        is_odd = LOOKED_AT.search(text) or not (text.isascii() or BEHIND.isdisjoint(text))
-        if isinstance(cell, str) and not is_odd:  # most texts, at once
-            return
-        if before := twice_encoded(text):
+        if (before := twice_encoded(text)) != text:
             what = Text("has {}, which was encoded twice, for {}", quoted(text), quoted(before))
             raise column.error(RowError(what, Text("export the table again")))
-        if found := left_in(text):
-            self.left.setdefault(found.template, Found(row.number, text, found))
+        if has_left(text):
+            self.left = self.left or Found(row.number, text)
         kind = Kind.TEXT if isinstance(cell, str) else cell.kind
         if kind is Kind.MOMENT:
             self.dates.setdefault(column.place, row.number)
@@ -134,37 +113,11 @@ class Noticed:
         elif column.place not in self.like_dates and MARK.search(text) and DATE.search(text):
             self.like_dates[column.place] = Found(row.number, text)
 
-    def price(self, column: Column, row: Row, text: str) -> None:
-        """Looks at the text of a price: where another one of its column is a date, 3.12 may be."""
-        if len(text) <= LONGEST_DAY and column.place not in self.like_dates:
-            if DAY_AND_MONTH.fullmatch(text) and isinstance(row.cells[column.place], str):
-                self.like_dates[column.place] = Found(row.number, text)
-
-    def no_price(self, column: Column, row: Row) -> None:
-        """Looks at a cell that is no price: it may be a date."""
-        cell = row.cell(column.place)
-        try:
-            kind = Kind.TEXT if isinstance(cell, str) else cell.kind
-        except RowError:  # it is of no kind
-            return
-        is_text = isinstance(cell, str) and WHOLE_DATE.fullmatch(cell.strip())
-        if is_text or kind is Kind.MOMENT:
-            self.dates.setdefault(column.place, row.number)
-
     def doubtful(self, columns: Sequence[Column], row: Row) -> None:
         """Keeps the first row with a doubtful cell of each column."""
         for column in columns:
             if doubt := (row.doubts or {}).get(column.place):
                 self.doubts.setdefault((column, doubt), row.number)
-
-    def units_in(self, row: Row, columns: Columns) -> None:
-        """Keeps the words in columns of prices of a row whose code is empty: they may be units."""
-        if row.seen(columns.code.place).strip():
-            return
-        for column in (columns.price, columns.unit_price, columns.old_price):
-            text = row.seen(column.place) if column else ""
-            if column and text and not any(map(str.isdigit, text.partition("/")[0])):
-                self.units.setdefault(column.place, text)
 
     def value(self, column: Column, row: Row, wanted: str) -> None:
         """Looks at a value that is not the one that rows are chosen by."""
@@ -233,11 +186,7 @@ class RowReader:
         if not self.is_marked(row):
             return None
         columns = self.columns
-        try:
-            code = self.code(row)
-        except RowError:
-            self.noticed.units_in(row, columns)
-            raise
+        code = self.code(row)
         title = "\n".join(self.texts(columns.title, row, code).values())
         texts = self.texts(columns.text, row, code)
         text = tuple(texts.values())
@@ -372,17 +321,6 @@ class RowReader:
         """Returns the price of a column, None where there is none; raises `RowError`."""
         if column is None:
             return None
-        try:
-            found = self.price_in(column, row, currency)
-        except RowError:
-            self.noticed.no_price(column, row)
-            raise
-        if found:
-            self.noticed.price(column, row, found.text)
-        return found
-
-    def price_in(self, column: Column, row: Row, currency: str | None) -> Price | None:
-        """Returns the price of a column, as `price` does."""
         text = column.price(row)
         if not text:
             return None

@@ -10,7 +10,7 @@ from labeltools.text import NOTHING, Text, counted
 from labeltools.columns import Columns, Head, columns_of, names_of
 from labeltools.codes import is_in_brackets
 from labeltools.csv_table import csv_table
-from labeltools.drafts import ANSWERS, RowReader
+from labeltools.drafts import RowReader
 from labeltools.line_writer import LineWriter, contents_of
 from labeltools.messages import BAD_ARGUMENTS, Place, RowError, Talk, ToolError, quoted
 from labeltools.prices import is_of_cents, is_of_many
@@ -278,18 +278,15 @@ class TableRun:
             )
 
     def say_of_units(self) -> None:
-        """Says which columns have cents, or prices of many articles, by their names, or by the row
-        of units below these.
-        """
+        """Says which columns have cents, or prices of many articles, by their names."""
         columns = (self.columns.price, self.columns.unit_price, self.columns.old_price)
         for column, prices in zip(columns, self.writer.columns):
             if column is None:
                 continue
-            name = f"{column.name} {self.reader.noticed.units.get(column.place, '')}"
-            if is_of_cents(name) and prices.are_bare:
+            if is_of_cents(column.name) and prices.are_bare:
                 text = Text("{} has cents by its name, and is printed as it is", column.title)
                 self.talk.say(text, Text("make a column of prices of it"))
-            elif column is not self.columns.unit_price and is_of_many(name):
+            elif column is not self.columns.unit_price and is_of_many(column.name):
                 text = Text(
                     "{} has prices of 100 or 1000 by its name, and is printed as it is",
                     column.title,
@@ -299,15 +296,12 @@ class TableRun:
     def say_of_texts(self) -> None:
         """Says what is odd in titles and texts, and in the values that rows are chosen by."""
         noticed = self.reader.noticed
-        for row, text, more, _ in noticed.left.values():
-            self.talk.say(
-                Text("row {} has {} with {}, which is printed as it is", row, quoted(text), more)
-            )
+        if found := noticed.left:
+            text = Text("row {} has {}, as programs write it", found.row, quoted(found.text))
+            self.talk.say(text, Text("it is printed as it is"))
         for column, found in noticed.signs.items():
             text = Text("row {} has {} as text, in {}", found.row, quoted(found.text), column.title)
-            of_formula = Text("is it the answer of a formula?")
-            of_empty = Text("does it stand for an empty cell?")
-            self.talk.say(text, of_formula if found.text in ANSWERS else of_empty)
+            self.talk.say(text, Text("does it stand for an empty cell?"))
         for place, row in noticed.dates.items():
             if like := noticed.like_dates.get(place):
                 text = Text(
@@ -316,10 +310,7 @@ class TableRun:
                     quoted(like.text),
                     row,
                 )
-                is_price = any(column.place == place for column in self.columns.prices)
-                of_price = Text("is it a date, too, of which a spreadsheet made a number?")
-                in_order = Text("are its day and month in the same order?")
-                self.talk.say(text, of_price if is_price else in_order)
+                self.talk.say(text, Text("are its day and month in the same order?"))
         for (column, wanted), like in noticed.like_values.items():
             text = counted(
                 "row {1} has {2} in {3}, which looks like {4}, and is not printed ({0} row)",

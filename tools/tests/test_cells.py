@@ -523,28 +523,6 @@ class Texts(CellTest):
             self.assertEqual((titles, said), (["Tea", sign, sign, "7"], [wanted]))
         self.assertEqual(self.ran(f"EAN;Name\n{PENCIL};▼\n".encode(), *PRICED[:4]), (["▼"], []))
 
-    def test_the_answer_of_a_formula_as_text_is_said(self) -> None:
-        for answer in ("TRUE", "WAHR", "FAUX", "ЛОЖЬ"):
-            data = f"EAN;Name\n{PENCIL};{answer}\n{SMALL};True\n".encode()
-            titles, said = self.ran(data, *PRICED[:4])
-            wanted = f'row 2 has "{answer}" as text, in column 2 ("Name"): '
-            wanted += "is it the answer of a formula?"
-            self.assertEqual((titles, said), ([answer, "True"], [wanted]))
-
-    def test_a_day_and_its_month_beside_a_date_is_said(self) -> None:
-        """What a spreadsheet makes of 3.12 is a date, and of a column of them a few numbers."""
-        for date in ("2026-12-03", "03.12.2026", "03.12.", "03. Dez", "3-Dec", "Dez 12"):
-            data = f"EAN;Name;Price\n{PENCIL};A;9,99\n{SMALL};B;3.12\n{BOOK};C;{date}\n".encode()
-            prices, said = self.ran(data, *PRICED)
-            self.assertEqual(prices, ["9,99", "3.12"], date)
-            wanted = 'row 3 has the text "3.12" where row 4 has a date: '
-            wanted += "is it a date, too, of which a spreadsheet made a number?"
-            self.assertIn(wanted, said)
-        for other in ("9.99-", "1.50 2.50", "gratis"):
-            data = f"EAN;Name;Price\n{PENCIL};A;3.12\n{BOOK};C;{other}\n".encode()
-            prices, said = self.ran(data, *PRICED)
-            self.assertEqual((prices, len(said)), (["3.12"], 1), other)
-
     def test_what_a_program_writes_without_a_value(self) -> None:
         for text in ("(NULL)", "[none]", "\\N", "NA", "5,9E+12"):
             data = f"EAN;Name\n{PENCIL};{text}\n{SMALL};Na\n".encode()
@@ -553,25 +531,25 @@ class Texts(CellTest):
             self.assertIn("row 2", said[0])
 
     def test_what_another_program_has_left_is_said_once(self) -> None:
-        for text, left in (
-            ("Gr\\u00fcntee", 'an escape, for "Grüntee"'),
-            ("Gr%C3%BCntee", 'an escape, for "Grüntee"'),
-            ("'Earl Grey'", "quotes round it"),
-            ("'+49 Tee", "an apostrophe in front, a spreadsheet's sign of text"),
-            ("Tee &amp; Co", "HTML"),
-            ("Gr_x00FC_ntee", 'an escape, for "Grüntee"'),
-            ("Gr=C3=BCntee", 'an escape, for "Grüntee"'),
-            ('["Tee"]', "quotes round it"),
-            ("{{name}}", "the sign of a template"),
-            ('{"de": "Tee"}', "JSON"),
-            ('a:1:{s:2:"de";s:3:"Tee";}', "a value of PHP"),
-            ("[:de]Tee[:fr]Thé[:]", "the sign of a template"),
-            ("Gr?ntee", "a question mark in a word, as for a lost letter"),
+        for text in (
+            "Gr\\u00fcntee",
+            "Gr%C3%BCntee",
+            "'Earl Grey'",
+            "'+49 Tee",
+            "Tee &amp; Co",
+            "Gr_x00FC_ntee",
+            "Gr=C3=BCntee",
+            '["Tee"]',
+            "{{name}}",
+            '{"de": "Tee"}',
+            'a:1:{s:2:"de";s:3:"Tee";}',
+            "[:de]Tee[:fr]Thé[:]",
+            "Gr?ntee",
         ):
             data = f"EAN\tName\n{PENCIL}\t{text}\n{SMALL}\t{text}\n".encode()
             titles, said = self.ran(data, *PRICED[:4])
-            wanted = f'row 2 has "{text}" with {left}, which is printed as it is'
-            self.assertEqual((titles, said), ([text, text], [wanted]))
+            self.assertEqual((titles, len(said)), ([text, text], 1))
+            self.assertTrue(said[0].startswith(f'row 2 has "{text}", as programs write it'))
         right = ("'t Hof", "50%ige", "Salt & Pepper", "C:\\neu", "5' lang", "Rock 'n' Roll")
         for text in (*right, "Wer? Wie?", "A=10=B", "{rot}", "[neu] Tee", "max_x2", "x=?"):
             data = f"EAN;Name\n{PENCIL};{text}\n".encode()
@@ -638,24 +616,18 @@ class Heads(CellTest):
     def test_prices_of_many_are_said(self) -> None:
         said = "has prices of 100 or 1000 by its name, and is printed as it is: "
         said += "make a column of prices of one"
-        for name, units, is_said in (
-            ("Preis/100", "", True),
-            ("Preis (TEUR)", "", True),
-            ("price per 1000", "", True),
-            ("Preis", "EUR/100", True),
-            ("Preis", "EUR", False),
-            ("Preis / 100 g", "", False),
-            ("VK 1000", "", False),
+        for name, is_said in (
+            ("Preis/100", True),
+            ("Preis (TEUR)", True),
+            ("price per 1000", True),
+            ("Preis", False),
+            ("Preis / 100 g", False),
+            ("VK 1000", False),
         ):
-            unit = f";;{units}\n" if units else ""
-            data = f"EAN;Name;{name}\n{unit}{PENCIL};Tea;3,33\n".encode()
+            data = f"EAN;Name;{name}\n{PENCIL};Tea;3,33\n".encode()
             prices, messages = self.ran(data, "--code", "EAN", "--price", name)
             self.assertEqual(prices, ["3,33"])
             self.assertEqual([said in one for one in messages].count(True), int(is_said), name)
-        data = f"EAN;Name;Preis\n;;ct\n{PENCIL};Tea;333\n".encode()
-        self.assertIn(
-            "has cents by its name", self.ran(data, "--code", "EAN", "--price", "Preis")[1][1]
-        )
 
 
 class Codes(CellTest):

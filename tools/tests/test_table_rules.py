@@ -373,7 +373,7 @@ class Titles(RulesTest):
     def test_html_is_said_once(self) -> None:
         text = f"EAN,Name\n{SMALL},Salt & pepper\n{BOOK},<b>Tea</b> &amp; tin\n{PENCIL},&uuml;\n"
         status, messages, labels = self.said(text, "--code", "EAN", "--title", "Name")
-        said = ['row 3 has "<b>Tea</b> &amp; tin" with HTML, which is printed as it is']
+        said = ['row 3 has "<b>Tea</b> &amp; tin", as programs write it: it is printed as it is']
         self.assertEqual((status, messages, len(labels)), (0, said, 3))
 
     def test_tabs_and_marks_of_the_direction_are_white(self) -> None:
