@@ -11,8 +11,8 @@ from contextlib import suppress
 from dataclasses import dataclass, field
 from datetime import date, datetime, timedelta
 from decimal import ROUND_HALF_UP, Context, Decimal
-from functools import cached_property, lru_cache
-from typing import NamedTuple
+from functools import lru_cache
+from typing import NamedTuple, Sequence
 
 from labeltools.text import Text
 from labeltools.messages import RowError, quoted
@@ -38,21 +38,26 @@ BUILT_IN = {
 LANGUAGE = "of the language"  # any other format that is named by its number
 DATE_OF_LANGUAGE = "date of the language"
 BUILT_IN_DATES = {"14": DATE_OF_LANGUAGE}
-TOKEN = re.compile(
-    r"""(?P<number>General|@|[0\#?][0\#?,]*(?:\.[0\#?]*)?(?:E\+0+)?|\.[0\#?]+)
-      | (?P<percent>%)
-      | (?P<end>;)
-      | (?P<noon>AM/PM)
-      | (?P<date>d{1,2}(?!d)|m{1,2}(?!m)|(?:yy){1,2}(?!y)|h{1,2}(?!h)|s{1,2}(?![s.]))
-      | \[\$(?P<currency>[^\]-]{0,30})(?:-(?P<language>[0-9A-Za-z-]{0,30}))?\]
-      | "(?P<quoted>[^"]*)"
-      | \\(?P<escaped>.)
-      | (?P<space>_.)
-      | (?P<nothing>\*.|\[(?:black|blue|cyan|green|magenta|red|white|yellow|color\ ?[0-9]+)\])
-      | (?P<plain>[-+/():!^&'~{}<>=.,\ $]|[^\x00-\x7f])""",
+# what is around a number, or between the parts of a date; and what it shows
+LITERAL = re.compile(
+    r"""\[\$(?P<currency>[^\]-]{0,30})(?:-(?P<language>[0-9A-Za-z-]{0,30}))?\]
+      | "(?P<quoted>[^"]*)" | \\(?P<escaped>.) | (?P<space>_). | \*.
+      | \[(?:black|blue|cyan|green|magenta|red|white|yellow|color\ ?[0-9]+)\]
+      | (?P<plain>[-+/():!^&'~{}<>=\ $]|[^\x00-\x7f])""",
     re.IGNORECASE | re.VERBOSE | re.DOTALL,
 )
-DATE_TOKEN = re.compile("(?P<date>yyyy|yy|dd?|mm?|hh?|ss?)|(?P<plain>[-./: ,]|[^\x00-\x7f])")
+ANY = re.sub(r"\(\?P<[a-z]+>", "(?:", LITERAL.pattern)
+NUMBER = re.compile(
+    rf"""(?P<before>(?:{ANY}|%)*)
+        (?P<pattern>General|@|[0\#?][0\#?,]*(?:\.[0\#?]*)?(?:E\+0+)?|\.[0\#?]+|)
+        (?P<behind>(?:{ANY}|%)*)""",
+    LITERAL.flags,
+)
+DATE = r"d{1,2}(?!d)|m{1,2}(?!m)|(?:yy){1,2}(?!y)|h{1,2}(?!h)|s{1,2}(?![s.])|AM/PM"
+MOMENT = re.compile(rf"(?:{DATE}|[.,]|{ANY})+", LITERAL.flags)
+MOMENT_PART = re.compile(rf"(?P<date>{DATE})|[.,]|{ANY}", LITERAL.flags)
+SECTION = re.compile(r"""(?:"[^"]*"|\\.|[_*].|\[[^\]]*\]|[^;"\\\[])*""", re.DOTALL)
+PATTERN_OF_DATES = re.compile("(?:yyyy|yy|dd?|mm?|hh?|ss?|[-./: ,]|[^\x00-\x7f])+")
 SIGNIFICANT = Context(prec=15)  # the digits of a number in a spreadsheet
 EXACT = Context(prec=400)  # those of any other
 FIRST_DAY = 61  # from March 1900 on all spreadsheets count from the same day
@@ -61,7 +66,6 @@ LATER_IN_1904 = 1462  # days between the two beginnings
 DAY_ZERO = date(1899, 12, 30)
 SECONDS = 86400  # of a day
 SAME_SECOND = Decimal("0.01")
-TIMES = {"h", "n", "s"}
 WHOLE_PATTERN = re.compile("[#?,]*[#?0]0?0?")  # with signs of thousands
 # the decimal sign and the one of thousands by language, and by country where that differs
 COMMA_POINT = "de es it nl pt da el id tr hr sl ro is vi sr bs ca gl eu mk sq"
@@ -92,57 +96,21 @@ SIGNS_OF = {
 }
 
 
-class Part(NamedTuple):
-    """A part of a format: its kind, as in `TOKEN`, and its text."""
-
-    kind: str
-    text: str
-
-
 @dataclass(frozen=True)
 class Section:
-    """What a format shows of positive, negative or zero numbers, or of texts.
+    """What a format shows of positive, negative or zero numbers, or of texts: a number by its
+    pattern, with what is around it, or the parts of a date or a time; else words alone.
 
     `language` is that of its signs, as `de_DE`; empty where it names none. The language of a
     currency, as in `[$zł-415]`, is not that of the signs.
     """
 
-    parts: tuple[Part, ...]
+    before: str = ""
+    pattern: str = ""
+    behind: str = ""
+    is_percentage: bool = False
     language: str = ""
-
-    def count(self, kind: str) -> int:
-        """Returns how many parts are of a kind."""
-        return sum(part.kind == kind for part in self.parts)
-
-    @cached_property
-    def is_date(self) -> bool:
-        """Whether it shows a date or a time."""
-        return self.count("date") > 0 and not (self.count("number") or self.count("percent"))
-
-    @cached_property
-    def is_number(self) -> bool:
-        """Whether it shows a number, once, and no other one; a comma behind a number divides by
-        thousand.
-        """
-        return self.count("number") == 1 and not self.has_more
-
-    @cached_property
-    def is_zero(self) -> bool:
-        """Whether it shows zero alone, without a number, as `"free"`."""
-        return not (self.count("number") or self.count("percent") or self.has_more)
-
-    @cached_property
-    def has_more(self) -> bool:
-        """Whether it has more than a number, or a text, in which programs differ."""
-        if Part("number", "@") in self.parts and len(self.parts) > 1:
-            return True
-        others = self.count("date") + self.count("noon")
-        return bool(others or Part("plain", ",") in self.parts or self.count("percent") > 1)
-
-    @cached_property
-    def is_percentage(self) -> bool:
-        """Whether it shows a number of hundredths."""
-        return self.count("percent") > 0
+    moment: tuple[str, ...] = ()
 
 
 @dataclass
@@ -174,7 +142,7 @@ class Formatter:
         sections = number_sections(number_format)
         place = section_for(value, len(sections))
         section = sections[place]
-        if section.is_date:
+        if section.moment:
             return date_text(section, value, is_from_1904)
         text = self.number_text(section, value, number_format)
         is_below = value < 0 and place == 0 and re.search("[1-9]", text)
@@ -186,33 +154,18 @@ class Formatter:
         """
         if number_format == DATE_OF_LANGUAGE:
             self.first_date = self.first_date or text
-        elif not self.first_number and has_own_signs(number_format):
+        elif not self.first_number and not is_date_format(number_format):
             has_sign = self.signs.decimal in text or self.signs.thousands in text
             self.first_number = text if has_sign else ""
 
     def number_text(self, section: Section, value: Decimal, number_format: str) -> str:
         """Returns a number without its sign as a section shows it."""
-        if not (section.is_number or section.is_zero and not value):
+        if not section.pattern and value:
             raise not_understood(number_format)
-        size = abs(value).scaleb(2) if section.is_percentage else abs(value)
+        size = abs(value).scaleb(2 if section.is_percentage else 0)
         signs = signs_of(section.language) or self.signs
-        shown = [
-            by_pattern(size, one.text, signs) if one.kind == "number" else one.text
-            for one in section.parts
-        ]
-        return "".join(shown).strip()
-
-
-@lru_cache(maxsize=256)
-def has_own_signs(number_format: str) -> bool:
-    """Returns whether a format shows numbers by the signs of its reader, and not by those of a
-    language.
-    """
-    try:
-        section = sections_of(number_format)[0]
-    except RowError:  # a date that is written anew
-        return False
-    return section.count("number") > 0 and not signs_of(section.language)
+        number = by_pattern(size, section.pattern, signs) if section.pattern else ""
+        return f"{section.before}{number}{section.behind}".strip()
 
 
 def not_understood(number_format: str, is_code: bool = False) -> RowError:
@@ -230,7 +183,7 @@ def not_understood(number_format: str, is_code: bool = False) -> RowError:
 def number_sections(number_format: str) -> tuple[Section, ...]:
     """Returns the sections of a format that show numbers: a last one with `@` shows texts alone."""
     sections = sections_of(number_format)
-    is_for_texts = len(sections) > 1 and Part("number", "@") in sections[-1].parts
+    is_for_texts = len(sections) > 1 and sections[-1].pattern == "@"
     return sections[:-1] if is_for_texts else sections
 
 
@@ -246,7 +199,7 @@ def is_of_time(number_format: str, value: Decimal) -> bool:
         sections = number_sections(number_format)
     except RowError:
         return is_date_format(number_format)
-    return sections[section_for(value, len(sections))].is_date
+    return bool(sections[section_for(value, len(sections))].moment)
 
 
 def section_for(value: Decimal, count: int) -> int:
@@ -259,30 +212,51 @@ def section_for(value: Decimal, count: int) -> int:
 @lru_cache(maxsize=256)
 def sections_of(number_format: str) -> tuple[Section, ...]:
     """Returns the sections of a format; raises `RowError` for one that is not understood."""
-    if len(number_format) > LONGEST_FORMAT or TOKEN.sub("", number_format):
-        raise not_understood(number_format)
     sections: list[Section] = []
-    parts: list[Part] = []
+    end = -1
+    while end < len(number_format) <= LONGEST_FORMAT:
+        found = SECTION.match(number_format, end + 1)
+        if not found or number_format[found.end() : found.end() + 1] not in ("", ";"):
+            raise not_understood(number_format)
+        sections.append(section_of(found[0], number_format))
+        end = found.end()
+    if not sections:
+        raise not_understood(number_format)
+    return tuple(sections)
+
+
+def section_of(text: str, number_format: str) -> Section:
+    """Returns a section of a format; raises `RowError` for one that is not understood."""
     language = ""
-    for match in TOKEN.finditer(number_format):
-        kind = match.lastgroup or ""
-        if kind == "end":
-            sections.append(Section(with_minutes(parts), language))
-            parts = []
-            language = ""
-        else:
-            if match["language"] and not match["currency"]:
-                language = language_of(match["language"], number_format)
-            parts.append(part_of(match))
-    return (*sections, Section(with_minutes(parts), language))
+    for literal in LITERAL.finditer(text):
+        if literal["language"] and not literal["currency"]:
+            language = language_of(literal["language"], number_format)
+    if found := NUMBER.fullmatch(text):
+        around = re.sub(LITERAL, "", found["before"] + found["behind"])
+        is_framed = found["pattern"] == "@" and shown(found["before"] + found["behind"]).strip()
+        if around in ("", "%") and (found["pattern"] or not around) and not is_framed:
+            before, behind = shown(found["before"]), shown(found["behind"])
+            return Section(before, found["pattern"], behind, around == "%", language)
+    elif MOMENT.fullmatch(text):
+        parts = [one["date"] or f"'{shown(one[0])}" for one in MOMENT_PART.finditer(text)]
+        moment = with_minutes(parts)
+        if any(part[0] in "dmyhns" for part in moment):
+            return Section(language=language, moment=moment)
+    raise not_understood(number_format)
 
 
-def part_of(match: re.Match[str]) -> Part:
-    """Returns the part of a format that a token is."""
-    if match["currency"] is not None:
-        return Part("currency", match["currency"])
-    kind = match.lastgroup or ""
-    return Part(kind, {"space": " ", "nothing": ""}.get(kind, match[kind]))
+def shown(literals: str) -> str:
+    """Returns what literals show.
+
+    >>> shown('"a" \\\\b_-[$€-407][Red]')
+    'a b €'
+    """
+
+    def text(found: re.Match[str]) -> str:
+        named = found["quoted"] or found["escaped"] or found["currency"] or found["plain"]
+        return named or (" " if found["space"] else "")
+
+    return LITERAL.sub(text, literals)
 
 
 def language_of(code: str | None, number_format: str) -> str:
@@ -316,20 +290,19 @@ def signs_of(language: str) -> Signs | None:
     return SIGNS_OF.get(language) or SIGNS_OF.get(language.partition("_")[0])
 
 
-def with_minutes(parts: list[Part]) -> tuple[Part, ...]:
-    """Returns the parts of a section; an `m` behind hours or before seconds is of minutes.
+def with_minutes(parts: Sequence[str]) -> tuple[str, ...]:
+    """Returns the parts of a moment in small letters; an `m` behind hours or before seconds is of
+    minutes, `n`. What is no part of it begins with an apostrophe.
 
-    >>> [part.kind for part in with_minutes([Part("date", "h"), Part("date", "mm")])]
-    ['date', 'minutes']
+    >>> with_minutes(["h", "':", "MM"])
+    ('h', "':", 'nn')
     """
-    dates = [place for place, part in enumerate(parts) if part.kind == "date"]
-    found = list(parts)
-    for at, place in enumerate(dates):
-        before = parts[dates[at - 1]].text.lower() if at else ""
-        behind = parts[dates[at + 1]].text.lower() if at + 1 < len(dates) else ""
-        is_time = before in ("h", "hh") or behind in ("s", "ss")
-        if parts[place].text.lower() in ("m", "mm") and is_time:
-            found[place] = Part("minutes", parts[place].text)
+    found = [one if one[0] == "'" else one.lower() for one in parts]
+    dates = [place for place, part in enumerate(found) if part[0] != "'" and part != "am/pm"]
+    for before, place, behind in zip([-1, *dates], dates, [*dates[1:], -1]):
+        is_behind = before >= 0 and found[before][0] == "h"
+        if found[place][0] == "m" and (is_behind or behind >= 0 and found[behind][0] == "s"):
+            found[place] = "n" * len(found[place])
     return tuple(found)
 
 
@@ -351,41 +324,37 @@ def date_section(pattern: str) -> Section:
     >>> date_text(date_section("dd.mm.yy"), Decimal(46351))
     '25.11.26'
     """
-    if DATE_TOKEN.sub("", pattern) or not re.search("[dmy]", pattern):
+    if not PATTERN_OF_DATES.fullmatch(pattern) or not re.search("[dmy]", pattern):
         raise ValueError(Text("{!r} is not as 'dd.mm.yyyy'", pattern))
-    parts = [Part(match.lastgroup or "", match[0]) for match in DATE_TOKEN.finditer(pattern)]
-    return Section(with_minutes(parts))
+    parts = re.findall("yyyy|yy|dd?|mm?|hh?|ss?|.", pattern)
+    return Section(moment=with_minutes([one if one[0] in "ymdhs" else f"'{one}" for one in parts]))
 
 
 def date_text(section: Section, value: Decimal, is_from_1904: bool = False) -> str:
     """Returns the day and time of a number; raises `RowError` where spreadsheets show different
     ones.
     """
-    moment = moment_of(value, is_from_1904, letters_of(section))
-    is_noon = section.count("noon") > 0
-    return "".join(date_part(part, moment, is_noon) for part in section.parts).strip()
+    letters = {part[0] for part in section.moment if part != "am/pm"}
+    is_timed, is_dated = bool(letters & set("hns")), bool(letters & set("dmy"))
+    moment = moment_of(value, is_from_1904, is_timed, is_dated)
+    is_noon = "am/pm" in section.moment
+    return "".join(date_part(part, moment, is_noon) for part in section.moment).strip()
 
 
-def letters_of(section: Section) -> set[str]:
-    """Returns the letters of a format's parts of dates and times; those of minutes are `n`."""
-    dates = {part.text[0].lower() for part in section.parts if part.kind == "date"}
-    return dates | {"n" for part in section.parts if part.kind == "minutes"}
-
-
-def moment_of(value: Decimal, is_from_1904: bool, letters: set[str]) -> datetime:
-    """Returns the moment of a number of days, to the second; `letters` are those of its format."""
+def moment_of(value: Decimal, is_from_1904: bool, is_timed: bool, is_dated: bool) -> datetime:
+    """Returns the moment of a number of days, to the second; a format shows its time, its date or
+    both.
+    """
     exact = value * SECONDS
     seconds = int(exact.to_integral_value(ROUND_HALF_UP))
-    if letters & TIMES and seconds - exact > SAME_SECOND:
-        raise RowError(
-            Text("has a time between two seconds, which programs show differently"), TYPED
-        )
     if seconds - exact > SAME_SECOND:
+        if is_timed:
+            what = Text("has a time between two seconds, which programs show differently")
+            raise RowError(what, TYPED)
         seconds -= 1
     day, second = divmod(seconds, SECONDS)
-    if is_from_1904:
-        day += LATER_IN_1904
-    if not letters - TIMES and 0 <= day < FIRST_DAY:  # a time alone
+    day += LATER_IN_1904 if is_from_1904 else 0
+    if not is_dated and 0 <= day < FIRST_DAY:  # a time alone
         day = FIRST_DAY
     if not FIRST_DAY <= day <= LAST_DAY:
         raise RowError(Text("is a date before March 1900 or after 9999"), TYPED)
@@ -393,20 +362,17 @@ def moment_of(value: Decimal, is_from_1904: bool, letters: set[str]) -> datetime
     return start + timedelta(days=day, seconds=second)
 
 
-def date_part(part: Part, moment: datetime, is_noon: bool) -> str:
+def date_part(part: str, moment: datetime, is_noon: bool) -> str:
     """Returns what a part of a format shows of a moment."""
-    if part.kind == "noon":
+    if part[0] == "'":
+        return part[1:]
+    if part == "am/pm":
         return "AM" if moment.hour < 12 else "PM"
-    if part.kind == "minutes":
-        return str(moment.minute).zfill(len(part.text))
-    if part.kind != "date":
-        return part.text
+    if part[0] == "y":
+        return f"{moment.year:04}"[-len(part) :]
     hour = (moment.hour + 11) % 12 + 1 if is_noon else moment.hour
-    numbers = {"d": moment.day, "m": moment.month, "h": hour, "s": moment.second}
-    letter = part.text[0].lower()
-    if letter == "y":
-        return f"{moment.year:04}"[-len(part.text) :]
-    return str(numbers[letter]).zfill(len(part.text))
+    numbers = {"d": moment.day, "m": moment.month, "h": hour, "n": moment.minute}
+    return str(numbers.get(part[0], moment.second)).zfill(len(part))
 
 
 class Digits(NamedTuple):
@@ -495,14 +461,14 @@ def digits_of(number_format: str, value: Decimal, is_data: bool = False) -> str:
     """
     if number_format in (LANGUAGE, DATE_OF_LANGUAGE):
         raise not_understood(LANGUAGE, is_code=True)
-    parts = [part for part in sections_of(number_format)[0].parts if part.text.strip()]
-    if [part.kind for part in parts] != ["number"]:
+    section = sections_of(number_format)[0]
+    if not section.pattern or (section.before + section.behind).strip():
         raise not_understood(number_format, is_code=True)
     if value != value.to_integral_value() or abs(value) >= 10**15:
         raise RowError(
             Text("is the number {}, which is not whole or has too many digits", value), TYPED
         )
-    pattern = parts[0].text
+    pattern = section.pattern
     is_general = pattern[0] in "Gg@"
     if is_data and not is_general and re.search(r"[.Ee]|,\Z", pattern):
         form = quoted(number_format)
@@ -510,18 +476,6 @@ def digits_of(number_format: str, value: Decimal, is_data: bool = False) -> str:
         raise RowError(what, TYPED)
     zeros = 0 if is_general else least_digits(re.split("[.Ee]", pattern)[0])
     return f"{value:.0f}".zfill(zeros)
-
-
-def shown_text(text: str, number_format: str) -> str:
-    """Returns a text as its format shows it: the last section that has `@` puts the rest around
-    it.
-    """
-    for section in reversed(sections_of(number_format)):
-        if Part("number", "@") in section.parts:
-            return "".join(
-                text if part.kind == "number" else part.text for part in section.parts
-            ).strip()
-    return text
 
 
 def local_signs(decimal: str | None) -> Signs:

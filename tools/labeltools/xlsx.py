@@ -9,13 +9,13 @@ from zipfile import ZipFile
 
 from labeltools import number_format
 from labeltools.text import Text
-from labeltools.messages import RowError, ToolError, quoted
+from labeltools.messages import RowError, ToolError
 from labeltools.number_format import BUILT_IN, BUILT_IN_DATES, LANGUAGE, Formatter
 from labeltools.cells import PLAIN, Cell, Fault, Form, Kind, Mark, Special, Truth, no_value
 from labeltools.cells import formed, text_of_runs
 from labeltools.rows import Doubt, Merge, Row
 from labeltools.workbook import LARGEST_TEXTS, NOT_SAVED, NOT_SAVED_HINT, SAVE_AGAIN, TOO_LARGE
-from labeltools.workbook import TRUE, TYPED, Sheet, areas_of, chosen, corners_of, elements, events
+from labeltools.workbook import TRUE, Sheet, areas_of, chosen, corners_of, elements, events
 from labeltools.workbook import exact_of, filled, merges_at, place_of, rows_from, whole
 
 ESCAPED = re.compile("_x([0-9A-Fa-f]{4})_")
@@ -139,32 +139,6 @@ class Number(Special):
     def data(self) -> str:
         """Returns the digits of a whole number that is shown so."""
         return number_format.digits_of(self.number_format, self.exact, is_data=True)
-
-
-@dataclass(frozen=True, slots=True)
-class Framed(Special):
-    """A cell with a text, and a format that puts something around it, as `"SKU-"@` does."""
-
-    value: str
-    number_format: str
-
-    def shown(self) -> str:
-        """Returns the text as its format shows it."""
-        return number_format.shown_text(self.value, self.number_format)
-
-    def digits(self) -> str:
-        """Returns the text as it was typed."""
-        return self.value
-
-    def data(self) -> str:
-        """Returns the text, which must be what is shown."""
-        text = self.shown()
-        if text != self.value:
-            what = Text(
-                "is shown as {}, and would be drawn as {}", quoted(text), quoted(self.value)
-            )
-            raise RowError(what, TYPED)
-        return text
 
 
 def rows_of_xlsx(archive: ZipFile, wanted: str | None, formatter: Formatter) -> Iterator[Row]:
@@ -367,11 +341,14 @@ class CellReader:
 
 
 def text_of(text: str | Letters, style: str, form: Form) -> Cell:
-    """Returns a text, with its format where that puts something around it."""
+    """Returns a text; none where its format puts something around it, as `"SKU-"@` does."""
     found = formed(text, form) if isinstance(text, str) else text.within(form)
-    if not isinstance(found, str) or "@" not in style or style == "@" or not found:
-        return found
-    return Framed(found, style)
+    if isinstance(found, str) and found and "@" in style and style != "@":
+        try:
+            number_format.sections_of(style)
+        except RowError as problem:
+            return Fault(problem.what, problem.hint, found)
+    return found
 
 
 def sheet_rows(archive: ZipFile, path: str, book: Book) -> Iterator[Row]:
