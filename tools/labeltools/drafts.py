@@ -6,16 +6,17 @@ from decimal import Decimal
 from typing import Iterator, NamedTuple, Sequence
 from unicodedata import category
 
-from labeltools.text import NOTHING, Text
+from labeltools.text import Text, counted
 from labeltools.cells import Cell, Kind
 from labeltools.codes import Code, CodeRules, code_of
 from labeltools.columns import Column, Columns, symbology_in
 from labeltools.leftovers import has_left, twice_encoded
-from labeltools.messages import RowError, quoted
+from labeltools.messages import RowError, Talk, quoted
 from labeltools.money import MOST_DECIMALS, Money, NotMoney, currency_of, parse
 from labeltools.money import parse_unit_price, plain, text_price
 from labeltools.prices import ARITHMETIC, MOST_LOST, nearest
 from labeltools.names import is_repeated, looks_like, name_of
+from labeltools.once import Once
 from labeltools.rows import Doubt, Row
 from labeltools.table_options import TableOptions
 
@@ -66,66 +67,81 @@ class Draft(NamedTuple):
         return self.price, self.unit, self.was
 
 
-class Found(NamedTuple):
-    """What something is said of: the first row and its text, in how many rows it is, and what else
-    is said.
-    """
-
-    row: int
-    text: str
-    more: Text = NOTHING
-    rows: int = 1
-
-
 @dataclass
 class Noticed:
-    """What is said of the rows at the end, each once: what a program has left in texts; dates, and
-    texts like dates, by the places of their columns; values like those that rows are chosen by,
-    by the same; an old price that is not above the price; prices that are shown rounded, by the
-    places of their columns; cells that are doubtful, and texts that are a zero or a sign, by their
-    columns.
+    """Looks at what is odd in rows, and may be right: it is said once. Dates, and texts like dates,
+    are kept by the places of their columns: they are odd together.
     """
 
-    left: Found | None = None
+    once: Once
     dates: dict[int, int] = field(default_factory=dict)
-    like_dates: dict[int, Found] = field(default_factory=dict)
-    like_values: dict[tuple[Column, str], Found] = field(default_factory=dict)
-    low: Found | None = None
-    rounded: dict[int, Found] = field(default_factory=dict)
-    doubts: dict[tuple[Column, Doubt], int] = field(default_factory=dict)
-    signs: dict[Column, Found] = field(default_factory=dict)
+    like_dates: dict[int, tuple[int, str]] = field(default_factory=dict)
 
     def text(self, column: Column, row: Row, text: str) -> None:
         """Looks at a title or text; raises `RowError` for one that was encoded twice."""
-        cell = row.cells[column.place]
-        if len(text) <= LONGEST_SIGN and is_sign(text):
-            self.signs.setdefault(column, Found(row.number, text))
         if (before := twice_encoded(text)) != text:
             what = Text("has {}, which was encoded twice, for {}", quoted(text), quoted(before))
             raise column.error(RowError(what, Text("export the table again")))
+        if len(text) <= LONGEST_SIGN and is_sign(text):
+            said = Text("row {} has {} as text, in {}", row.number, quoted(text), column.title)
+            self.once.see(("sign", column), said, Text("does it stand for an empty cell?"))
         if has_left(text):
-            self.left = self.left or Found(row.number, text)
+            said = Text("row {} has {}, as programs write it", row.number, quoted(text))
+            self.once.see("left", said, Text("it is printed as it is"))
+        cell = row.cells[column.place]
         kind = Kind.TEXT if isinstance(cell, str) else cell.kind
         if kind is Kind.MOMENT:
             self.dates.setdefault(column.place, row.number)
-        elif kind is not Kind.TEXT:
-            return
-        elif column.place not in self.like_dates and MARK.search(text) and DATE.search(text):
-            self.like_dates[column.place] = Found(row.number, text)
+        elif kind is Kind.TEXT and MARK.search(text) and DATE.search(text):
+            self.like_dates.setdefault(column.place, (row.number, text))
+
+    def say_of_dates(self, talk: Talk) -> None:
+        """Says which texts are like the dates of their column."""
+        for place, date in self.dates.items():
+            if place in self.like_dates:
+                row, text = self.like_dates[place]
+                said = Text(
+                    "row {} has the text {} where row {} has a date", row, quoted(text), date
+                )
+                talk.say(said, Text("are its day and month in the same order?"))
 
     def doubtful(self, columns: Sequence[Column], row: Row) -> None:
-        """Keeps the first row with a doubtful cell of each column."""
+        """Looks at the cells of columns that may not be meant."""
         for column in columns:
-            if doubt := (row.doubts or {}).get(column.place):
-                self.doubts.setdefault((column, doubt), row.number)
+            doubt = (row.doubts or {}).get(column.place)
+            if doubt is None:
+                continue
+            said = Text(
+                "{} has a condition from row {} on that shows cells as something else",
+                column.title,
+                row.number,
+            )
+            if doubt is Doubt.UNSEEN:
+                said = Text(
+                    "{} has letters from row {} on that nobody sees, in the colour of the cell",
+                    column.title,
+                    row.number,
+                )
+            hint = Text("are these rows to be printed? --where chooses rows")
+            self.once.see((doubt, column), said, hint)
 
     def value(self, column: Column, row: Row, wanted: str) -> None:
         """Looks at a value that is not the one that rows are chosen by."""
         value = column.mark(row)
-        if value and looks_like(value, wanted):
-            key = column, wanted
-            before = self.like_values.get(key, Found(row.number, value, rows=0))
-            self.like_values[key] = before._replace(rows=before.rows + 1)
+        if not value or not looks_like(value, wanted):
+            return
+        self.once.see(
+            (column, wanted),
+            lambda rows: counted(
+                "row {1} has {2} in {3}, which looks like {4}, and is not printed ({0} row)",
+                "row {1} has {2} in {3}, which looks like {4}, and is not printed ({0} rows)",
+                rows,
+                row.number,
+                quoted(value),
+                column.title,
+                quoted(wanted),
+            ),
+        )
 
     def shown(self, price: Price, row: int, number: Decimal) -> None:
         """Looks at a price that is the number of a cell; raises `RowError` where it is shown as
@@ -145,32 +161,45 @@ class Noticed:
                 RowError(what, Text("give it a number format of two decimals"))
             )
         if money.decimals < 2:
-            place = price.column.place
-            before = self.rounded.get(place, Found(row, price.text, Text("{}", value), 0))
-            self.rounded[place] = before._replace(rows=before.rows + 1)
+            self.once.see(
+                ("rounded", price.column),
+                lambda rows: counted(
+                    "row {1} shows the price {2}, and its value is {3} ({0} price)",
+                    "row {1} shows the price {2}, and its value is {3} ({0} prices)",
+                    rows,
+                    row,
+                    price.text,
+                    value,
+                ),
+            )
 
     def prices(self, row: int, price: Price | None, was: Price | None) -> None:
         """Looks at an old price."""
-        if self.low or not (price and was and price.money and was.money):
+        if not (price and was and price.money and was.money):
             return
         is_same = (price.money.unit, price.money.count) == (was.money.unit, was.money.count)
         if is_same and was.money.value <= price.money.value:
-            self.low = Found(row, was.text, Text("{}", price.text))
+            said = Text(
+                "row {} has the old price {}, which is not above the price {}",
+                row,
+                was.text,
+                price.text,
+            )
+            self.once.see("low", said)
 
 
 @dataclass
 class RowReader:
-    """Reads rows that are not blank; it remembers the first ones about which something is said."""
+    """Reads rows that are not blank."""
 
     options: TableOptions
     columns: Columns
     names: tuple[str, ...]
-    noticed: Noticed = field(default_factory=Noticed)
-    other_link: int = 0  # the first row whose code leads to another address
-    other_currency: tuple[int, str] | None = None  # the first row with one that is not known
+    once: Once
     other_names: int = 0  # the row that names other columns, or the same in other places
 
     def __post_init__(self) -> None:
+        self.noticed = Noticed(self.once)
         place = self.columns.code.place
         self.code_name = self.names[place] if place < len(self.names) else ""
 
@@ -269,7 +298,8 @@ class RowReader:
         if self.options.links:
             return link
         if link != text:
-            self.other_link = self.other_link or row.number
+            said = Text("the code of row {} is a text that leads to an address", row.number)
+            self.once.see("link", said, Text("give --links to draw the address"))
         return text
 
     def rules(self, row: Row) -> CodeRules:
@@ -313,8 +343,9 @@ class RowReader:
         if any(letter.isdigit() for letter in found):
             raise column.error(RowError(Text("has {}, which is no currency", quoted(found))))
         is_known = currency_of(plain(found), self.options.prices.currency_name) is not None
-        if found and not is_known and self.other_currency is None:
-            self.other_currency = row.number, found
+        if found and not is_known:
+            said = Text("row {} has the currency {}, which is not known", row.number, quoted(found))
+            self.once.see("currency", said, Text("if it is right, name it by --currency-name"))
         return found
 
     def price(self, column: Column | None, row: Row, currency: str | None) -> Price | None:

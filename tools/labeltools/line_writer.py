@@ -5,11 +5,12 @@ was asked for.
 from dataclasses import dataclass, field
 from typing import Mapping, NamedTuple
 
-from labeltools.text import Text
+from labeltools.text import Text, counted
 from labeltools.drafts import Draft, Price
 from labeltools.lines_file import Label, LinesFile, first_remark, label_lines, last_remark
 from labeltools.messages import Place, RowError, Talk, ToolError, quoted
 from labeltools.money import NotMoney
+from labeltools.once import Once
 from labeltools.prices import PriceColumn, settled, with_currency
 from labeltools.summary import Totals
 from labeltools.table_options import TableOptions
@@ -27,14 +28,6 @@ class Content(NamedTuple):
     was: str
 
 
-class Rounded(NamedTuple):
-    """A price that was rounded: its row, its text, and what is printed."""
-
-    row: int
-    text: str
-    shown: str
-
-
 Older = Mapping[tuple[str, str], set[Content]]
 
 
@@ -48,6 +41,7 @@ class LineWriter:
 
     options: TableOptions
     talk: Talk
+    once: Once
     has_copies: bool
     older: Older | None = None
     texts: tuple[str, ...] = ()
@@ -60,7 +54,6 @@ class LineWriter:
     unchanged: int = 0
     left_out: list[int] = field(default_factory=list)
     filled: set[str] = field(default_factory=set)  # columns of texts
-    rounded: list[Rounded] = field(default_factory=list)
     codes: dict[int, str] = field(default_factory=dict)
     empty: dict[str, list[int]] = field(default_factory=lambda: {"title": [], "price": []})
     seen: dict[str, tuple[int, int]] = field(default_factory=dict)
@@ -124,13 +117,27 @@ class LineWriter:
             money = settled(price.money, column, pattern)
             text = pattern.write(money, price.currency or "")
             if pattern.changes(money.value):
-                self.rounded.append(Rounded(row, price.text, text))
+                self.see_rounded(row, price.text, text)
             return text
         except NotMoney as problem:
             what = Text(
                 "has {}, which cannot be printed so: it {}", quoted(price.text), problem.what
             )
             raise price.column.error(RowError(what, problem.hint)) from None
+
+    def see_rounded(self, row: int, price: str, written: str) -> None:
+        """Sees a price that is rounded."""
+        self.once.see(
+            "written",
+            lambda rows: counted(
+                "row {1} has {2}, which is rounded to {3} ({0} price)",
+                "row {1} has {2}, which is rounded to {3} ({0} prices)",
+                rows,
+                row,
+                price,
+                written,
+            ),
+        )
 
     def compare(self, draft: Draft, content: Content) -> None:
         """Says once of each article that it is there twice with other texts or prices."""

@@ -17,8 +17,9 @@ from labeltools.prices import is_of_cents, is_of_many
 from labeltools.names import listed, said_of_empty, unlike
 from labeltools.number_format import Formatter, local_date, local_signs
 from labeltools.ods import rows_of_ods
+from labeltools.once import Once
 from labeltools.cells import seen
-from labeltools.rows import Doubt, Row
+from labeltools.rows import Row
 from labeltools.summary import summary
 from labeltools.table_options import TableOptions
 from labeltools.workbook import is_ods, named_errors, opened
@@ -160,6 +161,7 @@ class TableRun:
     columns: Columns
     start: Start
     talk: Talk
+    once: Once = field(default_factory=Once)
     reader: RowReader = field(init=False)
     writer: LineWriter = field(init=False)
     hidden: int = 0
@@ -168,9 +170,9 @@ class TableRun:
     def __post_init__(self) -> None:
         older = contents_of(self.options.new_since) if self.options.new_since else None
         has_copies = self.columns.copies is not None
-        self.reader = RowReader(self.options, self.columns, self.start.head.names)
+        self.reader = RowReader(self.options, self.columns, self.start.head.names, self.once)
         texts = tuple(column.name for column in self.columns.text)
-        self.writer = LineWriter(self.options, self.talk, has_copies, older, texts)
+        self.writer = LineWriter(self.options, self.talk, self.once, has_copies, older, texts)
 
     def take_all(self, rows: Iterator[Row]) -> None:
         """Takes the rows below the head; empty ones are left out, but not those at the end."""
@@ -220,12 +222,8 @@ class TableRun:
         self.say_of_empty()
         self.say_of_prices()
         self.say_of_codes()
-        if self.reader.other_currency:
-            row, currency = self.reader.other_currency
-            text = Text("row {} has the currency {}, which is not known", row, quoted(currency))
-            self.talk.say(text, Text("if it is right, name it by --currency-name"))
-        self.say_of_texts()
-        self.say_of_doubts()
+        self.reader.noticed.say_of_dates(self.talk)
+        self.once.say(self.talk)
         if self.hidden:
             text = counted(
                 "{} hidden row is not printed", "{} hidden rows are not printed", self.hidden
@@ -247,35 +245,7 @@ class TableRun:
         for column in self.writer.columns:
             for said in column.says_of_values() if is_rewritten else column.says():
                 self.talk.say(said.text, said.hint)
-        if self.writer.rounded:
-            first = self.writer.rounded[0]
-            text = counted(
-                "row {1} has {2}, which is rounded to {3} ({0} price)",
-                "row {1} has {2}, which is rounded to {3} ({0} prices)",
-                len(self.writer.rounded),
-                *first,
-            )
-            self.talk.say(text)
-        for found in self.reader.noticed.rounded.values():
-            text = counted(
-                "row {1} shows the price {2}, and its value is {3} ({0} price)",
-                "row {1} shows the price {2}, and its value is {3} ({0} prices)",
-                found.rows,
-                found.row,
-                found.text,
-                found.more,
-            )
-            self.talk.say(text)
         self.say_of_units()
-        if low := self.reader.noticed.low:
-            self.talk.say(
-                Text(
-                    "row {} has the old price {}, which is not above the price {}",
-                    low.row,
-                    low.text,
-                    low.more,
-                )
-            )
 
     def say_of_units(self) -> None:
         """Says which columns have cents, or prices of many articles, by their names."""
@@ -293,36 +263,6 @@ class TableRun:
                 )
                 self.talk.say(text, Text("make a column of prices of one"))
 
-    def say_of_texts(self) -> None:
-        """Says what is odd in titles and texts, and in the values that rows are chosen by."""
-        noticed = self.reader.noticed
-        if found := noticed.left:
-            text = Text("row {} has {}, as programs write it", found.row, quoted(found.text))
-            self.talk.say(text, Text("it is printed as it is"))
-        for column, found in noticed.signs.items():
-            text = Text("row {} has {} as text, in {}", found.row, quoted(found.text), column.title)
-            self.talk.say(text, Text("does it stand for an empty cell?"))
-        for place, row in noticed.dates.items():
-            if like := noticed.like_dates.get(place):
-                text = Text(
-                    "row {} has the text {} where row {} has a date",
-                    like.row,
-                    quoted(like.text),
-                    row,
-                )
-                self.talk.say(text, Text("are its day and month in the same order?"))
-        for (column, wanted), like in noticed.like_values.items():
-            text = counted(
-                "row {1} has {2} in {3}, which looks like {4}, and is not printed ({0} row)",
-                "row {1} has {2} in {3}, which looks like {4}, and is not printed ({0} rows)",
-                like.rows,
-                like.row,
-                quoted(like.text),
-                column.title,
-                quoted(wanted),
-            )
-            self.talk.say(text)
-
     def say_of_empty(self) -> None:
         """Says which rows have no title or no price."""
         asked = {"title": self.columns.title, "price": self.columns.price}
@@ -331,7 +271,7 @@ class TableRun:
                 self.talk.say(said_of_empty(kind, rows, self.writer.count))
 
     def say_of_codes(self) -> None:
-        """Says which codes are unlike the others, or lead to another address."""
+        """Says which codes are unlike the others, or are those of GS1 in brackets."""
         codes = self.writer.codes
         if odd := unlike(codes):
             text = Text(
@@ -345,29 +285,6 @@ class TableRun:
                 Text("the code of row {} is GS1's in brackets, which is drawn as plain text", row),
                 Text("no scanner of GS1 takes it"),
             )
-        if self.reader.other_link:
-            text = Text(
-                "the code of row {} is a text that leads to an address", self.reader.other_link
-            )
-            self.talk.say(text, Text("give --links to draw the address"))
-
-    def say_of_doubts(self) -> None:
-        """Says in which columns a condition may strike letters through, and where nobody sees
-        them.
-        """
-        for (column, doubt), row in self.reader.noticed.doubts.items():
-            text = Text(
-                "{} has a condition from row {} on that shows cells as something else",
-                column.title,
-                row,
-            )
-            if doubt is Doubt.UNSEEN:
-                text = Text(
-                    "{} has letters from row {} on that nobody sees, in the colour of the cell",
-                    column.title,
-                    row,
-                )
-            self.talk.say(text, Text("are these rows to be printed? --where chooses rows"))
 
     def say_of_numbers(self) -> None:
         """Shows how numbers and dates of .xlsx are printed, where the file does not say it."""
