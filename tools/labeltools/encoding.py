@@ -5,7 +5,8 @@ how they read a word.
 import codecs
 import re
 import unicodedata
-from collections.abc import Iterator, Mapping, Sequence
+from collections.abc import Iterable, Mapping, Sequence
+from contextlib import suppress
 from itertools import islice
 
 from labeltools.messages import BAD_ARGUMENTS, Talk, ToolError, quoted
@@ -29,15 +30,15 @@ OFTEN = {
     "cp949": range(0xA1, 0xC9),
 }
 MOST_READINGS = 4
-MOST_BYTES = 1 << 18  # of lines that are tried
+MOST_LINES = 1000  # that are tried
 MOST_WORDS = 500
 LONGEST_WORD = 40
-TOLERANCE = 0.5  # a reading that is odder than the best one by more is not shown
+TOLERANCE = 0.25  # a reading with a larger part of odd words than the best one is not shown
 OTHER_LINE = re.compile(rb"[^\n]*[\x80-\xff][^\n]*\n?")
 OTHER_WORD = re.compile(r'[^\s;,|"]*[^\x00-\x7f\s][^\s;,|"]*')
-IN_WORDS = "’‘´`·-‐–・ー〜~'\u200c\u200d"  # signs that words have between letters
 CURRENCY = "€£¥₤₺"
-SIGNS = f"{CURRENCY}°²³½¼¾®™©§«»„“”‚–—…·×µºª№¡¿¢"  # that tables have beside words
+IN_WORDS = "’‘´`‐–・ー〜"  # signs that words have between letters
+SIGNS = f"{CURRENCY}{IN_WORDS}°²³½¼¾®™©§«»„“”‚—…·×µºª№¡¿¢"  # that tables have beside words
 JAPANESE = ("HIRAGANA", "KATAKANA", "KATAKANA-HIRAGANA", "HALFWIDTH", "FULLWIDTH", "CJK")
 NO_SCRIPTS = ("MODIFIER", "MICRO", "FEMININE", "MASCULINE", "COMBINING")
 # what words have that were read by the wrong one of two encodings of Windows
@@ -122,7 +123,7 @@ def wrong_encoding(data: bytes, name: str, codec: str, start: int) -> ToolError:
 
 def readings(data: bytes, without: str) -> dict[str, str]:
     """Returns how encodings, but for one, read a word of a text; those that read all of it alike
-    are one, those that make the fewest odd words are first, and much odder ones are left out.
+    are one, those with the fewest odd words are first.
 
     >>> readings("Zażółć gęś".encode("cp1250"), "utf-8")
     {'cp1250': 'Zażółć'}
@@ -130,100 +131,71 @@ def readings(data: bytes, without: str) -> dict[str, str]:
     'Мыло'
     >>> readings("Käse Füller".encode("cp850"), "utf-8")
     {'cp850': 'Käse'}
-    >>> readings("Käse Füller 2,99 €".encode("iso8859-15"), "utf-8")
-    {'iso8859-15': 'Käse'}
     """
-    sample = b"".join(other_lines(data))
-    texts: dict[str, str] = {}
+    sample = b"".join(OTHER_LINE.findall(data)[:MOST_LINES])
+    words: dict[str, list[str]] = {}
     for codec in CANDIDATES:
-        text = text_by(sample, codec)
-        if codec != without and text and text not in texts.values():
-            texts[codec] = text
-    odd = {codec: oddness(text, codec) for codec, text in texts.items()}
-    best = min(odd.values(), default=0.0)
-    good = (codec for codec in sorted(odd, key=odd.__getitem__) if odd[codec] <= best + TOLERANCE)
+        found = OTHER_WORD.findall(text_by(sample, codec))[:MOST_WORDS]
+        if codec != without and found and found not in words.values():
+            words[codec] = found
+    odd = {codec: sum(is_odd(one, codec) for one in own) / len(own) for codec, own in words.items()}
+    best = min(odd.values(), default=0.0) + TOLERANCE
+    good = (codec for codec in sorted(odd, key=odd.__getitem__) if odd[codec] <= best)
     shown = list(islice((codec for codec in good if text_by(data, codec)), MOST_READINGS))
-    return words_of({codec: OTHER_WORD.findall(texts[codec]) for codec in shown})
-
-
-def other_lines(data: bytes) -> Iterator[bytes]:
-    """Yields the lines of a text that are not ASCII, at most as many as are tried."""
-    size = 0
-    for line in OTHER_LINE.finditer(data):
-        size += len(line[0])
-        if size > MOST_BYTES and size > len(line[0]):
-            return
-        yield line[0]
+    return {codec: word_of(words[codec], [words[one] for one in shown]) for codec in shown}
 
 
 def text_by(data: bytes, codec: str) -> str:
     """Returns a text as an encoding reads it; empty where it does not, or nobody sees a letter of
     it.
     """
-    try:
+    with suppress(UnicodeDecodeError):
         text = data.decode(codec)
-    except UnicodeDecodeError:
-        return ""
-    return text if re.sub(r"[\t\r\n\xa0]", "", text).isprintable() else ""
+        return text if re.sub(r"[\t\r\n\xa0]", "", text).isprintable() else ""
+    return ""
 
 
-def words_of(words: Mapping[str, Sequence[str]]) -> dict[str, str]:
-    """Returns a word for each encoding, and a further one where two would show the same.
+def word_of(words: Sequence[str], others: Iterable[Sequence[str]]) -> str:
+    """Returns the first word of a reading, and the first by which it is another one than a reading
+    with the same first word.
 
-    >>> words_of({"a": ["Käse", "¤"], "b": ["Käse", "€"]})
-    {'a': 'Käse ¤', 'b': 'Käse €'}
+    >>> word_of(["Käse", "¤"], [["Käse", "¤"], ["Käse", "€"]])
+    'Käse ¤'
     """
-    places = {codec: [0] for codec in words}
-    for codec, own in words.items():
-        for other, others in words.items():
-            both = [number for number, pair in enumerate(zip(own, others)) if pair[0] != pair[1]]
-            if other != codec and both and both[0] and own[0] == others[0]:
-                places[codec].append(both[0])
-    return {
-        codec: " ".join(words[codec][place][:LONGEST_WORD] for place in sorted(set(found)))
-        for codec, found in places.items()
-    }
+    found = [words[0]]
+    for other in others:
+        pairs = (one for one, their in zip(words, other) if one != their)
+        if other[0] == words[0] and (word := next(pairs, words[0])) not in found:
+            found.append(word)
+    return " ".join(word[:LONGEST_WORD] for word in found)
 
 
-def oddness(text: str, codec: str) -> float:
-    """Returns how odd the words of a text are, from 0 on, about 2 for a word that nobody writes.
+def is_odd(word: str, codec: str) -> bool:
+    """Returns whether nobody writes a word: it has letters of two scripts, a capital behind a small
+    letter, a sign between letters or one that is rare, or letters that are.
 
-    >>> [oddness(one, "cp1252") for one in ("Käse 2,99 €", "F³ller", "KŠse", "¤", "Ñûð")]
-    [0.0, 2.0, 2.0, 2.0, 2.0]
-    """
-    words = OTHER_WORD.findall(text)[:MOST_WORDS]
-    return sum(odd_word(word, codec) for word in words) / max(1, len(words))
-
-
-def odd_word(word: str, codec: str) -> float:
-    """Returns how odd a word is: by its scripts, by what is between its letters, and by signs and
-    letters that are rare.
+    >>> [is_odd(one, "cp1252") for one in ("Käse", "2,99€", "F³ller", "KŠse", "¤", "Ñûð")]
+    [False, False, True, True, True, True]
     """
     letters = [sign for sign in word if sign.isalpha()]
     others = [sign for sign in letters if not sign.isascii()]
-    odd = 2.0 * (len(scripts_of(letters)) > 1)
-    is_latin = "LATIN" in scripts_of(others)
-    odd += 2.0 * (is_latin and len(letters) > 2 and len(letters) == len(others))
+    scripts = {unicodedata.name(letter, "?").split()[0] for letter in letters} - set(NO_SCRIPTS)
+    if scripts & set(JAPANESE):
+        has_small = any(letter.islower() for letter in letters)
+        scripts -= {*JAPANESE} if has_small else {*JAPANESE, "LATIN"}
+        scripts |= {"CJK"}
+    is_foreign = "LATIN" in scripts and len(letters) == len(others) > 2
+    if len(scripts) > 1 or is_foreign or any(is_rare(sign, codec) for sign in others):
+        return True
     for before, sign, behind in zip(f" {word}", word, f"{word[1:]} "):
-        if sign.isascii() or sign in IN_WORDS:
+        if sign.isascii():
             continue
-        if sign.isalpha():
-            is_inside = before.isalpha() and (before.islower() or behind.islower())
-            odd += 2.0 * (sign.isupper() and is_inside) + is_rare(sign, codec)
-        elif before.isalpha() and behind.isalpha() or sign not in SIGNS:
-            odd += 2.0
-    return odd
-
-
-def scripts_of(letters: Sequence[str]) -> set[str]:
-    """Returns the scripts of letters; those of Japanese are one, and have Latin capitals too."""
-    found = {unicodedata.name(letter, "?").split()[0] for letter in letters}
-    found -= set(NO_SCRIPTS)
-    if found.intersection(JAPANESE):
-        found = found.difference(JAPANESE) | {"CJK"}
-        if all(not letter.islower() for letter in letters):
-            found.discard("LATIN")
-    return found
+        if sign.isupper() and before.isalpha() and (before.islower() or behind.islower()):
+            return True
+        is_between = before.isalpha() and behind.isalpha() and sign not in IN_WORDS
+        if not sign.isalpha() and (is_between or sign not in SIGNS):
+            return True
+    return False
 
 
 def is_rare(letter: str, codec: str) -> bool:
