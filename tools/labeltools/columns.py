@@ -1,7 +1,7 @@
 """Which column is what, and what is in the cells of each kind of column."""
 
 import re
-from dataclasses import dataclass
+from dataclasses import dataclass, replace
 from decimal import Decimal
 from itertools import islice
 from typing import Iterable, Sequence
@@ -14,7 +14,7 @@ from labeltools.messages import BAD_ARGUMENTS, RowError, ToolError, quoted
 from labeltools.names import NUMBER, name_of, row_of_names
 from labeltools.rows import Row
 from labeltools.symbologies import SYMBOLOGIES
-from labeltools.table_options import TableOptions
+from labeltools.table_options import Columns, TableOptions
 
 ROWS_LOOKED_AT = 50  # for the row of names
 LISTED = 40  # columns that a message lists
@@ -105,39 +105,6 @@ class Column:
 
 
 @dataclass(frozen=True)
-class Columns:
-    """All columns that were asked for."""
-
-    code: Column
-    title: tuple[Column, ...] = ()
-    text: tuple[Column, ...] = ()
-    price: Column | None = None
-    unit_price: Column | None = None
-    old_price: Column | None = None
-    currency: Column | None = None
-    copies: Column | None = None
-    symbology: Column | None = None
-    where: tuple[tuple[Column, str], ...] = ()
-
-    @property
-    def prices(self) -> tuple[Column, ...]:
-        """The columns of prices of all kinds."""
-        kinds = (self.price, self.unit_price, self.old_price)
-        return tuple(one for one in kinds if one is not None)
-
-    @property
-    def shown(self) -> tuple[Column, ...]:
-        """The columns whose cells are seen on a label."""
-        return (self.code, *self.title, *self.text, *self.prices)
-
-    @property
-    def asked(self) -> tuple[Column, ...]:
-        """All of them."""
-        others = (one for one in (self.currency, self.copies, self.symbology) if one is not None)
-        return (*self.shown, *others, *(column for column, _ in self.where))
-
-
-@dataclass(frozen=True)
 class Head:
     """The row of names, or the first row of a table without names, which then has none."""
 
@@ -170,25 +137,16 @@ def symbology_in(column: Column, row: Row, default: str) -> str:
     return known[plain]
 
 
-def columns_of(head: Head, rows: Iterable[Row], options: TableOptions) -> Columns:
+def columns_of(head: Head, rows: Iterable[Row], options: TableOptions) -> Columns[Column]:
     """Returns the columns that were asked for; raises `ToolError` where one is not sure.
 
     Where the names are in one of the next `rows`, the message says in which one.
     """
     asked = options.columns
     try:
-        return Columns(
-            code=code_column(head, options),
-            title=tuple(column_of(one, head) for one in asked.title),
-            text=tuple(column_of(one, head) for one in asked.text),
-            price=optional(asked.price, head),
-            unit_price=optional(asked.unit_price, head),
-            old_price=optional(asked.old_price, head),
-            currency=optional(asked.currency, head),
-            copies=optional(asked.copies, head),
-            symbology=optional(asked.symbology, head),
-            where=tuple((column_of(one, head), name_of(value)) for one, value in asked.where),
-        )
+        found = asked.map(lambda one: column_of(one, head))
+        check_code(found.code, head, options)
+        return replace(found, where=tuple((one, name_of(value)) for one, value in found.where))
     except ToolError as error:
         texts = ((row.number, texts_of(row)) for row in islice(rows, ROWS_LOOKED_AT))
         later = row_of_names(texts, asked.asked) if options.file.has_header is not False else 0
@@ -197,11 +155,6 @@ def columns_of(head: Head, rows: Iterable[Row], options: TableOptions) -> Column
                 error.what, Text("the names are in row {}: give --header-row {}", later, later), 2
             ) from None
         raise
-
-
-def optional(argument: str | None, head: Head) -> Column | None:
-    """Returns the column of an argument, if there is one."""
-    return None if argument is None else column_of(argument, head)
 
 
 def texts_of(row: Row) -> list[str]:
@@ -270,19 +223,16 @@ def refuse_wide_name(place: int, name: str, row: Row) -> None:
             raise ToolError(what, Text("give the number of one"), BAD_ARGUMENTS)
 
 
-def code_column(head: Head, options: TableOptions) -> Column:
-    """Returns the column of the codes; raises `ToolError` where row 1 may be an article."""
-    argument = options.columns.code
-    column = column_of(argument, head)
+def check_code(column: Column, head: Head, options: TableOptions) -> None:
+    """Raises `ToolError` where the first row may be an article, and nothing says it."""
     is_said = options.file.has_header is not None or options.file.header_row is not None
     cell = head.row.seen(column.place)
     may_be_code = re.search("[0-9]", NAME_WITH_DIGITS.sub("", cell)) is not None
     may_be_code = may_be_code or options.codes.is_free and cell != ""
-    if argument.isdecimal() and may_be_code and not is_said:
+    if options.columns.code.isdecimal() and may_be_code and not is_said:
         what = Text("row {} has {} in column {}", head.row.number, quoted(cell), column.place + 1)
         hint = Text("give --no-header if that is a code, --header if it is a name")
         raise ToolError(what, hint, BAD_ARGUMENTS)
-    return column
 
 
 def names_of(row: Row) -> tuple[str, ...]:

@@ -9,7 +9,7 @@ from unicodedata import category
 from labeltools.text import Text, counted
 from labeltools.cells import Cell, Kind
 from labeltools.codes import Code, CodeRules, code_of
-from labeltools.columns import Column, Columns, symbology_in
+from labeltools.columns import Column, symbology_in
 from labeltools.leftovers import has_left, twice_encoded
 from labeltools.messages import RowError, Talk, quoted
 from labeltools.money import MOST_DECIMALS, Money, NotMoney, currency_of, parse
@@ -18,7 +18,7 @@ from labeltools.prices import ARITHMETIC, MOST_LOST, nearest
 from labeltools.names import is_repeated, looks_like, name_of
 from labeltools.once import Once
 from labeltools.rows import Doubt, Row
-from labeltools.table_options import TableOptions
+from labeltools.table_options import Columns, TableOptions
 
 DATE = re.compile(r"(?<![0-9.,])[0-9]{1,4}[./-][0-9]{1,2}(?:[./-](?:[0-9]{2,4})?)?(?![0-9,])")
 MARK = re.compile("[0-9][./-]")  # a text without one is like no date
@@ -193,7 +193,7 @@ class RowReader:
     """Reads rows that are not blank."""
 
     options: TableOptions
-    columns: Columns
+    columns: Columns[Column]
     names: tuple[str, ...]
     once: Once
     other_names: int = 0  # the row that names other columns, or the same in other places

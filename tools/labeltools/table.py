@@ -7,7 +7,7 @@ from itertools import chain
 from typing import Iterator, NamedTuple, Sequence
 
 from labeltools.text import NOTHING, Text, counted
-from labeltools.columns import Columns, Head, columns_of, names_of
+from labeltools.columns import Column, Head, columns_of, names_of
 from labeltools.codes import is_in_brackets
 from labeltools.csv_table import csv_table
 from labeltools.drafts import RowReader
@@ -21,7 +21,7 @@ from labeltools.once import Once
 from labeltools.cells import seen
 from labeltools.rows import Row
 from labeltools.summary import summary
-from labeltools.table_options import TableOptions
+from labeltools.table_options import Columns, TableOptions
 from labeltools.workbook import is_ods, named_errors, opened
 from labeltools.xlsx import rows_of_xlsx
 
@@ -144,7 +144,7 @@ def rows_of_workbook(
         yield from kind(archive, wanted, formatter)
 
 
-def nothing_marked(columns: Columns, name: str) -> ToolError:
+def nothing_marked(columns: Columns[Column], name: str) -> ToolError:
     """Returns the error of a table in which no row has the values that were asked for."""
     wanted = (Text("{} in {}", quoted(value), column.title) for column, value in columns.where)
     both = reduce(lambda one, other: Text("{} and {}", one, other), wanted)
@@ -158,7 +158,7 @@ class TableRun:
     """A run over a table: what is to be said about a row is said at once, the rest at the end."""
 
     options: TableOptions
-    columns: Columns
+    columns: Columns[Column]
     start: Start
     talk: Talk
     once: Once = field(default_factory=Once)

@@ -1,42 +1,67 @@
 """What a table is to be read by: frozen records, which a command or a window makes."""
 
-from dataclasses import dataclass, field
+from collections.abc import Callable
+from dataclasses import dataclass, field, fields
+from typing import Any, Generic, TypeVar
 
 from labeltools.codes import CodeRules
 from labeltools.lines_file import LinesFile
 from labeltools.prices import PricePattern
 
 
+C = TypeVar("C")
+D = TypeVar("D")
+
+
 @dataclass(frozen=True)
-class ColumnOptions:
-    """The columns, each by its name, or by its number from 1; `where` are columns and the values of
-    rows to print.
+class Columns(Generic[C]):
+    """The columns: as they were asked for, each by its name, or by its number from 1; or as they
+    were found. `where` are columns and the values of rows to print.
     """
 
-    code: str = "1"
-    title: tuple[str, ...] = ()
-    text: tuple[str, ...] = ()
-    price: str | None = None
-    unit_price: str | None = None
-    old_price: str | None = None
-    currency: str | None = None
-    copies: str | None = None
-    symbology: str | None = None
-    where: tuple[tuple[str, str], ...] = ()
+    code: C
+    title: tuple[C, ...] = ()
+    text: tuple[C, ...] = ()
+    price: C | None = None
+    unit_price: C | None = None
+    old_price: C | None = None
+    currency: C | None = None
+    copies: C | None = None
+    symbology: C | None = None
+    where: tuple[tuple[C, str], ...] = ()
+
+    def map(self, to: Callable[[C], D]) -> "Columns[D]":
+        """Returns what a function makes of each column."""
+        found: dict[str, Any] = {}
+        for one in fields(self):
+            own = getattr(self, one.name)
+            if one.name == "where":
+                found["where"] = tuple((to(column), value) for column, value in own)
+            elif isinstance(own, tuple):
+                found[one.name] = tuple(map(to, own))
+            else:
+                found[one.name] = None if own is None else to(own)
+        return Columns(**found)
 
     @property
-    def prices(self) -> tuple[str, ...]:
-        """The columns of prices."""
-        return tuple(
-            one for one in (self.price, self.unit_price, self.old_price) if one is not None
-        )
+    def prices(self) -> tuple[C, ...]:
+        """The columns of prices of all kinds."""
+        kinds = (self.price, self.unit_price, self.old_price)
+        return tuple(one for one in kinds if one is not None)
 
     @property
-    def asked(self) -> tuple[str, ...]:
-        """All columns."""
+    def shown(self) -> tuple[C, ...]:
+        """The columns whose cells are seen on a label."""
+        return (self.code, *self.title, *self.text, *self.prices)
+
+    @property
+    def asked(self) -> tuple[C, ...]:
+        """All of them."""
         others = (one for one in (self.currency, self.copies, self.symbology) if one is not None)
-        marks = (column for column, _ in self.where)
-        return (self.code, *self.title, *self.text, *self.prices, *others, *marks)
+        return (*self.shown, *others, *(column for column, _ in self.where))
+
+
+ColumnOptions = Columns[str]
 
 
 @dataclass(frozen=True)
@@ -79,7 +104,7 @@ class TableOptions:
     are not printed again; `table` is the name that the first remark has.
     """
 
-    columns: ColumnOptions = field(default_factory=ColumnOptions)
+    columns: ColumnOptions = field(default_factory=lambda: ColumnOptions("1"))
     file: FileOptions = field(default_factory=FileOptions)
     codes: CodeRules = field(default_factory=CodeRules)
     prices: PriceRules = field(default_factory=PriceRules)
