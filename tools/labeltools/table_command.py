@@ -63,143 +63,18 @@ class TableTalk(CommandTalk):
 def command_line() -> Parser:
     """Returns the parser of the arguments."""
     parser = Parser(TOOL, None, ABOUT, allow_abbrev=False)
-    parser.add_argument(
-        "table",
-        metavar="TABLE",
-        nargs="?",
-        help="the table; standard input where there is none, or -",
-    )
-    add_columns(parser)
-    add_codes(parser)
-    add_prices(parser)
-    add_file(parser)
-    parser.add_argument(
-        "--summary", action="store_true", help="say at the end how many labels of what there are"
-    )
-    return parser
-
-
-def add_columns(parser: argparse.ArgumentParser) -> None:
-    """Adds the arguments that name columns."""
-    add = parser.add_argument
-    add("--code", metavar="COLUMN", help="the column of the codes; without it one is proposed")
-    add(
-        "--title",
-        metavar="COLUMN",
-        action="append",
-        default=[],
-        help="a column for the title; may be repeated",
-    )
-    add(
-        "--text",
-        metavar="COLUMN",
-        action="append",
-        default=[],
-        help="a column for the text below; may be repeated",
-    )
-    add("--price", metavar="COLUMN", help="the column of the price")
-    add(
-        "--unit-price",
-        metavar="COLUMN",
-        help="the column of the price of a unit, such as 7,96 €/kg",
-    )
-    add("--old-price", metavar="COLUMN", help="the column of the price before a reduction")
-    add("--currency", metavar="COLUMN", help="the column of the currency of the prices")
-    add("--copies", metavar="COLUMN", help="the column of the number of labels, 0 to 9999")
-    where = "print only rows that have this value; may be repeated"
-    add("--where", metavar="COLUMN=VALUE", type=condition, action="append", default=[], help=where)
-    since = "print only what is new, or has changed, since these lines were written"
-    add("--new-since", metavar="LINES", help=since)
-
-
-def add_codes(parser: argparse.ArgumentParser) -> None:
-    """Adds the arguments about codes."""
-    add = parser.add_argument
-    add(
-        "--symbology",
-        choices=NAMES,
-        default=AUTO,
-        metavar="NAME",
-        help=f"{', '.join(NAMES)} [default: auto]",
-    )
-    add("--symbology-column", metavar="COLUMN", help="the column of the symbologies")
-    add("--settings", metavar="TEXT", help="for each line, as height=30 or level=Q,mask=2")
-    add(
-        "--fill-zeros",
-        action="store_true",
-        help="put back up to three zeros that were lost in front of the digits",
-    )
-    add(
-        "--without-check-digit",
-        action="store_true",
-        help="the numbers have no check digit; labels adds it",
-    )
-    add(
-        "--allow-zeros",
-        action="store_true",
-        help="take numbers that end in many zeros, which look rounded",
-    )
-    add("--links", action="store_true", help="draw the address that the cell of a code leads to")
-
-
-def add_prices(parser: argparse.ArgumentParser) -> None:
-    """Adds the arguments about prices."""
-    add = parser.add_argument
-    add(
-        "--price-as",
-        metavar="PATTERN",
-        type=pattern,
-        help="write prices anew, such as '0,00 €' or '¤ 0.00'",
-    )
-    add("--price-text", action="store_true", help="prices may be any text, such as 'on request'")
-    add(
-        "--currency-name",
-        metavar="NAME",
-        default="",
-        help="a currency that label-table does not know",
-    )
-
-
-def add_file(parser: argparse.ArgumentParser) -> None:
-    """Adds the arguments about the file."""
-    add = parser.add_argument
-    add(
-        "--sheet",
-        metavar="NAME",
-        help="the sheet of .xlsx or .ods [default: the visible one that has data]",
-    )
-    add("--hidden", action="store_true", help="print hidden rows too")
-    add(
-        "--decimal",
-        metavar="SIGN",
-        choices=(",", "."),
-        help="of numbers in .xlsx [default: the locale's]",
-    )
-    add(
-        "--date-as",
-        metavar="PATTERN",
-        type=date_pattern,
-        help="write dates anew, such as dd.mm.yyyy",
-    )
-    add("--delimiter", metavar="C", help="between cells of CSV; tab; none for one column")
-    add("--encoding", metavar="NAME", help="of CSV [default: UTF-8, or by its mark]")
+    parser.add_argument("table", metavar="TABLE", nargs="?", help=OF_TABLE)
+    for name, metavar, text, more in OPTIONS:
+        kind: dict[str, Any] = {"metavar": metavar} if metavar else {"action": "store_true"}
+        parser.add_argument(f"--{name}", help=text, **{**kind, **more})
     header = parser.add_mutually_exclusive_group().add_argument
-    header(
-        "--header",
-        dest="has_header",
-        action="store_true",
-        default=None,
-        help="row 1 has the names of the columns",
-    )
-    header(
-        "--no-header",
-        dest="has_header",
-        action="store_false",
-        help="row 1 is an article, and no names of columns",
-    )
-    header(
-        "--header-row", metavar="N", type=row_number, help="this row has the names of the columns"
-    )
+    said: dict[str, Any] = {"dest": "has_header", "default": None}
+    header("--header", action="store_true", help="row 1 has the names of the columns", **said)
+    text = "row 1 is an article, and no names of columns"
+    header("--no-header", action="store_false", help=text, **said)
+    text = "this row has the names of the columns"
+    header("--header-row", metavar="N", type=row_number, help=text)
+    return parser
 
 
 def checked(make: Callable[[str], Made], text: str) -> Made:
@@ -234,6 +109,44 @@ def row_number(text: str) -> int:
     if not re.fullmatch("[1-9][0-9]{0,6}", text, re.ASCII):
         raise wrong_argument(Text("{} is no number of a row", quoted(text)))
     return int(text)
+
+
+OF_TABLE = "the table; standard input where there is none, or -"
+SEVERAL: dict[str, Any] = {"action": "append", "default": []}
+CODE_NAMES: dict[str, Any] = {"choices": NAMES, "default": AUTO}
+# the options: their names, what they take, if anything, their help, and what argparse needs more
+OPTIONS: Sequence[tuple[str, str, str, dict[str, Any]]] = (
+    ("code", "COLUMN", "the column of the codes; without it one is proposed", {}),
+    ("title", "COLUMN", "a column for the title; may be repeated", SEVERAL),
+    ("text", "COLUMN", "a column for the text below; may be repeated", SEVERAL),
+    ("price", "COLUMN", "the column of the price", {}),
+    ("unit-price", "COLUMN", "the column of the price of a unit, such as 7,96 €/kg", {}),
+    ("old-price", "COLUMN", "the column of the price before a reduction", {}),
+    ("currency", "COLUMN", "the column of the currency of the prices", {}),
+    ("copies", "COLUMN", "the column of the number of labels, 0 to 9999", {}),
+    (
+        *("where", "COLUMN=VALUE", "print only rows that have this value; may be repeated"),
+        {"type": condition, **SEVERAL},
+    ),
+    ("new-since", "LINES", "print what is new, or has changed, since these lines were written", {}),
+    ("symbology", "NAME", f"{', '.join(NAMES)} [default: auto]", CODE_NAMES),
+    ("symbology-column", "COLUMN", "the column of the symbologies", {}),
+    ("settings", "TEXT", "for each line, as height=30 or level=Q,mask=2", {}),
+    ("fill-zeros", "", "put back up to three zeros that were lost in front of the digits", {}),
+    ("without-check-digit", "", "the numbers have no check digit; labels adds it", {}),
+    ("allow-zeros", "", "take numbers that end in many zeros, which look rounded", {}),
+    ("links", "", "draw the address that the cell of a code leads to", {}),
+    ("price-as", "PATTERN", "write prices anew, such as '0,00 €' or '¤ 0.00'", {"type": pattern}),
+    ("price-text", "", "prices may be any text, such as 'on request'", {}),
+    ("currency-name", "NAME", "a currency that label-table does not know", {"default": ""}),
+    ("sheet", "NAME", "the sheet of .xlsx or .ods [default: the visible one that has data]", {}),
+    ("hidden", "", "print hidden rows too", {}),
+    ("decimal", "SIGN", "of numbers in .xlsx [default: the locale's]", {"choices": (",", ".")}),
+    ("date-as", "PATTERN", "write dates anew, such as dd.mm.yyyy", {"type": date_pattern}),
+    ("delimiter", "C", "between cells of CSV; tab; none for one column", {}),
+    ("encoding", "NAME", "of CSV [default: UTF-8, or by its mark]", {}),
+    ("summary", "", "say at the end how many labels of what there are", {}),
+)
 
 
 def options_of(arguments: argparse.Namespace) -> TableOptions:
