@@ -34,7 +34,8 @@ NUMBER_ENDS = ("nummer", "nr")
 TITLES = frozenset(
     """bezeichnung artikelname titel title produkt product article artikel designation libelle
     descripcion descrizione omschrijving description beschreibung nazwa name nom nombre nome naam
-    desc item ware""".split()
+    desc item ware titre produit titulo articulo libro livre titolo prodotto articolo tytul towar
+    vara varu namn benamning varenavn buch film wein kurztext""".split()
 )
 # the words of a price that customers pay, and those that its name may have beside them
 PRICES = frozenset(
@@ -205,16 +206,15 @@ def codes_of(columns: Sequence[Column]) -> Places:
 
 
 def prices_of(columns: Mapping[int, Column]) -> Places:
-    """Returns the columns that may have the price: those with amounts of money, and those with any
-    amounts that are named so. One is sure where its name is understood, and those of all others.
+    """Returns the columns that may have the price: those with amounts of money, and those that are
+    named so, whatever is in them. One is sure where its name is understood, and those of all
+    others, and it has amounts.
     """
     may_be = [
-        at
-        for at, one in columns.items()
-        if one.has(is_money) or PRICES & one.words and one.has(is_amount)
+        at for at, one in columns.items() if one.has(is_money) or one.texts and PRICES & one.words
     ]
     left = [at for at in may_be if not columns[at].is_unpaid]
-    is_sure = len(left) == 1 and columns[left[0]].words <= PAID
+    is_sure = len(left) == 1 and columns[left[0]].words <= PAID and columns[left[0]].has(is_amount)
     return Places(may_be, left[0] if is_sure else None)
 
 

@@ -95,7 +95,8 @@ class Number(Special):
             raise RowError(
                 Text("is shown as {}, which is no whole number", quoted(self.text)), TYPED
             )
-        return self.text if self.text.isdecimal() else digits_of("0", self.exact)
+        digits = digits_of("0", self.exact)  # none where the number has more than a file keeps
+        return self.text if self.text.isdecimal() else digits
 
     def data(self) -> str:
         """Returns the digits, which must be those that are shown; signs between thousands are

@@ -464,6 +464,15 @@ class Kinds(CellTest):
             data = ods(table(HEAD, [PENCIL, "Tea", ods_cell(text, "currency", more)]))
             self.check_price(data, None if said else text, said)
 
+    def test_a_number_of_ods_has_no_more_digits_than_a_file_keeps(self) -> None:
+        shown, value = "10293847565647400000", "1.02938475656474E+019"
+        data = ods(table(["EAN"], [ods_cell(shown, "float", f'office:value="{value}"')], ["A7"]))
+        done = support.run_here(
+            "label-table", "--code", "EAN", "--symbology", "code128", input=data
+        )
+        self.assertEqual([line for _, line in parts_of(done.stdout)[1]], ["code128 A7"])
+        self.assertIn("has too many digits", support.messages(done)[0])
+
     def test_a_text_or_date_of_ods_is_its_value(self) -> None:
         for kind, value, text, is_right in (
             ("string", 'office:string-value="Green tea"', "Green tea", True),

@@ -432,6 +432,14 @@ class Prices(unittest.TestCase):
             columns = [["EAN", *CODES], [name, "1,20 €", "8,40 €", "2,05 €"]]
             self.assertNotIn("price", guess(columns, 1).columns, name)
 
+    def test_a_price_that_has_no_amounts_is_asked_about(self) -> None:
+        """A spreadsheet that was not calculated has errors in place of the prices of the shop."""
+        columns = [["EAN", *CODES], ["EK", *LOW], ["VK", *["#WERT!"] * 3], ["UVP", *HIGH]]
+        self.assertEqual(guess(columns, 1).doubts, {"price": [1, 2, 3]})
+        for name in ("Listeneinkaufspreis", "Leverantörspris", "Personalpreis"):
+            found = guess([["EAN", *CODES], [name, *HIGH]], 1)
+            self.assertEqual(found.doubts, {"price": [1]}, name)
+
     def test_a_column_that_is_named_as_prices_has_prices(self) -> None:
         for name in ("Tarif", "Preis", "Price"):
             columns = [["EAN", *CODES], ["Name", "Tea", "Book", "Gum"], [name, "A", "B", "C"]]
