@@ -26,8 +26,8 @@ from labeltools.frames import Box
 from labeltools.layout import LaidOut, short
 from labeltools.lines_file import LineRecord
 from labeltools.messages import Talk, ToolError, quoted
-from labeltools.own_design import PARTS, Place, key_of
 from labeltools.own_layout import OwnLayout, OwnSymbol
+from labeltools.own_places import PARTS, Place, key_of
 from labeltools.pen import bits_of
 from labeltools.text import Text
 
@@ -524,7 +524,7 @@ def own_text(place: Place, record: LineRecord) -> Optional[str]:
         key = key_of(name)
         if key not in PARTS:
             texts.setdefault(key, short(text))
-    return texts.get(key_of(place.name)) or texts.get(place.part)
+    return texts.get(place.key) or texts.get(place.part)
 
 
 def turned(box: Box, size: tuple[int, int], quarters: int) -> Box:

@@ -124,24 +124,10 @@ class Fitter:
         """Returns a text as it fits a box: smaller where its ink would leave it."""
         known = self.known(style)
         found = None
-        if known.glyphs is not None and style.base is None:
+        if known.glyphs is not None and (style.base is None or not style.lines):
             fit = wrapped if style.lines else in_line
             found = fit(known.glyphs, known, text, style, width, height)
         return found or self.by_pango(text, style, width, height)
-
-    def on_base(self, text: str, style: Style, left: int) -> Fitted:
-        """Returns a line of text on its base line, of which it is known where it begins."""
-        glyphs, base, high = self.known(style)
-        size = style.size
-        top = (style.base or 0) - math.floor(base)
-        row = glyphs.line(text, size) if glyphs else None
-        if glyphs and row:
-            return Fitted(size, glyphs.face, (Line(row, 0.0, base),), None, left, top, high)
-
-        def laid_out(_: Hashable) -> Fitted:
-            return Fitted(size, None, (), self.laid_out(text, style, 0, size), left, top, high)
-
-        return self.kept.get((text, style, left), laid_out, copied)
 
     def by_pango(self, text: str, style: Style, width: int, height: int) -> Fitted:
         """Returns a text as Pango fits it."""
@@ -260,6 +246,14 @@ def in_line(
     if row is None:
         return None
     found = glyphs.ink(text, row, size)
+    lines = (Line(row, 0.0, known.base),)
+    if style.base is not None:  # which has room
+        white = width - found.right + found.left
+        x = round(white * (style.across + 1) / 2 - found.left)
+        whole = Fitted(
+            size, glyphs.face, lines, None, x, style.base - math.floor(known.base), known.high
+        )
+        return whole if 0 <= white < width else None
     left = math.floor(found.left)
     top = math.floor(known.base + found.top)
     wide = math.ceil(found.right) - left
@@ -268,7 +262,6 @@ def in_line(
         return None
     x = (width - math.ceil(row.width)) * (style.across + 1) // 2
     y = int((height - known.high) * style.down)
-    lines = (Line(row, 0.0, known.base),)
     place = inside(x, y, ink, width, height)
     return Fitted(size, glyphs.face, lines, None, *place, known.high)
 

@@ -23,8 +23,9 @@ from labeltools.fitting import LEFT, MIDDLE, RIGHT, Fitted, Fitter, Style
 from labeltools.frames import LINE, Box, Frame
 from labeltools.layout import LaidOut, Layout, PrintLabel
 from labeltools.letters import Fonts, Letters
-from labeltools.own_design import Colour, Place
+from labeltools.own_design import is_light
 from labeltools.own_layout import OwnSymbol
+from labeltools.own_places import Colour, Place
 from labeltools.pango import PangoCairo, plain_options
 from labeltools.symbologies import SYMBOLOGIES, Span, Symbology
 
@@ -40,7 +41,7 @@ LARGE = 1000  # dots: the size in which digits are measured
 DIGITS = "0123456789"
 BETWEEN = "   "  # old price and unit price on one line
 WITHOUT_END = 1 << 20  # dots: the height of a text of which all lines are wanted
-CODE = Place("code", "code")  # of a built-in design: it begins where the label does
+CODE = Place("code")  # of a built-in design: it begins where the label does
 WHOLE = Box(0, 0, 0, 0)
 Page = Sequence[tuple[LaidOut, Dots]]  # labels, with the upper left corners of their areas
 
@@ -390,17 +391,6 @@ def options_of(medium: Medium) -> cairo.FontOptions:
     options.set_hint_style(cairo.HintStyle.FULL)
     options.set_antialias(cairo.Antialias.NONE)
     return options
-
-
-def light_of(colour: Colour) -> float:
-    """Returns how light a colour is, from 0 to 1."""
-    red, green, blue = colour
-    return 0.3 * red + 0.59 * green + 0.11 * blue
-
-
-def is_light(colour: Colour) -> bool:
-    """Returns whether a colour is white in dots."""
-    return light_of(colour) >= 0.5
 
 
 def titled(title: str, frame: Frame) -> tuple[str, int]:

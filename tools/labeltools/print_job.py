@@ -21,7 +21,6 @@ from labeltools.lines_file import UNPRINTABLE, LineRecord, LinesFile, read_lines
 from labeltools.messages import BAD_ARGUMENTS, Place, Talk, ToolError, quoted
 from labeltools.own_design import OwnDesign, is_file, read_design, size_of_page
 from labeltools.own_layout import OwnLayouts
-from labeltools.own_pen import with_colours
 from labeltools.pen import Medium, Pen
 from labeltools.names import listed
 from labeltools.press import Press, PrintJob, Prints, pen_of, pens_of, with_copies
@@ -131,7 +130,7 @@ def planned(options: PrintOptions) -> PrintJob:
     if edges is None:
         edge = 0.0 if sheet.is_single else EDGE
         edges = edge, edge, edge, edge
-    own = own_design(options, sheet, edges, form) if is_file(options.design) else None
+    own = own_design(options, sheet, edges) if is_file(options.design) else None
     wishes = Wishes(
         OWN if own else DESIGNS[options.design],
         options.module,
@@ -170,15 +169,13 @@ def check_texts(options: PrintOptions) -> None:
             )
 
 
-def own_design(options: PrintOptions, sheet: Sheet, edges: Edges, form: Form) -> OwnDesign:
-    """Returns the design that a file is, for a form; raises `ToolError` where it is none."""
+def own_design(options: PrintOptions, sheet: Sheet, edges: Edges) -> OwnDesign:
+    """Returns the design that a file is; raises `ToolError` where it is none."""
     if options.height is not None:
         what = Text("--height is not for a design of one's own")
         hint = Text("the places of a design say how high bars are")
         raise ToolError(what, hint, BAD_ARGUMENTS)
-    white = white_of(sheet, edges)
-    design = read_design(options.design, sheet.cell, white, options.turn)
-    return with_colours(design, not form.is_drawn)
+    return read_design(options.design, sheet.cell, white_of(sheet, edges), options.turn)
 
 
 def form_of(options: PrintOptions) -> Form:

@@ -17,22 +17,17 @@ import designs
 import support
 from designs import CODE, Label, dots_of, reasons_of, said_of, texts_of
 from labeltools.messages import Silence, ToolError
-from labeltools.own_design import colour_of
-from labeltools.own_drawing import rectangle
 from labeltools.own_layout import OwnLayout
-from labeltools.pango import library
 from labeltools.print_job import Prepared, PrintOptions, labels_of, planned
 
 TITLE = '<rect id="title" {}/>' + CODE
-LOST = [" words are as light as what is behind them"]
 WIDE = 'x="2" y="2" width="56" height="10"'
 ONE: Label = ("code128 A", {"title": "Title"})
 PICTURE = '<image x="2" y="2" width="5" height="5" href="data:image/{};base64,{}"/>' + CODE
 BOX = '<rect x="2" y="2" width="9" height="9"/>'
-NOT_EMBEDDED = "is of another file, which is not read; embed it"
-NOT_PICTURE = "a picture is not PNG or JPEG, or has more than 50,000,000 pixels; embed it as PNG"
+NOT_EMBEDDED = "is of another file, or is no PNG or JPEG; embed it"
+NOT_DRAWN = "is not drawn; save it as plain SVG with texts as paths, or make it a picture"
 HIDDEN = "the place title is hidden, or has no size; give it a width and a height, and show its"
-FLOWS = "is not drawn; make it plain text, in Inkscape by Text, Convert to Text"
 
 
 def setUpModule() -> None:
@@ -65,9 +60,6 @@ REFUSED = (
     ("", "has no place for the code; draw a rectangle with the id code"),
     (TITLE.format('x="2" y="2" width="0" height="9"'), HIDDEN),
     (f'<g style="display:none"><rect id="title" {WIDE}/></g>{CODE}', HIDDEN),
-    (f'<g visibility="hidden"><rect id="title" {WIDE}/></g>{CODE}', HIDDEN),
-    (f'<g style="visibility:collapse"><g><rect id="title" {WIDE}/></g></g>{CODE}', HIDDEN),
-    (f"<style>#title{{visibility:hidden}}</style>{TITLE.format(WIDE)}", HIDDEN),
     (f'<defs><rect id="title" {WIDE}/></defs>{CODE}', HIDDEN),
     (f'<clipPath><rect id="title" {WIDE}/></clipPath>{CODE}', HIDDEN),
     (
@@ -97,12 +89,7 @@ REFUSED = (
     (f'<path d="M30 0V40" stroke="#ccc" stroke-width="0.02"/>{CODE}', NOT_WHITE),
     (f'<path d="M4 30H50V31H4Z" fill="#ccc"/>{CODE}', NOT_WHITE),
     (f'<path d="M4 30H50V31H4Z" fill="#fafafa"/>{CODE}', NOT_WHITE),
-    (f'<path d="M4 30H50V31H4Z" fill="#fffff0"/>{CODE}', NOT_WHITE),
     (f'<path d="M0 0H60V20.1H0Z" fill="#ccc"/>{CODE}', NOT_WHITE),
-    (
-        f'<path d="M0 0H30V20H0Z"/>{TITLE.format(WIDE)}',
-        "is light and dark in the place title; lett",
-    ),
     (f'<path id="title" d="M2 2H9"/>{CODE}', "title is no rectangle (path); draw a rectangle"),
     (f'<text id="price" x="2" y="9">1</text>{CODE}', "price is no rectangle (text); draw a"),
     (f'<image href="logo.png"/>{CODE}', f"image {NOT_EMBEDDED}"),
@@ -111,29 +98,18 @@ REFUSED = (
     (f'<path d="M2 2H9" fill="url(other.svg#red)"/>{CODE}', f"path {NOT_EMBEDDED}"),
     (f'<style>@import "other.css";</style>{CODE}', f"style {NOT_EMBEDDED}"),
     (f"<style>text{{fill:url('other.svg')}}</style>{CODE}", f"style {NOT_EMBEDDED}"),
-    (f"<flowRoot/>{CODE}", FLOWS),
-    (f"<foreignObject/>{CODE}", FLOWS),
-    (f"<flowRoot><flowPara>Door 2</flowPara></flowRoot>{CODE}", FLOWS),
+    (f"<foreignObject/><switch/>{CODE}", f"foreignObject, switch {NOT_DRAWN}"),
+    (f"<flowRoot><flowPara>Door 2</flowPara></flowRoot>{CODE}", f"flowRoot, flowPara {NOT_DRAWN}"),
     (
         f'<text><textPath href="#a">Door 2</textPath></text>{CODE}',
-        "textPath is not drawn; make it a",
+        f"textPath {NOT_DRAWN}",
     ),
-    (f'<g xmlns=""/>{CODE}', 'g is not drawn; take xmlns="" away'),
-    (
-        f'<filter><feConvolveMatrix order="99"/></filter>{CODE}',
-        "feConvolveMatrix is not drawn; mak",
-    ),
-    (f"<filter><feDropShadow/></filter>{CODE}", "feDropShadow is not drawn; make it a picture, in"),
-    (TITLE.format(WIDE) + '<use href="#title" y="9"/>', "a clone shows the place title; unlink it"),
-    (f'<g id="a">{TITLE.format(WIDE)}</g><use href="#a"/>', "a clone shows the place title; unli"),
-    ("<g>" * 201 + "</g>" * 201 + CODE, "elements are more than 200 deep in one another"),
-    ("<g>" * 100_000 + "</g>" * 100_000 + CODE, "elements are more than 200 deep in one another"),
+    (f"<filter><feDropShadow/></filter>{CODE}", f"feDropShadow {NOT_DRAWN}"),
+    ("<g>" * 100_000 + "</g>" * 100_000 + CODE, "is no SVG: "),
     (f"<!--{'x' * 8_000_000}-->{CODE}", "has more than 8 MB; make its pictures smaller"),
-    (PICTURE.format("png", png_of(30_000, 30_000)), NOT_PICTURE),
-    (PICTURE.format("png", "aGVsbG8="), NOT_PICTURE),
-    (PICTURE.format("png", png_of(8, 8)[:64]), "a picture is not whole; embed it anew"),
-    (PICTURE.format("svg+xml", svg_in_base64()), NOT_PICTURE),
-    (f'<image href="data:image/png,hello"/>{CODE}', NOT_PICTURE),
+    (PICTURE.format("webp", "aGVsbG8="), f"image {NOT_EMBEDDED}"),
+    (PICTURE.format("svg+xml", svg_in_base64()), f"image {NOT_EMBEDDED}"),
+    (f'<image href="data:image/png,hello"/>{CODE}', f"image {NOT_EMBEDDED}"),
     ('<rect data-place="code, blod"/>', '"code, blod": "blod" is not understood; behind the name'),
     ('<rect data-place="title, level=Q"/>', '"level=Q" is not understood; behind the name of a t'),
     ('<rect data-place="title, size=0"/>', '"size=0" is not understood; behind the name of a text'),
@@ -147,18 +123,6 @@ REFUSED = (
     (
         '<rect data-place="title, module=1"/>',
         '"module=1" is not understood; behind the name of a t',
-    ),
-    (
-        '<rect data-place="title, left, right"/>',
-        '"title, left, right": "left" and "right" are of one kind; take one of them away',
-    ),
-    (
-        '<rect data-place="code, qr, level=Q, level=H"/>',
-        '"level=Q" and "level=H" are of one kind; take one of them',
-    ),
-    (
-        '<rect data-place="code, module=0.01"/>',
-        '"code, module=0.01": no module is below 0.249 mm; enlarge',
     ),
     ('<rect id="title-2"/>' * 500, "has more than 400 places"),
     ('<rect data-place="title, lines=1.5"/>', '"lines=1.5" is not understood; behind the name of'),
@@ -174,17 +138,10 @@ PAGES: tuple[tuple[str, dict[str, Any], str], ...] = (
     ),
     ('width="0mm" height="40mm"', {}, "has no size; give it width, height and viewBox"),
     ('width="60mm" height="40mm" viewBox="0 0 0 40"', {}, "has no size; give it width, height and"),
-    ('width="60mm" height="40mm" viewBox="0 0 6e-9 4e-9"', {}, "has no size; give it width, heigh"),
     (
         'width="60000mm" height="40mm"',
         {"paper": None},
-        "is larger than 4000 mm",
-    ),
-    ('width="60mm" height="40mm" viewBox="0 0 6mm 4mm"', {}, "has no size; give it width, height"),
-    (
-        'width="60mm" height="40mm" viewbox="0 0 60 40"',
-        {},
-        "has no size; give it width, height and",
+        "has no size; give it width, height and viewBox",
     ),
     (
         designs.PAGE,
@@ -213,31 +170,15 @@ PAGES: tuple[tuple[str, dict[str, Any], str], ...] = (
 # what is in a file that is no SVG, and what it is refused with
 FILES = (
     (b"", "is no SVG: no element found: line 1, column 0"),
-    (base64.b64decode(png_of(8, 8)), "is no SVG; it begins with <svg xmlns="),
+    (base64.b64decode(png_of(8, 8)), "is no SVG: not well-formed"),
     (b"<!doctype html><html><p>a<br></html>", "is no SVG: "),
     (f"<svg {designs.PAGE}>{CODE}</svg>".encode(), "is no SVG; it begins with <svg xmlns="),
     (f"<svg {designs.SPACE} {designs.PAGE}>{CODE}".encode(), "is no SVG: no element found"),
-    (
-        f"<svg {designs.SPACE}/>".encode("utf-16"),
-        "has entities, or is not in UTF-8; save it as plain",
-    ),
-    (
-        b'<!DOCTYPE svg [<!ENTITY a "b">]><svg/>',
-        "has entities, or is not in UTF-8; save it as plain",
-    ),
-    (
-        b'<?xml-stylesheet href="a.css"?><svg/>',
-        "its style sheet is another file, which is not read",
-    ),
-    (
-        "<svg>Größe</svg>".encode("latin-1"),
-        "has entities, or is not in UTF-8; save it as plain",
-    ),
-    (
-        b'<?xml version="1.0" encoding="GB2312"?><svg>\xbb\xf5</svg>',
-        "has entities, or is not in UTF-8; save it as plain",
-    ),
-    (b"\x1f\x8b\x08\x00" + bytes(9), "is no SVG: no element found"),
+    (f"<svg {designs.SPACE}/>".encode("utf-16"), "has no size; give it width, height"),
+    (b'<!DOCTYPE svg [<!ENTITY a SYSTEM "/etc/hosts">]><svg>&a;</svg>', "is no SVG: undefined"),
+    ("<svg>Größe</svg>".encode("latin-1"), "is no SVG: not well-formed"),
+    (b'<?xml version="1.0" encoding="GB2312"?><svg>\xbb\xf5</svg>', "is no SVG: "),
+    (b"\x1f\x8b\x08\x00" + bytes(9), "is no SVG: "),
     (gzip.compress(f"<svg {designs.SPACE}>".encode()), "is no SVG: no element found"),
     (gzip.compress(bytes(9_000_000)), "has more than 8 MB; make its pictures smaller"),
 )
@@ -299,10 +240,6 @@ class Refused(OwnPages):
                 planned(PrintOptions(paper=designs.PAPER, design=str(self.path)))
             self.assertTrue(str(caught.exception).startswith(f"{self.path}"))
             self.assertTrue(designs.is_refused(caught.exception, why), caught.exception)
-        pipe = self.path.parent / "pipe.svg"
-        os.mkfifo(pipe)
-        with self.assertRaisesRegex(ToolError, f"--design {pipe} is no regular file"):
-            planned(PrintOptions(paper=designs.PAPER, design=str(pipe)))
         folder = self.path.parent / "folder.svg"
         folder.mkdir()
         for path, why in ((Path("none.svg"), "No such file"), (folder, "Is a directory")):
@@ -351,7 +288,7 @@ class Names(OwnPages):
 
     def test_what_is_drawn_and_no_place(self) -> None:
         """A picture of Figma, a text that it has named by its words, what Illustrator clips by, the
-        page of Affinity: each is drawn as it is.
+        page of Affinity: each is drawn as it is, and a flow without words is not there.
         """
         box = 'x="2" y="2" width="9" height="9"'
         pattern = '<pattern id="p" width="1" height="1"><path d="M0 0H9V9H0Z"/></pattern>'
@@ -359,7 +296,7 @@ class Names(OwnPages):
         for body, said in (
             (f'{pattern}<rect id="logo 1" {box} fill="url(#p)"/>', 0),
             (f'{clip}</clipPath><path d="M0 0H60V19H0Z" clip-path="url(#c)"/>', 0),
-            (f'<rect id="Artboard1" {box}/>', 0),
+            (f'<flowRoot><flowPara/></flowRoot><rect id="Artboard1" {box}/>', 0),
             (f'<rect id="Rectangle-Copy 2" {box}/>', 0),
             (f'<rect id="canvas_background" {box}/>', 0),
             ('<path id="p" d="M2 2H11V11H2Z" style="fill:url(&quot;#q&quot;) black"/>', 0),
@@ -370,59 +307,6 @@ class Names(OwnPages):
                 self.assertAlmostEqual(end, wanted, delta=0.13)
         word = '<text id="Price" x="2" y="9" font-size="4">Price</text>'
         self.assertTrue(dots_of(self.found(word + CODE))[:150].any())
-
-    def test_a_page_that_is_moved(self) -> None:
-        """Places are moved with the drawing, and browsers move the page around its middle."""
-        body = f'<rect id="title" {WIDE}/><path d="M2 2H9V9H2Z"/>'.replace("56", "52") + CODE
-        page = f'{designs.PAGE} transform="scale(.9)"'
-        found = self.found(body.replace("title", "text"), [("code128 A", {})], page=page)
-        self.assertAlmostEqual(self.ink(found)[0], 1.8, delta=0.13)
-        assert found.job.design is not None
-        place = found.job.design.places[0]
-        sides = (place.left, place.top, place.width, place.height)
-        for side, wanted in zip(sides, (1.8, 1.8, 46.8, 9)):
-            self.assertAlmostEqual(side, wanted, delta=0.01)
-        said = [one[2:17] for one in self.said(found)]
-        self.assertEqual(said, ["<svg transform>", "the drawing is "])
-
-    def test_what_moves_or_sizes_a_place(self) -> None:
-        """CSS moves a place by properties that librsvg does not know, and counts what is beside."""
-        for style in ("translate:9px 0", "rotate:90deg", "scale:2"):
-            styled = f'style="{style}" {WIDE}'
-            (said,) = self.said(self.found(TITLE.format(styled)))
-            self.assertTrue(said.startswith(f": {style} may not be drawn"), said)
-        sheet = "<style>rect:nth-of-type({}){{height:3px}}</style>"
-        for number, high in ((1, 3), (2, 10)):
-            found = self.found(sheet.format(number) + TITLE.format(WIDE) + BOX)
-            assert found.job.design is not None
-            self.assertAlmostEqual(found.job.design.places[0].height, high, delta=0.01)
-        third = sheet.format(3) + TITLE.format('x="30" y="2" width="28" height="10"') + BOX
-        self.assertAlmostEqual(self.ink(self.found(third, [("code128 A", {})]))[3], 5, delta=0.13)
-
-    def test_style_sheets_find_places_by_their_ids(self) -> None:
-        for rule in ("fill:red", "fill:red;x:2px;y:2px;width:56px;height:10px"):
-            size = "" if "width" in rule else WIDE
-            body = f"<style>#title{{{rule}}}</style>" + TITLE.format(size)
-            (text,) = texts_of(self.found(body))
-            self.assertEqual(text.place.colour, (1, 0, 0))
-        with self.assertRaisesRegex(ToolError, "the place title is hidden"):
-            self.found("<style>#title{display:none}</style>" + TITLE.format(WIDE))
-
-    def test_a_switch_of_illustrator(self) -> None:
-        ai = '<foreignObject requiredExtensions="ai"/>'
-        (text,) = texts_of(self.found(f"<switch>{ai}<g>{TITLE.format(WIDE)}</g></switch>"))
-        self.assertEqual(text.text, "Title")
-
-    def test_a_switch_of_drawio(self) -> None:
-        """Its words are for programs that do not know what is before them; browsers take that."""
-        words = (
-            '<text x="2" y="9" font-family="DejaVu Sans">Text is not SVG - cannot display</text>'
-        )
-        features = "http://www.w3.org/TR/SVG11/feature#Extensibility"
-        switch = f'<switch><g requiredFeatures="{features}"/><a>{words}</a></switch>'
-        found = self.found(switch + CODE, [("code128 A", {})])
-        self.assertEqual(self.said(found), [])
-        self.assertFalse(dots_of(found)[:150].any())
 
     def test_case_and_underscores_do_not_count(self) -> None:
         for name, column in (("Seat_No", "seat no"), ("ОПИСАНИЕ", "Описание"), ("Größe", "größe")):
@@ -476,10 +360,6 @@ class Names(OwnPages):
         found = self.found(place, [("code128 A", {"text": {"Price": "cheap"}})])
         self.assertEqual(texts_of(found), [])
         self.assertIn(" has no place for Price: not on the labels", self.said(found))
-        of_part = ": the place price is of a part, not of the column Price: give the column and"
-        self.assertTrue(any(said.startswith(of_part) for said in self.said(found)))
-        priced = self.found(place, [("code128 A", {"price": "9", "text": {"Price": "cheap"}})])
-        self.assertFalse(any(said.startswith(of_part) for said in self.said(priced)))
 
     def test_what_has_no_place_does_not_count(self) -> None:
         """Neither letters that no font has, nor a text that is longer than any paper takes."""
@@ -487,7 +367,7 @@ class Names(OwnPages):
         for text in ("\ue123", "x" * 2000):
             found = self.found(place, [("code128 A", {"text": {"Seat": "1", "Other": text}})])
             self.assertEqual(len(found.labels), 1)
-            self.assertEqual(self.said(found), [" has no place for Other: not on the labels"])
+            self.assertEqual(self.said(found)[0], " has no place for Other: not on the labels")
             found = self.found(place, [("code128 A", {"text": {"Seat": text}})])
             said = [*self.said(found), *reasons_of(found)]
             self.assertRegex(said[0], "^no font has|shortened to fit")
@@ -577,14 +457,6 @@ class Texts(OwnPages):
             )
             (text,) = texts_of(self.found(f'<rect id="title" {box}/>{CODE}'))
             self.assertEqual(text.place.quarters, 0)
-
-    def test_small_letters_are_said(self) -> None:
-        place = '<rect data-place="title{}" x="2" y="2" width="{}" height="{}"/>' + CODE
-        said = [": the place title has letters below 1.8 mm: enlarge it"]
-        for box in (("", 40, 0.5), ("", 0.5, 12), (", size=3", 40, 0.9)):
-            self.assertEqual(self.said(self.found(place.format(*box))), said, box)
-        for box in (("", 40, 1.8), (", size=1.2", 40, 1.2)):
-            self.assertEqual(self.said(self.found(place.format(*box))), [], box)
 
     def test_texts_that_are_over_each_other_are_said(self) -> None:
         body = (
@@ -742,31 +614,12 @@ class Drawings(OwnPages):
         self.assertEqual([self.ink(found, one)[1] > 40 for one in (0, 1)], [True, False])
         self.assertEqual(self.said(found), [" has no place for was: not on the labels"])
 
-    def test_what_is_turned_within_the_page(self) -> None:
-        """Boxes of what is turned go beyond the page."""
-        words = '<text transform="rotate({} 30 9)" x="{}" y="11" font-size="6" {}>Turned</text>'
-        font = 'font-family="DejaVu Sans"'
-        for drawn, is_cut in (
-            (words.format(25, 19, font), False),
-            (words.format(25, 2, font), True),
-            (
-                '<g transform="rotate(45 30 9)"><path d="M27 9H33M30 6V12" stroke="#000"/></g>',
-                False,
-            ),
-        ):
-            said = self.said(self.found(drawn + CODE, [("code128 A", {})]))
-            self.assertEqual([" is cut at the edge by " in one for one in said], [True] * is_cut)
-
     def test_a_group_of_what_no_label_has(self) -> None:
-        """That of a part is on none, which is said; that of a column that is empty in the whole
-        table is on none, as its cells say.
-        """
+        """That of a part is on none, and that of a column that is empty in the whole table."""
         body = '<g id="{}"><path d="M2 2H9V9H2Z"/></g>' + CODE
         plain: list[Label] = [("code128 A", {})]
         found = self.found(body.format("Price"), plain)
         self.assertFalse(dots_of(found)[:150].any())
-        why = ": the group price is on no label, since none has that: give it another name to"
-        self.assertTrue(self.said(found)[0].startswith(why), self.said(found))
         for name, is_drawn in (("Logo", False), ("logo", False), ("Bio", True)):
             path = designs.written(self.path, body.format(name))
             options = PrintOptions(paper=designs.PAPER, dpi=203, to="pbm", design=str(path))
@@ -787,8 +640,8 @@ class Drawings(OwnPages):
         ):
             drawn = f'<path fill-rule="evenodd" d="{shape}"/>{place}'
             said = self.said(self.found(drawn, [ONE]))
-            hint = "move the place, or look at the letters there"
-            wanted = f": the drawing is light and dark in part of the place title: {hint}"
+            hint = "letters need light or dark behind them: move the place"
+            wanted = f": the drawing is light and dark in the place title: {hint}"
             self.assertEqual(said, [wanted] * is_said, shape)
 
     def test_a_group_goes_with_its_field(self) -> None:
@@ -818,21 +671,6 @@ class Drawings(OwnPages):
         why = "the drawing is not white in the place code"
         self.assertTrue(designs.is_refused(caught.exception, why), caught.exception)
 
-    def test_words_that_are_lost_in_dots_are_said(self) -> None:
-        word = '<text x="2" y="9" font-size="5" font-family="DejaVu Sans" {}>Nuts</text>' + CODE
-        black = '<path d="M0 0H60V19H0Z" fill="#800"/>'
-        for body, form, is_lost in (
-            (word.format('fill="#c90"'), "png", True),
-            (word.replace('"5"', '"1.8"').format('fill="#bbb"'), "png", True),
-            (word.replace('"5"', '"1.8"').format(""), "png", False),
-            (word.format('fill="#c90"'), "pdf", False),
-            (word.format('fill="#700"'), "zpl", False),
-            (black + word.format(""), "zpl", True),
-            (black + word.format('fill="#fff"'), "zpl", False),
-        ):
-            said = self.said(self.found(body, [("code128 A", {})], to=form, dpi=203))
-            self.assertEqual([one.split(":")[1] for one in said], LOST * is_lost, body)
-
     def test_lines_thinner_than_a_dot_are_drawn(self) -> None:
         """At 203 dpi a line of 0.08 mm between two rows of dots is nowhere darker than half."""
         frame = '<path d="M{0} {0}H{1}V{1}H{0}Z" fill="none" stroke="black" stroke-width="0.08"/>'
@@ -858,11 +696,7 @@ class Drawings(OwnPages):
         for style in ('font-family="Nothing, serif"', "style=\"font-family:'Nothing'\""):
             word = f'<text x="2" y="9" font-size="4" {style}>a</text>{CODE}'
             (said, _) = self.said(self.found(word))
-            self.assertRegex(said, "^: there is no font Nothing: its words are in .+")
-        word = f'<text x="2" y="9" font-size="4" font-family="Nothing,DejaVu Serif">a</text>{CODE}'
-        self.assertIn(
-            "no font Nothing: its words are in DejaVu Serif", self.said(self.found(word))[0]
-        )
+            self.assertRegex(said, "^: font-family:Nothing may be drawn otherwise, or not at all")
         for family in ("DejaVu Sans", "sans-serif"):
             word = f'<text x="2" y="9" font-size="4" font-family="{family}">a</text>{CODE}'
             self.assertEqual(len(self.said(self.found(word))), 1)
@@ -871,100 +705,23 @@ class Drawings(OwnPages):
         word = '<text x="2" y="9" font-size="4" font-family="DejaVu Sans {}">a</text>' + CODE
         self.assertEqual(self.said(self.found(word.format("Light"), [("code128 A", {})])), [])
         (said,) = self.said(self.found(word.format("Nothing"), [("code128 A", {})]))
-        self.assertTrue(said.startswith(": there is no font DejaVu Sans Nothing: its words"), said)
-
-    def test_fonts_of_the_short_property_are_said(self) -> None:
-        for style in (
-            "<style>.a{font:bold 3px/1.2 'Nothing',serif}</style><text class='a'",
-            "<text style='font: italic 3px Nothing'",
-            "<text style='font: 700 3px/1 Nothing'",
-        ):
-            (said, _) = self.said(self.found(f'{style} x="2" y="9">a</text>{CODE}'))
-            self.assertRegex(said, "^: there is no font Nothing: its words are in .+")
-
-    def test_letters_of_words_that_no_font_has_are_said(self) -> None:
-        word = f'<text x="2" y="9" font-size="4" font-family="DejaVu Sans">Bio \ue123</text>{CODE}'
-        (said, _) = self.said(self.found(word))
-        self.assertRegex(said, "^: no font has \ue123 .Signs.: apt-get install")
-
-    def test_what_other_programs_draw_otherwise_is_said(self) -> None:
-        for what, name in (
-            ('<text rotate="9" x="2" y="9" font-size="4">a</text>', "rotate"),
-            ('<text textLength="9" x="2" y="9" font-size="4">a</text>', "textLength"),
-            ('<path style="vector-effect:non-scaling-stroke" d="M2 2H9"/>', "vector-effect"),
-            ("<style>path{dominant-baseline: middle}</style>", "dominant-baseline"),
-            (
-                '<path transform="rotate(90)" transform-origin="30 9" d="M2 2H9"/>',
-                "<path transform-origin>",
-            ),
-        ):
-            (said,) = self.said(self.found(what + CODE, [("code128 A", {})]))
-            self.assertRegex(said, f"^: {name}.* may not be drawn as in other programs: write a")
-        for what in (
-            '<text rotate="0 0" style="word-spacing:0px" x="2" y="9" font-size="4">a</text>',
-            '<path transform-origin="30 9" d="M2 2H9"/>',
-            '<g style="background: rgb(255, 255, 255)"/>',
-        ):
-            self.assertEqual(self.said(self.found(what + CODE, [("code128 A", {})])), [])
+        self.assertTrue(said.startswith(": font-family:DejaVu Sans Nothing may be drawn oth"), said)
 
     def test_a_drawing_that_is_cut_is_said(self) -> None:
-        """But for what goes on to the end of the page, and what loses no more than 0.5 mm."""
+        """But for what loses no more than 0.5 mm."""
         bar = '<path d="M{}V11H{}Z"/>' + CODE
-        cases: tuple[tuple[tuple[str, int], dict[str, Any], float], ...] = (
-            (("50 2H59", 50), {"shift": (3.0, 0.0)}, 2.0),
-            (("50 2H59", 50), {"edge": (0.0, 0.0, 3.0, 0.0)}, 2.0),
-            (("2 1H9", 2), {"edge": (0.0, 3.0, 0.0, 0.0)}, 2.0),
-            (("50 2H59", 50), {"edge": (0.0, 0.0, 1.4, 0.0)}, 0.0),
-            (("50 2H60", 50), {"edge": (0.0, 0.0, 3.0, 0.0)}, 0.0),
-            (("50 2H70", 50), {"edge": (0.0, 0.0, 3.0, 0.0)}, 0.0),
+        cases: tuple[tuple[tuple[str, int], dict[str, Any], bool], ...] = (
+            (("50 2H59", 50), {"shift": (3.0, 0.0)}, True),
+            (("50 2H59", 50), {"edge": (0.0, 0.0, 3.0, 0.0)}, True),
+            (("2 1H9", 2), {"edge": (0.0, 3.0, 0.0, 0.0)}, True),
+            (("50 2H59", 50), {"edge": (0.0, 0.0, 1.4, 0.0)}, False),
+            (("50 2H60", 50), {"edge": (0.0, 0.0, 3.0, 0.0)}, True),
         )
-        for ends, options, said in cases:
+        for ends, options, is_cut in cases:
             found = self.said(self.found(bar.format(*ends), [("code128 A", {})], **options))
             cut = [one for one in found if "smaller than drawn" not in one]
-            wanted = [f": the drawing is cut at the edge by {said:.1f} mm"] * (said > 0)
+            wanted = [": the drawing is cut at the edge"] * is_cut
             self.assertEqual([one.split(": move")[0] for one in cut], wanted, (ends, options))
-
-    def test_a_frame_on_a_background_is_cut(self) -> None:
-        """A white one is as the paper, and a black one goes on to the end of the page."""
-        white, black = (f'<path fill="{one}" d="M0 0H60V19H0Z"/>' for one in ("#fff", "#000"))
-        frame = '<path fill="none" stroke="#000" stroke-width=".2" d="M.5 .5H59.5V18H.5Z"/>'
-        for drawn, is_cut in ((white + frame, True), (black + frame, False), (white, False)):
-            found = self.found(drawn + CODE, [("code128 A", {})], edge=(3.0, 3.0, 3.0, 3.0))
-            said = [one for one in self.said(found) if "smaller than drawn" not in one]
-            wanted = [": the drawing is cut at the edge by 2.6 mm"] * is_cut
-            self.assertEqual([one.split(": move")[0] for one in said], wanted, drawn)
-
-    def test_a_frame_at_the_end_of_the_page_is_cut(self) -> None:
-        """And what is within it; but not what ends there in a few places."""
-        frame = '<path fill="none" stroke="#000" stroke-width=".4" d="M.2 .2H59.8V39.8H.2Z"/>'
-        disc = '<circle cx="56" cy="9" r="3"/>'
-        corner = '<circle cx="60" cy="0" r="2.5"/>'
-        for drawn, cut in ((frame, 3.0), (corner + disc, 2.0), (corner, 0.0)):
-            found = self.found(drawn + CODE, [("code128 A", {})], edge=(0.0, 0.0, 3.0, 0.0))
-            said = [one for one in self.said(found) if "smaller than drawn" not in one]
-            wanted = [f": the drawing is cut at the edge by {cut:.1f} mm"] * (cut > 0)
-            self.assertEqual([one.split(": move")[0] for one in said], wanted, drawn)
-
-    def test_words_that_are_cut_are_said(self) -> None:
-        word = '<text x="{}" y="9" font-size="5" font-family="DejaVu Sans">Door 2</text>'
-        for left, said in ((2, 0), (50, 1), (-4, 1), (99, 0)):
-            found = self.found(word.format(left) + CODE, [("code128 A", {})])
-            self.assertEqual(len(self.said(found)), said, left)
-        word = '<text x="9" y="{}" font-size="3" font-family="DejaVu Sans">Do</text>' + CODE
-        for base, said in ((2.1, 0), (1.8, 1)):  # letters are 2.2 mm high
-            found = self.found(word.format(base), [("code128 A", {})])
-            self.assertEqual(len(self.said(found)), said, base)
-        word = '<text x="2" y="9" font-size="5" font-family="DejaVu Sans">Door 2</text>'
-        faint = (
-            '<g style="opacity:.5"><text x="50" y="9" font-size="5" opacity=".9">Door 2</text></g>'
-        )
-        self.assertEqual(len(self.said(self.found(faint + CODE, [("code128 A", {})]))), 1)
-        (said_of_edge,) = self.said(
-            self.found(word + CODE, [("code128 A", {})], edge=(3.0, 0.0, 0.0, 0.0))
-        )[:1]
-        self.assertRegex(
-            said_of_edge, '^: smaller than drawn|^: "Door 2" is cut at the edge by 0.6'
-        )
 
     def test_a_link_is_drawn_in_a_pdf(self) -> None:
         link = '<a href="https://example.org"><path d="M2 2H9V9Z"/></a>'
@@ -973,59 +730,9 @@ class Drawings(OwnPages):
         self.assertTrue(document.read().startswith(b"%PDF"))
         document.close()
 
-    def test_a_place_in_a_filter_is_looked_at_in_few_dots(self) -> None:
-        """A filter that is drawn in dots of a hundredth of a millimetre takes seconds."""
-        scales = []
-
-        class Handle:
-            def render_layer(self, canvas: Any, name: str, area: Any) -> None:
-                scales.append(canvas.get_matrix().xx)
-
-        colour_of(Handle(), "#place-0", None, rectangle(2.0, 2.0, 80.0, 10.0, 1.0))
-        self.assertEqual(scales, [0.2])
-
     def test_a_picture_is_drawn(self) -> None:
         found = self.found(PICTURE.format("png", png_of(8, 8)).replace("<image", "<path/><image"))
         self.assertEqual(len(found.labels), 1)
-
-    def test_pictures_are_drawn_as_what_they_are(self) -> None:
-        """The kind in the link is wrong, or its letters are escaped."""
-        dark = BLACK.replace("=", "%3D").replace("+", "%2B")
-        for kind, data in (("png", BLACK), ("jpg", BLACK), ("png", dark)):
-            found = self.found(PICTURE.format(kind, data))
-            for end, wanted in zip(self.ink(found), (2, 7, 2, 7)):
-                self.assertAlmostEqual(end, wanted, delta=0.13)
-
-    def test_a_picture_is_turned_as_its_camera_says(self) -> None:
-        """Its left half is black, and the left side of the file is the upper one (Exif, 6)."""
-        pixbuf = library("GdkPixbuf", "2.0").Pixbuf
-        row = bytes(3 * 32) + b"\xff" * 3 * 32
-        dots = library("GLib", "2.0").Bytes.new(row * 32)
-        plain = pixbuf.new_from_bytes(dots, 0, False, 8, 64, 32, len(row))
-        _, jpeg = plain.save_to_bufferv("jpeg", ["quality"], ["100"])
-        turn = b"Exif\0\0MM\0*\0\0\0\x08\0\x01\x01\x12\0\x03\0\0\0\x01\0\x06\0\0\0\0\0\0"
-        segment = b"\xff\xe1" + struct.pack(">H", len(turn) + 2) + turn
-        for exif, box in ((b"", 'width="16" height="8"'), (segment, 'width="8" height="16"')):
-            data = base64.b64encode(jpeg[:2] + exif + jpeg[2:]).decode()
-            body = PICTURE.format("jpeg", data).replace('width="5" height="5"', box)
-            for end, wanted in zip(self.ink(self.found(body)), (2, 10, 2, 10)):
-                self.assertAlmostEqual(end, wanted, delta=0.2)
-        _, png = plain.save_to_bufferv("png", [], [])
-        for tiff in (turn[6:], b"II*\0\x08\0\0\0\x01\0\x12\x01\x03\0\x01\0\0\0\x06\0\0\0\0\0\0\0"):
-            chunk = b"eXIf" + tiff
-            chunk = struct.pack(">I", len(tiff)) + chunk + struct.pack(">I", zlib.crc32(chunk))
-            for at in (33, len(png) - 12):  # behind the first chunk, and before the last one
-                data = base64.b64encode(png[:at] + chunk + png[at:]).decode()
-                body = PICTURE.format("png", data).replace('width="5" height="5"', box)
-                for end, wanted in zip(self.ink(self.found(body)), (2, 10, 2, 10)):
-                    self.assertAlmostEqual(end, wanted, delta=0.2)
-
-    def test_a_page_of_an_old_inkscape(self) -> None:
-        """Its lengths without a unit are of 90 dpi."""
-        scaled = f'<g transform="scale({90 / 25.4})">{TITLE.format(WIDE)}</g>'
-        page = 'width="60mm" height="40mm" inkscape:version="0.48.5 r10040"'
-        usual = self.ink(self.found(TITLE.format(WIDE)))
-        self.assertEqual(self.ink(self.found(scaled, page=page)), usual)
 
     def test_a_page_that_is_packed(self) -> None:
         """Inkscape writes .svgz; its name may be another one."""
@@ -1033,12 +740,6 @@ class Drawings(OwnPages):
         path = self.path.with_name("own.svgz")
         path.write_bytes(gzip.compress(self.path.read_bytes()))
         self.assertEqual(self.ink(designs.prepared(path, [ONE])), usual)
-
-    def test_letters_without_a_size_have_that_of_browsers(self) -> None:
-        word = '<text x="2" y="16" font-family="DejaVu Sans" {}>A</text>' + CODE
-        usual = self.ink(self.found(word.format('font-size="16"'), [("code128 A", {})]))
-        for size in ("", 'style="font-size:100%"'):
-            self.assertEqual(self.ink(self.found(word.format(size), [("code128 A", {})])), usual)
 
     def test_a_page_whose_sides_are_in_its_style(self) -> None:
         page = 'style="width:60mm;height:40mm" viewBox="0 0 60 40"'

@@ -60,33 +60,15 @@ def rows_of(dots: jobs.Dots) -> list[str]:
 
 
 LINE = b"code128 A\n"
-STOP = '<stop offset="{}" stop-color="{}"/>'
-GRADIENT = '<linearGradient id="g">{}</linearGradient><path fill="url(#g)" d="M2 2H42V9H2Z"/>'
 
 
 class Drawings(unittest.TestCase):
-    def test_a_gradient_that_changes_at_once_at_its_end(self) -> None:
-        """Of two stops in one place, which are its first or last ones, Cairo writes one in PDF."""
-        for stops, ends in (
-            (((0.5, "black"), (0.5, "white"), (1, "white")), (2, 22)),
-            (((0, "white"), (0.5, "white"), (0.5, "black")), (22, 42)),
-            (((0, "black"), (0.25, "black"), (0.25, "white"), (0.25, "white")), (2, 12)),
-        ):
-            body = GRADIENT.format("".join(STOP.format(*stop) for stop in stops)) + designs.CODE
-            with tempfile.TemporaryDirectory() as folder:
-                path = designs.written(Path(folder, "own.svg"), body)
-                done = support.printed("--design", str(path), input=b"code128 A\n")
-            dots = rendered(["pdftoppm", "-r", "600", "-mono", "FILE", "out"], done.stdout)
-            (across,) = numpy.nonzero(dots[int(5 / 25.4 * 600)])
-            for end, wanted in zip((across.min(), across.max() + 1), ends):
-                self.assertAlmostEqual(float(end) / 600 * 25.4, wanted, delta=0.1, msg=str(stops))
-
     def test_what_has_a_filter_or_a_mask_is_as_sharp_as_the_dots(self) -> None:
         """librsvg makes pictures of it, in dots of what it draws on."""
         shape = '<path d="M2 2H42V9H2Z" fill="#fff"/>'
         filtered = '<filter id="f"><feOffset/></filter><g filter="url(#f)">{}</g>'
         masked = '<mask id="m">{}</mask><path mask="url(#m)" d="M0 0H50V10H0Z"/>'
-        for body in (filtered, masked, '<g style="filter:drop-shadow(1px 1px 1px #888)">{}</g>'):
+        for body in (filtered, masked):
             with tempfile.TemporaryDirectory() as folder:
                 drawn = body.format(shape) + designs.CODE
                 path = designs.written(Path(folder, "own.svg"), drawn)
@@ -100,14 +82,6 @@ class Drawings(unittest.TestCase):
             wide = [int(one.split()[at]) for one in pictures if " stencil " not in one]
             self.assertEqual({dots // 10 for dots in wide} - {29, 30}, set(), listed.stdout)
             self.assertTrue(wide)
-
-    def test_dashes_without_a_length_take_no_fill_away(self) -> None:
-        body = '<path stroke="#000" stroke-dasharray="0 1.5" d="M2 2H42V9H2Z"/>' + designs.CODE
-        with tempfile.TemporaryDirectory() as folder:
-            path = designs.written(Path(folder, "own.svg"), body)
-            done = support.printed("--design", str(path), input=LINE)
-        dots = rendered(["pdftoppm", "-r", "254", "-mono", "FILE", "out"], done.stdout)
-        self.assertTrue(dots[30:80, 30:400].all())
 
     def test_a_pattern_is_alike_in_each_cell(self) -> None:
         """Ghostscript shows one that is drawn in two places as in the first one."""
