@@ -26,7 +26,7 @@ from labeltools.frames import Box
 from labeltools.layout import LaidOut, short
 from labeltools.lines_file import LineRecord
 from labeltools.messages import Talk, ToolError, quoted
-from labeltools.own_layout import OwnLayout, OwnSymbol
+from labeltools.own_layout import OwnSymbol, symbols_of
 from labeltools.own_places import PARTS, Place, key_of
 from labeltools.pen import bits_of
 from labeltools.text import Text
@@ -485,18 +485,12 @@ def fault(what: Text, record: Optional[LineRecord]) -> ToolError:
 
 def spots_of(item: LaidOut, area: Box) -> Iterator[Spot]:
     """Yields where the symbols of a label have to be."""
-    record = item.label.record
-    layout = item.layout
-    if isinstance(layout, OwnLayout):
-        for symbol in layout.symbols:
-            yield own_spot(symbol, record)
-    else:
-        line, data = record.line, record.data
-        yield Spot(line, False, data, area, 0, layout.boxes["bars"], layout.module)
+    for symbol in symbols_of(item, area):
+        yield spot_of(symbol, item.label.record)
 
 
-def own_spot(symbol: OwnSymbol, record: LineRecord) -> Spot:
-    """Returns where a symbol of a design has to be."""
+def spot_of(symbol: OwnSymbol, record: LineRecord) -> Spot:
+    """Returns where a symbol has to be."""
     place = symbol.place
     where = (symbol.box, place.quarters, symbol.boxes["bars"], symbol.module)
     if not place.symbology:

@@ -25,6 +25,7 @@ from labeltools.symbologies import SYMBOLOGIES, Symbology
 from labeltools.text import Text
 
 WHOLE = frozenset(("price", "unit", "was", "code", "note"))  # parts that are as long as they are
+CODE = Place("code")  # of a built-in design
 NO_FRAME = Frame("own", {}, {}, 0, 0, 0, 0, 0, 0, True, 0.0)
 
 
@@ -51,6 +52,15 @@ class OwnLayout(Layout):
     texts: tuple[OwnText, ...]
     symbols: tuple[OwnSymbol, ...]
     absent: frozenset[str]
+
+
+def symbols_of(item: LaidOut, area: Box = Box(0, 0, 0, 0)) -> Sequence[OwnSymbol]:
+    """Returns the symbols of a label of any design; a built-in one has one, in its whole area."""
+    layout = item.layout
+    if isinstance(layout, OwnLayout):
+        return layout.symbols
+    how = (item.label.record.data, item.label.modules, layout.symbology)
+    return [OwnSymbol(CODE, area, *how, layout.module, layout.boxes)]
 
 
 class Values(NamedTuple):

@@ -14,7 +14,7 @@ from labeltools.forms.pdf import POINTS
 from labeltools.layout import LaidOut
 from labeltools.letters import Fonts, Letters
 from labeltools.own_design import BLACK, OwnDesign, lightness
-from labeltools.own_layout import OwnLayout, OwnSymbol
+from labeltools.own_layout import OwnLayout
 from labeltools.pen import Medium, Page, Pen, Placed, padded
 
 DARKEST = 128  # the lightness from which on a dot is white
@@ -109,10 +109,6 @@ class OwnPen(Pen):
             page.flush()
             page.get_data()[:] = drawing.get_data()
             page.mark_dirty()
-
-    def symbols(self, item: LaidOut) -> Iterable[OwnSymbol]:
-        """Returns the symbols of a label."""
-        return own_layout(item).symbols
 
     def texts(self, item: LaidOut) -> Iterator[Placed]:
         """Yields the texts of a label, each of which is drawn before the next one is fitted."""

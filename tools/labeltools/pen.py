@@ -24,8 +24,8 @@ from labeltools.frames import LINE, Box, Frame
 from labeltools.layout import LaidOut, Layout, PrintLabel
 from labeltools.letters import Fonts, Letters
 from labeltools.own_design import is_light
-from labeltools.own_layout import OwnSymbol
-from labeltools.own_places import Colour, Place
+from labeltools.own_layout import OwnSymbol, symbols_of
+from labeltools.own_places import Colour
 from labeltools.pango import PangoCairo, plain_options
 from labeltools.symbologies import SYMBOLOGIES, Span, Symbology
 
@@ -41,8 +41,6 @@ LARGE = 1000  # dots: the size in which digits are measured
 DIGITS = "0123456789"
 BETWEEN = "   "  # old price and unit price on one line
 WITHOUT_END = 1 << 20  # dots: the height of a text of which all lines are wanted
-CODE = Place("code")  # of a built-in design: it begins where the label does
-WHOLE = Box(0, 0, 0, 0)
 Page = Sequence[tuple[LaidOut, Dots]]  # labels, with the upper left corners of their areas
 
 
@@ -125,7 +123,7 @@ class Pen:
         self.draw_below(canvas, page, bool(turn))
         runs: Runs = defaultdict(list)
         for item, place in page:
-            for symbol in self.symbols(item):
+            for symbol in symbols_of(item):
                 self.draw_symbol(canvas, symbol, place, runs)
         for item, place in page:
             for text in self.texts(item):
@@ -135,13 +133,6 @@ class Pen:
 
     def draw_below(self, canvas: Any, page: Page, is_turned: bool) -> None:
         """Draws what is below the symbols and texts of a page: nothing."""
-
-    def symbols(self, item: LaidOut) -> Iterable[OwnSymbol]:
-        """Returns the symbols of a label."""
-        label = item.label
-        layout = item.layout
-        how = (layout.symbology, layout.module, layout.boxes)
-        yield OwnSymbol(CODE, WHOLE, label.record.data, label.modules, *how)
 
     def texts(self, item: LaidOut) -> Iterator[Placed]:
         """Yields the texts of a label, each of which is drawn before the next one is fitted."""

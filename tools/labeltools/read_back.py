@@ -1,16 +1,16 @@
 """Reads labels as they are drawn, before anything goes out."""
 
 import re
-from typing import Any, Optional
+from typing import Any, Optional, Sequence
 
 from labeltools.text import Text
 from labeltools.area import Area
 from labeltools.engine import Modules
-from labeltools.forms.dots import Picture, drawn_page
+from labeltools.forms.dots import drawn_page
 from labeltools.frames import Box
 from labeltools.layout import LaidOut
 from labeltools.messages import ToolError
-from labeltools.own_layout import OwnLayout, OwnSymbol
+from labeltools.own_layout import CODE, OwnSymbol, symbols_of
 from labeltools.pen import Pen, bits_of
 
 NOT_READ = Text("as drawn it is not read")
@@ -24,48 +24,34 @@ def fault_of(item: LaidOut, area: Area, pen: Pen) -> Optional[Text]:
     """
     size = area.width, area.height
     picture = drawn_page(size, pen, [(item, (0, 0))])
-    if isinstance(item.layout, OwnLayout):
-        return own_fault_in([bits_of(row) for row in picture.rows], item.layout)
-    return fault_in(picture, item)
+    return fault_in([bits_of(row) for row in picture.rows], symbols_of(item, Box(0, 0, *size)))
 
 
-def own_fault_in(rows: list[str], layout: OwnLayout) -> Optional[Text]:
+def fault_in(rows: list[str], symbols: Sequence[OwnSymbol]) -> Optional[Text]:
     """Returns what is wrong with one of the symbols of a label, each read in its place alone."""
-    for symbol in layout.symbols:
+    for symbol in symbols:
         box = symbol.box
         place = [row[box.left : box.right] for row in rows[box.top : box.bottom]]
         for _ in range(symbol.place.quarters):
             place = ["".join(column) for column in zip(*place)][::-1]  # back to the left
         fault = fault_of_symbol(place, symbol)
         if fault is not None:
-            return Text("place {}: {}", symbol.place.title, fault)
+            return (
+                fault if symbol.place is CODE else Text("place {}: {}", symbol.place.title, fault)
+            )
     return None
 
 
 def fault_of_symbol(rows: list[str], symbol: OwnSymbol) -> Optional[Text]:
-    """Returns what is wrong with a symbol in dots of its place."""
+    """Returns what is wrong with a symbol in dots of its place: its data is read by zxing-cpp, and
+    each row of its bars is compared.
+    """
     found = code_in(rows, re.sub("[- ]", "", symbol.symbology.title))
     if found is None:
         return NOT_READ
     if found != symbol.data:
         return Text("as drawn it is read as {}", repr(found))
     return None if is_drawn(rows, symbol.modules, symbol.boxes["bars"]) else NOT_DRAWN
-
-
-def fault_in(picture: Picture, item: LaidOut) -> Optional[Text]:
-    """Returns what is wrong with dots of a label: its data is read by zxing-cpp, and each row of
-    its bars is compared.
-    """
-    rows = [bits_of(row) for row in picture.rows]
-    found = code_in(rows, re.sub("[- ]", "", item.layout.symbology.title))
-    if found is None:
-        return NOT_READ
-    if found != item.label.record.data:
-        return Text("as drawn it is read as {}", repr(found))
-    box = item.layout.boxes["bars"]
-    if not is_drawn(rows, item.label.modules, box):
-        return NOT_DRAWN
-    return None
 
 
 def code_in(rows: list[str], form: str) -> Optional[bytes]:

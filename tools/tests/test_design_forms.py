@@ -16,7 +16,7 @@ import jobs
 import support
 from labeltools.messages import Silence
 from labeltools.own_layout import OwnLayout
-from labeltools.read_back import own_fault_in
+from labeltools.read_back import fault_in
 from test_forms import dots_of_svg, rendered
 
 DPIS = (203, 300, 600)
@@ -146,7 +146,7 @@ class Shipped(unittest.TestCase):
                     self.assertTrue(is_same(dots[form], dots["pbm"]), (name, dpi, form))
                 for form in ("pbm", "pdf", "svg"):
                     rows = rows_of(dots[form])
-                    self.assertIsNone(own_fault_in(rows, layout), (name, dpi, form))
+                    self.assertIsNone(fault_in(rows, layout.symbols), (name, dpi, form))
                     self.assertEqual(
                         self.by_zbar(dots[form]), self.codes(layout), (name, dpi, form)
                     )

@@ -16,7 +16,10 @@ import zxingcpp
 
 import jobs
 import support
-from labeltools.forms.dots import Picture, drawn_page
+from labeltools.forms.dots import drawn_page
+from labeltools.frames import Box
+from labeltools.own_layout import symbols_of
+from labeltools.pen import bits_of
 from labeltools.read_back import fault_in
 from laying import laid_out
 
@@ -356,15 +359,16 @@ class ReadBack(unittest.TestCase):
         area = laid.prepared.laid_out.area
         picture = drawn_page((area.width, area.height), laid.pen, [(item, (0, 0))])
         bars = item.layout.boxes["bars"]
-        self.assertIsNone(fault_in(picture, item))
+        symbols = symbols_of(item, Box(0, 0, area.width, area.height))
+        self.assertIsNone(fault_in([bits_of(row) for row in picture.rows], symbols))
         rows = list(picture.rows)
         for top in range(bars.top, bars.top + bars.height // 3):
             row = "".join(f"{byte:08b}" for byte in rows[top])
             part = row[bars.left : bars.right]
             turned = row[: bars.left] + part[::-1] + row[bars.right :]
             rows[top] = int(turned, 2).to_bytes(len(rows[top]), "big")
-        changed = Picture(picture.width, picture.height, b"".join(rows))
-        self.assertEqual(fault_in(changed, item), "its bars as drawn are not those of labels")
+        fault = fault_in([bits_of(row) for row in rows], symbols)
+        self.assertEqual(fault, "its bars as drawn are not those of labels")
 
 
 if __name__ == "__main__":
