@@ -1,38 +1,29 @@
 """Compares what goes out with the codes that have to be there, each label, before it leaves.
 
 The bytes that go out are read back: forms of dots into the dots of the page that was drawn, all of
-them; drawings into their pictures and letters. The code of each line is drawn anew from the line
-itself, and each module of it, its quiet zones included, has to be in its place, in its size, and
-turned as it is asked for. Nothing else may be drawn there. This holds for each symbol of a label:
-a design of the user's own may have several.
-
-Where a symbol differs, what the library reads in its place is said, if it is a symbol at all.
+them; drawings into their codes, which are drawn last, on white. The code of each line is drawn anew
+from the line itself, and each module of it, its quiet zones included, has to be in its place, in
+its size, and turned as it is asked for. This holds for each symbol of a label: a design of the
+user's own may have several.
 """
 
-from bisect import bisect_left
-from dataclasses import dataclass
-from functools import cache, cached_property, lru_cache
-from itertools import islice
 from operator import mul
-from typing import Any, Iterable, Iterator, Mapping, NamedTuple, Optional, Sequence
+from typing import Any, Iterator, NamedTuple, Optional, Sequence
 
 from labeltools.area import Plan
-from labeltools.decode import Dots, NotDecoded, dots_of, rows_in, rows_reader
-from labeltools.drawn_codes import EVERYWHERE, NO_ROOM, DrawnCode, DrawnPage, Ink, is_at
-from labeltools.drawn_pdf import Places
-from labeltools.drawn_svg import page_of_svg
-from labeltools.engine import LABELS_FAILED, Engine, Refused, bytes_a_row, library
+from labeltools.decode import Dots, NotDecoded, dots_of, rows_in
+from labeltools.drawn_pdf import DrawnPage, is_at, pages_of
+from labeltools.drawn_svg import dots_of_svg
+from labeltools.engine import LABELS_FAILED, Engine, Refused, bytes_a_row
 from labeltools.frames import Box
 from labeltools.layout import LaidOut, short
 from labeltools.lines_file import LineRecord
-from labeltools.messages import Talk, ToolError, quoted
+from labeltools.messages import Talk, ToolError
 from labeltools.own_layout import OwnSymbol, symbols_of
 from labeltools.own_places import PARTS, Place, key_of
-from labeltools.pen import bits_of
 from labeltools.text import Text
 
 Labels = Sequence[tuple[LaidOut, tuple[int, int]]]
-Symbols = Sequence[tuple["Wanted", LineRecord]]
 LONGER = 5  # modules by which guards are longer (GS1 General Specifications, 5.2)
 # modules of the longer bars, from the first bar on: ISO/IEC 15420
 GUARDS = {
@@ -40,34 +31,28 @@ GUARDS = {
     "ean8": ((0, 3), (31, 36), (64, 67)),
     "upca": ((0, 10), (45, 50), (85, 95)),
 }
-# modules of the quiet zones at the left, at the right, and above and below: GS1 General
-# Specifications, ISO/IEC 15417, ISO/IEC 18004
-ZONES = {
-    "ean13": (11, 7, 0),
-    "ean8": (7, 7, 0),
-    "upca": (9, 9, 0),
-    "code128": (10, 10, 0),
-    "qr": (4, 4, 4),
-}
-KNOWN = 4096  # geometries that are kept: most labels share some
-TOGETHER = 32  # pages that are compared together
-PAGES = 64  # pages whose symbols are kept by their places
 DIGITS = bytes.maketrans(b"\0\1", b"01")
 FAULT = Text("this is a fault of label-print: nothing of it has gone out; report it")
 
 
 class Different(Exception):
-    """What differs in a label: that which is looked at, or which has a symbol at a place, or which
-    has some rows of the page.
-    """
+    """What differs in a label of a line, if that is known."""
 
-    def __init__(
-        self, what: Text, place: Optional["Geometry"] = None, record: Optional[LineRecord] = None
-    ) -> None:
+    def __init__(self, what: Text, record: Optional[LineRecord] = None) -> None:
         super().__init__(what)
         self.what = what
-        self.place = place
         self.record = record
+
+
+class Document(NamedTuple):
+    """What goes out: its bytes, the labels that are on its pages, how often it is printed, and of a
+    form of dots those that were drawn.
+    """
+
+    data: bytes
+    pages: Sequence[Labels]
+    copies: int = 1
+    drawn: Optional[bytes] = None
 
 
 class Spot(NamedTuple):
@@ -85,126 +70,34 @@ class Spot(NamedTuple):
     module: int
 
 
-@dataclass(frozen=True, eq=False)
-class Geometry:
-    """Where a symbol has to be on a page: its bars, its longer guards with their first and last
-    modules, and the picture of both; the quarters by which it is turned; the dots of a module; as
-    it is read its modules from left to right, the dots of its bars from top to bottom, and those
-    of each of its rows and of what guards are longer.
+class Band(NamedTuple):
+    """Rows of modules that are the same: which are dark, which are looked at, how many there are.
+    Between longer guards nothing is looked at, since digits are there.
     """
 
-    bars: Box
-    guards: tuple[tuple[Box, tuple[int, int]], ...]
-    picture: Box
-    quarters: int
-    scale: int
-    wide: int
+    dark: str
+    looked: str
     high: int
-    bands: tuple[int, ...]
-
-    @cached_property
-    def is_linear(self) -> bool:
-        """Whether its rows are bars and, below them, longer guards."""
-        return len(self.bands) == 2
-
-    @cached_property
-    def modules(self) -> tuple[int, int]:
-        """How many modules it has across and down as it is read, with longer guards."""
-        longer = LONGER if self.guards else 0
-        return self.wide, self.high // self.scale + longer
-
-    def is_met_by(self, ink: Ink) -> bool:
-        """Returns whether ink meets it."""
-        if not ink.meets(self.picture):
-            return False
-        return ink.meets(self.bars) or any(ink.meets(box) for box, _ in self.guards)
 
 
 class Wanted(NamedTuple):
-    """What has to be on a page for a symbol: the symbol, drawn anew, and where."""
-
-    symbol: Any
-    place: Geometry
-
-
-class Document(NamedTuple):
-    """What goes out: its bytes, the labels that are on its pages, how often it is printed, and of a
-    form of dots those that were drawn.
+    """What has to be on a page for a symbol: of which line it is; its bands as it is read; its
+    longer guards and its picture, which has them too, on the page; its quarters; the dots of a
+    module.
     """
 
-    data: bytes
-    pages: Sequence[Labels]
-    copies: int = 1
-    drawn: Optional[bytes] = None
-
-
-class ReadPage(NamedTuple):
-    """A page that was read back: its labels, what is on it, the line of its label where the
-    document has no other one, and its dots as they were drawn.
-    """
-
-    labels: Labels
-    found: "DotsOfPage | CodesOfPage"
-    alone: Optional[LineRecord]
-    drawn: Optional[bytes]
-
-
-class Regions:
-    """The symbols of a page by where they are, so that few are looked at for some ink."""
-
-    def __init__(self, places: Sequence[Geometry]) -> None:
-        found: dict[tuple[int, int], list[Geometry]] = {}
-        for place in places:
-            box = place.picture
-            found.setdefault((box.top, box.bottom), []).append(place)
-        self.rows = [(*span, sorted(row, key=left_of)) for span, row in found.items()]
-        self.wide = max([place.picture.width for place in places], default=0)
-
-    def met_by(self, ink: Ink) -> Optional[Geometry]:
-        """Returns a symbol that ink of letters, lines or pictures meets, if there is one."""
-        left, upper, right, lower = ink
-        for top, bottom, row in self.rows:
-            if upper >= bottom or lower <= top:
-                continue
-            first = bisect_left(row, left - self.wide, key=left_of) if len(row) > 1 else 0
-            for place in islice(row, first, None):
-                if left_of(place) >= right:
-                    break
-                if place.is_met_by(ink):
-                    return place
-        return None
-
-    def are_clear_of(self, inks: Iterable[Ink]) -> bool:
-        """Returns whether ink meets none of them."""
-        return not any(map(self.met_by, inks))
-
-    def room_at(self, place: float, upper: float, lower: float) -> tuple[float, float]:
-        """Returns from where to where ink meets no symbol that is so high on the page, which it has
-        on both sides of a place.
-        """
-        first, last = EVERYWHERE
-        for top, bottom, row in self.rows:
-            if upper >= bottom or lower <= top:
-                continue
-            for symbol in row:
-                box = symbol.picture
-                if box.right <= place:
-                    first = max(first, box.right)
-                elif box.left >= place:
-                    last = min(last, box.left)
-                else:
-                    return NO_ROOM
-        return first, last
-
-
-def left_of(place: Geometry) -> int:
-    """Returns where a symbol begins."""
-    return place.picture.left
+    record: LineRecord
+    bands: Sequence[Band]
+    bars: Box
+    guards: Sequence[Box]
+    picture: Box
+    quarters: int
+    scale: int
 
 
 class Comparison:
     """Compares the documents of a job; `is_turned` is whether labels are turned to the right, and
-    `go_on` of the talk is called for every few pages and may stop the work.
+    `go_on` of the talk is called for every page and may stop the work.
     """
 
     def __init__(
@@ -220,73 +113,40 @@ class Comparison:
         area = plan.area.turned() if is_turned else plan.area
         self.area = Box(0, 0, area.width, area.height)
         self.cells = dict(zip(plan.places, plan.sheet.places))
-        self.places = Places(plan.dpi)
-        self.known: dict[tuple[object, ...], Geometry] = {}
-        self.regions = lru_cache(PAGES)(Regions)
 
-    def check(self, documents: Iterable[Document]) -> None:
+    def check(self, document: Document) -> None:
         """Raises `ToolError` where a document has not the codes of the labels on its pages, or, of
         a form of dots, not the dots of the page that was drawn.
-
-        Each step is taken for several pages before the next one, in three quarters of the time.
         """
-        pages = self.read(documents)
-        while group := list(islice(pages, TOGETHER)):
-            self.talk.go_on(0, 0)
-            wanted = [self.wanted_on(page) for page in group]
-            for page, symbols in zip(group, wanted):
-                check_symbols(page, symbols)
-            for page, symbols in zip(group, wanted):
-                self.check_rest(page, symbols)
+        try:
+            self.compare(document)
+        except (Different, NotDecoded) as error:
+            record = error.record if isinstance(error, Different) else None
+            place = (record or first_of(document.pages[0])).place.text
+            raise ToolError(Text("{}: {}", place, error.what), FAULT, LABELS_FAILED) from error
 
-    def read(self, documents: Iterable[Document]) -> Iterator[ReadPage]:
-        """Yields the pages of documents as they are read back; raises `ToolError`."""
-        for document in documents:
-            is_alone = len(document.pages) == len(document.pages[0]) == 1
-            alone = document.pages[0][0][0].label.record if is_alone else None
-            try:
-                for labels, found in zip(document.pages, self.pages_of(document)):
-                    yield ReadPage(labels, found, alone, document.drawn)
-            except (Different, NotDecoded) as error:
-                raise fault(error.what, alone) from error
-
-    def pages_of(self, document: Document) -> Iterator["DotsOfPage | CodesOfPage"]:
-        """Yields the pages of a document; raises `Different`, and `NotDecoded`."""
-        dot = self.plan.dot
+    def compare(self, document: Document) -> None:
+        """Raises `Different` and `NotDecoded` as `check` does."""
+        wanted = [[*self.wanted_on(labels)] for labels in document.pages]
+        dpi = self.plan.dpi
         if self.form == "pdf":
-            for page in self.places.pages(document.data, len(document.pages)):
-                yield CodesOfPage(page, dot)
-        elif self.form == "svg":
-            drawing = page_of_svg(document.data, self.plan.dpi, self.plan.page)
-            yield DotsOfPage(drawing.dots, dot, drawing.inks)
+            pages = pages_of(document.data, dpi, [*map(len, wanted)])
+            for labels, symbols in zip(document.pages, wanted):
+                self.talk.go_on(0, 0)
+                try:
+                    check_codes(symbols, next(pages), self.plan.dot)
+                except NotDecoded as error:
+                    raise Different(error.what, first_of(labels)) from error
+            return
+        if self.form == "svg":
+            dots = dots_of_svg(document.data, dpi, self.plan.page)
         else:
             dots = dots_of(self.form, document.data, self.plan.page[0])
             self.check_size(dots, document.copies)
-            yield DotsOfPage(dots, dot)
-
-    def wanted_on(self, page: ReadPage) -> Symbols:
-        """Returns what has to be on a page, with the lines of the labels; raises `ToolError`."""
-        found = []
-        for item, at in page.labels:
-            record = item.label.record
-            try:
-                found += [(self.wanted(spot, at), record) for spot in spots_of(item, self.area)]
-            except Different as error:
-                raise fault(error.what, record) from error
-        return found
-
-    def check_rest(self, page: ReadPage, symbols: Symbols) -> None:
-        """Raises `ToolError` where something is drawn over a symbol, or a page in dots is not that
-        which was drawn.
-        """
-        places = tuple([wanted.place for wanted, _ in symbols])
-        try:
-            page.found.check_rest(self.regions(places))
-            if page.drawn is not None and isinstance(page.found, DotsOfPage):
-                self.check_drawn(page.found.dots, page.drawn, page.labels)
-        except Different as error:
-            of_place = next((its for wanted, its in symbols if wanted.place is error.place), None)
-            raise fault(error.what, error.record or of_place or page.alone) from error
+            self.check_drawn(dots, document)
+        rows = dots.rows
+        for symbol in wanted[0]:
+            check_dots(symbol, rows, dots.width, self.plan.dot)
 
     def check_size(self, dots: Dots, copies: int) -> None:
         """Raises `Different` where a page has not its size, or not its copies."""
@@ -299,16 +159,48 @@ class Comparison:
             what = Text("{} copies go out, and {} are asked for", dots.copies, copies)
             raise Different(what)
 
-    def check_drawn(self, dots: Dots, drawn: bytes, labels: Labels) -> None:
+    def check_drawn(self, dots: Dots, document: Document) -> None:
         """Raises `Different` where dots are not those of the page that was drawn."""
-        if dots.packed == drawn:
+        if document.drawn is None or dots.packed == document.drawn:
             return
-        pairs = enumerate(zip(dots.rows, rows_in(drawn, dots.stride)))
+        pairs = enumerate(zip(dots.rows, rows_in(document.drawn, dots.stride)))
         number = next(number for number, (found, row) in pairs if found != row)
         what = Text("its dots are wrong as they go out, {:.1f} mm down", number * self.plan.dot)
         high = self.plan.area.height
-        there = [item for item, (_, top) in labels if top <= number < top + high]
-        raise Different(what, record=there[0].label.record if there else None)
+        there = [item for item, (_, top) in document.pages[0] if top <= number < top + high]
+        raise Different(what, there[0].label.record if there else None)
+
+    def wanted_on(self, labels: Labels) -> Iterator[Wanted]:
+        """Yields what has to be on a page, in the order in which it is drawn; raises `Different`."""
+        for item, at in labels:
+            for spot in spots_of(item, self.area):
+                try:
+                    yield self.wanted(spot, at, item.label.record)
+                except Different as error:
+                    raise Different(error.what, item.label.record) from error
+
+    def wanted(self, spot: Spot, at: tuple[int, int], record: LineRecord) -> Wanted:
+        """Returns what has to be on a page for a symbol of a label whose area is at a place."""
+        symbol = self.code(spot)
+        left, right, above, below = symbol.quiet_zones
+        bars = spot.bars
+        wide = left + symbol.width + right
+        scale = spot.module
+        high = bars.height // scale if symbol.rows == 1 else above + symbol.rows + below
+        if not scale or (wide * scale, high * scale) != (bars.width, bars.height):
+            raise Different(Text("its modules are no whole dots"))
+        bands = bands_of(symbol, high)
+        spans = GUARDS.get(symbol.symbology, ())
+        low, longer = bars.bottom, LONGER * scale
+        guards = [
+            Box(bars.left + (left + first) * scale, low, (end - first) * scale, longer)
+            for first, end in spans
+        ]
+        picture = bars._replace(height=sum(band.high for band in bands) * scale)
+        bars, picture, *guards = (self.on_page(spot, box, at) for box in (bars, picture, *guards))
+        self.check_cell(at, picture)
+        quarters = (spot.quarters + self.is_turned) % 4
+        return Wanted(record, bands, bars, guards, picture, quarters, scale)
 
     def code(self, spot: Spot) -> Any:
         """Returns the symbol of a spot, drawn anew from its line; raises `Different` where that
@@ -322,39 +214,6 @@ class Comparison:
         if symbol.data != spot.data:
             raise Different(Text("its code says other data than its line"))
         return symbol
-
-    def wanted(self, spot: Spot, at: tuple[int, int]) -> Wanted:
-        """Returns what has to be on a page for a symbol of a label whose area is at a place."""
-        symbol = self.code(spot)
-        key = (spot[3:], at, symbol.symbology, symbol.width, symbol.rows)
-        place = self.known.get(key)
-        if place is None:
-            if len(self.known) >= KNOWN:
-                self.known.clear()
-            place = self.known[key] = self.geometry(spot, at, symbol)
-        return Wanted(symbol, place)
-
-    def geometry(self, spot: Spot, at: tuple[int, int], symbol: Any) -> Geometry:
-        """Returns where a symbol has to be on a page; raises `Different` where it cannot be."""
-        left, right, above = ZONES[symbol.symbology]
-        bars = spot.bars
-        wide = left + symbol.width + right
-        scale, rest = divmod(bars.width, wide)
-        is_linear = symbol.rows == 1
-        high = bars.height if is_linear else scale * (symbol.rows + 2 * above)
-        if rest or not scale or high != bars.height or scale != spot.module:
-            raise Different(Text("its modules are no whole dots"))
-        spans = GUARDS.get(symbol.symbology, ()) if is_linear else ()
-        longer = LONGER * scale * bool(spans)
-        guards = []
-        for first, last in ((left + first, left + last) for first, last in spans):
-            box = Box(bars.left + first * scale, bars.bottom, (last - first) * scale, longer)
-            guards.append((self.on_page(spot, box, at), (first, last)))
-        picture = bars._replace(height=bars.height + longer)
-        boxes = self.on_page(spot, bars, at), tuple(guards), self.on_page(spot, picture, at)
-        self.check_cell(at, boxes[2])
-        bands = (high, longer) if is_linear else (scale,) * (high // scale)
-        return Geometry(*boxes, (spot.quarters + self.is_turned) % 4, scale, wide, high, bands)
 
     def on_page(self, spot: Spot, box: Box, at: tuple[int, int]) -> Box:
         """Returns where a box in the room of a spot is on the page."""
@@ -381,106 +240,93 @@ class Comparison:
             raise Different(Text("its code leaves its cell"))
 
 
-class DotsOfPage:
-    """A page that was read back as dots, with ink of a drawing that is none of its dots."""
-
-    def __init__(self, dots: Dots, dot: float, inks: Sequence[Ink] = ()) -> None:
-        self.dots = dots
-        self.dot = dot
-        self.inks = inks
-
-    def check(self, wanted: Wanted) -> None:
-        """Raises `Different` where dots are not those of a symbol."""
-        box = wanted.place.picture
-        is_across = 0 <= box.left and box.right <= self.dots.width
-        if not is_across or not 0 <= box.top <= box.bottom <= self.dots.height:
-            raise Different(Text("its code leaves the page"))
-        for part, dots in parts_of_symbol(wanted):
-            found = self.found(part)
-            if found == dots:
-                continue
-            other = (number_of(found) ^ number_of(dots)) & part.mask
-            if other:
-                down, bit = divmod(8 * len(dots) - other.bit_length(), 8 * part.size)
-                across, down = 8 * part.first + bit, part.top + down
-                raise Different(self.said(wanted, across * self.dot, down * self.dot))
-
-    def found(self, part: "Part") -> bytes:
-        """Returns the dots of a page where a part of a symbol is."""
-        behind = self.dots.stride - part.first - part.size
-        read = rows_reader(part.first, part.size, behind, part.high)
-        return b"".join(read(self.dots.packed, part.top * self.dots.stride))
-
-    def said(self, wanted: Wanted, across: float, down: float) -> Text:
-        """Returns where a symbol is wrong, and what is read in its place."""
-        left, top, width, high = wanted.place.bars
-        rows = [bits_of(row)[left : left + width] for row in self.dots.rows[top : top + high]]
-        for _ in range(wanted.place.quarters):
-            rows = ["".join(column) for column in zip(*rows)][::-1]  # back to the left
-        return said(across, down, rows, wanted.place.scale)
-
-    def check_rest(self, symbols: Regions) -> None:
-        """Raises `Different` where something is drawn over a symbol."""
-        check_inks(self.inks, symbols, self.dot)
+def first_of(labels: Labels) -> LineRecord:
+    """Returns the line of the first label of a page."""
+    return labels[0][0].label.record
 
 
-class CodesOfPage:
-    """A page that was read back as pictures of codes, and the ink of all else."""
-
-    def __init__(self, page: DrawnPage, dot: float) -> None:
-        self.page = page
-        self.dot = dot
-
-    def check(self, wanted: Wanted) -> None:
-        """Takes the picture of a symbol; raises `Different` where none is its own."""
-        place = wanted.place
-        code = self.taken(place)
-        modules = modules_of(wanted)
-        if code is None or code.modules != modules or (code.width, code.height) != place.modules:
-            rows = rows_in(code.modules, bytes_a_row(code.width)) if code else ()
-            bars = [bits_of(row)[: place.wide] for row in rows[: place.high // place.scale]]
-            across, down = place.picture.left * self.dot, place.picture.top * self.dot
-            raise Different(said(across, down, bars, 1))
-
-    def taken(self, place: Geometry) -> Optional[DrawnCode]:
-        """Returns the picture of a symbol at a place, and takes it away."""
-        for number, code in enumerate(self.page.codes):
-            if is_at(code.frame, place.picture, place.quarters):
-                return self.page.codes.pop(number)
-        return None
-
-    def check_rest(self, symbols: Regions) -> None:
-        """Raises `Different` where something is drawn over a symbol, or a picture is left."""
-        for place, letters in self.page.letters:
-            if not place.is_clear_of(symbols, letters):
-                check_inks(place.inks(letters), symbols, self.dot)
-        check_inks(self.page.inks, symbols, self.dot)
-        if self.page.codes:
-            check_inks([code.frame.ink for code in self.page.codes], symbols, self.dot)
-            raise Different(Text("a page goes out with a code of no label"))
+def bands_of(symbol: Any, high: int) -> list[Band]:
+    """Returns the bands of a symbol with its quiet zones, which is so many modules high."""
+    left, right, above, below = symbol.quiet_zones
+    digits = symbol.modules.translate(DIGITS).decode("ascii")
+    starts = range(0, len(digits), symbol.width)
+    rows = ["0" * left + digits[start : start + symbol.width] + "0" * right for start in starts]
+    whole = "1" * len(rows[0])
+    if len(rows) > 1:
+        blank = "0" * len(whole)
+        return [Band(row, whole, 1) for row in (*[blank] * above, *rows, *[blank] * below)]
+    bars = Band(rows[0], whole, high)
+    spans = GUARDS.get(symbol.symbology)
+    if not spans:
+        return [bars]
+    looked = ["0"] * len(whole)
+    for first, end in spans:
+        looked[left + first : left + end] = "1" * (end - first)
+    dark = "".join(min(pair) for pair in zip(rows[0], looked))
+    return [bars, Band(dark, "".join(looked), LONGER)]
 
 
-def check_symbols(page: ReadPage, symbols: Symbols) -> None:
-    """Raises `ToolError` where a symbol is not on a page."""
-    for wanted, record in symbols:
-        try:
-            page.found.check(wanted)
-        except Different as error:
-            raise fault(error.what, record) from error
+def check_dots(wanted: Wanted, rows: Sequence[bytes], width: int, dot: float) -> None:
+    """Raises `Different` where dots of a page are not those of a symbol."""
+    box = wanted.picture
+    if box.left < 0 or box.right > width or not 0 <= box.top <= box.bottom <= len(rows):
+        raise Different(Text("its code leaves the page"), wanted.record)
+    first, last = box.left // 8, bytes_a_row(box.right)
+    behind = 8 * last - box.right
+    top = box.top
+    for dark, looked, high in turned_bands(wanted):
+        for row in {row[first:last] for row in rows[top : top + high]}:  # most are the same
+            if ((int.from_bytes(row, "big") >> behind) ^ dark) & looked:
+                raise wrong(wanted, dot)
+        top += high
 
 
-def check_inks(inks: Iterable[Ink], symbols: Regions, dot: float) -> None:
-    """Raises `Different` where ink meets a symbol."""
-    for ink in inks:
-        place = symbols.met_by(ink)
-        if place:
-            raise Different(said(ink.left * dot, ink.top * dot), place)
+def turned_bands(wanted: Wanted) -> Iterator[tuple[int, int, int]]:
+    """Yields the bands of a symbol as it is on a page: dark dots and those that are looked at, as
+    numbers, and how many rows of dots are so.
+    """
+    darks = [band.dark for band in wanted.bands]
+    looks = [band.looked for band in wanted.bands]
+    highs = [band.high * wanted.scale for band in wanted.bands]
+    wides = [wanted.scale] * len(darks[0])
+    for _ in range(wanted.quarters):
+        darks = ["".join(column) for column in zip(*darks[::-1])]
+        looks = ["".join(column) for column in zip(*looks[::-1])]
+        highs, wides = wides, highs[::-1]
+    known: dict[str, int] = {}
+    for line in {*darks, *looks}:
+        known[line] = int("".join(map(mul, line, wides)), 2)
+    for dark, look, high in zip(darks, looks, highs):
+        yield known[dark], known[look], high
 
 
-def fault(what: Text, record: Optional[LineRecord]) -> ToolError:
-    """Returns the error of a document that is wrong."""
-    whole = Text("{}: {}", record.place.text, what) if record else what
-    return ToolError(whole, FAULT, LABELS_FAILED)
+def check_codes(symbols: Sequence[Wanted], page: DrawnPage, dot: float) -> None:
+    """Raises `Different` where codes of a drawing are not the symbols that have to be there, one
+    behind another, or are not on white.
+    """
+    whites = iter(page.whites)
+    for wanted, code in zip(symbols, page.codes):
+        packed = [packed_of(band.dark) * band.high for band in wanted.bands]
+        wide, high = len(wanted.bands[0].dark), sum(band.high for band in wanted.bands)
+        is_same = (code.width, code.height, code.modules) == (wide, high, b"".join(packed))
+        is_there = is_at(code.corners, wanted.picture, wanted.quarters)
+        is_on_white = all(next(whites, None) == box for box in (wanted.bars, *wanted.guards))
+        if not (is_same and is_there and is_on_white):
+            raise wrong(wanted, dot)
+
+
+def packed_of(digits: str) -> bytes:
+    """Returns a row of modules in whole bytes."""
+    return (int(digits, 2) << -len(digits) % 8).to_bytes(bytes_a_row(len(digits)), "big")
+
+
+def wrong(wanted: Wanted, dot: float) -> Different:
+    """Returns where a code is wrong."""
+    across, down = wanted.picture.left * dot, wanted.picture.top * dot
+    what = Text(
+        "its code is wrong as it goes out, {:.1f} mm from the left, {:.1f} mm down", across, down
+    )
+    return Different(what, wanted.record)
 
 
 def spots_of(item: LaidOut, area: Box) -> Iterator[Spot]:
@@ -528,191 +374,3 @@ def turned(box: Box, size: tuple[int, int], quarters: int) -> Box:
         box = Box(height - box.bottom, box.left, box.height, box.width)
         width, height = height, width
     return box
-
-
-def said(across: float, down: float, rows: Sequence[str] = (), scale: int = 1) -> Text:
-    """Returns where a code is wrong, in millimetres of its page, and what is read there of rows of
-    dots, of which a module has so many, if they are a symbol.
-    """
-    where = Text(
-        "its code is wrong as it goes out, {:.1f} mm from the left, {:.1f} mm down", across, down
-    )
-    data = data_in(rows, scale)
-    if data is None:
-        return where
-    return Text("{}: there it reads {}", where, quoted(data.decode("utf-8", "replace")))
-
-
-def data_in(rows: Sequence[str], scale: int) -> Optional[bytes]:
-    """Returns what rows of dots say as the symbol that they are; None where they are none."""
-    picture = f"P1\n{len(rows[0]) if rows else 0} {len(rows)}\n{''.join(rows)}".encode()
-    reader = library()
-    found = (reader.read(symbology, picture, scale) for symbology in reader.SYMBOLOGIES)
-    return next((data for data in found if data is not None), None)
-
-
-class Part(NamedTuple):
-    """A part of the picture of a symbol on a page: its first row of dots and their number; its
-    first byte in them and how many these are; which of these dots are looked at, as a number; of
-    bars that are turned what a light and a dark module are in it, by their digits.
-    """
-
-    top: int
-    high: int
-    first: int
-    size: int
-    mask: int
-    dots: Mapping[str, bytes]
-
-
-@lru_cache(KNOWN)
-def parts_of(place: Geometry) -> tuple[Part, ...]:
-    """Returns the parts of the picture of a symbol. All of its dots are looked at, but those
-    between longer guards, where digits may be: so these are parts of their own, rows of dots or, if
-    it is turned, columns of bytes.
-    """
-    box = place.picture
-    rows = ["1" * place.wide] * len(place.bands)
-    if place.guards:
-        guards = list("0" * place.wide)
-        for _, (first, last) in place.guards:
-            guards[first:last] = "1" * (last - first)
-        rows[1] = "".join(guards)
-    packed = packed_rows(rows, place)
-    if place.quarters % 2 and place.is_linear:
-        masks = [row for row, high in packed for _ in range(high)]
-        return tuple(part_in_columns(place, masks, *columns) for columns in columns_of(place))
-    if not place.is_linear:
-        packed = [(b"".join([row * high for row, high in packed]), 1)]
-    first = box.left // 8
-    size = bytes_a_row(box.right) - first
-    found = []
-    top = box.top
-    for row, high in packed:
-        mask = row * high
-        found.append(Part(top, len(mask) // size, first, size, number_of(mask), {}))
-        top += len(mask) // size
-    return tuple(found)
-
-
-def columns_of(place: Geometry) -> Sequence[tuple[int, int]]:
-    """Returns the first and the last columns of bytes, from that of the picture on, of the parts of
-    bars that are turned: those in which are bars alone, and those with longer guards.
-    """
-    box, bars = place.picture, place.bars
-    left = box.left // 8
-    first, last = 0, bytes_a_row(box.right) - left
-    if bars.right < box.right:
-        between = bars.right // 8 - left
-        return (first, between), (between, last)
-    if box.left < bars.left:
-        between = bytes_a_row(bars.left) - left
-        return (first, between), (between, last)
-    return ((first, last),)
-
-
-def part_in_columns(place: Geometry, masks: Sequence[bytes], first: int, last: int) -> Part:
-    """Returns a part of bars that are turned, with these masks of their rows."""
-    dots = {}
-    for module in "01":
-        ((row, high), *_) = packed_rows([module * place.wide] * 2, place)
-        dots[module] = row[first:last] * high
-    box = place.picture
-    mask = number_of(b"".join([row[first:last] for row in masks]))
-    return Part(box.top, box.height, box.left // 8 + first, last - first, mask, dots)
-
-
-def parts_of_symbol(wanted: Wanted) -> Iterator[tuple[Part, bytes]]:
-    """Yields the parts of a symbol on a page, each with the dots that it has to have."""
-    symbol, place = wanted
-    parts = parts_of(place)
-    if symbol.rows > 1:
-        yield parts[0], b"".join([row * high for row, high in rows_of_symbol(wanted)])
-        return
-    left, right, _ = ZONES[symbol.symbology]
-    digits = symbol.modules.translate(DIGITS).decode("ascii")
-    digits = "0" * left + digits + "0" * right
-    if place.quarters % 2:
-        digits = digits if place.quarters == 1 else digits[::-1]
-        for part in parts:
-            yield part, b"".join(map(part.dots.__getitem__, digits))
-        return
-    row, _ = packed_rows([digits], place)[0]
-    for part in parts:
-        yield part, row * part.high
-
-
-def rows_of_symbol(wanted: Wanted) -> list[tuple[bytes, int]]:
-    """Returns the dots of a symbol of many rows as it is on a page: each of its rows in the bytes
-    that its picture touches, with how many rows of dots are so.
-    """
-    symbol, place = wanted
-    digits = symbol.modules.translate(DIGITS).decode("ascii")
-    left, right, above = ZONES[symbol.symbology]
-    before = "0" * left
-    behind = "0" * right
-    starts = range(0, len(digits), symbol.width)
-    rows = [before + digits[start : start + symbol.width] + behind for start in starts]
-    blank = ["0" * place.wide] * above
-    return packed_rows([*blank, *rows, *blank], place)
-
-
-def packed_rows(rows: Sequence[str], place: Geometry) -> list[tuple[bytes, int]]:
-    """Returns rows of modules as they are on a page, as `rows_of_symbol` does."""
-    box = place.picture
-    size = bytes_a_row(box.right) - box.left // 8
-    behind = -box.right % 8
-    lines, highs, wides = rows, place.bands, place.bands[::-1]
-    if place.quarters % 2:
-        lines = ["".join(column) for column in zip(*reversed(rows))]
-        highs = (place.scale,) * place.wide
-    if place.quarters >= 2:
-        lines = [line[::-1] for line in reversed(lines)]
-        highs, wides = highs[::-1], wides[::-1]
-    if place.quarters % 2 and place.is_linear:
-        numbers = {line: int("".join(map(mul, line, wides)), 2) for line in set(lines)}
-    else:
-        numbers = dots_of_lines(lines, place.scale)
-    packed = {line: (dots << behind).to_bytes(size, "big") for line, dots in numbers.items()}
-    return list(zip(map(packed.__getitem__, lines), highs))
-
-
-def dots_of_lines(lines: Sequence[str], scale: int) -> dict[str, int]:
-    """Returns rows of modules as the numbers that their dots are. A module is one or more digits of
-    at most five dots, the last of which is set first, and then those beside it.
-    """
-    dots = next(dots for dots in (5, 4, 3, 2, 1) if scale % dots == 0)
-    apart = "0" * (scale // dots - 1)
-    all_of_module = (1 << scale) - 1
-    if not apart:
-        return {line: int(line, 1 << dots) * all_of_module for line in lines}
-    behind = scale - dots
-    whole = {line: int(line.replace("", apart), 1 << dots) for line in lines}
-    return {line: (number >> behind) * all_of_module for line, number in whole.items()}
-
-
-def number_of(packed: bytes) -> int:
-    """Returns dots as a number."""
-    return int.from_bytes(packed, "big")
-
-
-def modules_of(wanted: Wanted) -> bytes:
-    """Returns the modules of the picture of a symbol in rows of whole bytes, as it is read."""
-    symbol, place = wanted
-    packed: bytes = symbol.packed(quiet_zones=True)
-    if not place.is_linear:
-        return packed
-    rows = packed * (place.high // place.scale)
-    if not place.guards:
-        return rows
-    mask = guard_mask(symbol.symbology, 8 * len(packed))
-    guard = (int.from_bytes(packed, "big") & mask).to_bytes(len(packed), "big")
-    return rows + guard * LONGER
-
-
-@cache
-def guard_mask(symbology: str, bits: int) -> int:
-    """Returns the modules of longer guards in a row of so many bits, as a number."""
-    behind = bits - ZONES[symbology][0]
-    spans = GUARDS[symbology]
-    return sum((1 << (behind - first)) - (1 << (behind - last)) for first, last in spans)

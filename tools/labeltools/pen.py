@@ -122,13 +122,15 @@ class Pen:
             page = [(item, (top, -left)) for item, (left, top) in page]
         self.draw_below(canvas, page, bool(turn))
         runs: Runs = defaultdict(list)
-        for item, place in page:
-            for symbol in symbols_of(item):
-                self.draw_symbol(canvas, symbol, place, runs)
+        codes = [(symbol, place) for item, place in page for symbol in symbols_of(item)]
+        for symbol, place in codes:
+            if "digits" in symbol.boxes:
+                self.draw_digits(canvas, symbol, place, runs)
         for item, place in page:
             for text in self.texts(item):
                 self.draw_text(canvas, text, place, runs)
         self.show_runs(canvas, runs)
+        self.draw_codes(canvas, codes)
         canvas.set_matrix(whole)
 
     def draw_below(self, canvas: Any, page: Page, is_turned: bool) -> None:
@@ -224,23 +226,30 @@ class Pen:
             box = layout.boxes.get("text") or layout.boxes["title"]
             yield *self.text_of("text", label, layout), box.width, WITHOUT_END
 
-    def draw_symbol(self, canvas: Any, symbol: OwnSymbol, place: Dots, runs: Runs) -> None:
-        """Draws a symbol of a label whose area begins at a place, with what is below its bars."""
+    def draw_digits(self, canvas: Any, symbol: OwnSymbol, place: Dots, runs: Runs) -> None:
+        """Draws what is below the bars of a symbol of a label whose area begins at a place."""
         box = symbol.box
         if not symbol.place.quarters:
-            self.draw_upright(canvas, symbol, (place[0] + box.left, place[1] + box.top), runs)
+            self.draw_data(canvas, symbol, (place[0] + box.left, place[1] + box.top), runs)
             return
         with self.turned(canvas, box, symbol.place.quarters, place) as own:
-            self.draw_upright(canvas, symbol, (0, 0), own)
+            self.draw_data(canvas, symbol, (0, 0), own)
 
-    def draw_upright(self, canvas: Any, symbol: OwnSymbol, corner: Dots, runs: Runs) -> None:
-        """Draws a symbol in a box that begins at a corner."""
-        matrix = canvas.get_matrix()
-        canvas.translate(*corner)
-        self.draw_modules(canvas, symbol.modules, symbol)
-        canvas.set_matrix(matrix)
-        if "digits" in symbol.boxes:
-            self.draw_data(canvas, symbol, corner, runs)
+    def draw_codes(self, canvas: Any, codes: Sequence[tuple[OwnSymbol, Dots]]) -> None:
+        """Draws symbols of labels whose areas begin at places: last on their page, and in a drawing
+        on white, so that nothing is over them.
+        """
+        if not self.medium.is_dots:
+            canvas.set_source_rgb(1, 1, 1)
+            for symbol, place in codes:
+                with self.turned(canvas, symbol.box, symbol.place.quarters, place):
+                    for box in boxes_of(symbol):
+                        canvas.rectangle(*box)
+                        canvas.fill()
+            canvas.set_source_rgb(0, 0, 0)
+        for symbol, place in codes:
+            with self.turned(canvas, symbol.box, symbol.place.quarters, place):
+                self.draw_modules(canvas, symbol.modules, symbol)
 
     def draw_text(self, canvas: Any, placed: Placed, place: Dots, runs: Runs) -> None:
         """Draws a text of a label whose area begins at a place; in dots it is black, or takes black
@@ -392,6 +401,15 @@ def titled(title: str, frame: Frame) -> tuple[str, int]:
     if lines < 1:
         return title.replace("\n", " "), max(1, frame.lines)
     return title, lines
+
+
+def boxes_of(symbol: OwnSymbol) -> Iterator[Box]:
+    """Yields the boxes of a symbol: that of its bars, and those of what guards are longer."""
+    bars = symbol.boxes["bars"]
+    yield bars
+    for span in symbol.symbology.guards:
+        left, wide = bars.left + span.left * symbol.module, (span.right - span.left) * symbol.module
+        yield Box(left, bars.bottom, wide, GUARD * symbol.module)
 
 
 def bits_of(row: bytes) -> str:

@@ -6,10 +6,10 @@ from contextlib import contextmanager
 from dataclasses import dataclass
 from functools import cached_property
 from io import BytesIO
-from itertools import accumulate, islice
+from itertools import accumulate
 from pathlib import Path
 from shutil import copyfileobj
-from typing import IO, Any, Iterable, Iterator, Optional, Sequence
+from typing import IO, Any, Iterator, Optional, Sequence
 
 from labeltools.area import Plan
 from labeltools.compare import Comparison, Document
@@ -25,8 +25,6 @@ from labeltools.messages import Talk
 from labeltools.own_design import OwnDesign
 from labeltools.own_pen import OwnPen
 from labeltools.pen import Medium, Page, Pen
-
-MOST_DOTS_TOGETHER = 8_000_000  # of pages that are compared together
 
 
 @dataclass(frozen=True)
@@ -158,40 +156,35 @@ class Press:
             file = self.drawing([], prints)
             pages = range(self.job.pages_of(len(prints)))
             labels = [self.page(number, prints) for number in pages]
-            self.comparison.check([Document(file.read(), labels)])
+            self.comparison.check(Document(file.read(), labels))
             file.seek(0)
             yield file
         elif self.job.form == SVG:
             for page in self.pages(prints):
                 yield self.document(page)
         else:
-            yield from self.compared(self.in_dots(prints))
+            yield from map(self.compared, self.in_dots(prints))
 
     def document(self, page: Page, is_first: bool = True) -> IO[bytes]:
         """Returns a file of one page; `is_first` is whether it begins a job. Raises `ToolError`
         where it has not the codes of its labels.
         """
         if not self.job.form.is_drawn:
-            return next(self.compared([self.written(page, is_first)]))
+            return self.compared(self.written(page, is_first))
         file = self.drawing([page], None)
-        self.comparison.check([Document(file.read(), [page])])
+        self.comparison.check(Document(file.read(), [page]))
         file.seek(0)
         return file
 
     def label(self, item: LaidOut, copies: int) -> IO[bytes]:
         """Returns a file of one label of ZPL; raises as `document`."""
         page = [(item, self.job.plan.places[0])]
-        return next(self.compared([self.written(page, True, copies)]))
+        return self.compared(self.written(page, True, copies))
 
-    def compared(self, pages: Iterable[Document]) -> Iterator[IO[bytes]]:
-        """Yields files of pages in dots, compared some at a time; raises as `document`."""
-        pages = iter(pages)
-        width, height = self.job.plan.page
-        together = max(1, MOST_DOTS_TOGETHER // (width * height))
-        while group := list(islice(pages, together)):
-            self.comparison.check(group)
-            for page in group:
-                yield BytesIO(page.data)
+    def compared(self, page: Document) -> IO[bytes]:
+        """Returns the file of a page in dots once it was compared; raises as `document`."""
+        self.comparison.check(page)
+        return BytesIO(page.data)
 
     def in_dots(self, prints: Prints) -> Iterator[Document]:
         """Yields pages in dots, or each label of ZPL with its number of copies."""

@@ -15,9 +15,7 @@ from unittest import mock
 import support
 from labeltools import compare, decode, engine, own_layout, pen, press
 from labeltools.engine import Modules
-from labeltools.drawn_codes import Matrix
-from labeltools.drawn_letters import Extent, Font, Reach
-from labeltools.drawn_pdf import PlaceOfLetters, Places
+from labeltools.drawn_pdf import pages_of
 from labeltools.forms import dots, escpos, zpl
 from labeltools.forms.dots import Picture
 from labeltools.frames import Box
@@ -134,6 +132,23 @@ def drawn_with(change: Callable[[Any], Any]) -> Callable[..., Any]:
     return call
 
 
+def with_a_line(self: Any, canvas: Any, page: Any, turn: int = 0) -> None:
+    """`Pen.draw` that draws a line last."""
+    DRAW(self, canvas, page, turn)
+    canvas.move_to(0, 0)
+    canvas.line_to(9, 9)
+    canvas.stroke()
+
+
+def is_refused(wanted: compare.Wanted, rows: Sequence[bytes]) -> bool:
+    """Whether dots of a page are not those of a symbol."""
+    try:
+        compare.check_dots(wanted, rows, wanted.picture.right, 0.125)
+    except compare.Different:
+        return True
+    return False
+
+
 def of_modules(change: Callable[[bytes], bytes]) -> Callable[..., Any]:
     """`Pen.draw_modules` with other modules."""
     return changed(
@@ -243,46 +258,7 @@ def without_row(picture: Picture) -> Picture:
     return replace(picture, packed=b"".join(rows))
 
 
-def drawn_as_it_is_read(symbol: Any, scale: int) -> tuple[list[str], list[str], int]:
-    """The dots of a symbol and those of them that are looked at, as rows of digits, and by how many
-    of these its guards are longer.
-    """
-    left, right, above = compare.ZONES[symbol.symbology]
-    digits = "".join(map(str, symbol.modules))
-    starts = range(0, len(digits), symbol.width)
-    rows = ["0" * left + digits[start : start + symbol.width] + "0" * right for start in starts]
-    wide = len(rows[0])
-    blank = ["0" * wide] * above
-    rows = ["".join(module * scale for module in row) for row in (*blank, *rows, *blank)]
-    if symbol.rows > 1:
-        rows = [row for row in rows for _ in range(scale)]
-        return rows, ["1" * wide * scale] * len(rows), 0
-    spans = compare.GUARDS.get(symbol.symbology, ())
-    longer = 5 * scale if spans else 0
-    guards = ["0"] * wide
-    for first, last in spans:
-        guards[left + first : left + last] = "1" * (last - first)
-    mask = "".join(module * scale for module in guards)
-    return rows * (HIGH + longer), ["1" * wide * scale] * HIGH + [mask] * longer, longer
-
-
-def rows_of_parts(parts: Any, high: int, stride: int) -> tuple[list[int], list[int]]:
-    """The dots that parts of a symbol have, and those that are looked at: a number for each row of
-    some bytes.
-    """
-    whole = [0] * high
-    masks = [0] * high
-    for part, found in parts:
-        mask = part.mask.to_bytes(len(found), "big")
-        behind = 8 * (stride - part.first - part.size)
-        for number in range(part.high):
-            at = slice(number * part.size, (number + 1) * part.size)
-            whole[part.top + number] |= int.from_bytes(found[at], "big") << behind
-            masks[part.top + number] |= int.from_bytes(mask[at], "big") << behind
-    return whole, masks
-
-
-HIGH = 12  # dots of bars
+DRAW = pen.Pen.draw
 RUN_LENGTHS = zpl.run_lengths
 DRAW_MODULES = pen.Pen.draw_modules
 RUN_LABELS = engine.run_labels
@@ -347,17 +323,19 @@ FAULTS = {
         ("svg", *DOTS),
     ),
     "half a dot too wide": Fault(PEN + "INSET", -0.5, ("svg",)),
-    "a code twice in its place": Fault(PEN + "Pen.draw_modules", twice, ("pdf", "svg")),
+    "a code twice in its place": Fault(PEN + "Pen.draw_modules", twice, ("pdf",)),
     "lines mixed up": Fault("labeltools.print_job.run_labels", mixed, FORMS, PAIR),
     "a quiet zone a module short": Fault("labeltools.engine.Engine.draw", without_zone, FORMS),
-    "a title over the code": Fault(PEN + "Pen.texts", moved_text(False, 0, 110), FORMS),
-    "a price over the code": Fault(PEN + "Pen.texts", moved_text(True, -150, 40), FORMS),
+    "a title over the code": Fault(PEN + "Pen.texts", moved_text(False, 0, 110), DOTS),
+    "a price over the code": Fault(PEN + "Pen.texts", moved_text(True, -150, 40), DOTS),
     "digits over the code": Fault(
         PEN + "Pen.draw_data",
         changed(pen.Pen.draw_data, corner=lambda corner: (corner[0], corner[1] - 30)),
-        FORMS,
+        DOTS,
         PAIR,
     ),
+    "no white below codes": Fault(PEN + "boxes_of", lambda symbol: (), ("pdf", "svg")),
+    "something drawn last": Fault(PEN + "Pen.draw", with_a_line, ("pdf", "svg")),
     "a cell off the sheet": Fault("labeltools.press.Press.page", placed(900), ("pdf", "pbm")),
     "labels overlapping": Fault("labeltools.press.Press.page", placed(0), ("svg", "png")),
     "copies lost": Fault(
@@ -401,7 +379,7 @@ class Planted(unittest.TestCase):
 
 
 class Named(unittest.TestCase):
-    """What a symbol in the place of another one says is part of the message."""
+    """A symbol in the place of another one is said with its place, in each direction."""
 
     def message(self, form: str, labels: Sequence[Any], **others: Any) -> Text:
         """The message of two labels whose symbols are mixed up."""
@@ -411,7 +389,7 @@ class Named(unittest.TestCase):
             write(found)
         return caught.exception.what
 
-    def test_what_is_read_in_each_form_and_direction(self) -> None:
+    def test_in_each_form_and_direction(self) -> None:
         pairs = [
             ("ean13 4006381333931", "ean13 5901234123457"),
             ("ean8 73513537", "ean8 96385074"),
@@ -427,24 +405,14 @@ class Named(unittest.TestCase):
             with self.subTest(form=form, lines=lines, turn=turn):
                 labels = [(line, {"title": "A"}) for line in lines]
                 message = self.message(form, labels, turn=turn, **sheet)
-                read = lines[1].partition(" ")[2]
-                self.assertRegex(message, rf'^row 2: its code .* down: there it reads "{read}"$')
-
-    def test_nothing_is_said_of_what_is_no_symbol(self) -> None:
-        for form in FORMS:
-            with self.subTest(form=form):
-                found = found_of(options_of(form), PAIR)
-                wrong = of_modules(without_a_module)
-                with mock.patch(PEN + "Pen.draw_modules", wrong):
-                    with self.assertRaisesRegex(ToolError, "^row 2: its code .* mm down;"):
-                        write(found)
+                self.assertRegex(message, r"^row 2: its code .* mm from the left, .* mm down$")
 
     def test_languages(self) -> None:
         support.needs("msgfmt")
         message = self.message("zpl", PAIR)
         for language, said in (
-            ("de", 'sein Code ist falsch, .* mm von oben: dort steht "5901234123457"$'),
-            ("fr", 'son code sort faux, .* mm du haut : on y lit "5901234123457"$'),
+            ("de", "sein Code ist falsch, .* mm von oben$"),
+            ("fr", "son code sort faux, .* mm du haut$"),
         ):
             with self.subTest(language), tempfile.TemporaryDirectory() as folder:
                 path = Path(folder, language, "LC_MESSAGES", "label-tools.mo")
@@ -488,14 +456,14 @@ class OwnDesigns(unittest.TestCase):
                     with self.assertRaisesRegex(ToolError, "^row 2: its code is wrong"):
                         write(found)
 
-    def test_what_is_read_of_another_symbol(self) -> None:
+    def test_another_symbol(self) -> None:
         lines = (b"code128 B-12-03", b"code128 B-12-03", b"qr B-12-03", b"qr,level=H B-12-03")
         for form, (number, line) in product(FORMS, enumerate(lines)):
             with self.subTest(form=form, line=line):
                 found = self.found(form, None, form in ("svg", "png"))
                 wrong = drawn_wrong(number, engine.Engine(()).draw(line))
                 with mock.patch(PEN + "Pen.draw_modules", wrong):
-                    with self.assertRaisesRegex(ToolError, 'down: there it reads "B-12-03";'):
+                    with self.assertRaisesRegex(ToolError, "^row 2: its code is wrong"):
                         write(found)
 
     def test_texts_of_another_row(self) -> None:
@@ -516,7 +484,8 @@ class OwnDesigns(unittest.TestCase):
             write(found)
 
     def test_a_title_over_a_symbol(self) -> None:
-        for form in FORMS:
+        """In dots it is seen; in a drawing symbols are over it."""
+        for form in DOTS:
             found = self.found(form, None, form in ("svg", "png"))
             shown = changed(pen.Pen.show, top=lambda top: top + 150)
             with self.subTest(form=form), mock.patch(PEN + "Pen.show", shown):
@@ -567,19 +536,14 @@ class LongTexts(unittest.TestCase):
                     self.assertTrue(write(self.in_own_design(text, is_sheet)))
 
     def test_a_fault_is_seen(self) -> None:
-        """Letters over a code, and the code of another label."""
+        """The code of another label."""
         other = engine.Engine(()).draw(b"code128 A-1")
         for script, is_sheet in product(self.SCRIPTS, (False, True)):
             found = self.in_own_design(self.SCRIPTS[script], is_sheet)
-            faults = {
-                "show": changed(pen.Pen.show, top=lambda top: top + 150),
-                "draw_modules": drawn_wrong(0, other),
-            }
-            for name, wrong in faults.items():
-                with self.subTest(script=script, is_sheet=is_sheet, name=name):
-                    with mock.patch(PEN + f"Pen.{name}", wrong):
-                        with self.assertRaisesRegex(ToolError, r"^row \d+: its code is wrong"):
-                            write(found)
+            with self.subTest(script=script, is_sheet=is_sheet):
+                with mock.patch(PEN + "Pen.draw_modules", drawn_wrong(0, other)):
+                    with self.assertRaisesRegex(ToolError, r"^row \d+: its code is wrong"):
+                        write(found)
 
 
 class Again(unittest.TestCase):
@@ -647,83 +611,60 @@ class Read(unittest.TestCase):
             with self.subTest(text=text), self.assertRaises(decode.NotDecoded):
                 decode.dots_of("zpl", FIELD % text, 32)
 
-    def test_modules_as_dots(self) -> None:
-        """Of each size, in each direction, and from any dot of a byte on: modules, and bars with
-        their guards.
+    def test_dots_of_symbols(self) -> None:
+        """Of each size, in each direction, from any dot of a byte on: any dot that differs is seen,
+        but for those between longer guards.
         """
-        symbols = (["1101", "0010", "1000"], None), (["1101", "1001"], (6, 2))
-        for (rows, bars), scale, quarters, left in product(symbols, range(1, 13), range(4), (0, 5)):
-            bands = bars or (scale,) * len(rows)
-            dots = [
-                "".join(module * scale for module in row)
-                for row, high in zip(rows, bands)
-                for _ in range(high)
-            ]
-            for _ in range(quarters):
-                dots = ["".join(column) for column in zip(*dots[::-1])]
-            box = Box(left, 0, len(dots[0]), len(dots))
-            place = compare.Geometry(box, (), box, quarters, scale, 4, sum(bands), bands)
-            packed = compare.packed_rows(rows, place)
-            found = [f"{int.from_bytes(row, 'big'):0{8 * len(row)}b}" for row, _ in packed]
-            with self.subTest(rows=rows, scale=scale, quarters=quarters, left=left):
-                behind = "0" * (-box.right % 8)
-                wanted = ["0" * left + row + behind for row in dots]
-                highs = [high for _, high in packed]
-                self.assertEqual([row for row, n in zip(found, highs) for _ in range(n)], wanted)
-
-    def test_parts_of_symbols(self) -> None:
-        """They are all of a symbol in its place, but what is between longer guards."""
         lines = (b"ean13 4006381333931", b"ean8 73513537", b"code128 LOT-7", b"qr X")
         for line, scale, quarters, left in product(lines, (1, 3), range(4), (0, 5)):
             symbol = engine.library().line(line, height=1)
-            rows, looked, longer = drawn_as_it_is_read(symbol, scale)
-            for _ in range(quarters):
-                rows = ["".join(column) for column in zip(*rows[::-1])]
-                looked = ["".join(column) for column in zip(*looked[::-1])]
-            box = Box(left, 0, len(rows[0]), len(rows))
-            bars = (
-                box._replace(height=box.height - longer),
-                box._replace(left=left + longer, width=box.width - longer),
-                box._replace(top=longer, height=box.height - longer),
-                box._replace(width=box.width - longer),
-            )[quarters]
-            first, last, _ = compare.ZONES[symbol.symbology]
-            guards = tuple(
-                (box, (first + start, first + end))
-                for start, end in compare.GUARDS.get(symbol.symbology, ())
+            bands = compare.bands_of(symbol, 4)
+            dark, looked = (
+                [
+                    "".join(module * scale for module in row)
+                    for row, high in rows
+                    for _ in range(high * scale)
+                ]
+                for rows in ([(b.dark, b.high) for b in bands], [(b.looked, b.high) for b in bands])
             )
-            high = (HIGH,) if symbol.rows == 1 else ()
-            bands = (*high, longer) if high else (scale,) * (box.height // scale)
-            wide = first + symbol.width + last
-            place = compare.Geometry(bars, guards, box, quarters, scale, wide, sum(bands), bands)
+            for _ in range(quarters):
+                dark, looked = (["".join(c) for c in zip(*rows[::-1])] for rows in (dark, looked))
+            box = Box(left, 2, len(dark[0]), len(dark))
+            record = mock.sentinel.record
+            wanted = compare.Wanted(record, bands, box, (), box, quarters, scale)
+            wide = (box.right + 7) // 8
+            behind = 8 * wide - box.right
+            rows = [bytes(wide)] * 2 + [(int(r, 2) << behind).to_bytes(wide, "big") for r in dark]
             with self.subTest(line=line, scale=scale, quarters=quarters, left=left):
-                parts = compare.parts_of_symbol(compare.Wanted(symbol, place))
-                stride = (left + len(rows[0]) + 7) // 8
-                whole, masks = rows_of_parts(parts, len(rows), stride)
-                behind = 8 * stride - left - len(rows[0])
-                self.assertEqual(masks, [int(row, 2) << behind for row in looked])
-                wanted = [(int(row, 2) << behind) & mask for row, mask in zip(rows, masks)]
-                self.assertEqual([row & mask for row, mask in zip(whole, masks)], wanted)
+                self.assertFalse(is_refused(wanted, rows))
+                for down, across in product(range(len(dark)), range(0, len(dark[0]), 11)):
+                    bit = 1 << behind + len(dark[0]) - 1 - across
+                    row = int.from_bytes(rows[2 + down], "big") ^ bit
+                    other = [*rows]
+                    other[2 + down] = row.to_bytes(wide, "big")
+                    is_seen = looked[down][across] == "1"
+                    self.assertEqual(is_refused(wanted, other), is_seen)
 
     def test_a_picture_that_is_another_one(self) -> None:
         found = found_of(options_of("pdf"), PAIR[:1])
         comparison = found.press(Silence()).comparison
-        (page,) = Places(203).pages(write(found)[0], 1)
+        (page,) = pages_of(write(found)[0], 203, [1])
         (code,) = page.codes
-        (spot,) = compare.spots_of(found.labels[0], comparison.area)
-        wanted = comparison.wanted(spot, found.job.plan.places[0])
+        wanted = [*comparison.wanted_on([(found.labels[0], found.job.plan.places[0])])]
+        corners = tuple((x + 0.5, y) for x, y in code.corners)
         changes: Sequence[dict[str, Any]] = (
             {"width": code.width - 1},
             {"height": code.height - 1},
             {"modules": code.modules[:-1]},
-            {"frame": replace(code.frame, corners=[(x + 0.5, y) for x, y in code.frame.corners])},
+            {"corners": corners},
         )
         for change in changes:
-            page.codes = [code._replace(**change)]
+            other = page._replace(codes=[code._replace(**change)])
             with self.subTest(change=change), self.assertRaises(compare.Different):
-                compare.CodesOfPage(page, 0.125).check(wanted)
-        page.codes = [code]
-        compare.CodesOfPage(page, 0.125).check(wanted)
+                compare.check_codes(wanted, other, 0.125)
+        with self.assertRaises(compare.Different):
+            compare.check_codes(wanted, page._replace(whites=page.whites[:-1]), 0.125)
+        compare.check_codes(wanted, page, 0.125)
 
     def test_large_letters_are_fields_of_their_own(self) -> None:
         """A byte of white parts them where it is in 50 rows that differ; both widths are read."""
@@ -785,56 +726,6 @@ class Read(unittest.TestCase):
                 decode.dots_of("zpl", label % field, 32)
         whole = decode.dots_of("zpl", label % b"^FO0,2^GFA,4,4,4,12345678^FS\n", 32)
         self.assertEqual(whole.packed.hex(), "00" * 8 + "12345678")
-
-    def test_where_letters_are(self) -> None:
-        """A letter of an em, with its ink from 0.1 to 0.8; one apart from the others."""
-        font = Font({65: Reach(1.0, 0.1, 0.2, 0.0, 0.7), 103: Reach(0.5, 0.0, 0.0, -0.2, 0.5)}, 1)
-        shown = b"[(A)20(g)-700(A)]TJ"
-        self.assertAlmostEqual(font.advance(shown), 3.18)
-        self.assert_near(font.extents(shown), [(0.1, -0.2, 1.48, 0.7), (2.28, 0.0, 2.98, 0.7)])
-        self.assertEqual(font.extents(b"(\\101\\\n)Tj"), font.extents(b"<41>Tj"))
-        for parted in (b"[<4\n1>\n20<67\n>-700<\n41>]TJ", b"[<41>20<67>-700<4\n\n1>]TJ"):
-            self.assertAlmostEqual(font.advance(parted), 3.18)
-            self.assertEqual(font.extents(parted), font.extents(shown))
-
-    def test_where_letters_that_go_alike_far_may_be(self) -> None:
-        """Rough ink has all of the exact one in it, whatever the letters are."""
-        font = Font({48: Reach(0.6, 0.1, 0.2, 0.0, 0.7), 49: Reach(0.6, 0.15, 0.05, -0.1, 0.6)}, 1)
-        for shown in (b"(01)Tj", b"(10)Tj"):
-            self.assert_near(font.rough(font.shape(shown)).extents, [(0.05, -0.1, 1.15, 0.7)])
-        (ink,) = font.extents(b"(01)Tj")
-        self.assert_near([ink], [(0.1, -0.1, 1.15, 0.7)])
-        apart = font.rough(font.shape(b"(0)-600(11)"))
-        self.assert_near(apart.extents, [(0.05, -0.1, 0.55, 0.7), (1.25, -0.1, 2.35, 0.7)])
-        self.assertEqual(font.shape(b"(0)-600(11)"), font.shape(b"(1)-600(10)"))
-
-    def test_letters_beside_symbols(self) -> None:
-        """Letters between two symbols may be as long as what is free there; above them, any."""
-        boxes = Box(0, 100, 50, 50), Box(150, 100, 50, 50)
-        symbols = compare.Regions(
-            [compare.Geometry(box, (), box, 0, 1, 50, 50, (50, 0)) for box in boxes]
-        )
-        font = Font({65: Reach(1.0, 0.1, 0.1, 0.0, 0.7), 66: Reach(2.0, 0.1, 0.1, 0.0, 0.7)}, 1)
-        for left, base, letters, is_clear in (
-            (60, 130, b"(AAAA)", True),
-            (60, 130, b"(AAAAA)", False),
-            (60, 130, b"(AA)-3000(A)", False),
-            (40, 130, b"(A)", False),
-            (60, 99, b"(AABBB)", True),
-            (60, 102, b"(AABBB)", False),
-            (210, 130, b"(AABBB)", True),
-        ):
-            place = PlaceOfLetters(Matrix(20, 0, 0, -20, left, base), font)
-            with self.subTest(left=left, base=base, letters=letters):
-                for _ in range(2):
-                    self.assertEqual(place.is_clear_of(symbols, letters), is_clear)
-
-    def assert_near(self, extents: Sequence[Extent], wanted: Sequence[Sequence[float]]) -> None:
-        """Extents are those that are wanted, but for their rounding."""
-        self.assertEqual(len(extents), len(wanted))
-        for found, sides in zip(extents, wanted):
-            for one, other in zip(found, sides):
-                self.assertAlmostEqual(one, other)
 
 
 if __name__ == "__main__":
