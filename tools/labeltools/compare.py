@@ -171,7 +171,7 @@ class Comparison:
         raise Different(what, there[0].label.record if there else None)
 
     def wanted_on(self, labels: Labels) -> Iterator[Wanted]:
-        """Yields what has to be on a page, in the order in which it is drawn; raises `Different`."""
+        """Yields what has to be on a page, in the order of its drawing; raises `Different`."""
         for item, at in labels:
             for spot in spots_of(item, self.area):
                 try:

@@ -3,19 +3,21 @@
 import re
 import unicodedata
 from dataclasses import dataclass
-from functools import cache, lru_cache, partial
+from functools import lru_cache, partial
 from typing import Any, Iterable, Mapping, NamedTuple, Optional, Sequence
 
 from labeltools.text import Text
 from labeltools.layout import Extent
 from labeltools.messages import ToolError
-from labeltools.glyphs import OTHERS, Glyphs
 from labeltools.kept import Found
 from labeltools.pango import MEASURED, Pango, PangoCairo, pango_context, plain_options
 
 KEPT = 2048  # words of which the extent is kept
 MOST_NAMED = 9  # letters that a message names
 SPACED = re.compile("[^ ]+ *| +")
+# letters that stand one behind another: Latin, Greek, Cyrillic; punctuation; currencies
+SIMPLE = ((0x20, 0x2FF), (0x370, 0x482), (0x48A, 0x52F), (0x2010, 0x2027), (0x20A0, 0x20CF))
+OTHERS = re.compile("[^" + "".join(f"{chr(one)}-{chr(other)}" for one, other in SIMPLE) + "]")
 FONTS_OF_LETTERS = "apt-get install fonts-noto-core fonts-noto-cjk"
 FONTS_OF_SIGNS = "apt-get install fonts-symbola"
 
@@ -104,7 +106,6 @@ class Letters:
     def __init__(self, fonts: Fonts) -> None:
         require_fonts(fonts)
         self.family = fonts.texts
-        self.glyphs = cache(self.new_glyphs)
         self.extent = lru_cache(KEPT)(self.new_extent)
         self.context = pango_context(plain_options(), False)
         self.layouts = [self.layout(fonts.texts, is_bold) for is_bold in (False, True)]
@@ -123,13 +124,6 @@ class Letters:
         font.set_absolute_size(MEASURED * Pango.SCALE)
         layout.set_font_description(font)
         return layout
-
-    def new_glyphs(self, family: str, is_bold: bool) -> Glyphs:
-        """Returns the glyphs of a font."""
-        is_own = family == self.family
-        return Glyphs(
-            family, is_bold, (self.layouts[is_bold] if is_own else self.layout(family, is_bold))
-        )
 
     def new_extent(self, text: str, is_bold: bool) -> Extent:
         """Returns the extent of a line of text; zeros for one without ink."""

@@ -17,6 +17,7 @@ def library(name: str, version: str) -> Any:
 
 Pango = library("Pango", "1.0")
 PangoCairo = library("PangoCairo", "1.0")
+UNIT: int = Pango.SCALE
 
 
 def pango_context(options: cairo.FontOptions, is_rounded: bool) -> Any:

@@ -96,7 +96,7 @@ class Pen:
         self.fonts = fonts
         self.letters = letters
         self.options = options_of(medium)
-        self.fitter = Fitter(letters, self.options, medium.is_dots, medium.outlines)
+        self.fitter = Fitter(letters, self.options, medium.is_dots)
         # Cairo keeps a face as it was first used: a name of its own for each medium
         self.digits_face = cairo.ToyFontFace(fonts.digits + " " * medium.is_dots)
         large = self.digits_font(plain_options(), LARGE)
@@ -128,7 +128,7 @@ class Pen:
                 self.draw_digits(canvas, symbol, place, runs)
         for item, place in page:
             for text in self.texts(item):
-                self.draw_text(canvas, text, place, runs)
+                self.draw_text(canvas, text, place)
         self.show_runs(canvas, runs)
         self.draw_codes(canvas, codes)
         canvas.set_matrix(whole)
@@ -251,20 +251,20 @@ class Pen:
             with self.turned(canvas, symbol.box, symbol.place.quarters, place):
                 self.draw_modules(canvas, symbol.modules, symbol)
 
-    def draw_text(self, canvas: Any, placed: Placed, place: Dots, runs: Runs) -> None:
+    def draw_text(self, canvas: Any, placed: Placed, place: Dots) -> None:
         """Draws a text of a label whose area begins at a place; in dots it is black, or takes black
         dots away.
         """
         text, style, box, quarters, colour = placed
         if not quarters and colour is None:
-            self.show(canvas, text, style, place[0] + box.left, place[1] + box.top, runs)
+            self.show(canvas, text, style, place[0] + box.left, place[1] + box.top)
             return
-        with self.turned(canvas, box, quarters, place) as own:
+        with self.turned(canvas, box, quarters, place):
             if colour and not self.medium.is_dots:
                 canvas.set_source_rgb(*colour)
             elif colour and is_light(colour):
                 canvas.set_operator(cairo.Operator.DEST_OUT)
-            self.show(canvas, text, style, 0, 0, own)
+            self.show(canvas, text, style, 0, 0)
 
     @contextmanager
     def turned(self, canvas: Any, box: Box, quarters: int, place: Dots) -> Iterator[Runs]:
@@ -281,18 +281,8 @@ class Pen:
         self.show_runs(canvas, runs)
         canvas.restore()
 
-    def show(
-        self, canvas: Any, text: Fitted, style: Style, left: int, top: int, runs: Runs
-    ) -> None:
+    def show(self, canvas: Any, text: Fitted, style: Style, left: int, top: int) -> None:
         """Shows a text in a box that begins there, as shapes where its font needs that."""
-        if text.lines:
-            found = runs[text.face, text.size]
-            for (numbers, places), across, down in text.lines:
-                x = left + text.x + across
-                y = top + text.y + down
-                for number, place in zip(numbers, places):  # in less time than a list of them
-                    found.append((number, x + place, y))
-            return
         canvas.move_to(left + text.x, top + text.y)
         if style.family in self.medium.outlines:
             PangoCairo.layout_path(canvas, text.layout)
@@ -345,7 +335,7 @@ class Pen:
             size = round(DIGITS_SIZE * module)
             style = Style(self.fonts.digits, False, size, 0, MIDDLE, 0.3, 0)
             text = self.fitter.fitted(data.translate(SHOWN), style, box.width, box.height)
-            self.show(canvas, text, style, left, top, runs)
+            self.show(canvas, text, style, left, top)
             return
         base = top + round((DIGITS_TOP + DIGITS_SIZE * self.digit_height) * module)
         for first, last, size, start in self.digit_places(symbol.symbology.name, module):
