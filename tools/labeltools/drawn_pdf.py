@@ -25,8 +25,8 @@ MASK = re.compile(
 # and in black, in a matrix of its own, one picture behind another
 STRING = re.compile(rb"\((?:[^\\()]|\\.)*\)|<[0-9A-Fa-f\n]*>", re.DOTALL)
 STATE = re.compile(rb"(?<!\S)(?:q|Q|cm)(?!\S)")
-WHITES = re.compile(rb"1 1 1 rg (?:/a0 gs )?((?:[-0-9. ]+ re f\n)+)0 0 0 rg (?:/a0 gs )?q\n\Z")
-PICTURE = re.compile(rb"(?:Q\n(?:/a0 gs )?q\n)?%b cm\n/x([0-9]+)" % NUMBERS)
+WHITES = re.compile(rb"1 1 1 rg (?:/a[0-9]+ gs\s)?((?:[-0-9. ]+ re f\n)+)0 0 0 rg q\n\Z")
+PICTURE = re.compile(rb"(?:Q\nq\n)?%b cm\n/x([0-9]+)" % NUMBERS)
 END = re.compile(rb"Q\s+Q\s*")
 KIDS = b"/Kids ["
 PLACE = re.compile(rb"startxref\s+([0-9]+)\s+%%EOF\s*$")

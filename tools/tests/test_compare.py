@@ -7,7 +7,7 @@ import tempfile
 import unittest
 from contextlib import contextmanager
 from dataclasses import dataclass, replace
-from itertools import count, permutations, product
+from itertools import count, product
 from pathlib import Path
 from typing import Any, Callable, Iterator, Optional, Sequence
 from unittest import mock
@@ -236,7 +236,7 @@ def first_letters(whole: list[str]) -> int:
 def wrong_count(whole: list[str], size: int) -> None:
     """Makes a count of a row above all codes one more; the row keeps its length."""
     number = first_letters(whole)
-    row = decode.new_dots((whole[number].encode(), size)).hex().upper()
+    row = decode.rows_of_field(whole[number].encode(), size)[0].hex().upper()
     whole[number] = "0" + row[:-1]
 
 
@@ -586,28 +586,12 @@ class Read(unittest.TestCase):
 
     def test_rows_by_the_manual(self) -> None:
         """The examples of the ZPL II manual for counts: M6 is seven of 6, hB forty of B."""
-        self.assertEqual(decode.expanded(b"M6hBgMF"), b"6666666" + b"B" * 40 + b"F" * 27)
-        rows = decode.new_dots((b"F0!J5,:,12345678,M9!", 4)).hex(" ", 4).upper()
-        wanted = "F0FFFFFF 55550000 55550000 00000000 12345678 00000000 9999999F"
-        self.assertEqual(rows, wanted)
-        for size, wanted in ((1, "f0f0f0"), (2, "f000f000f000")):  # parts that come again
-            for _ in range(2):
-                self.assertEqual(decode.new_dots((b"F,::", size)).hex(), wanted)
-        for text in (
-            b"F0F",
-            b"12345678F",
-            b"GZ",
-            b":12345678",
-            b"12:",
-            b"H,",
-            b"M:",
-            b"G!",
-            b"12 3",
-            b"12345678:\n:",
-            b"12345678::+",
-            b"abcdefab::",
-            b"12345678:::",
-        ):
+        (row,) = decode.rows_of_field(b"M6hBgMF", 37)
+        self.assertEqual(row.hex().upper(), "6666666" + "B" * 40 + "F" * 27)
+        rows = decode.rows_of_field(b"F0,J5,:,12345678,M9,", 4)
+        wanted = "F0000000 55550000 55550000 00000000 12345678 00000000 99999990".lower().split()
+        self.assertEqual([row.hex() for row in rows], wanted)
+        for text in (b"F0F", b"12345678F", b"GZ", b"12:", b"M:", b"12 3", b"12345678:\n:"):
             with self.subTest(text=text), self.assertRaises(decode.NotDecoded):
                 decode.dots_of("zpl", FIELD % text, 32)
 
@@ -666,66 +650,25 @@ class Read(unittest.TestCase):
             compare.check_codes(wanted, page._replace(whites=page.whites[:-1]), 0.125)
         compare.check_codes(wanted, page, 0.125)
 
-    def test_large_letters_are_fields_of_their_own(self) -> None:
-        """A byte of white parts them where it is in 50 rows that differ; both widths are read."""
-        for rows, fields in ((49, 1), (50, 2)):
-            dots = [bytes([255, 0, row]) for row in range(1, rows + 1)]
-            picture = Picture(24, 2 * rows, b"".join([row * 2 for row in dots]))
-            label = zpl.zpl(picture, 1)
-            self.assertEqual(label.count(b"^FO"), fields)
-            self.assertEqual(decode.dots_of("zpl", label, 24).rows, picture.rows)
-
-    def test_counts_where_they_save_much(self) -> None:
-        """A run of six in 20 digits is counted, L0; in 22 they are as they are; both are read."""
-        for digits, text in (
-            (b"1234567000000FEDCBA9", b"1234567L0FEDCBA9"),
-            (b"1234567000000FEDCBA987", b"1234567000000FEDCBA987"),
-        ):
-            dots = bytes.fromhex(digits.decode())
-            self.assertEqual(zpl.run_lengths(dots, len(dots)), text)
-            self.assertEqual(decode.new_dots((text, len(dots))), dots)
-
-    def test_fields_over_one_another(self) -> None:
-        """Fields may touch, in any order, and have no byte in common: printers add their dots."""
-        field = b"^FO%d,%d^GFA,%d,%d,%d,%b^FS\n"
-        first = field % (0, 1, 4, 4, 2, b"80010000")
-        beside = (
-            field % (0, 0, 2, 2, 2, b"F00F"),
-            field % (0, 3, 1, 1, 1, b"07"),
-            field % (16, 2, 2, 2, 1, b"3C:"),
-        )
-        over = (
-            field % (8, 2, 1, 1, 1, b"01"),
-            field % (8, 0, 4, 4, 1, b"00:::"),
-            field % (0, 0, 6, 6, 2, b"0000::"),
-        )
-        label = b"^XA^PON^LH0,0^LS0^PW24^LL4\n%b^XZ\n"
-        for fields in permutations((first, *beside)):
-            rows = decode.dots_of("zpl", label % b"".join(fields), 24).rows
-            self.assertEqual([row.hex() for row in rows], ["f00f00", "800100", "00003c", "07003c"])
-        for other, is_last in product(over, (True, False)):
-            fields = (first, other) if is_last else (other, first)
-            with self.subTest(fields=fields), self.assertRaises(decode.NotDecoded):
-                decode.dots_of("zpl", label % b"".join(fields), 24)
-
     def test_fields_that_are_not_whole(self) -> None:
-        """Each field ends, is in the label, and has whole bytes."""
+        """Each field ends, is as wide as the label, and right below the one before."""
         label = b"^XA^PON^LH0,0^LS0^PW32^LL3\n%b^XZ\n"
         for field in (
-            b"^FO0,0^GFA,4,4,4,12345678",
-            b"^FO0,0^GFA,4,4,4,12345678^FS",
-            b"^FO0,0^GFA,4,4,4,12345678^FR\n",
-            b"^FO8,0^GFA,4,4,4,12345678^FS\n",
-            b"^FO0,3^GFA,4,4,4,12345678^FS\n",
-            b"^FO4,0^GFA,1,1,1,12^FS\n",
-            b"^FO0,0^GFA,4,5,4,12345678^FS\n",
-            b"^FO0,0^GFA,4,4,3,12345678^FS\n",
-            b"^FO0,0^GFA,0,0,0,^FS\n",
+            b"^FO0,0^GFA,12,12,4,12345678::",
+            b"^FO0,0^GFA,12,12,4,12345678::^FS",
+            b"^FO0,0^GFA,12,12,4,12345678::^FR\n",
+            b"^FO8,0^GFA,12,12,4,12345678::^FS\n",
+            b"^FO0,1^GFA,12,12,4,12345678::^FS\n",
+            b"^FO0,0^GFA,12,13,4,12345678::^FS\n",
+            b"^FO0,0^GFA,12,12,3,12345678::^FS\n",
+            b"^FO0,0^GFA,8,8,4,12345678:^FS\n",
+            b"^FO0,0^GFA,16,16,4,12345678:::^FS\n",
         ):
             with self.subTest(field=field), self.assertRaises(decode.NotDecoded):
                 decode.dots_of("zpl", label % field, 32)
-        whole = decode.dots_of("zpl", label % b"^FO0,2^GFA,4,4,4,12345678^FS\n", 32)
-        self.assertEqual(whole.packed.hex(), "00" * 8 + "12345678")
+        fields = b"^FO0,0^GFA,4,4,4,12345678^FS\n^FO0,1^GFA,8,8,4,12,:^FS\n"
+        whole = decode.dots_of("zpl", label % fields, 32)
+        self.assertEqual(whole.packed.hex(), "12345678" + "12000000" * 2)
 
 
 if __name__ == "__main__":

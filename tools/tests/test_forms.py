@@ -195,7 +195,7 @@ class Zpl(unittest.TestCase):
         ):
             self.assertEqual(count_of(count), text)
         dots = bytes.fromhex("FFFFFF000000 FFFFFF000000 000000000000 0AFFFFFFFFFF")
-        self.assertEqual(run_lengths(dots, 6), b"LF,:,0A!")
+        self.assertEqual(run_lengths(dots, 6), b"LF,:,0APF")
         self.assertEqual(jobs.data_of_run_lengths(run_lengths(dots, 6), 6), dots)
 
     def test_a_decoder_that_would_see_a_wrong_count(self) -> None:
