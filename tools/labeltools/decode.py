@@ -133,7 +133,7 @@ def dots_of_zpl(data: bytes, _: int) -> Dots:
         top, length, again, size = map(int, field.groups()[:4])
         found = rows_of_field(field[5], size)
         if (top, size) != (len(rows), stride) or not length == again == size * len(found):
-            raise NotDecoded(Text("zpl with a field that is not in its place"))
+            raise NotDecoded(Text("zpl with a field that leaves the label"))
         rows += found
         at = field.end()
     end = ZPL_END.fullmatch(data, at)

@@ -35,7 +35,7 @@ def dots_of_svg(data: bytes, dpi: float, size: tuple[int, int]) -> Dots:
                 left, top, right, bottom = sides_of(corners, dpi / POINTS)
                 bits = ((1 << (right - left)) - 1) << (8 * stride - right)
                 if not 0 <= left < right <= width or not 0 <= top < bottom <= height:
-                    raise NotDecoded(Text("a code that leaves the page"))
+                    raise NotDecoded(Text("its code leaves the page"))
                 for row in range(top, bottom):
                     rows[row] = rows[row] & ~bits if is_white else rows[row] | bits
     except (ElementTree.ParseError, ValueError, LookupError) as error:
@@ -57,5 +57,5 @@ def sides_of(corners: Sequence[str], scale: float) -> tuple[int, int, int, int]:
     across, down = {round(x) for x in places[::2]}, {round(y) for y in places[1::2]}
     is_near = all(abs(place - round(place)) <= NEAR for place in places)
     if not is_near or len(across) != 2 or len(down) != 2:
-        raise NotDecoded(Text("a code that is not on whole dots"))
+        raise NotDecoded(Text("its modules are no whole dots"))
     return min(across), min(down), max(across), max(down)

@@ -237,8 +237,6 @@ def add_choice_options(parser: argparse.ArgumentParser) -> None:
     add("--unique", action="store_true", dest="is_unique", help=unique)
     options = "options of labels, such as '--level H'"
     add("--labels", metavar="WORDS", type=option_words, dest="words", default=(), help=options)
-    read = "read each label as it is drawn, before anything goes out"
-    add("--read-back", action="store_true", help=read)
 
 
 def add_output_options(parser: argparse.ArgumentParser) -> None:

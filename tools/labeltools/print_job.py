@@ -8,7 +8,7 @@
 
 from collections import Counter
 from dataclasses import dataclass, replace
-from typing import Iterable, Iterator, Mapping, Optional, Sequence
+from typing import Iterable, Mapping, Optional, Sequence
 
 from labeltools.text import Text
 from labeltools.area import ARTICLE, DESIGNS, OWN, Edges, Wishes
@@ -21,10 +21,9 @@ from labeltools.lines_file import UNPRINTABLE, LineRecord, LinesFile, read_lines
 from labeltools.messages import BAD_ARGUMENTS, Place, Talk, ToolError, quoted
 from labeltools.own_design import OwnDesign, is_file, read_design, size_of_page
 from labeltools.own_layout import OwnLayouts
-from labeltools.pen import Medium, Pen
+from labeltools.pen import Pen
 from labeltools.names import listed
-from labeltools.press import Press, PrintJob, Prints, pen_of, pens_of, with_copies
-from labeltools.read_back import fault_of
+from labeltools.press import Press, PrintJob, Prints, pens_of, with_copies
 from labeltools.report import LeftOut, places_text
 from labeltools.selection import Selection
 from labeltools.stock import Grid, Sheet, Size, grid_sheet, stock_sheet
@@ -76,7 +75,6 @@ class PrintOptions:
     note: str = ""
     dots: int = 576
     is_cut: bool = True
-    read_back: bool = False
     is_unique: bool = False
 
 
@@ -276,10 +274,6 @@ def prepared(
     laid_out = own.lay_out(labels, talk) if own else lay_out(labels, area, letters, talk)
     reasons.update(laid_out.left_out)
     wanted = only_wanted(laid_out.labels, options.only)
-    if options.read_back:
-        for record, fault in faults(wanted, laid_out, job, letters, talk):
-            reasons[record.number] = fault
-        wanted = [item for item in wanted if item.label.record.number not in reasons]
     left_out = list(without_line(lines, options.only))
     left_out += refused_labels(lines, reasons, options.only)
     tables = frozenset(record.table for record in lines.records if record.table)
@@ -379,18 +373,6 @@ def refused_labels(
         if reason is not None and is_wanted(record, only):
             data = record.data.decode("utf-8", "backslashreplace")
             yield LeftOut(record.place, data, reason)
-
-
-def faults(
-    items: Sequence[LaidOut], laid_out: LaidOutFile, job: PrintJob, letters: Letters, talk: Talk
-) -> Iterator[tuple[LineRecord, Text]]:
-    """Yields the lines of labels that are not drawn as they have to be, and what is wrong."""
-    pen = pen_of(job, Medium(job.plan.dpi, True), letters)
-    for done, item in enumerate(items):
-        talk.go_on(done, len(items))
-        fault = fault_of(item, laid_out.area, pen)
-        if fault is not None:
-            yield item.label.record, fault
 
 
 def several(items: Sequence[LaidOut], only: Optional[Selection]) -> Iterable[Remark]:

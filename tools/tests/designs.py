@@ -8,7 +8,10 @@ import jobs
 import support
 from labeltools.messages import Silence
 from labeltools.own_layout import OwnLayout, OwnText
+from labeltools.pen import Medium
+from labeltools.press import pen_of
 from labeltools.print_job import Prepared, PrintOptions, labels_of, planned
+from reading import fault_of
 
 FOLDER = support.TOP / "designs"
 SPACE = 'xmlns="http://www.w3.org/2000/svg"'
@@ -54,12 +57,19 @@ def written(path: Path, body: str, page: str = PAGE) -> Path:
     return path
 
 
-def prepared(design: Path, labels: Sequence[Label], **options: Any) -> Prepared:
+def prepared(
+    design: Path, labels: Sequence[Label], is_read: bool = True, **options: Any
+) -> Prepared:
     """Labels in a design, each read as it is drawn."""
-    chosen: dict[str, Any] = {"paper": PAPER, "dpi": 203, "to": "pbm", "read_back": True}
+    chosen: dict[str, Any] = {"paper": PAPER, "dpi": 203, "to": "pbm"}
     chosen |= {"design": str(design), **options}
     wished = PrintOptions(**chosen)
-    return labels_of(wished, planned(wished), "lines", lines_of(labels), Silence())
+    found = labels_of(wished, planned(wished), "lines", lines_of(labels), Silence())
+    pen = pen_of(found.job, Medium(found.job.plan.dpi, True), found.letters)
+    for item in found.labels if is_read else ():
+        if fault := fault_of(item, found.laid_out.area, pen):
+            raise AssertionError(fault)
+    return found
 
 
 def dots_of(found: Prepared, number: int = 0) -> jobs.Dots:

@@ -12,7 +12,7 @@ from labeltools.messages import Silence
 from labeltools.pen import Medium, Pen
 from labeltools.press import PrintJob
 from labeltools.print_job import Prepared, PrintOptions, labels_of, planned
-from labeltools.read_back import fault_of
+from reading import fault_of
 
 AROUND = 40  # dots of white in which ink would be seen that leaves the area
 NO_EDGES = (0.0, 0.0, 0.0, 0.0)

@@ -9,7 +9,6 @@ import unittest
 import zlib
 from pathlib import Path
 from typing import Any, Dict, Sequence, Tuple
-from unittest import mock
 
 import numpy
 
@@ -806,23 +805,6 @@ class Symbols(OwnPages):
         found = self.found(body, labels)
         self.assertEqual(len(found.labels), 1)
         self.assertRegex(reasons_of(found)[0], "^place Ean: .*check digit")
-
-    def test_read_back_reads_each_symbol(self) -> None:
-        body = '<rect data-place="code-2, qr" x="2" y="2" width="16" height="16"/>' + CODE
-
-        def wrong(pen: Any, canvas: Any, modules: Any, symbol: Any) -> None:
-            if not symbol.symbology.nominal:
-                canvas.rectangle(symbol.boxes["bars"].left + 40, 20, 30, 30)
-                canvas.fill()
-            draw(pen, canvas, modules, symbol)
-
-        from labeltools.pen import Pen
-
-        draw = Pen.draw_modules
-        with mock.patch.object(Pen, "draw_modules", wrong):
-            found = self.found(body)
-        self.assertRegex(reasons_of(found)[0], "^place code-2: ")
-        self.assertEqual(reasons_of(self.found(body)), [])
 
     def test_labels_are_turned_where_their_paper_is(self) -> None:
         labels = [designs.SHIPPED["address-88x25"]]

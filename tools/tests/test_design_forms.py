@@ -16,7 +16,7 @@ import jobs
 import support
 from labeltools.messages import Silence
 from labeltools.own_layout import OwnLayout
-from labeltools.read_back import fault_in
+from reading import fault_in
 from test_forms import dots_of_svg, rendered
 
 DPIS = (203, 300, 600)
@@ -137,7 +137,7 @@ class Shipped(unittest.TestCase):
         for name, label in designs.SHIPPED.items():
             for dpi in DPIS:
                 found = designs.prepared(
-                    designs.FOLDER / f"{name}.svg", [label], paper=None, dpi=dpi, read_back=False
+                    designs.FOLDER / f"{name}.svg", [label], paper=None, dpi=dpi, is_read=False
                 )
                 layout = found.labels[0].layout
                 assert isinstance(layout, OwnLayout)

@@ -242,16 +242,11 @@ class Running(unittest.TestCase):
 
     def test_what_is_missing_is_named_with_its_package(self) -> None:
         with tempfile.TemporaryDirectory() as folder:
-            for module, package in (("gi", "python3-gi-cairo"), ("zxingcpp", "python3-zxing-cpp")):
-                Path(folder, f"{module}.py").write_text(
-                    "raise ImportError('No module named here')\n"
-                )
-                arguments = (*ROLL, "zpl", "--read-back")
-                ended = self.ended('"$@"', *arguments, data=b"ean8 7351353\n", PYTHONPATH=folder)
-                self.assertEqual(ended[:2], (1, b""))
-                self.assertIn(f"apt-get install {package}", ended[2])
-                self.assertNotIn("Traceback", ended[2])
-                Path(folder, f"{module}.py").unlink()
+            Path(folder, "gi.py").write_text("raise ImportError('No module named here')\n")
+            ended = self.ended('"$@"', *ROLL, "zpl", data=b"ean8 7351353\n", PYTHONPATH=folder)
+            self.assertEqual(ended[:2], (1, b""))
+            self.assertIn("apt-get install python3-gi-cairo", ended[2])
+            self.assertNotIn("Traceback", ended[2])
 
     def test_progress_on_a_terminal(self) -> None:
         import pty

@@ -46,7 +46,7 @@ class Drawn(unittest.TestCase):
             design = designs.written(Path(folder, "own.svg"), body)
             title = 'AVATAR To Ty. LT "fi" fl ffi Wörter, Vögel'
             found = designs.prepared(
-                design, [("ean8 7351353", {"title": title})], to="pdf", read_back=False
+                design, [("ean8 7351353", {"title": title})], to="pdf", is_read=False
             )
         with found.press(Silence()).document([(found.labels[0], (0, 0))]) as file:
             self.assertEqual(file.read(5), b"%PDF-")

@@ -20,8 +20,8 @@ from labeltools.forms.dots import drawn_page
 from labeltools.frames import Box
 from labeltools.own_layout import symbols_of
 from labeltools.pen import bits_of
-from labeltools.read_back import fault_in
 from laying import laid_out
+from reading import fault_in
 
 SHELF = [
     (
@@ -214,7 +214,7 @@ class Cells(unittest.TestCase):
 
     def test_options_of_labels(self) -> None:
         data = b"qr,level=H a\nqr \\x41\\\\\ncode128 a\\nb\n"
-        done = support.printed("--paper", "60x40", "--labels=--escapes", "--read-back", input=data)
+        done = support.printed("--paper", "60x40", "--labels=--escapes", input=data)
         self.assertEqual((done.returncode, done.stderr), (0, b""))
 
     def test_no_such_font(self) -> None:

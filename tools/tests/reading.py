@@ -1,33 +1,31 @@
-"""Reads labels as they are drawn, before anything goes out."""
+"""Reads labels as they are drawn, by zxing-cpp."""
 
 import re
-from typing import Any, Optional, Sequence
+from typing import Optional, Sequence
 
-from labeltools.text import Text
+import zxingcpp
+
 from labeltools.area import Area
 from labeltools.engine import Modules
 from labeltools.forms.dots import drawn_page
 from labeltools.frames import Box
 from labeltools.layout import LaidOut
-from labeltools.messages import ToolError
 from labeltools.own_layout import CODE, OwnSymbol, symbols_of
 from labeltools.pen import Pen, bits_of
 
-NOT_READ = Text("as drawn it is not read")
-NOT_DRAWN = Text("its bars as drawn are not those of labels")
+NOT_READ = "as drawn it is not read"
+NOT_DRAWN = "its bars as drawn are not those of labels"
 PIXELS = bytes.maketrans(b"01", b"\xff\0")
 
 
-def fault_of(item: LaidOut, area: Area, pen: Pen) -> Optional[Text]:
-    """Returns what is wrong with a label as it is drawn in its area, if anything; raises
-    `ToolError` where zxing-cpp is not there.
-    """
+def fault_of(item: LaidOut, area: Area, pen: Pen) -> Optional[str]:
+    """Returns what is wrong with a label as it is drawn in its area, if anything."""
     size = area.width, area.height
     picture = drawn_page(size, pen, [(item, (0, 0))])
     return fault_in([bits_of(row) for row in picture.rows], symbols_of(item, Box(0, 0, *size)))
 
 
-def fault_in(rows: list[str], symbols: Sequence[OwnSymbol]) -> Optional[Text]:
+def fault_in(rows: list[str], symbols: Sequence[OwnSymbol]) -> Optional[str]:
     """Returns what is wrong with one of the symbols of a label, each read in its place alone."""
     for symbol in symbols:
         box = symbol.box
@@ -36,13 +34,11 @@ def fault_in(rows: list[str], symbols: Sequence[OwnSymbol]) -> Optional[Text]:
             place = ["".join(column) for column in zip(*place)][::-1]  # back to the left
         fault = fault_of_symbol(place, symbol)
         if fault is not None:
-            return (
-                fault if symbol.place is CODE else Text("place {}: {}", symbol.place.title, fault)
-            )
+            return fault if symbol.place is CODE else f"place {symbol.place.title}: {fault}"
     return None
 
 
-def fault_of_symbol(rows: list[str], symbol: OwnSymbol) -> Optional[Text]:
+def fault_of_symbol(rows: list[str], symbol: OwnSymbol) -> Optional[str]:
     """Returns what is wrong with a symbol in dots of its place: its data is read by zxing-cpp, and
     each row of its bars is compared.
     """
@@ -50,29 +46,18 @@ def fault_of_symbol(rows: list[str], symbol: OwnSymbol) -> Optional[Text]:
     if found is None:
         return NOT_READ
     if found != symbol.data:
-        return Text("as drawn it is read as {}", repr(found))
+        return f"as drawn it is read as {found!r}"
     return None if is_drawn(rows, symbol.modules, symbol.boxes["bars"]) else NOT_DRAWN
 
 
 def code_in(rows: list[str], form: str) -> Optional[bytes]:
     """Returns the data of a code of a form in rows of dots; None where it is not read."""
-    zxingcpp = reader()
     pixels = "".join(rows).encode().translate(PIXELS)
     picture = memoryview(pixels).cast("B", [len(rows), len(rows[0])])
     found = zxingcpp.read_barcode(
         picture, formats=getattr(zxingcpp, form), binarizer=zxingcpp.Binarizer.BoolCast
     )
     return bytes(found.bytes) if found else None
-
-
-def reader() -> Any:
-    """Returns zxing-cpp; raises `ToolError` where it is not there."""
-    try:
-        import zxingcpp
-    except ImportError as error:
-        hint = Text("apt-get install python3-zxing-cpp")
-        raise ToolError(Text("{}: --read-back needs it", error), hint) from error
-    return zxingcpp
 
 
 def is_drawn(rows: list[str], modules: Modules, box: Box) -> bool:
