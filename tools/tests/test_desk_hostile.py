@@ -419,11 +419,12 @@ class Ends(Folder):
         copy is there, or the journal has it as sent.
         """
         path = f"{self.folder}/labels"
-        label = b"".join(labels_in(printed(input=b"qr A\n")))
-        for name, room in (("/dev/full", 9), (path, len(label) - 1), (path, 2 * len(label) - 1)):
+        label, other = labels_in(printed(input=b"qr A\nqr B\n"))
+        both = len(label + other)
+        for name, room in (("/dev/full", 9), (path, len(label) - 1), (path, both - 1)):
             found = self.limited_answers(name, room, b"qr A\nqr B\n").splitlines()
             self.assertRegex(found[-1], rb"^unsent (1|2) standard output: (No space|File too)")
-            self.assertEqual([line[:7] for line in found[:-1]], [b"taken 1"] * (room // len(label)))
+            self.assertEqual([line[:7] for line in found[:-1]], [b"taken 1"] * (room >= len(label)))
         self.assertEqual(Path(path).read_bytes(), label)
         copies = b'#{"copies":2}\nqr A\n'
         size = len(printed("--to", "escpos", input=b"qr A\n").stdout)
