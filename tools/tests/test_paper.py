@@ -448,6 +448,7 @@ class Forms(unittest.TestCase):
     def test_guards_of_svg_are_one_piece(self) -> None:
         """A guard that begins where its bar ends has a light line between them on a screen."""
         svg = printed([(EAN, PRICED)], *roll((80.0, 50.0), 300, "--to", "svg")).decode()
+        svg = "\n".join(line for line in svg.splitlines() if "rgb(100%" not in line)
         path = r"M ([0-9.]+) ([0-9.]+) L ([0-9.]+) \2 L \3 ([0-9.]+) L \1 \4 Z"
         found = {tuple(map(float, match)) for match in re.findall(path, svg)}
         bars = {(one[0], one[2]): (one[1], one[3]) for one in sorted(found)}
