@@ -148,35 +148,33 @@ def rows_of_field(text: bytes, size: int) -> list[bytes]:
     >>> [row.hex() for row in rows_of_field(b"F0,:12345678M9,", 4)]
     ['f0000000', 'f0000000', '12345678', '99999990']
     """
-    plain = COUNTED.sub(lambda found: digits_of(found[0]), text)
-    rows: list[bytes] = []
-    end = 0
-    for row in row_in(size).finditer(plain):
-        if row.start() != end or row.end() == end:
-            break
-        end = row.end()
-        digits = row[1] or (row[2] or b"").ljust(2 * size, b"0")
-        rows.append(rows[-1] if row[0] == b":" else unhexlify(digits))
-    if end != len(plain):
+    pieces = COUNTED.split(text)
+    pieces[1::3] = map(digits_of, pieces[1::3], pieces[2::3])
+    del pieces[2::3]
+    plain = b"".join(pieces)
+    found = row_in(size).findall(plain)
+    if len(b"".join(map(b"".join, found))) + plain.count(b",") != len(plain) or found[0][2]:
         raise NotDecoded(Text("a row of the zpl has not its length"))
-    return rows
+    rows: list[bytes] = []
+    for full, part, above in found:
+        rows.append(rows[-1] if above else full or part.ljust(2 * size, b"0"))
+    return list(map(unhexlify, rows))
 
 
 @cache
 def row_in(size: int) -> re.Pattern[bytes]:
     """Returns the pattern of a row of some bytes: whole, or with its rest light, or as above."""
-    return re.compile(rb"([0-9A-F]{%d})|([0-9A-F]{0,%d}),|:" % (2 * size, 2 * size - 1))
+    return re.compile(rb"([0-9A-F]{%d})|([0-9A-F]{0,%d}),|(:)" % (2 * size, 2 * size - 1))
 
 
 @cache
-def digits_of(run: bytes) -> bytes:
+def digits_of(count: bytes, digit: bytes) -> bytes:
     """Returns the digits that a count and a digit mean: G to Y are 1 to 19, g to z are 20 to 400.
 
-    >>> digits_of(b"IF"), len(digits_of(b"zgM0"))
+    >>> digits_of(b"I", b"F"), len(digits_of(b"zgM", b"0"))
     (b'FFF', 427)
     """
-    times = sum(one - 70 if one <= 89 else 20 * (one - 102) for one in run[:-1])
-    return run[-1:] * times
+    return digit * sum(one - 70 if one <= 89 else 20 * (one - 102) for one in count)
 
 
 def rows_in(data: bytes | bytearray, size: int) -> tuple[bytes, ...]:

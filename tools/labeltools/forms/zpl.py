@@ -7,7 +7,7 @@ from typing import Iterator
 from labeltools.forms.dots import Picture
 
 MOST_BYTES = 99_999  # of a graphic field
-RUN = re.compile("0{6,}|F{6,}")  # a count of fewer saves next to nothing
+RUN = re.compile("(0{6,}|F{6,})")  # a count of fewer saves next to nothing
 # run lengths: counts of one are a letter from G on, counts of twenty a letter from g on
 MOST_COUNT = 400
 TWENTY = 20
@@ -46,8 +46,9 @@ def run_lengths(dots: bytes, size: int) -> bytes:
     """
     rows = dots.hex("\n", size).upper().split("\n")
     texts = [":" if row == above else without_rest(row) for above, row in zip(["", *rows], rows)]
-    whole = RUN.sub(lambda found: run_length_of(found[0]), "\n".join(texts))
-    return whole.replace("\n", "").encode()  # no run goes on from a row to the next
+    pieces = RUN.split("\n".join(texts))  # no run goes on from a row to the next
+    pieces[1::2] = map(run_length_of, pieces[1::2])
+    return "".join(pieces).replace("\n", "").encode()
 
 
 def without_rest(row: str) -> str:
