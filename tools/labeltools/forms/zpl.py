@@ -42,7 +42,7 @@ def run_lengths(dots: bytes, size: int) -> bytes:
     0, and a count before six or more of 0 and F.
 
     >>> run_lengths(bytes.fromhex("FF00AB FF00AB 00000000000C"), 3)
-    b'FF00AB:,L0C'
+    b'FF00AB:,00000C'
     """
     rows = dots.hex("\n", size).upper().split("\n")
     texts = [":" if row == above else without_rest(row) for above, row in zip(["", *rows], rows)]
