@@ -14,8 +14,9 @@
 - README.md has at most MOST_OF_README lines, and it and docs/*.md have at most MOST_BY_HAND lines by hand. All lines
   count, blank ones too, but what scripts make or compare name by name: tables of MADE, and what is between marks.
 
-The last line is `N pages, B blocks, K names, H lines by hand, F faults`. A fault is a line before it, and makes
-the status 1.
+- A number of a page that a step of the gate counts is the one in scripts/counts.txt.
+
+The last line is `N pages, L links, B blocks, K names, F faults`. A fault is a line before it, and makes the status 1.
 """
 
 import functools
@@ -30,6 +31,7 @@ from markdown_it import MarkdownIt
 from markdown_it.token import Token
 
 import believed
+import gate
 import instructions
 import sources
 
@@ -63,6 +65,20 @@ FUNCTION = re.compile(r"^fn (\w+)\(.*?\{\n(.*?)^\}", re.MULTILINE | re.DOTALL)
 OF_PAGES = "crates/tests/src/pages.rt"
 OF_COMMAND = "crates/labels/src/main.rt"
 NOT_CHECKED = "Not checked:"
+# What pages say, with the step whose line in scripts/counts.txt has the number, and how it is found there.
+IN_PAGES = (
+    ("README.md", r"read all ([\d,]+) labels back", "compare_symbols.py", r"(\d+) read back"),
+    ("README.md", r"drew the same ([\d,]+) symbols", "compare_symbols.py", r"(\d+) of \1 as zint"),
+    ("README.md", r"each of ([\d,]+)\s+simulated out-of-memory", "refuse_each_growth.py", r"^(\d+) growths"),
+    (
+        "docs/BENCHMARKS.md",
+        r"read all ([\d,]+) symbols of five programs",
+        "read_foreign.py",
+        r"(\d+) read as asked",
+    ),
+    ("docs/PROOF.md", r"operator of ([\d,]+) believed definitions", "believed_rows.py", r"of (\d+) definitions"),
+    ("docs/PROOF.md", r"one at a time: ([\d,]+)\s+changes", "believed_rows.py", r"^(\d+) changes"),
+)
 MARKDOWN = MarkdownIt().enable("table")
 
 
@@ -251,16 +267,27 @@ def faults_of_example(name: str, page: str, blocks: Iterable[Block]) -> Iterator
         yield 1, "no example"
 
 
+def faults_of_counts(pages: Mapping[str, str]) -> Iterator[str]:
+    """The numbers of pages that are not those that the gate compares, or that a page lacks."""
+    kept = dict(line.split(": ", 1) for line in sources.read(gate.COUNTS).splitlines() if not line.startswith("#"))
+    for page, sentence, step, place in IN_PAGES:
+        right, said = re.search(place, kept.get(step, "")), re.search(sentence, pages[page])
+        if not right or not said or said[1] != f"{int(right[1]):,}":
+            found = " ".join(said[0].split()) if said else f"no {sentence}"
+            yield f"{page}: {found}, and scripts/counts.txt has {kept.get(step)}"
+
+
 def main() -> int:
     sources.parser_of(__doc__, has_top=False).parse_args()
     os.chdir(sources.TOP)
     pages = texts()
-    faults = [*faults_of_length(pages)]
-    count = 0
+    faults = [*faults_of_length(pages), *faults_of_counts(pages)]
+    count = links = 0
     names = sum(len([*names_in(pages[page])]) for page in NAMING)
     for page, text in pages.items():
         blocks = [*blocks_of(text)]
         count += len(blocks)
+        links += len([*links_of(text)])
         found = [*faults_of_blocks(page, blocks)]
         found += [(line, fault) for line, link in links_of(text) if (fault := fault_of_link(page, link))]
         if page in NAMING:
@@ -268,7 +295,7 @@ def main() -> int:
         if page.startswith("crates/"):
             found += faults_of_example(page.split("/")[1], text, blocks)
         faults += [f"{page}:{number}: {fault}" for number, fault in found]
-    counts = f"{len(pages)} pages, {count} blocks, {names} names, {lines_by_hand(pages)} lines by hand"
+    counts = f"{len(pages)} pages, {links} links, {count} blocks, {names} names"
     return sources.ended(faults, f"{counts}, {len(faults)} faults")
 
 

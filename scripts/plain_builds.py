@@ -37,7 +37,9 @@ def main() -> int:
         print(f"{not_proved} is not proved: run rt check in its folder")
         return 1
     program.held = []  # the locks that `rt run` lets go before the program runs
-    return int(program.run(FLAGS, []) or build_for_arm64(library) or library.build_static(FLAGS))
+    status = int(program.run(FLAGS, []) or build_for_arm64(library) or library.build_static(FLAGS))
+    print("the program and both libraries are built" if status == 0 else f"status {status}")
+    return status
 
 
 if __name__ == "__main__":

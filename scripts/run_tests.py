@@ -1,5 +1,5 @@
 #!/usr/bin/python3
-"""Runs the tests of a folder, or counts them.
+"""Runs the tests of a folder.
 
 A test passes where it ran to its end and nothing was wrong. Any other one failed: one that is skipped, one that passes
 though it is expected to fail, each test of a class or a file that cannot be read or set up. With --quick a test of
@@ -109,17 +109,12 @@ def main() -> int:
     parser = sources.parser_of(__doc__, has_top=False)
     parser.add_argument("folder", metavar="FOLDER", help="a folder of tests")
     parser.add_argument("--quick", action="store_true", help="leave out the tests that draw, or take seconds")
-    parser.add_argument("--count", action="store_true", help="print how many tests there are")
     given = parser.parse_args()
     if not os.path.isdir(f"{sources.TOP}/{given.folder}"):
         sys.exit(f"there is no folder {given.folder}")
     os.chdir(sources.TOP)
     os.environ.update({"NO_SKIP": "", "QUICK": "1", "LABELS": "/not/built"} if given.quick else {"NO_SKIP": "1"})
-    loader = unittest.TestLoader()
-    tests = loader.discover(given.folder)
-    if given.count:
-        print(*loader.errors, tests.countTestCases(), sep="\n")
-        return 1 if loader.errors else 0
+    tests = unittest.TestLoader().discover(given.folder)
     if not sees_wrong_tests():
         print("a test that did not pass is counted as one that did", file=sys.stderr)
         return 1

@@ -13,7 +13,7 @@
   Tests, `main`, exports to C and the functions of an `impl` of a trait are called by others.
 
 Where two things have one name it may miss one that is unused. The status is 1 where something is found, a line for
-each; the last line says how much it looked at.
+each; the last line says how many worked values there are, too.
 """
 
 import itertools
@@ -138,10 +138,9 @@ def main() -> int:
         found.append(f"{one.place}: nothing uses the {kind} {one.name}")
     found += [f"{one.place}: the imported name {one.name} is not used" for one in unused_imports(logic, code)]
     found += [f"{one.place}: nothing calls the function {one.name}" for one in functions]
-    definition_count = sum(len(file.declarations) for file in logic)
-    counts = f"{definition_count} definitions and lemmas, {sum(len(file.imports) for file in files)} imported names"
-    found += [] if definition_count and function_count else ["nothing to look at"]
-    return sources.ended(found, f"{counts}, {function_count} functions: {len(found)} unused")
+    worked_values = sum(one.worked_values() for file in logic if file.part == "proofs" for one in file.declarations)
+    found += [] if function_count else ["nothing to look at"]
+    return sources.ended(found, f"{worked_values} worked values: {len(found)} unused")
 
 
 if __name__ == "__main__":

@@ -7,6 +7,7 @@ import stat
 import subprocess
 import sys
 import tempfile
+import traceback
 import unittest
 from typing import Callable, Iterable, Sequence
 
@@ -39,12 +40,31 @@ def run(script: str, *arguments: str, **environment: str) -> tuple[int, str]:
 
 
 def in_copy(folder: str, name: str, *arguments: str) -> tuple[int, str]:
-    """The status of a script of this repository over a copy of it, and all that it prints.
-
-    It runs in a fork of this process, which has read the files before: the script reads what is changed in the copy.
-    """
-    found: tuple[int, str] = module("forks").run(folder, name, arguments)
-    return found
+    """The status of a script of this repository over a copy of it, and all that it prints. It runs in a fork of this
+    process, which has read the files before: the script reads what is changed in the copy."""
+    script, sources = module(name.removesuffix(".py")), module("sources")
+    with tempfile.TemporaryFile() as said:
+        child = os.fork()
+        if child == 0:
+            for number, file in enumerate((os.open(os.devnull, os.O_RDONLY), said.fileno(), said.fileno())):
+                os.dup2(file, number)
+            sys.stdout = sys.stderr = open(1, "w", encoding="utf-8", errors="backslashreplace", closefd=False)
+            setattr(sources, "TOP", folder)
+            sys.argv, status = [name, *arguments], 1
+            try:
+                os.chdir(folder)
+                status = script.main()
+            except SystemExit as end:
+                print("" if isinstance(end.code, int) else end.code)
+                status = end.code if isinstance(end.code, int) else 1
+            except BaseException:
+                traceback.print_exc()
+            finally:
+                sys.stdout.flush()
+                os._exit(status)
+        status = os.waitstatus_to_exitcode(os.waitpid(child, 0)[1])
+        said.seek(0)
+        return status, said.read().decode()
 
 
 def read(path: str) -> str:
@@ -82,7 +102,11 @@ class InCopy(unittest.TestCase):
 
     @classmethod
     def setUpClass(cls) -> None:
-        module("forks").read_files()
+        sources, reader, bases = module("sources"), module("reader"), module("bases")
+        for file in reader.files_of(TOP, sources.crates_of(TOP), "specs", "proofs", "src"):
+            for one in file.declarations:
+                file.cited_by(one)
+        bases.definitions_of_clap([])
         cls.folder = os.path.join(tempfile.mkdtemp(prefix="test-copy-"), "labels")
         cls.addClassCleanup(shutil.rmtree, os.path.dirname(cls.folder))
         shutil.copytree(TOP, cls.folder, ignore=shutil.ignore_patterns("out", ".git", "__pycache__"))
