@@ -234,10 +234,8 @@ def main() -> int:
     faults += [
         f"{label.line()!r}: read as {reading!r}" for label, reading in found if not is_read_back(label, reading)
     ]
-    passed, shown = sources.unreported(wrong_cases(program) if labels else [])
-    faults += passed if with_zint else ["no label to compare"]
     last = f"{len(labels)} labels: {len(read)} read back, {len(same)} of {len(with_zint)} as zint draws them"
-    return sources.ended(faults, f"{last}; {shown}; of those read back {kinds_of(read) or 'none'}")
+    return sources.ended(faults, f"{last}; of those read back {kinds_of(read) or 'none'}", wrong_cases(program))
 
 
 if __name__ == "__main__":

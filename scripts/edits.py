@@ -164,9 +164,7 @@ def function_in(file: reader.File, path: Sequence[str]) -> reader.Declaration | 
     """Returns the function of a path in a file: a free one, or one of an `impl` of no trait."""
     items = file.declarations
     for name in path[:-1]:
-        items = [
-            one for item in items if (item.kind, item.name) == ("impl", name) for one in item.inner
-        ]
+        items = [one for item in items if (item.kind, item.name) == ("impl", name) for one in item.inner]
     return next((one for one in items if one.kind == "fn" and [one.name] == [*path[-1:]]), None)
 
 

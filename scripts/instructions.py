@@ -385,11 +385,10 @@ def main() -> int:
                 print(text_of([table]), flush=True)
     if not given.check:
         return 0
-    faults, shown = sources.unreported(wrong_cases())
     lines = check(made, PAGE.read_text(encoding="utf-8"))
-    faults += failing(lines)
+    faults = failing(lines)
     print(*lines, sep="\n")
-    return sources.ended(faults, f"{sum(len(rows) for _, rows in made)} rows, {len(faults)} failed; {shown}")
+    return sources.ended(faults, f"{sum(len(rows) for _, rows in made)} rows, {len(faults)} failed", wrong_cases())
 
 
 if __name__ == "__main__":

@@ -22,10 +22,7 @@ FEW = 10
 NO_DEFINITION = "no-definition"
 # The modules that have words, where a file does not bring one in.
 MODULES = {
-    "std.specs.Prelude": (
-        "true false nat_le nat_lt take drop min max is_none is_some "
-        "◌&&◌ ◌||◌ ◌+◌ ◌-◌ ◌*◌ ◌/◌ ◌%◌"
-    ),
+    "std.specs.Prelude": "true false nat_le nat_lt take drop min max is_none is_some ◌&&◌ ◌||◌ ◌+◌ ◌-◌ ◌*◌ ◌/◌ ◌%◌",
     "std.specs.List": "list_all list_any",
     "judge.proofs.Differ": "◌=!=◌ differ bytes_differ itself",
 }
@@ -110,9 +107,7 @@ def put_copy(room: str, copy: Copy, number: int) -> None:
     sources.write(f"{room}/proofs/V{number}.antt", "".join(f"pub mod {it}\n" for it in new))
 
 
-def errors_in(
-    rtlib: Any, words: Sequence[str], copies: Sequence[Copy]
-) -> dict[int, list[tuple[str, str]]]:
+def errors_in(rtlib: Any, words: Sequence[str], copies: Sequence[Copy]) -> dict[int, list[tuple[str, str]]]:
     """Checks copies, and returns the errors of each by its number: the file, and the worked value
     or else what the error says.
     """

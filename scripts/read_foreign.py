@@ -10,21 +10,16 @@ data or not at all. In each run the comparison is shown wrong cases of each symb
 of other data, a damaged one that is read as other data, and one that is not read, before, between and behind right
 ones.
 
-READER is the program that reads (scripts/foreign_reader.txt). Where none is named it is made in a copy of the crates,
-as `rt run` does: it proves them from nothing, which takes minutes. With --built it takes the libraries that `rt ci`
-proved. The last line is `N symbols: R read as asked; M damaged: D data or nothing`. Any other symbol is printed, and
-the status is then 1. Status 2: bad arguments, no kit, a program missing.
+The symbols are read by `liblabels.read` of Python, which calls the proved rules: the library is made of what `rt lib
+--cpu x86-64` leaves, or is the file of LABELS_LIBRARY. The last line is `N symbols: R read as asked; M damaged: D
+data, E nothing`. Any other symbol is printed, and the status is then 1. Status 2: bad arguments, or no library.
 """
 
 import itertools
-import json
-import os
 import random
 import re
-import shutil
 import subprocess
 import sys
-import tempfile
 from dataclasses import dataclass, replace
 from typing import Callable, Iterator
 
@@ -33,25 +28,17 @@ import numpy.typing
 import segno
 import zxingcpp
 
-import libraries
 import sources
 from compare_symbols import ALPHANUMERIC, LETTERS, capacity, with_other_bytes
 from pictures import DIGITS, with_check_digit
 
-# The crates that the reader needs, and its line in crates.txt.
-CRATES = (
-    *("gf256", "linear", "linear_reading", "device", "qrdata", "qrmatrix", "picture"),
-    *("qr_reading", "labelcore", "filter", "reading"),
-)
-READER = "foreign: device labelcore qr_reading reading"
-TEXT = os.path.join(sources.TOP, "scripts", "foreign_reader.txt")
-# The letter of each symbology in a record, and its quiet zones left, right, above and below, in modules.
-SYMBOLOGIES = {
-    "ean13": (b"e", (11, 7, 0, 0)),
-    "ean8": (b"8", (7, 7, 0, 0)),
-    "upca": (b"u", (9, 9, 0, 0)),
-    "code128": (b"c", (10, 10, 0, 0)),
-    "qr": (b"q", (4, 4, 4, 4)),
+# The quiet zones of each symbology: left, right, above and below, in modules.
+QUIET_ZONES = {
+    "ean13": (11, 7, 0, 0),
+    "ean8": (7, 7, 0, 0),
+    "upca": (9, 9, 0, 0),
+    "code128": (10, 10, 0, 0),
+    "qr": (4, 4, 4, 4),
 }
 # The digits of a symbol without its check digit, and what zint, ZXing and GNU barcode call it.
 NUMBERS = {
@@ -77,15 +64,11 @@ class Symbol:
     data: bytes
     modules: Modules
 
-    def record(self, scale: int) -> bytes:
-        """The symbol in its quiet zone as the reader takes it: a letter, three numbers of two bytes, and the dots."""
-        letter, (left, right, above, below) = SYMBOLOGIES[self.symbology]
+    def dots(self, scale: int) -> Modules:
+        """The symbol in its quiet zone, its modules squares of dots."""
+        left, right, above, below = QUIET_ZONES[self.symbology]
         framed = numpy.pad(self.modules, ((above, below), (left, right)))
-        dots = framed.repeat(scale, axis=0).repeat(scale, axis=1)
-        numbers = (scale, dots.shape[1], dots.shape[0])
-        return (
-            letter + b"".join(n.to_bytes(2, "big") for n in numbers) + (dots + ord("0")).astype(numpy.uint8).tobytes()
-        )
+        return framed.repeat(scale, axis=0).repeat(scale, axis=1)
 
     def told(self, found: bytes | None) -> str:
         read = "not read" if found is None else f"read as {found!r}"
@@ -221,84 +204,42 @@ def damaged(symbols: list[Symbol], count: int) -> list[Symbol]:
     return turned
 
 
-def readings(reader: str, symbols: list[Symbol]) -> list[bytes | None]:
-    """What each of the symbols is read as, at 1, 2 or 3 dots a module."""
-    records = b"".join(symbol.record(1 + place % 3) for place, symbol in enumerate(symbols))
-    ran = subprocess.run([reader], input=records, capture_output=True, check=True)
-    lines = ran.stdout.decode().splitlines()
-    if len(lines) != len(symbols):
-        sys.exit(f"{reader} printed {len(lines)} lines of {len(symbols)} symbols: {lines[-1:]}")
-    return [None if line == "none" else bytes(json.loads(line)) for line in lines]
+def readings(symbols: list[Symbol]) -> list[bytes | None]:
+    """What each of the symbols is read as, at 1, 2 or 3 dots a module; nothing of another symbology or scale."""
+    read = sources.library().read
+    scales = [1 + place % 3 for place in range(len(symbols))]
+    return [read(one.symbology, one.dots(scale) != 0, scale) for one, scale in zip(symbols, scales)]
 
 
-def faults(reader: str, symbols: list[Symbol], are_damaged: bool) -> list[str]:
+def faults(symbols: list[Symbol], are_damaged: bool) -> list[str]:
     """The symbols that are read otherwise than they should be."""
-    found = zip(symbols, readings(reader, symbols))
+    found = zip(symbols, readings(symbols))
     return [symbol.told(read) for symbol, read in found if read != symbol.data and not (are_damaged and read is None)]
 
 
-def wrong_cases(reader: str, symbol: Symbol) -> Iterator[tuple[str, bool]]:
+def wrong_cases(symbol: Symbol) -> Iterator[tuple[str, bool]]:
     """Wrong symbols before, between and behind right ones, each with whether the comparison reports it alone."""
     others = [replace(symbol, data=data) for data in with_other_bytes(symbol.data)]
     light = replace(symbol, modules=numpy.zeros_like(symbol.modules))
     for other, are_damaged in (*itertools.product(others, (False, True)), (light, False)):
         for place in range(3):
-            found = faults(reader, [symbol] * place + [other] + [symbol] * (2 - place), are_damaged)
+            found = faults([symbol] * place + [other] + [symbol] * (2 - place), are_damaged)
             where = f"number {place} of three{', damaged' if are_damaged else ''}"
             yield f"{where}: {other.told(symbol.data)}", len(found) == 1
-    yield "a damaged symbol that is not read, which is right", not faults(reader, [light], True)
-
-
-def copy_crates(folder: str, as_left: bool) -> None:
-    """Copies the crates that the reader needs, with their libraries where these are taken as they are, and adds the
-    reader's own crate."""
-    for crate in CRATES:
-        source, copy = (os.path.join(top, "crates", crate) for top in (sources.TOP, folder))
-        shutil.copytree(source, copy, ignore=shutil.ignore_patterns("out"))
-        if as_left and os.path.isdir(os.path.join(source, "out", "rlib")):
-            shutil.copytree(os.path.join(source, "out", "rlib"), os.path.join(copy, "out", "rlib"))
-    sources.write(os.path.join(folder, "crates", "foreign", "src", "main.rt"), sources.read(TEXT))
-    shutil.copy(os.path.join(sources.TOP, "HANDLES"), folder)
-    lines = sources.read(os.path.join(sources.TOP, "crates.txt")).splitlines()
-    kept = [line for line in lines if line.split(":")[0].split(" ")[0] in CRATES]
-    sources.write(os.path.join(folder, "crates.txt"), "\n".join([*kept, READER, ""]))
-
-
-def reader_made(folder: str, as_left: bool) -> str:
-    """The reader, made in a copy of the crates, over the libraries that `rt ci` left or over its own."""
-    copy_crates(folder, as_left)
-    reader = next(it for it in libraries.kit().crates_below(folder) if it.name == "foreign")
-    with open(os.path.join(folder, "said"), "w+", encoding="utf-8") as said:
-        for one in [*reader.below(), reader]:
-            one.out = said
-        not_built = libraries.build(reader.below(), as_left)
-        if not_built or reader.run(["--jobs", "1"], [], input=b"", stdout=subprocess.PIPE):
-            said.seek(0)
-            print(said.read(), file=sys.stderr)
-            sys.exit(2)
-    return os.path.join(str(reader.folder), "out", "foreign")
+    yield "a damaged symbol that is not read, which is right", not faults([light], True)
 
 
 def main() -> int:
-    parser = sources.parser_of(__doc__, has_top=False)
-    parser.add_argument(
-        "reader", nargs="?", metavar="READER", help="the program that reads (made where none is named)"
-    )
-    built = "take the libraries that `rt ci` left as they are; else prove them for the reader"
-    parser.add_argument("--built", action="store_true", help=built)
-    given = parser.parse_args()
-    if given.reader and not os.access(given.reader, os.X_OK):
-        parser.error(f"{given.reader} is no program")
-    with tempfile.TemporaryDirectory() as folder:
-        reader = os.path.abspath(given.reader) if given.reader else reader_made(folder, given.built)
-        symbols = all_symbols()
-        turned = damaged(symbols, 450)
-        wrong, torn = faults(reader, symbols, False), faults(reader, turned, True)
-        one_of_each = {it.symbology: it for it in symbols}.values()
-        unseen, shown = sources.unreported(case for one in one_of_each for case in wrong_cases(reader, one))
-    read, kept = len(symbols) - len(wrong), len(turned) - len(torn)
-    last = f"{len(symbols)} symbols: {read} read as asked; {len(turned)} damaged: {kept} data or nothing; {shown}"
-    return sources.ended([*wrong, *torn, *unseen], last)
+    sources.parser_of(__doc__, has_top=False).parse_args()
+    symbols = all_symbols()
+    turned = damaged(symbols, 450)
+    wrong, torn = faults(symbols, False), faults(turned, True)
+    one_of_each = {it.symbology: it for it in symbols}.values()
+    cases = [case for one in one_of_each for case in wrong_cases(one)]
+    nothing = readings(turned).count(None)
+    last = f"{len(symbols)} symbols: {len(symbols) - len(wrong)} read as asked; {len(turned)} damaged: "
+    last += f"{len(turned) - len(torn) - nothing} data, {nothing} nothing"
+    return sources.ended([*wrong, *torn], last, cases)
 
 
 if __name__ == "__main__":

@@ -143,7 +143,7 @@ def main() -> int:
     with tempfile.TemporaryDirectory() as name:
         folder = Path(name)
         build(REFUSE, folder / "refuse", "-fPIC", "-shared")
-        faults, shown = sources.unreported(wrong_cases(folder))
+        cases, faults = [*wrong_cases(folder)], list[str]()
         for arguments in (STORED, [*STORED, "stdin"], *OTHERS):
             outcomes, whole = refuse_each(folder, [program, *arguments])
             found += outcomes
@@ -151,7 +151,7 @@ def main() -> int:
                 faults.append(f"{arguments}: not the stored run")
     faults += [f"{found['wrong']} growths are wrong"] if found["wrong"] else []
     kinds = ", ".join(f"{found[kind]} {kind}" for kind in ("no memory", "unaffected", "wrong"))
-    return sources.ended(faults, f"{found.total()} growths: {kinds}; {shown}")
+    return sources.ended(faults, f"{found.total()} growths: {kinds}", cases)
 
 
 if __name__ == "__main__":

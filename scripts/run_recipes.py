@@ -254,11 +254,11 @@ def main() -> int:
         commands = {page: [*commands_of(page, given.kit)] for page in pages.RUN}
         manuals = {f"man/{page.name}": examples_of(page) for page in sorted((TOP / "man").glob("*.1"))}
         commands |= {name: found for name, found in manuals.items() if found or name == "man/labels.1"}
-        passes, shown = sources.unreported(wrong_cases())
+        cases = [*wrong_cases()]
         counts = [judged(name, faults_of(name, found, program, given.kit)) for name, found in commands.items()]
     count, good = map(sum, zip(*counts))
-    passes += [] if good == count else [f"{count - good} are not"]
-    return sources.ended(passes, f"{good} of {count} as printed; {shown}")
+    faults = [] if good == count else [f"{count - good} are not"]
+    return sources.ended(faults, f"{good} of {count} as printed", cases)
 
 
 if __name__ == "__main__":

@@ -266,7 +266,7 @@ def main() -> int:
     program = sources.program_given(__doc__)
     draw, scanners = random.Random(SEED), Scanners()
     labels = [*bar_codes(draw, OF_BARS), *qr_symbols(draw, OF_VERSION)]
-    faults, shown = sources.unreported(scanners.wrong_cases(program))
+    cases, faults = [*scanners.wrong_cases(program)], list[str]()
     inside: Counter[str] = Counter()
     outside: Counter[str] = Counter()
     for picture in pictures(program, labels):
@@ -283,8 +283,9 @@ def main() -> int:
         faults,
         f"{inside.total() // len(SCANNERS)} damaged labels, read twice: {inside['read']} as drawn, "
         f"{inside['unread']} not, {inside['misread']} misread, {inside['guessed']} guessed; beyond the limits: "
-        f"{outside['read']} as drawn, {outside['unread']} not, {outside['misread']} misread; {shown}; "
+        f"{outside['read']} as drawn, {outside['unread']} not, {outside['misread']} misread; "
         f"of {kinds_of(labels)}",
+        cases,
     )
 
 

@@ -1,11 +1,13 @@
 """What the scripts share: the repository, its crates and files, and how a command is run."""
 
 import argparse
+import functools
 import glob
+import importlib
 import os
 import subprocess
 import sys
-from typing import Iterable, Sequence
+from typing import Any, Iterable, Sequence
 
 # Debian's Python, which has the modules that the tools need, whatever is first on the path.
 PYTHON = "/usr/bin/python3"
@@ -67,19 +69,29 @@ def crates_of(top: str) -> list[str]:
     return listed
 
 
-def ended(faults: Iterable[str], last: str) -> int:
-    """Prints what a script found wrong, and its last line. Returns its status: 1 where something was wrong."""
-    found = [*faults]
-    print(*found, last, sep="\n", flush=True)
-    return 1 if found else 0
+@functools.cache
+def library() -> Any:
+    """The Python module `liblabels` over the library of LABELS_LIBRARY, which else is made of the proved one."""
+    if not os.environ.get("LABELS_LIBRARY"):
+        status, said = run(["make", "-s", "-C", "lib", f"OUT={TOP}/out/lib", "all"])
+        if status:
+            print(said, file=sys.stderr)
+            sys.exit(2)
+        (os.environ["LABELS_LIBRARY"],) = glob.glob(f"{TOP}/out/lib/liblabels.so.*")
+    sys.path.insert(0, f"{TOP}/lib/python")
+    return importlib.import_module("liblabels")
 
 
-def unreported(cases: Iterable[tuple[str, bool]]) -> tuple[list[str], str]:
-    """Of the wrong cases that a script was shown, each with whether it reported it: a line for each that it did not,
-    and how many there were. The last line has this number, and so has the file of counts: none is left out unseen."""
+def ended(faults: Iterable[str], last: str, cases: Iterable[tuple[str, bool]] = ()) -> int:
+    """Prints what a script found wrong, and its last line. Returns its status: 1 where something was wrong.
+
+    `cases` are the wrong cases that it was shown, each with whether it reported it: one that it did not is wrong too.
+    The last line says how many there were, and so does the file of counts: none is left out unseen.
+    """
     shown = [*cases]
-    passed = [f"this wrong case is not reported: {name}" for name, is_reported in shown if not is_reported]
-    return passed, f"{len(shown)} wrong cases shown"
+    found = [*faults, *(f"this wrong case is not reported: {name}" for name, is_reported in shown if not is_reported)]
+    print(*found, f"{last}; {len(shown)} wrong cases shown" if shown else last, sep="\n", flush=True)
+    return 1 if found else 0
 
 
 def read(path: str) -> str:

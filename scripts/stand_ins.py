@@ -37,9 +37,7 @@ def name_of_holder(name: str) -> str:
     return of_type + trait
 
 
-def functions_in(
-    file: reader.File, items: Iterable[reader.Declaration], path: str
-) -> Iterator[Function]:
+def functions_in(file: reader.File, items: Iterable[reader.Declaration], path: str) -> Iterator[Function]:
     """Yields the functions that items of a file have. Left out are `main`, those that call
     themselves, which are proved in the folder of their cycle, and those of an `impl` that is not
     the only one of its name, for which the kit has another.

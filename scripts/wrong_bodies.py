@@ -17,10 +17,6 @@ several functions, copies too, and those that are not tried have a hole for a pr
 (scripts/stand_ins.py). What fails only because it calls another is not judged, and is tried again
 without it.
 
-A wrong body should be refused for what it says. Where all that is wrong with its proof is that it
-names places which the changed body does not have, a right body would be refused too. Such bodies
-are counted and named: they want another form, one that keeps the places, or a `body:`.
-
 The status is 0 where each wrong body is refused, 1 where one is not or there is none, and 2 where
 an argument names no crate or there is no kit. For each crate a line says how many bodies it has
 and how long their checks took; a line `refused in CRATE:` has the names of those that were
@@ -53,36 +49,18 @@ PROVED = re.compile(r"no holes$|depends on a hole in `[^`]*\.Proof\.\w+_spec`")
 REFUSED = re.compile(r"not proved|no proof: expected answers|.*did not prove")
 # The line of a function whose given proof has errors, or rests on a lemma that has.
 STANDS_ON = re.compile(r"not proved; it stands on (.*?), which antt refuses")
-# An error in a given proof that names a place which the body does not have. Such a proof refuses a
-# right body too.
-OF_FORM = re.compile(
-    r"(`[^`]*`: )*(record `[^`]*`($| has no field| \(nearest)|module `[^`]*` has no `)"
-)
-# What follows from another error, and says nothing of its own.
-FOLLOWS = re.compile(r"\d+ declarations? that depends? on `.*`, which was (not admitted|rejected),")
 # What the prover says of a function where some goals wait for what it calls.
 NOT_TRIED = "`search` has not tried the goals of `{}::{}`,"
 LAST = re.compile(r"^(only|logic)=", re.M)
 
 
 class Outcome(Enum):
-    """What a check says of all functions of a body; `OF_FORM`: it is refused for its form alone;
-    `UNKNOWN`: one fails by what it calls.
-    """
+    """What a check says of all functions of a body; `UNKNOWN`: one fails by what it calls."""
 
     PROVED = auto()
     REFUSED = auto()
-    OF_FORM = auto()
     UNKNOWN = auto()
     NEITHER = auto()
-
-
-def is_of_form(function: str, said: str) -> bool:
-    """Whether a given proof fails for places alone that the function does not have."""
-    path = re.escape(function.replace("::", "/"))
-    errors = re.findall(rf"^\./proofs/{path}/[^/\n]*:\d+:\d+: error: (.*)", said, re.M)
-    own = [error for error in errors if not FOLLOWS.match(error)]
-    return bool(own) and all(OF_FORM.match(error) for error in own)
 
 
 def is_refused(line: str, of_others: tuple[str, ...]) -> bool:
@@ -101,9 +79,7 @@ def outcome(crate: str, body: Body, asked: Sequence[Body], said: str) -> Outcome
     """
     others = [name for it in asked for name in it.functions if name not in body.functions]
     of_others = tuple(f"Rattle.{crate}.proofs.{it.replace('::', '.')}." for it in others)
-    found = [
-        re.search(rf"^fn {crate}::{re.escape(it)}: (.*)$", said, re.M) for it in body.functions
-    ]
+    found = [re.search(rf"^fn {crate}::{re.escape(it)}: (.*)$", said, re.M) for it in body.functions]
     lines = [line[1] if line else "" for line in found]
     are_proved = [bool(PROVED.match(line)) for line in lines]
     if all(are_proved):
@@ -111,21 +87,19 @@ def outcome(crate: str, body: Body, asked: Sequence[Body], said: str) -> Outcome
     if any(are_proved) or not all(lines):
         return Outcome.NEITHER
     if all(is_refused(line, of_others) for line in lines):
-        is_alone = any(is_of_form(it, said) for it in body.functions)
-        return Outcome.OF_FORM if is_alone else Outcome.REFUSED
+        return Outcome.REFUSED
     are_tried = not any(NOT_TRIED.format(crate, it) in said for it in body.functions)
     return Outcome.PROVED if body.is_right and are_tried else Outcome.UNKNOWN
 
 
 @dataclass
 class Tried:
-    """What was tried in a crate: which wrong bodies were refused, which of them for their form
-    alone, how many right ones were accepted, and a line on each other.
+    """What was tried in a crate: which wrong bodies were refused, how many right ones were
+    accepted, and a line on each other.
     """
 
     crate: str
     refused: list[str] = field(default_factory=list)
-    of_form: list[str] = field(default_factory=list)
     accepted: int = 0
     checks: int = 0
     lines: list[str] = field(default_factory=list)
@@ -145,9 +119,8 @@ class Tried:
         """Counts a body that was judged."""
         if body.is_right and found is Outcome.PROVED:
             self.accepted += 1
-        elif not body.is_right and found in (Outcome.REFUSED, Outcome.OF_FORM):
+        elif not body.is_right and found is Outcome.REFUSED:
             self.refused.append(body.name)
-            self.of_form += [body.name] if found is Outcome.OF_FORM else []
         elif body.is_right:
             self.lines.append(f"{body.name}: it is right, and not reported as not refused")
         else:
@@ -274,11 +247,7 @@ def judged(results: Sequence[Tried], are_all: bool) -> int:
     """
     failed = [f"{tried.crate}/{line}" for tried in results for line in tried.lines]
     if are_all and not any(tried.accepted for tried in results):
-        failed.append(
-            "no right body was accepted: nothing shows that others are refused for what they are"
-        )
-    of_form = [f"{tried.crate}/{name}" for tried in results for name in tried.of_form]
-    print(f"{len(of_form)} refused for their form alone", *of_form, sep="\n  ")
+        failed.append("no right body was accepted: nothing shows that others are refused for what they are")
     passed = sum(len(tried.refused) + tried.accepted for tried in results)
     return sources.ended(failed, f"{passed} passed, {len(failed)} failed")
 

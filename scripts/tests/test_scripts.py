@@ -300,32 +300,6 @@ class Outcomes(InFolder):
             with self.subTest(head):
                 self.assertEqual(edits.call_of(item, is_method), wanted)
 
-    def test_refused_for_its_form_alone(self) -> None:
-        """Such a body is named: all errors of its proof are of places that it does not have."""
-        at = "./proofs/one/Answers.antt:1:2: error: "
-        no_field = "`returns`: record `One` has no field `cut`"
-        no_name = "module `Goals` has no `cut` that can be named"
-        follows = "2 declarations that depend on `cut`, which was rejected, were not checked: whole"
-        differs = "`returns`: as printed, the two types differ only where one has `1`"
-        self.edit(EDIT.format("2"))
-        for errors, is_of_form in (
-            ([no_field], True),
-            (["`returns`: record `One`", no_name, follows], True),
-            ([no_field, differs], False),
-            ([follows], False),
-            ([f"it is wrong: {no_name}"], False),
-            ([f"it is wrong: {no_field}"], False),
-            ([no_field, f"it is wrong: {follows}"], False),
-            (list[str](), False),
-        ):
-            said = "".join(f"{at}{error}\n" for error in errors)
-            for errors_of, wanted in ((said, is_of_form), (said.replace("/one/", "/one_more/"), False)):
-                with self.subTest(errors_of):
-                    with mock.patch.object(wrong_bodies, "check", return_value=errors_of + SAID.format("not proved")):
-                        with contextlib.redirect_stdout(io.StringIO()):
-                            tried = wrong_bodies.try_all(None, self.crate)
-                    self.assertEqual((tried.refused, tried.of_form), (["one"], ["one"] if wanted else []))
-
     def test_texts_that_are_not_tried(self) -> None:
         self.whole("2", "first")
         for text, said in (
@@ -350,19 +324,11 @@ class Outcomes(InFolder):
 
     def test_status(self) -> None:
         """What is wrong with a body is printed and makes the status 1; so does a run without a right body."""
-        one, none = wrong_bodies.Tried, "0 refused for their form alone\n"
+        one = wrong_bodies.Tried
         for results, are_all, wanted in (
-            ([one("a", ["b", "c"], [], 1)], True, (0, f"{none}3 passed, 0 failed\n")),
-            (
-                [one("a", ["b", "c"], ["c"], 0)],
-                False,
-                (0, "1 refused for their form alone\n  a/c\n2 passed, 0 failed\n"),
-            ),
-            (
-                [one("a", ["c"], [], 1, 0, ["b: NOT REFUSED"])],
-                True,
-                (1, f"{none}a/b: NOT REFUSED\n2 passed, 1 failed\n"),
-            ),
+            ([one("a", ["b", "c"], 1)], True, (0, "3 passed, 0 failed\n")),
+            ([one("a", ["b", "c"], 0)], False, (0, "2 passed, 0 failed\n")),
+            ([one("a", ["c"], 1, 0, ["b: NOT REFUSED"])], True, (1, "a/b: NOT REFUSED\n2 passed, 1 failed\n")),
         ):
             with contextlib.redirect_stdout(io.StringIO()) as said:
                 self.assertEqual((wrong_bodies.judged(results, are_all), said.getvalue()), wanted)
@@ -470,46 +436,6 @@ fn called() {
         self.assertTrue(hole.endswith("\ncount_spec 𝓤 𝓛 𝓜 𝓡 w = ?\n"))
 
 
-class Subjects(InFolder):
-    """The subjects of a history: as it is, cut off, written anew, or not there."""
-
-    def git(self, *words: str) -> None:
-        identity = ["-c", "user.name=One", "-c", "user.email=one@labels.invalid"]
-        status, said = run_command(["git", "-C", self.path("one"), *identity, *words])
-        self.assertEqual(status, 0, said)
-
-    def judged(self, folder: str, since: str) -> tuple[int, str]:
-        with mock.patch.object(module("subjects"), "SINCE", since):
-            status, said = in_copy(folder, "subjects.py")
-        return status, said.rstrip("\n").split("\n")[-1].removeprefix("3 wrong cases shown; ")
-
-    def test_histories(self) -> None:
-        os.mkdir(self.path("one"))
-        self.assertEqual(self.judged(self.path("one"), "HEAD~1"), (0, "0 subjects, 0 faults, and there is no history"))
-        self.git("init", "--quiet")
-        for subject in ("Before", "S" * 73, "S" * 72, "Last"):
-            self.git("commit", "--quiet", "--allow-empty", "-m", subject)
-        for since, wanted in (
-            ("HEAD~2", (0, "2 subjects, 0 faults")),
-            ("HEAD~3", (1, "3 subjects, 1 faults")),
-            (
-                "0" * 40,
-                (1, f"the history of HEAD has no commit {'0' * 40}: scripts/subjects.py has to name another one"),
-            ),
-        ):
-            with self.subTest(since):
-                self.assertEqual(self.judged(self.path("one"), since), wanted)
-        shallow = self.path("shallow")
-        run_command(["git", "clone", "--quiet", "--depth=2", f"file://{self.path('one')}", shallow])
-        cut = f"2 subjects, 0 faults, of a clone that lacks {'0' * 40}"
-        self.assertEqual(self.judged(shallow, "0" * 40), (0, cut))
-
-    def test_one_that_reports_nothing(self) -> None:
-        with mock.patch.object(module("subjects"), "faults_of", return_value=[]):
-            status, said = in_copy(TOP, "subjects.py")
-        self.assertEqual((status, said.count("this wrong case is not reported: ")), (1, 3), said)
-
-
 def unreported(cases: Iterable[tuple[str, bool]]) -> int:
     """How many of the cases that a script is shown it does not report."""
     return sum(not is_reported for _, is_reported in cases)
@@ -534,11 +460,11 @@ class Judges(unittest.TestCase):
         )
         for found, count in cases:
 
-            def bent(_reader: str, symbols: Sequence[Any]) -> list[bytes | None]:
+            def bent(symbols: Sequence[Any]) -> list[bytes | None]:
                 return [found(one) for one in symbols]
 
             with mock.patch.object(read_foreign, "readings", bent):
-                self.assertEqual(unreported(read_foreign.wrong_cases("reader", symbol)), count)
+                self.assertEqual(unreported(read_foreign.wrong_cases(symbol)), count)
 
     def test_turned_modules(self) -> None:
         """At both ends and in the middle: of a QR symbol one module, of a bar code one in all rows."""
@@ -585,50 +511,17 @@ class Judges(unittest.TestCase):
             with self.subTest(dump), mock.patch.object(compare_symbols.subprocess, "run", return_value=ran):
                 self.assertEqual(compare_symbols.is_as_zint(label, self.picture()), wanted)
 
-    def status(self, name: str, *arguments: str, **bent: Any) -> tuple[int, str]:
-        """The status of a script with some of its functions bent, and what it prints."""
-        script = module(name)
-        with contextlib.ExitStack() as stack:
-            for function, does in bent.items():
-                stack.enter_context(mock.patch.object(script, function, does))
-            stack.enter_context(mock.patch.object(sys, "argv", [f"{name}.py", *arguments]))
-            said = stack.enter_context(contextlib.redirect_stdout(io.StringIO()))
-            status = script.main()
-        return status, said.getvalue()
-
-    def assert_heeds(self, name: str, arguments: Sequence[str], shown: str, **bent: Any) -> None:
-        """All is right but for the wrong cases: a script ends with 0 where none passes, else with 1, and says it."""
-        self.assertEqual(self.status(name, *arguments, **{shown: lambda *_: iter(())}, **bent)[0], 0, name)
-        status, said = self.status(name, *arguments, **{shown: lambda *_: iter([("a wrong case", False)])}, **bent)
-        self.assertEqual((status, "a wrong case" in said), (1, True), said)
-
     def test_wrong_cases_that_pass_are_heeded(self) -> None:
-        label = compare_symbols.SHOWN[0]
-        self.assert_heeds(
-            "compare_symbols",
-            ["/bin/true"],
-            "wrong_cases",
-            all_labels=lambda: [label],
-            pictures_of=lambda *_: [self.picture()],
-            is_as_zint=lambda *_: True,
-            readings=lambda *_: [(label, label.full)],
-        )
-        self.assert_heeds(
-            "run_recipes", ["/bin/true"], "wrong_cases", faults_of=lambda *_: [""], examples_of=lambda *_: []
-        )
-        scan_damaged = module("scan_damaged")
-        scanners = mock.Mock()
-        scanners.return_value.scan.return_value = ["read", "read"]
-        for passed, status in ([], 0), ([("a wrong case", False)], 1):
-            scanners.return_value.wrong_cases.return_value = passed
-            shown = [scan_damaged.Picture(label, self.picture().repeat(9, 0).repeat(9, 1))]
-            found = self.status("scan_damaged", "/bin/true", Scanners=scanners, pictures=lambda *_: iter(shown))
-            self.assertEqual((found[0], "not reported: a wrong case" in found[1]), (status, bool(passed)), found)
-        growth = module("refuse_each_growth")
-        whole = (0, (growth.CRATE / "stdout").read_bytes(), b"")
-        fine = {"build": lambda *_: None, "refuse_each": lambda *_: (growth.Counter({"no memory": 1}), whole)}
-        status, said = self.status("refuse_each_growth", "/bin/true", **fine)
-        self.assertEqual((status, said.count("this wrong case is not reported: ")), (1, 8), said)
+        for cases, wanted in (
+            ([], (0, "fine\n")),
+            ([("one", True)], (0, "fine; 1 wrong cases shown\n")),
+            (
+                [("one", True), ("two", False)],
+                (1, "this wrong case is not reported: two\nfine; 2 wrong cases shown\n"),
+            ),
+        ):
+            with contextlib.redirect_stdout(io.StringIO()) as said:
+                self.assertEqual((sources.ended([], "fine", cases), said.getvalue()), wanted)
 
     def test_kinds(self) -> None:
         heads = ("ean13,height=9", "qr,level=L,min-version=2,mask=3", "qr,level=L", "ean13")
