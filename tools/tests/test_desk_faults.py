@@ -2,7 +2,6 @@
 an editor has changed, lanes that end, streams that are ended or that nobody reads.
 """
 
-import doctest
 import errno
 import fcntl
 import functools
@@ -17,13 +16,11 @@ import threading
 import time
 import unittest
 from pathlib import Path
-from types import ModuleType
 from typing import Optional
 from unittest import mock
 
 import support
 from labeltools import journal as journals
-from labeltools import report, selection
 from labeltools.journal import Journal
 from labeltools.messages import ToolError
 from labeltools.network import NetworkPrinter, Unreachable
@@ -658,15 +655,6 @@ def pipe_that_does_not_wait() -> tuple[int, int]:
     os.set_blocking(target, False)
     fcntl.fcntl(target, fcntl.F_SETPIPE_SZ, 4096)
     return source, target
-
-
-def load_tests(
-    loader: unittest.TestLoader, tests: unittest.TestSuite, _: object
-) -> unittest.TestSuite:
-    modules: list[ModuleType] = [journals, report, selection]
-    for module in modules:
-        tests.addTests(doctest.DocTestSuite(module))
-    return tests
 
 
 if __name__ == "__main__":

@@ -2,7 +2,6 @@
 lanes that end while others look, outputs that fill up, FIFOs that are replaced, libraries that talk.
 """
 
-import doctest
 import os
 import signal
 import socket
@@ -12,12 +11,11 @@ import time
 import unittest
 from contextlib import suppress
 from pathlib import Path
-from types import ModuleType
 from typing import Callable
 from unittest import mock
 
 import support
-from labeltools import files, network, sending, stream
+from labeltools import files, network, stream
 from labeltools.journal import Journal
 from labeltools.network import Broken, NetworkPrinter
 from printers import LABEL, Printer
@@ -653,15 +651,6 @@ class Choices(Folder):
 def open_files(stream: "subprocess.Popen[bytes]") -> list[Path]:
     """The open files of a stream."""
     return [path for path in Path(f"/proc/{stream.pid}/fd").iterdir() if path.exists()]
-
-
-def load_tests(
-    loader: unittest.TestLoader, tests: unittest.TestSuite, _: object
-) -> unittest.TestSuite:
-    modules: list[ModuleType] = [sending]
-    for module in modules:
-        tests.addTests(doctest.DocTestSuite(module))
-    return tests
 
 
 if __name__ == "__main__":

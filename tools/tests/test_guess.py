@@ -1,13 +1,11 @@
 """What the columns of a table are guessed to be for, on tables of many shops, with decoys."""
 
-import doctest
 import tempfile
 import unittest
 from pathlib import Path
 from typing import Sequence
 
 import support
-from labeltools import guess as guesses
 from labeltools.guess import Guess, guess, guess_of
 from labeltools.messages import Silence
 from labeltools.table_options import FileOptions, TableOptions
@@ -446,14 +444,6 @@ class Prices(unittest.TestCase):
             self.assertNotIn("price", guess(columns, 1).columns, name)
         prices = ["Preis", "1.299,00", "899,00", "12,50"]
         self.assertEqual(guess([["EAN", *CODES], prices], 1).columns["price"], 1)
-
-
-def load_tests(
-    loader: unittest.TestLoader, tests: unittest.TestSuite, _: object
-) -> unittest.TestSuite:
-    for module in (guesses,):
-        tests.addTests(doctest.DocTestSuite(module))
-    return tests
 
 
 if __name__ == "__main__":

@@ -2,17 +2,13 @@
 commands.
 """
 
-import doctest
 import io
 import re
 import sys
 import unittest
-from types import ModuleType
 from unittest import mock
 
 import support
-from labeltools import codes, columns, csv_table, lines_file, messages, money, names, number_format
-from labeltools import ods, prices, summary, symbologies, workbook, xlsx
 from labeltools.lines_file import Label, first_remark, label_lines, last_remark, read_lines
 from labeltools.messages import Place, ToolError, write_message
 from labeltools.symbologies import SYMBOLOGIES
@@ -136,17 +132,6 @@ class LinesFile(unittest.TestCase):
         ):
             text = self.file().replace(b'"row":4', f'"row":4,"{key}":{value}'.encode())
             self.assertRegex(self.refused(text), "^x: line 4: not understood: ")
-
-
-def load_tests(
-    loader: unittest.TestLoader, tests: unittest.TestSuite, _: object
-) -> unittest.TestSuite:
-    shared: list[ModuleType] = [messages, symbologies, lines_file]
-    readers: list[ModuleType] = [csv_table, workbook, xlsx, ods, number_format]
-    rules: list[ModuleType] = [codes, columns, money, names, prices, summary]
-    for module in (*shared, *readers, *rules):
-        tests.addTests(doctest.DocTestSuite(module))
-    return tests
 
 
 if __name__ == "__main__":
