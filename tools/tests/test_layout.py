@@ -95,6 +95,7 @@ class Boxes(unittest.TestCase):
         self.assertGreater(seen, 600)
 
     def test_dots_of_a_thermal_printer(self) -> None:
+        seen = 0
         for size, design in itertools.product(SIZES, ("article", "shelf")):
             laid = laid_out(
                 support.file_of([(line, FULL) for line in EVERY]),
@@ -103,9 +104,11 @@ class Boxes(unittest.TestCase):
                 design=design,
                 is_roll=True,
             )
+            seen += len(laid.labels)
             for item in laid.labels:
                 look(self, laid, item)
                 self.assertIsNone(laid.fault(item), (size, design))
+        self.assertGreater(seen, 60)
 
     def test_hostile_texts(self) -> None:
         prices = ("0,80 €", "12.999,00 zł", "")
@@ -125,6 +128,7 @@ class Boxes(unittest.TestCase):
         for line in EVERY:
             laid = laid_out(filed(FULL, line=line), (50.0, 90.0), 203, turn=True)
             self.assertTrue(laid.prepared.laid_out.area.is_turned)
+            self.assertEqual(len(laid.labels), 1)
             for item in laid.labels:
                 upright = laid.dots(item, AROUND)
                 turned = numpy.rot90(laid.dots(item, AROUND, is_turned=True))
@@ -290,20 +294,23 @@ class Sizes(unittest.TestCase):
 
     def test_modules(self) -> None:
         """No module below 80 % of an EAN, 0.249 mm of it on a roll, or 0.25 mm of others."""
+        seen = set[str]()
         for dpi, is_roll in itertools.product(
             (96, 150, 180, 203, 300, 360, 600, 720, 1200), (False, True)
         ):
-            data = "\n".join(EVERY).encode()
+            data = "".join(f"{line}\n" for line in EVERY).encode()
             for size in ((120.0, 60.0), (40.0, 30.0)):
                 laid = laid_out(data, size, dpi, is_roll=is_roll)
                 for item in laid.labels:
                     module = laid.millimetres(item.layout.module)
                     symbology = item.layout.symbology
+                    seen.add(item.label.record.symbology)
                     least = 0.25
                     if symbology.is_number:
                         least = ROLL_SMALLEST if is_roll else 0.264
                     self.assertGreaterEqual(module, least, (dpi, size))
                     self.assertLessEqual(module, 0.6601 if symbology.nominal else 1.06)
+        self.assertEqual(seen, {*SYMBOLOGIES})
 
     def test_an_ean_at_75_per_cent_is_for_rolls_alone(self) -> None:
         self.assertEqual(len(laid_out(filed(PRICED), (40.0, 30.0), 203).labels), 0)
@@ -312,10 +319,14 @@ class Sizes(unittest.TestCase):
         self.assertIsNone(roll.fault(roll.labels[0]))
 
     def test_bars_are_never_below_5_mm(self) -> None:
+        seen = set[str]()
+        data = "".join(f"{line}\n" for line in EVERY[:4]).encode()
         for size, dpi in itertools.product(SIZES, (203, 300, 600)):
-            laid = laid_out("\n".join(EVERY[:4]).encode(), size, dpi, design="shelf", is_roll=True)
+            laid = laid_out(data, size, dpi, design="shelf", is_roll=True)
+            seen |= {item.label.record.symbology for item in laid.labels}
             for item in laid.labels:
                 self.assertGreaterEqual(laid.millimetres(item.layout.boxes["bars"].height), 5, size)
+        self.assertEqual(seen, {*SYMBOLOGIES} - {"qr"})
 
     def test_qr_grows_up_to_a_millimetre(self) -> None:
         modules = []
@@ -467,6 +478,7 @@ class Words(unittest.TestCase):
 
     def test_a_price_is_whole_and_in_its_place(self) -> None:
         laid = laid_out(filed(PRICED, {**PRICED, "price": "12.999,00 zł"}), (60.0, 40.0), 203)
+        self.assertEqual(len(laid.labels), 2)
         for item in laid.labels:
             price = laid.pen.text_of("price", item.label, item.layout)[0]
             self.assertEqual(price, item.label.price)
