@@ -211,7 +211,37 @@ static void a_region_of_bits_is_read(void) {
     SEE(answer.code == LABELS_BAD_OPTION);
 }
 
+/* A picture whose width has five digits and whose height has four takes all of its room. The largest symbol has as
+ * many modules, and as much data, as the header says. */
+static void the_header_is_right(void) {
+    char data[LABELS_MAX_DATA + 1];
+    uint32_t width, height;
+    unsigned major, minor, patch;
+    begin();
+    options.format = LABELS_PBM;
+    options.scale = 8;
+    options.height = 500;
+    for (size_t i = 0; i < 80; i++)
+        data[i] = i % 2 ? 'a' : '\1';
+    labels_proved_draw(&options, LABELS_CODE128, data, 80, out, 0, message, sizeof message, &answer);
+    size_t length = answer.length;
+    labels_proved_bitmap(&options, LABELS_CODE128, data, 80, modules, 0, 0, message, sizeof message, &width,
+                         &height, &answer);
+    SEE(width > 9999 && height > 999 && length == LABELS_PICTURE_ROOM(width, height));
+    memset(data, '1', sizeof data);
+    options.level = LABELS_LEVEL_L;
+    for (size_t more = 0; more < 2; more++) {
+        labels_proved_symbol(&options, LABELS_QR, data, LABELS_MAX_DATA + more, modules, sizeof modules, message,
+                             sizeof message, full, sizeof full, &info, &answer);
+        SEE(answer.code == (more ? LABELS_DOES_NOT_FIT : LABELS_OK));
+        SEE(more || (answer.length == LABELS_MAX_MODULES && info.data_length == LABELS_MAX_DATA));
+    }
+    SEE(sscanf(LABELS_VERSION, "%u.%u.%u", &major, &minor, &patch) == 3);
+    SEE(LABELS_VERSION_NUMBER == (major << 16 | minor << 8 | patch));
+}
+
 int main(void) {
+    the_header_is_right();
     a_picture_is_put_and_its_length_answered();
     modules_are_put_row_by_row();
     a_line_is_put_skipped_or_refused();
