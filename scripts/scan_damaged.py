@@ -19,8 +19,8 @@ what the scanners make of some labels there is counted too. In each run labels o
 others that differ from them at one end, and an EAN-13 in place of one from which two modules tell it apart, as the
 worked values say; the run fails unless both scanners read them as the other one and are caught.
 
-The last line is `N damaged labels, read twice: F as drawn, U not, M misread, G guessed; beyond the limits: ..; of K of
-each kind`: symbology, level and version. Status 2: bad arguments, no such program.
+The last line is `N damaged labels, read twice: F as drawn, U not, M misread, G of S guessed; beyond the limits: ..; of
+K of each kind`: symbology, level and version. Status 2: bad arguments, no such program.
 """
 
 import functools
@@ -234,9 +234,10 @@ class Scanners:
         found = zxingcpp.read_barcode(grays, formats=self.formats)
         return {symbol.data.encode() for symbol in image}, {found.bytes} if found else set()
 
-    def scan(self, picture: Picture, pixels: Pixels, wrong: str = "misread", is_shown: bool = True) -> list[str]:
-        """What each scanner made of a picture: `read`, `unread`, or for other data the word `wrong`, shown."""
-        results = []
+    def scan(self, picture: Picture, pixels: Pixels, is_guess: bool = False, is_shown: bool = True) -> list[str]:
+        """What each scanner made of a picture: `read`, `unread`, or for other data `misread`, and `guessed` where the
+        reading rules of the standard read nothing; such data is shown."""
+        results, wrong = [], "guessed" if is_guess else "misread"
         for scanner, found in zip(SCANNERS, self.read(pixels)):
             is_right = {*map(plain, found)} == {plain(picture.label.full)}
             if found and not is_right and is_shown:
@@ -253,8 +254,9 @@ class Scanners:
             one, *rest = pictures(program, [label_of(head, text) for text in (data, *others)])
             for other in rest:
                 for label, drawn in ((one, other), (other, one)):
-                    found = self.scan(label, drawn.pixels, is_shown=False)
-                    yield f"{drawn.label.line()!r} as {label.label.line()!r}", found == ["misread"] * len(SCANNERS)
+                    for is_guess, word in ((False, "misread"), (True, "guessed")):
+                        found = self.scan(label, drawn.pixels, is_guess, is_shown=False)
+                        yield f"{drawn.label.line()!r} as {label.label.line()!r}", found == [word] * len(SCANNERS)
 
 
 def plain(data: bytes) -> bytes:
@@ -267,6 +269,7 @@ def main() -> int:
     draw, scanners = random.Random(SEED), Scanners()
     labels = [*bar_codes(draw, OF_BARS), *qr_symbols(draw, OF_VERSION)]
     cases, faults = [*scanners.wrong_cases(program)], list[str]()
+    guesses = 0
     inside: Counter[str] = Counter()
     outside: Counter[str] = Counter()
     for picture in pictures(program, labels):
@@ -274,7 +277,8 @@ def main() -> int:
             faults.append(f"{picture.label.line()!r} is read by no scanner as it is drawn")
         damaged = [(pixels, False) for pixels in positions(picture.pixels)] + [*within(picture, draw)]
         for pixels, is_guess in damaged:
-            inside.update(scanners.scan(picture, pixels, "guessed" if is_guess else "misread"))
+            inside.update(scanners.scan(picture, pixels, is_guess))
+        guesses += sum(is_guess for _, is_guess in damaged)
         for pixels in beyond(picture, draw):
             outside.update(scanners.scan(picture, pixels, is_shown=False))
     faults += [f"{inside['misread']} damaged labels are read as other data"] if inside["misread"] else []
@@ -282,7 +286,8 @@ def main() -> int:
     return sources.ended(
         faults,
         f"{inside.total() // len(SCANNERS)} damaged labels, read twice: {inside['read']} as drawn, "
-        f"{inside['unread']} not, {inside['misread']} misread, {inside['guessed']} guessed; beyond the limits: "
+        f"{inside['unread']} not, {inside['misread']} misread, {inside['guessed']} of {guesses} guessed; "
+        f"beyond the limits: "
         f"{outside['read']} as drawn, {outside['unread']} not, {outside['misread']} misread; "
         f"of {kinds_of(labels)}",
         cases,
