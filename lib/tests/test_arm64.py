@@ -1,4 +1,4 @@
-"""liblabels for arm64: its files, and that it draws as that for amd64 does. qemu-user runs it."""
+"""liblabels for arm64, and for the oldest amd64: that it draws as on this processor. qemu-user runs it."""
 
 import random
 import tempfile
@@ -6,12 +6,14 @@ import unittest
 from pathlib import Path
 
 import random_lines
-from support import LIB, PROVED, PROVED_ARM64, WithLibrary, run, text_of
+from support import LIB, PROGRAM, PROVED, PROVED_ARM64, WithLibrary, run, text_of
 
 LINES = 1000
 PREFIX = "aarch64-linux-gnu-"
 # It runs programs for arm64 with the C library of the cross compiler.
 QEMU = ("qemu-aarch64", "-L", "/usr/aarch64-linux-gnu")
+# A processor of amd64 with none of the instructions that came with x86-64-v2 and -v3, nor with SSE3.
+OLDEST = ("qemu-x86_64", "-cpu", "qemu64,-sse3,-ssse3,-sse4.1,-sse4.2,-popcnt,-cx16")
 TOOLS = [
     f"{name}={PREFIX}{tool}" for name, tool in (("CC", "gcc"), ("LD", "ld"), ("AR", "ar"), ("OBJCOPY", "objcopy"))
 ]
@@ -29,10 +31,26 @@ class Arm64(WithLibrary):
         self.assertEqual(done.returncode, 0, text_of(done))
         return out
 
+    def lines(self) -> bytes:
+        rng = random.Random(64)
+        return b"".join(random_lines.line(rng, number % 2 == 0) + b"\n" for number in range(LINES))
+
+    def test_the_oldest_amd64(self) -> None:
+        """The library and the program give the same bytes there; one with a newer instruction ends."""
+        text, place = self.lines(), "    labels_answer own;\n"
+        for program in (self.program("gcc", PROVED), PROGRAM):
+            wanted, found = run(program, given=text), run(*OLDEST, program, given=text)
+            self.assertIn(wanted.returncode, (0, 1))
+            self.assertEqual(*((it.returncode, it.stdout, it.stderr) for it in (found, wanted)))
+        for newer in ("andn %rax, %rbx, %rcx", "crc32b %al, %ecx", "pabsd %xmm1, %xmm0", "haddps %xmm1, %xmm0"):
+            with self.subTest(newer):
+                code = f'__asm__ volatile("{newer.replace("%", "%%")}" ::: "rcx", "xmm0", "cc");\n'
+                source = self.library.changed(("labels.c", place, place + code))
+                self.assertLess(run(*OLDEST, self.program("gcc", PROVED, source), given=text).returncode, 0)
+
     def test_lines(self) -> None:
         """Random lines give the same bytes on both processors, and another library gives others."""
-        rng = random.Random(64)
-        text = b"".join(random_lines.line(rng, number % 2 == 0) + b"\n" for number in range(LINES))
+        text = self.lines()
         wanted = self.run_ok(self.program("gcc", PROVED), given=text)
         self.assertEqual(wanted.count(b"\n"), LINES)
         arm64 = f"{PREFIX}gcc"

@@ -53,15 +53,6 @@ WRONG = (
     ("a stack that can be executed", (("Makefile", "noexecstack", "execstack"),)),
     ("not of every amd64 processor", (("labels.c", LAST, LAST + '\n__asm__(".text\\npopcnt %rax, %rax\\n");'),)),
 )
-# Instructions that came with x86-64-v2 and -v3, each in a program.
-NEWER = (
-    *("pshufb %xmm1, %xmm0", "popcnt %rax, %rax", "ptest %xmm1, %xmm0", "pmulld %xmm1, %xmm0"),
-    *("pinsrb $1, %eax, %xmm0", "pinsrd $1, %eax, %xmm0", "pinsrq $1, %rax, %xmm0"),
-    *("pextrb $1, %xmm0, %eax", "pextrd $1, %xmm0, %eax", "pextrq $1, %xmm0, %rax"),
-    *("palignr $1, %xmm1, %xmm0", "pcmpeqq %xmm1, %xmm0", "pmovzxbw %xmm1, %xmm0", "pmovsxbd %xmm1, %xmm0"),
-    *("pblendw $1, %xmm1, %xmm0", "bzhi %rax, %rax, %rax", "shlx %rax, %rax, %rax", "shrx %rax, %rax, %rax"),
-    *("vmovaps %ymm1, %ymm0", "vpmovmskb %ymm0, %eax"),
-)
 
 
 class Built(WithLibrary):
@@ -97,15 +88,6 @@ class Built(WithLibrary):
                 self.assertEqual(made.returncode, 0, text_of(made))
                 status, text = self.check(out)
                 self.assertEqual((status, said in text), (1, True), text)
-
-    def test_each_newer_instruction_is_refused(self) -> None:
-        program = Path(self.library.folder, "newer.o")
-        for instruction in NEWER:
-            with self.subTest(instruction):
-                program.with_suffix(".s").write_text(f".text\n{instruction}\n", encoding="utf-8")
-                self.run_ok("gcc", "-c", program.with_suffix(".s"), "-o", program)
-                status, text = self.check(self.library.built, program)
-                self.assertEqual((status, "an instruction that is not of every amd64" in text), (1, True), text)
 
     def test_each_file_is_looked_for(self) -> None:
         folder = Path(tempfile.mkdtemp(dir=self.library.folder))
