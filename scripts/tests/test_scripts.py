@@ -748,6 +748,7 @@ PLANTED = (
     (FIELD, "◌<◌}", "◌<◌, ◌*◌}", ("the imported name ◌*◌ is not used",)),
     (FIELD, "alpha, ", "alpha, twice, ", ("the imported name twice is not used",)),
     (FIELD, "use crate", "use std::io::{ErrorKind};\nuse crate", ("the imported name ErrorKind is not used",)),
+    (FIELD, "use crate", "use device::{Sink};\nuse crate", ("the imported name Sink is not used",)),
     (FIELD, "", "\nfn lonely() {\n    lonely()\n}\n", ("nothing calls the function lonely",)),
     (FIELD, "", "\npub fn one() -> u8 {\n    1\n}\n", ("nothing calls the function one",)),
 )
