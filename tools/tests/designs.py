@@ -7,7 +7,8 @@ from typing import Any, Sequence
 import jobs
 import support
 from labeltools.messages import Silence
-from labeltools.own_layout import OwnLayout, OwnText
+from labeltools.own_fit import OwnText
+from labeltools.own_layout import OwnLayout
 from labeltools.pen import Medium
 from labeltools.press import pen_of
 from labeltools.print_job import Prepared, PrintOptions, labels_of, planned
