@@ -15,7 +15,6 @@ from enum import Enum, auto
 from itertools import pairwise
 from typing import NamedTuple, Sequence, Union
 
-from labeltools.codes import IS_ROUNDED_DATA, PROGRAM_ERROR, ROUNDED, ROUNDED_HINT
 from labeltools.messages import RowError, named, quoted
 from labeltools.text import NOTHING, Text
 
@@ -23,6 +22,12 @@ LONGEST_CELL = 131068
 LONGEST_ERROR = 30  # letters of what a program writes in place of a text
 FORMULA_OF_TEXT = re.compile('="((?:[^"]|"")*)"')
 ERROR = re.compile(r"#(?:##+|N/A|N/D|NV|Н/Д|GETTING_DATA|[^\s#]{1,15} ?[!?])|Err:[0-9]{3}")
+# LibreOffice's name of an error in its languages, before the number of the error
+ERROR_WORDS = (
+    "err|error|erreur|erro|errore|fehler|fout|feil|fejl|fel|virhe|hiba|chyba|błąd|greška|napaka"
+    "|eroare|viga|klaida|kļūda|hata|ошибка|помилка|грешка|σφάλμα|エラー|错误|錯誤|오류"
+)
+PROGRAM_ERROR = re.compile(rf"(?:{ERROR_WORDS})\.? ?: ?5[0-9]{{2}}", re.IGNORECASE)
 SPECIAL_STARTS = "=#E"  # of formulas, and of the names of errors
 ODD_STARTS = f"{SPECIAL_STARTS} \t\n\r\v\f"  # of cells that are looked at closely
 # what a program writes where it has no text, maybe in brackets; `True` may be a title
@@ -34,6 +39,9 @@ BRACKETS = "()[]<>{}"
 UNSEEN_CODE = re.compile("C[cf]|Z[lps]|.*(?:SELECTOR|FILLER|JOINER|INHERENT|PATTERN BLANK)")
 UNSEEN_TEXT = re.compile("Cc|Z[lp]|Cf .*(?:EMBEDDING|OVERRIDE|ISOLATE|DIRECTIONAL)")
 UNSEEN_PRICE = re.compile("C[cf]|Z[lp]")
+IS_ROUNDED_DATA = re.compile("[0-9](?:[.,][0-9]+)?[Ee][+][0-9]{2,}")
+ROUNDED = Text("the spreadsheet has rounded the number")
+ROUNDED_HINT = Text("format the column as text, enter it again")
 STRUCK = Text("has letters that are struck through")
 UNSEEN = Text("has letters that nobody sees")
 WITHOUT = Text("enter it again without them")

@@ -6,6 +6,7 @@ from functools import cached_property
 from typing import NamedTuple, Sequence
 
 from labeltools.text import NOTHING, Text, counted, joined
+from labeltools.cells import IS_ROUNDED_DATA, PROGRAM_ERROR, ROUNDED, ROUNDED_HINT
 from labeltools.messages import RowError, named, quoted
 from labeltools.money import NO_VALUES
 from labeltools.symbologies import (
@@ -31,10 +32,7 @@ WITH_SIGNS = re.compile(
 ISBN_10 = re.compile("(?:[0-9][- ]?){8,9}[0-9Xx]")
 # 4,00635E+12 shows at most six digits; as 4006350000000 it has six zeros before the check digit
 LOOKS_ROUNDED = re.compile("[0-9]*0{6}[0-9]|(?=.{11})0*[0-9]{1,6}0+")
-ROUNDED = Text("the spreadsheet has rounded the number")
-ROUNDED_HINT = Text("format the column as text, enter it again")
 IS_ROUNDED = re.compile("[0-9]+(?:[.,][0-9]+)?[Ee][+]?[0-9]+")
-IS_ROUNDED_DATA = re.compile("[0-9](?:[.,][0-9]+)?[Ee][+][0-9]{2,}")
 # the digits of an add-on, which is printed beside the bars of a magazine or a book
 ADD_ONS = {15: (13, 2), 17: (12, 5), 18: (13, 5)}
 KEYS = sorted({key for one in SYMBOLOGIES.values() for key in one.settings})
@@ -59,12 +57,6 @@ DRAWN = (
         Text("take it away"),
     ),
 )
-# LibreOffice's name of an error in its languages, before the number of the error
-ERROR_WORDS = (
-    "err|error|erreur|erro|errore|fehler|fout|feil|fejl|fel|virhe|hiba|chyba|błąd|greška|napaka"
-    "|eroare|viga|klaida|kļūda|hata|ошибка|помилка|грешка|σφάλμα|エラー|错误|錯誤|오류"
-)
-PROGRAM_ERROR = re.compile(rf"(?:{ERROR_WORDS})\.? ?: ?5[0-9]{{2}}", re.IGNORECASE)
 # what GS1's texts in brackets begin with: an SSCC, or a GTIN
 IN_BRACKETS = re.compile(r"\((?:00\)(?=[0-9]{18})|0[12]\)(?=[0-9]{14}))([0-9]+).*", re.DOTALL)
 NO_CHECK_DIGITS = Text("if the column has no check digits, give --without-check-digit")

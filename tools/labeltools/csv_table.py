@@ -8,11 +8,11 @@ from itertools import count, islice
 from typing import NamedTuple
 
 from labeltools.encoding import decoded
+from labeltools.file_options import CsvOptions
 from labeltools.text import Text
 from labeltools.messages import BAD_ARGUMENTS, RowError, Talk, ToolError, named, quoted
 from labeltools.names import name_of, row_of_names
 from labeltools.rows import Row
-from labeltools.table_options import TableOptions
 
 LARGEST_FILE = 40 << 20  # bytes
 LONGEST_LINE = 1 << 20  # letters
@@ -106,7 +106,7 @@ class CsvTable:
     text: str
     begin: int
     delimiter: str
-    options: TableOptions
+    options: CsvOptions
 
     def records(self) -> Iterator[Record]:
         """Yields the rows of the text."""
@@ -136,12 +136,12 @@ class CsvTable:
         below = (row for row in self.records() if row.number > head.number and not row.is_blank())
         beside = [len(row.cells) - width for row in below if len(row.cells) >= named]
         rest = beside[0] if len(beside) > 1 and len(set(beside)) == 1 else 0
-        asked = {int(one) - 1 for one in self.options.columns.asked if one.isdecimal()}
+        asked = {int(one) - 1 for one in self.options.asked if one.isdecimal()}
         has_names = self.options.file.has_header is not False
         return Shape(head.number, named, width, max(rest, 0), asked if has_names else range(width))
 
 
-def csv_table(data: bytes, name: str, options: TableOptions, talk: Talk) -> CsvTable:
+def csv_table(data: bytes, name: str, options: CsvOptions, talk: Talk) -> CsvTable:
     """Returns a table of text; raises `ToolError` where its encoding or its delimiter is not
     sure.
     """
@@ -175,7 +175,7 @@ def first_row(rows: Iterator[Record], number: int | None) -> Record | None:
     return None
 
 
-def delimiter_of(text: str, begin: int, given: str | None, options: TableOptions) -> str:
+def delimiter_of(text: str, begin: int, given: str | None, options: CsvOptions) -> str:
     """Returns the delimiter: the one that was given, or else the one that row 1 has and that is
     surely no data.
     """
@@ -192,16 +192,16 @@ def delimiter_of(text: str, begin: int, given: str | None, options: TableOptions
         return later
     if is_cut and is_sure(text, begin, best, options):
         return best
-    if is_cut or options.codes.is_free:
+    if is_cut or options.is_free:
         refuse_delimiter(text, begin, [best] if is_cut else marks)
     return ONE_COLUMN
 
 
-def is_sure(text: str, begin: int, mark: str, options: TableOptions) -> bool:
+def is_sure(text: str, begin: int, mark: str, options: CsvOptions) -> bool:
     """Returns whether a mark that row 1 has is a delimiter, and not a part of the data of its only
     column.
     """
-    if not options.codes.is_free or mark == "\t" or set(options.columns.asked) != {"1"}:
+    if not options.is_free or mark == "\t" or set(options.asked) != {"1"}:
         return True
     return text[begin : begin + 100].lstrip("\r\n").startswith('"')
 
@@ -219,7 +219,7 @@ def refuse_delimiter(text: str, begin: int, marks: Sequence[str]) -> None:
                 raise ToolError(Text("row {} has {}", row.number, named(mark)), hint, BAD_ARGUMENTS)
 
 
-def delimiter_of_names(text: str, begin: int, options: TableOptions) -> str:
+def delimiter_of_names(text: str, begin: int, options: CsvOptions) -> str:
     """Returns the delimiter by which a row below has all the names that were asked for; empty for
     none.
     """
@@ -227,13 +227,13 @@ def delimiter_of_names(text: str, begin: int, options: TableOptions) -> str:
         return ""
     for mark in ("\t", ";", ","):
         rows = islice(parsed(text, begin, mark), NAMES_LOOKED_AT)
-        found = row_of_names(((row.number, row.cells) for row in rows), options.columns.asked)
+        found = row_of_names(((row.number, row.cells) for row in rows), options.asked)
         if found > 1:
             return mark
     return ""
 
 
-def fitness(text: str, begin: int, mark: str, options: TableOptions) -> Fitness:
+def fitness(text: str, begin: int, mark: str, options: CsvOptions) -> Fitness:
     """Returns how well a delimiter fits the row of names and the rows below."""
     header_row = options.file.header_row or 0
     rows = list(islice(parsed(text, begin, mark), header_row + ROWS_LOOKED_AT))
@@ -241,7 +241,7 @@ def fitness(text: str, begin: int, mark: str, options: TableOptions) -> Fitness:
     if not filled_rows:
         return Fitness(False, False, 0)
     names = list(map(name_of, filled_rows[0]))
-    asked = options.columns.asked
+    asked = options.asked
     are_there = all(name_of(column) in names or column.isdecimal() for column in asked)
     return Fitness(
         len(names) > 1, are_there, sum(len(cells) == len(names) for cells in filled_rows)

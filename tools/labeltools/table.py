@@ -10,6 +10,7 @@ from labeltools.text import NOTHING, Text, counted
 from labeltools.columns import Column, Head, columns_of, names_of
 from labeltools.codes import is_in_brackets
 from labeltools.csv_table import csv_table
+from labeltools.file_options import CsvOptions
 from labeltools.drafts import RowReader
 from labeltools.line_writer import LineWriter, contents_of
 from labeltools.messages import BAD_ARGUMENTS, Place, RowError, Talk, ToolError, quoted
@@ -131,7 +132,8 @@ def rows_of(
             what = Text("{} is CSV", name) if is_csv else Text("{} is no CSV", name)
             raise ToolError(what, Text("leave --{} away", option), BAD_ARGUMENTS)
     if is_csv:
-        return csv_table(data, name, options, talk).rows()
+        how = CsvOptions(options.file, options.columns.asked, options.codes.is_free)
+        return csv_table(data, name, how, talk).rows()
     return rows_of_workbook(data, name, options.file.sheet, formatter)
 
 

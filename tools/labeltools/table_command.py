@@ -8,6 +8,7 @@ import sys
 from pathlib import Path
 from typing import Any, Callable, Sequence, TypeVar
 
+from labeltools.file_options import FileOptions
 from labeltools.text import NOTHING, Text, joined
 from labeltools.codes import AUTO, NAMES, CodeRules
 from labeltools.columns import column_word
@@ -22,7 +23,7 @@ from labeltools.number_format import date_section
 from labeltools.prices import PricePattern
 from labeltools.symbologies import SYMBOLOGIES
 from labeltools.table import Lines, lines_of_table
-from labeltools.table_options import ColumnOptions, FileOptions, PriceRules, TableOptions
+from labeltools.table_options import ColumnOptions, PriceRules, TableOptions
 
 TOOL = "label-table"
 ABOUT = """Writes the lines of labels(1), and what belongs to each label, from a table: CSV, .xlsx

@@ -5,6 +5,7 @@ from dataclasses import dataclass, field, fields
 from typing import Any, Generic, TypeVar
 
 from labeltools.codes import CodeRules
+from labeltools.file_options import FileOptions
 from labeltools.lines_file import LinesFile
 from labeltools.prices import PricePattern
 
@@ -62,26 +63,6 @@ class Columns(Generic[C]):
 
 
 ColumnOptions = Columns[str]
-
-
-@dataclass(frozen=True)
-class FileOptions:
-    """How the file is read.
-
-    `has_header` is whether the first row has names, None where that is to be seen; `header_row` is
-    the row of the names, from 1, None for the first one that is not empty. `decimal` is the decimal
-    sign of .xlsx, None for that of the locale; `date_as` is how dates are printed, empty for what
-    the spreadsheet shows.
-    """
-
-    sheet: str | None = None
-    hidden: bool = False
-    decimal: str | None = None
-    date_as: str = ""
-    delimiter: str | None = None
-    encoding: str | None = None
-    has_header: bool | None = None
-    header_row: int | None = None
 
 
 @dataclass(frozen=True)
