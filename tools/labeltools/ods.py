@@ -278,37 +278,35 @@ class Reader:
                     self.end(text)
                 elif depth == in_row:
                     in_row = 0
-                    for row in self.end_row():
-                        yield self.sheet, row
+                    yield from ((self.sheet, row) for row in self.end_row())
                 if not in_row:
                     path.pop()
                 depth -= 1
-                continue
-            depth += 1
-            if in_cell:
+            elif in_cell:
+                depth += 1
                 self.begin(name, found, text, depth - in_cell)
-                continue
-            if in_row:
-                in_cell = depth
+            elif in_row:
+                depth = in_cell = depth + 1
                 self.begin_cell(found)
-                continue
-            path.append(name)
-            at = GROUPS.sub("", "/".join(path[1:])) if name in NAMES else ""
-            if at == TABLE:
-                self.begin_sheet()
-                yield self.sheet, Row(0, ())
-            elif at == f"{TABLE}/table-column":
-                self.add_columns(found)
-            elif at == f"{TABLE}/table-row":
-                in_row = depth
-                self.begin_row(found)
+            else:
+                depth += 1
+                path.append(name)
+                at = GROUPS.sub("", "/".join(path[1:])) if name in NAMES else ""
+                if at == TABLE:
+                    yield self.begin_sheet()
+                elif at == f"{TABLE}/table-column":
+                    self.add_columns(found)
+                elif at == f"{TABLE}/table-row":
+                    in_row = depth
+                    self.begin_row(found)
 
-    def begin_sheet(self) -> None:
-        """Begins a sheet."""
+    def begin_sheet(self) -> tuple[int, Row]:
+        """Begins a sheet, and returns its number and an empty row."""
         self.sheet += 1
         self.columns = []
         self.number = 1
         self.merges = []
+        return self.sheet, Row(0, ())
 
     def add_columns(self, attributes: Mapping[str, str]) -> None:
         """Adds the style of columns, which may be repeated."""

@@ -4,7 +4,7 @@ import posixpath
 import re
 from dataclasses import dataclass, field
 from decimal import Decimal
-from typing import Iterator, Mapping, NamedTuple
+from typing import Iterator, Mapping, NamedTuple, Sequence
 from zipfile import ZipFile
 
 from labeltools import number_format
@@ -213,9 +213,7 @@ def styles_of(archive: ZipFile, part: str) -> Styles:
             are_filled.append(True)
         elif path == "cellXfs/xf":
             styles.formats.append(by_number.get(found.get("numFmtId", "0"), LANGUAGE))
-            form = fonts[whole(found.get("fontId", "0"))] if fonts else PLAIN
-            is_filled = bool(are_filled) and are_filled[whole(found.get("fillId", "0"))]
-            styles.forms.append(form.within(Form(is_filled=is_filled)))
+            styles.forms.append(form_of(found, fonts, are_filled))
         elif path == "dxfs/dxf":
             count += 1
         elif path == "dxfs/dxf/numFmt":
@@ -225,6 +223,13 @@ def styles_of(archive: ZipFile, part: str) -> Styles:
     styles.formats = styles.formats or ["General"]
     styles.forms = styles.forms or [PLAIN]
     return styles
+
+
+def form_of(found: Mapping[str, str], fonts: Sequence[Form], are_filled: Sequence[bool]) -> Form:
+    """Returns the form of a style by the numbers of its font and its filling."""
+    form = fonts[whole(found.get("fontId", "0"))] if fonts else PLAIN
+    is_filled = bool(are_filled) and are_filled[whole(found.get("fillId", "0"))]
+    return form.within(Form(is_filled=is_filled))
 
 
 def having(form: Form, name: str, attributes: Mapping[str, str]) -> Form:
@@ -351,16 +356,52 @@ def text_of(text: str | Letters, style: str, form: Form) -> Cell:
     return found
 
 
+@dataclass
+class SheetReader:
+    """Reads a sheet row by row, with what the sheet says beside its rows."""
+
+    book: Book
+    beside: Beside
+    one: CellReader
+    number: int = 0
+    merges: list[Merge] = field(default_factory=list)
+    row: Mapping[str, str] = field(default_factory=dict)
+    cells: list[Cell] = field(default_factory=list)
+    links: dict[int, str] = field(default_factory=dict)
+    doubts: dict[int, Doubt] = field(default_factory=dict)
+
+    def begin_row(self, attributes: Mapping[str, str]) -> None:
+        """Begins a row."""
+        before, self.number = self.number, whole(attributes.get("r", str(self.number + 1)), 1)
+        if self.number <= before:
+            raise out_of_order(self.number)
+        self.row, self.cells, self.doubts = attributes, [], {}
+        self.links = dict(self.beside.links.get(self.number, {}))
+
+    def end_cell(self) -> None:
+        """Puts the cell that was read in its place."""
+        one = self.one
+        place = place_in(one.attributes, len(self.cells))
+        if place < len(self.cells):
+            raise out_of_order(self.number)
+        filled(self.cells, place).append(one.cell())
+        if self.cells[-1] and one.form().mark is Mark.WHITE:
+            self.doubts[place] = Doubt.UNSEEN
+        if one.formula and (found := HYPERLINK.fullmatch(one.formula)):
+            self.links[place] = found[1]
+
+    def end_row(self) -> Iterator[Row]:
+        """Returns the row that was read, and what is to be seen of those between."""
+        number, cells = self.number, self.cells
+        self.merges = merges_at(self.merges, number) + self.beside.merges.get(number, [])
+        doubts = self.doubts | self.beside.doubts(number, len(cells))
+        row = Row(number, cells, None, is_unseen(self.row), self.merges, self.links, doubts=doubts)
+        return rows_from(row, 1)
+
+
 def sheet_rows(archive: ZipFile, path: str, book: Book) -> Iterator[Row]:
     """Yields the rows of a sheet."""
-    beside = beside_of(archive, path, book.styles)
-    merges: list[Merge] = []
-    number = 0
-    row: Mapping[str, str] = {}
-    cells: list[Cell] = []
-    links: dict[int, str] = {}
-    doubts: dict[int, Doubt] = {}
-    one = CellReader(book)
+    reader = SheetReader(book, beside_of(archive, path, book.styles), CellReader(book))
     is_inside = False
     for name, attributes, text in events(archive, path, ["row"]):
         if name == ROWS:
@@ -368,35 +409,21 @@ def sheet_rows(archive: ZipFile, path: str, book: Book) -> Iterator[Row]:
         elif not is_inside:
             continue
         elif name == "c" and attributes is not None:
-            one = CellReader(book, attributes)
+            reader.one = CellReader(book, attributes)
         elif name == "c":
-            place = place_in(one.attributes, len(cells))
-            if place < len(cells):
-                raise out_of_order(number)
-            filled(cells, place).append(one.cell())
-            if cells[-1] and one.form().mark is Mark.WHITE:
-                doubts[place] = Doubt.UNSEEN
-            if one.formula and (found := HYPERLINK.fullmatch(one.formula)):
-                links[place] = found[1]
+            reader.end_cell()
         elif name == "v" and attributes is None:
-            one.value = text
+            reader.one.value = text
         elif name == "f":
-            one.formula = text
+            reader.one.formula = text
         elif name == "row" and attributes is not None:
-            before, number = number, whole(attributes.get("r", str(number + 1)), 1)
-            if number <= before:
-                raise out_of_order(number)
-            row, cells, doubts = attributes, [], {}
-            links = dict(beside.links.get(number, {}))
+            reader.begin_row(attributes)
         elif name == "row":
-            merges = merges_at(merges, number) + beside.merges.get(number, [])
-            doubts |= beside.doubts(number, len(cells))
-            found_row = Row(number, cells, None, is_unseen(row), merges, links, doubts=doubts)
-            yield from rows_from(found_row, 1)
+            yield from reader.end_row()
         elif attributes is not None:
-            one.letters.begin(name, attributes)
+            reader.one.letters.begin(name, attributes)
         else:
-            one.letters.end(name, text)
+            reader.one.letters.end(name, text)
 
 
 def place_in(cell: Mapping[str, str], after: int) -> int:
