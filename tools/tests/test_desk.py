@@ -517,7 +517,7 @@ class Streams(Folder):
     def test_what_is_said_of_a_design(self) -> None:
         """Once, but of each text that is shortened; these lines are no answers."""
         place = '<rect data-place="title, lines=1" x="2" y="2" width="20" height="4"/>'
-        odd = '<path fill="CanvasText" d="M30 2H39V9Z"/>'
+        odd = '<path style="fill:var(--ink)" d="M30 2H39V9Z"/>'
         titles = ("A long title of many words", "A", "Another long title of words")
         lines = "".join(f'#{{"title":"{title}"}}\nqr A\n' for title in titles)
         path = designs.written(Path(self.folder, "own.svg"), place + odd + designs.CODE)
@@ -527,7 +527,7 @@ class Streams(Folder):
         words_before = (line.split()[0] for line in done.stderr.decode().splitlines())
         said = [word for word in words_before if word in (note, "taken")]
         self.assertEqual(said, [note, note, "taken", "taken", note, "taken"], done.stderr)
-        self.assertEqual(done.stderr.count(b"CanvasText"), 1)
+        self.assertEqual(done.stderr.count(b"var(--ink)"), 1)
         self.assertEqual(done.stderr.count(b": shortened to fit, with an ellipsis\n"), 2)
 
     def test_the_status(self) -> None:
