@@ -270,6 +270,7 @@ class Reader:
         path: list[str] = []  # around the rows
         depth = in_row = in_cell = 0  # the depths of the row and of the cell that are read
         for name, found, text in events(archive, "content.xml", ["table-row"]):
+            depth += found is not None
             if found is None:
                 if depth == in_cell:
                     in_cell = 0
@@ -283,13 +284,11 @@ class Reader:
                     path.pop()
                 depth -= 1
             elif in_cell:
-                depth += 1
                 self.begin(name, found, text, depth - in_cell)
             elif in_row:
-                depth = in_cell = depth + 1
+                in_cell = depth
                 self.begin_cell(found)
             else:
-                depth += 1
                 path.append(name)
                 at = GROUPS.sub("", "/".join(path[1:])) if name in NAMES else ""
                 if at == TABLE:
