@@ -11,6 +11,7 @@ import stat
 import sys
 import time
 from contextlib import suppress
+from dataclasses import replace
 from io import BytesIO
 from pathlib import Path
 from typing import Any, Callable, Iterable, Optional, Sequence
@@ -42,10 +43,11 @@ from labeltools.print_job import (
     Prepared,
     PrintOptions,
     drawn_lines,
+    form_of,
     planned,
     prepared,
 )
-from labeltools.printer import check_queue, lp_words, print_by, typed
+from labeltools.printer import Queue, lp_words, print_by, queue_of, typed
 from labeltools.report import places_text, report
 from labeltools.selection import ROWS, selection_of
 from labeltools.sending import OUTPUT, Outlet, Sender, StandardOutput, doubts
@@ -329,10 +331,22 @@ def write_files(press: Press, items: Iterable[LaidOut], paths: Iterable[Path]) -
         press.talk.go_on(number, 0)
 
 
-def print_on(press: Press, prints: Prints, queue: str) -> str:
-    """Prints labels on a queue of CUPS and returns what lp(1) says."""
+def print_on(press: Press, prints: Prints, queue: Queue) -> Text:
+    """Prints labels on a queue of CUPS and returns what was sent where."""
     with press.spooled(prints) as whole:
-        return print_by(press.job, queue, whole)
+        number = print_by(press.job, queue, whole)
+    labels = counted("{} label", "{} labels", len(prints))
+    text = Text("{} sent to {}, at {} dpi: job {}", labels, queue.name, press.job.plan.dpi, number)
+    return joined("; ", filter(None, (text, queue.doubt)))
+
+
+def send_to(press: Press, prints: Prints, name: str) -> Text:
+    """Sends labels one by one to a printer in the network, and returns what it took; raises
+    `ToolError`.
+    """
+    sender = Sender(NetworkPrinter(name))
+    sender.send_until((), press, prints)
+    return Text("{} taken by {}", counted("{} label", "{} labels", sender.taken), name)
 
 
 def say(found: Prepared) -> None:
@@ -476,10 +490,14 @@ def run() -> int:
     options = options_of(arguments)
     if arguments.list_stock is not None:
         return listed(arguments.list_stock)
+    queue = queue_asked(arguments)
+    if queue and options.dpi is None:
+        is_sheet = bool(options.stock or options.cell) and not form_of(options).is_roll
+        options = replace(options, dpi=queue.dpi_for(is_sheet) or None)
     job = planned(options)
     forget()
     check_arguments(arguments, job)
-    check_output(arguments, job)
+    check_output(arguments, job, queue)
     if arguments.is_stream:
         from labeltools import stream
 
@@ -491,7 +509,14 @@ def run() -> int:
     if job.form == DESIGN and found.labels:
         write_design(found)
         return 1 if found.left_out else 0
-    return give_out(arguments, options, found, talk)
+    return give_out(arguments, found, queue, talk)
+
+
+def queue_asked(arguments: argparse.Namespace) -> Optional[Queue]:
+    """Returns what the queue of CUPS says on which labels are printed, if they are."""
+    if arguments.queue is None or arguments.is_stream or is_single(arguments):
+        return None
+    return queue_of(arguments.queue)
 
 
 def make_streams_wait() -> None:
@@ -508,34 +533,37 @@ def is_single(arguments: argparse.Namespace) -> bool:
     return bool(arguments.journal or (arguments.queue or "").startswith(SCHEME))
 
 
-def check_output(arguments: argparse.Namespace, job: PrintJob) -> None:
+def check_output(arguments: argparse.Namespace, job: PrintJob, queue: Optional[Queue]) -> None:
     """Raises `ToolError` where labels cannot go out, before the input is read."""
-    if arguments.queue is None:
-        if arguments.each is None:
-            standard_output()
-    elif not is_single(arguments):
-        require_printable(job, arguments.queue)
+    if queue is not None:
+        if lp_words(job, queue.name) is None:
+            what = Text("--print: printers do not take {}", job.form.name)
+            raise ToolError(what, Text("give --to pdf, zpl or escpos"), BAD_ARGUMENTS)
+        queue.options(job)
+    elif arguments.queue is None and arguments.each is None:
+        standard_output()
 
 
 def give_out(
-    arguments: argparse.Namespace, options: PrintOptions, found: Prepared, talk: PrintTalk
+    arguments: argparse.Namespace, found: Prepared, queue: Optional[Queue], talk: PrintTalk
 ) -> int:
     """Writes labels, prints them or sends them; returns 1 where one is left out or doubtful."""
     job = found.job
     press = found.press(talk)
     items = found.labels
-    prints = found.prints if options.each is None else once(items)
-    check_count(job, prints, options.each is not None)
-    if options.each is not None:
-        write_files(press, items, paths_of(items, options.each))
+    prints = found.prints if arguments.each is None else once(items)
+    check_count(job, prints, arguments.each is not None)
+    if arguments.each is not None:
+        write_files(press, items, paths_of(items, arguments.each))
     elif is_single(arguments):
         return send_each(arguments, press, found)
-    elif arguments.queue is not None:
-        write_message(TOOL, Text("{}", print_on(press, prints, arguments.queue)))
+    elif queue is not None:
+        write_message(TOOL, print_on(press, prints, queue))
     else:
         write(press, prints, chosen_by(arguments), lines_of(arguments, found))
         if arguments.summary or sys.stderr.isatty():
-            write_message(TOOL, summary_of(job, prints, items if options.only else ()))
+            only = arguments.rows_only or arguments.codes
+            write_message(TOOL, summary_of(job, prints, items if only else ()))
     return 1 if found.left_out else 0
 
 
@@ -587,11 +615,3 @@ def found_labels(
     """Returns the labels of a file, or of standard input; what was read is freed."""
     lines = drawn_lines(options, *read_input(path), talk)
     return prepared(options, job, lines, talk)
-
-
-def require_printable(job: PrintJob, queue: str) -> None:
-    """Raises `ToolError` where a queue cannot print a job."""
-    if lp_words(job, queue) is None:
-        what = Text("--print: printers do not take {}", job.form.name)
-        raise ToolError(what, Text("give --to pdf, zpl or escpos"), BAD_ARGUMENTS)
-    check_queue(job, queue)

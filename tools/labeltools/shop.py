@@ -27,7 +27,7 @@ from labeltools.table import Lines, lines_of_table
 CONFIG = os.environ.get("XDG_CONFIG_HOME") or Path.home() / ".config"
 MEMORY = Path(CONFIG, "labels", "window.json")
 COLUMNS = ("code", "title", "text", "text-2", "price", "unit-price", "old-price", "copies")
-PAPER = ("sheet", "roll", "stock", "width", "height", "design", "to", "dpi")
+PAPER = ("sheet", "roll", "stock", "width", "height", "design", "to", "dpi", "address")
 FILES = "files.json"  # the words by which files were read
 MOST_FILES = 200
 Choices = Mapping[str, Any]  # by the names of the options

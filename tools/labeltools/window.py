@@ -21,9 +21,10 @@ from labeltools.gtk import Gdk, Gio, GLib, Gtk, Pango
 from labeltools.menu import Menu, add_recent
 from labeltools.own_design import is_file
 from labeltools.preview import Preview
-from labeltools.print_command import check_count, print_on
+from labeltools.network import SCHEME, address_of
+from labeltools.print_command import check_count, print_on, send_to
 from labeltools.print_job import Prepared
-from labeltools.printer import check_queue, media_of, queues
+from labeltools.printer import media_of, queue_of, queues
 from labeltools.shop import COLUMNS, Choices, Table, Talk, compare
 from labeltools.stock import list_stock
 from labeltools.words import _
@@ -32,11 +33,12 @@ FILE = Path(__file__).with_name("window.ui")
 # the controls by the names of options, and the property of each that has what is chosen
 CONTROLS = {
     **dict.fromkeys((*COLUMNS, "symbology", "design", "to", "dpi"), "active-id"),
-    **dict.fromkeys(("stock", "for-table", "for-print"), "text"),
+    **dict.fromkeys(("stock", "for-table", "for-print", "address"), "text"),
     **dict.fromkeys(("header-row", "first", "width", "height"), "value"),
     **dict.fromkeys(("sheet", "roll", "new-only"), "active"),
 }
 A_FILE = "file"  # the choice of a design of one's own
+OF_DRIVER = "cups-"  # what the names of choices begin with that a driver understands
 MANY = 1000  # labels above it are asked for before they are printed
 MOST_NOTES = 2000
 DOT = 2  # pixels of a dot, where dots are looked at
@@ -80,7 +82,7 @@ class Window(Gtk.ApplicationWindow):
     sheet, stock, first, roll, width, height, design = (child() for _ in range(7))
     to, dpi, for_table, for_print = (child() for _ in range(4))
     # their lists
-    columns, sheets, designs, notes, completion = (child() for _ in range(5))
+    columns, sheets, designs, resolutions, notes, completion = (child() for _ in range(6))
     # what is shown
     head, stack, result, guessed, below = (child() for _ in range(5))
     paper, desk, view, number, of, count, left_out, left_out_list = (child() for _ in range(8))
@@ -89,7 +91,7 @@ class Window(Gtk.ApplicationWindow):
     info, problem, offers, done, said, working, progress = (child() for _ in range(7))
     # dialogs and menus
     opener, design_opener, saver, many, naming, setup_name = (child() for _ in range(6))
-    menu_button = child()
+    network, address, menu_button = (child() for _ in range(3))
     open_button, save_button, print_button = map(child, ("open", "save", "print"))
 
     labels: Prepared  # that were made last
@@ -121,6 +123,8 @@ class Window(Gtk.ApplicationWindow):
         self.last_design = ARTICLE.name
         self.table: Table | None = None
         self.has_labels = False  # that are chosen
+        self.printing: Any = None  # the job that is being sent: without this GTK would drop it
+        self.doubt: Text | None = None  # about its printer
         self.let_out(False)
         self.offer_sheets()
         self.drag_dest_set(Gtk.DestDefaults.ALL, [], Gdk.DragAction.COPY)
@@ -273,10 +277,12 @@ class Window(Gtk.ApplicationWindow):
     def take(self, choices: Choices) -> None:
         """Takes choices, but for what somebody has written into the file of them."""
         for name, value in choices.items():
-            with suppress(KeyError, TypeError):
+            with suppress(KeyError, TypeError, ValueError):
                 kind = CONTROLS[name]
                 if name == "design":
                     self.offer_design(value)
+                if name == "dpi":
+                    self.offer_resolution(value)
                 self.control(name).set_property(kind, value)
 
     def choices(self) -> Choices:
@@ -308,6 +314,13 @@ class Window(Gtk.ApplicationWindow):
             self.take({"dpi": USUAL_DPI.get(printer.get_active_id(), "600")})
             self.path = path
             self.make()
+
+    def offer_resolution(self, dpi: str) -> None:
+        """Offers the dots an inch of a printer."""
+        known = [int(row[1]) for row in self.resolutions]
+        if int(dpi) not in known:
+            place = sum(other < int(dpi) for other in known)
+            self.resolutions.insert(place, [f"{dpi} dpi", dpi])
 
     def offer_design(self, name: str) -> None:
         """Offers a design of a file, before the choice of another one."""
@@ -478,10 +491,34 @@ class Window(Gtk.ApplicationWindow):
 
     def print(self, _none: None) -> None:
         """Prints by the dialog of the desktop."""
-        action = Gtk.PrintOperationAction.PRINT_DIALOG
-        result = self.operation().run(action, self)
-        if result in (Gtk.PrintOperationResult.APPLY, Gtk.PrintOperationResult.IN_PROGRESS):
-            self.keep_printed()
+        self.printing = self.operation()
+        self.printing.run(Gtk.PrintOperationAction.PRINT_DIALOG, self)
+
+    def print_at(self, settings: Any) -> None:
+        """Prints as a dialog was answered."""
+        self.printing = self.operation()
+        self.printing.set_print_settings(settings)
+        self.printing.run(Gtk.PrintOperationAction.PRINT, self)
+
+    def cancel(self, operation: Any) -> None:
+        """Ends a job before anything of it is sent."""
+        self.printing = None
+        operation.cancel()
+
+    def on_sent(self, operation: Any) -> None:
+        """Says what was sent where, or that nothing was. GTK says "done" where pages are drawn, and
+        not sent yet.
+        """
+        status = operation.get_status()
+        settings = operation.get_print_settings()
+        file = settings.get("output-uri")
+        name = Path(file).name if file else settings.get_printer()
+        if status == Gtk.PrintStatus.FINISHED_ABORTED and operation is self.printing:
+            self.show_problem(ToolError(Text("nothing was sent to {}", name)))
+        elif status == Gtk.PrintStatus.FINISHED:
+            count = len(self.labels.prints)
+            text = counted("{} label sent to {}", "{} labels sent to {}", count, name)
+            self.say("\n".join(map(translated, filter(None, (text, self.doubt)))))
 
     def keep_printed(self) -> None:
         """Keeps which labels went out."""
@@ -507,10 +544,13 @@ class Window(Gtk.ApplicationWindow):
     def ask_queue(self, names: list[str]) -> None:
         """Asks for a queue for the file of a printer's own language."""
         menu = Gtk.Menu()
-        for name in names or [_("there is no printer")]:
-            item = Gtk.MenuItem(label=name, sensitive=bool(names), visible=True)
+        for name in names:
+            item = Gtk.MenuItem(label=name, visible=True)
             item.connect("activate", self.send, name)
             menu.append(item)
+        item = Gtk.MenuItem(label=_("A printer in the network…"), visible=True)
+        item.connect("activate", self.ask_address)
+        menu.append(item)
         south = Gdk.Gravity.SOUTH_WEST
         menu.popup_at_widget(self.print_button, south, Gdk.Gravity.NORTH_WEST, None)
 
@@ -518,11 +558,27 @@ class Window(Gtk.ApplicationWindow):
         """Sends what label-print writes to a queue: each label is compared before."""
         labels = self.labels
 
-        def work(talk: Talk) -> str:
-            check_queue(labels.job, queue)
-            return print_on(labels.press(talk), labels.prints, queue)
+        def work(talk: Talk) -> Text:
+            press = labels.press(talk)
+            if queue.startswith(SCHEME):
+                return send_to(press, labels.prints, queue)
+            return print_on(press, labels.prints, queue_of(queue))
 
-        self.start(work, self.say)
+        self.start(work, lambda text: self.say(translated(text)))
+
+    def ask_address(self, item: Any) -> None:
+        """Asks where a printer is in the network, and sends to it."""
+        answer = self.network.run()
+        self.network.hide()
+        if answer == Gtk.ResponseType.OK:
+            name = SCHEME + self.address.get_text().strip().removeprefix(SCHEME)
+            try:
+                address_of(name)
+            except ToolError as error:
+                self.show_problem(error)
+            else:
+                self.keep()
+                self.send(item, name)
 
     def operation(self) -> Any:
         """Returns what prints each page in its own size: no scaling, no margins of the printer."""
@@ -539,7 +595,6 @@ class Window(Gtk.ApplicationWindow):
         setup.set_paper_size(Gtk.PaperSize.new_from_ppd(media_of(pages.size), _("Labels"), *points))
         settings = Gtk.PrintSettings()
         settings.set("cups-print-scaling", "none")
-        settings.set("cups-Resolution", f"{dpi}dpi")
         operation = Gtk.PrintOperation(
             default_page_setup=setup,
             print_settings=settings,
@@ -552,21 +607,49 @@ class Window(Gtk.ApplicationWindow):
         )
         operation.connect("begin-print", self.check_printer)
         operation.connect("draw-page", draw)
+        operation.connect("status-changed", self.on_sent)
         return operation
 
     def check_printer(self, operation: Any, _context: Any) -> None:
-        """Prints nothing where the printer that was chosen has other dots than the labels; a file
-        has any.
+        """Tells the printer that was chosen which dots the labels have. Where it has other ones,
+        nothing is printed: the labels are made with these. A file has any.
         """
         settings = operation.get_print_settings()
-        queue = settings.get_printer()
-        if not queue or settings.get("output-uri"):
+        name = settings.get_printer()
+        self.doubt = None
+        if not name or settings.get("output-uri"):
             return
         try:
-            check_queue(self.labels.job, queue)
+            queue = queue_of(name, chosen_in(settings))
         except ToolError as error:
-            operation.cancel()
+            self.cancel(operation)
             self.show_problem(error)
+            return
+        self.doubt = queue.doubt
+        job = self.labels.job
+        dpi = queue.dpi_for(not job.plan.sheet.is_single) or job.plan.dpi
+        if dpi % job.plan.dpi:
+            self.cancel(operation)
+            self.make_for(name, dpi)
+        elif resolution := queue.options(job).get("Resolution"):
+            self.cancel(operation)  # what the dialog told the printer cannot be changed here
+            settings = settings.copy()
+            settings.set(f"{OF_DRIVER}Resolution", resolution)
+            GLib.idle_add(self.print_at, settings)
+
+    def make_for(self, printer: str, dpi: int) -> None:
+        """Makes the labels with the dots of a printer, to be looked at before they are printed."""
+        self.take({"dpi": str(dpi)})
+        what = Text("{} prints at {} dpi: the labels are drawn for it now", printer, dpi)
+        problem = ToolError(what, Text("look at them, and print again"))
+        if self.table is not None:
+            work = partial(self.table.labels, self.choices())
+            self.start(work, partial(self.show_for_printer, self.table, problem))
+
+    def show_for_printer(self, table: Table, problem: ToolError, labels: Prepared) -> None:
+        """Shows the labels that were made for a printer, and says so."""
+        self.show_labels(table, labels)
+        self.show_problem(problem)
 
     def show_command(self) -> None:
         """Shows the line that does the same in a shell."""
@@ -591,6 +674,17 @@ class Window(Gtk.ApplicationWindow):
 def said(what: Text, hint: Text) -> str:
     """Returns a reason, and below it what to do."""
     return "\n".join(translated(text) for text in (what, hint) if text)
+
+
+def chosen_in(settings: Any) -> dict[str, str]:
+    """Returns what was chosen of the driver in the dialog of the desktop, by its names."""
+    found: dict[str, str] = {}
+    settings.foreach(lambda name, value: found.setdefault(name, value))
+    return {
+        name.removeprefix(OF_DRIVER): value
+        for name, value in found.items()
+        if name.startswith(OF_DRIVER)
+    }
 
 
 def lacking(window: Any) -> list[str]:

@@ -7,6 +7,7 @@ test that needs what is not there is skipped, with a message; NO_SKIP=1 makes it
 """
 
 import importlib
+import importlib.util
 import io
 import json
 import os
@@ -158,6 +159,12 @@ def needs(*programs: str) -> None:
     missing = [program for program in programs if shutil.which(program) is None]
     if missing:
         skip(f"not installed: {', '.join(missing)}")
+
+
+def needs_module(name: str) -> None:
+    """Skips a test where a module of Debian's Python is not there."""
+    if importlib.util.find_spec(name) is None:
+        skip(f"{name} is not there")
 
 
 def skip(message: str) -> NoReturn:

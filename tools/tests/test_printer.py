@@ -11,26 +11,17 @@ from unittest import mock
 import jobs
 import support
 from labeltools.print_job import PrintOptions, planned
-from labeltools.printer import lp_words
+from labeltools.printer import lp_words, queue_of, queues
+from drivers import pages_of_pcl
 from laying import laid_out, look
+from printers import Printer
+from scheduler import KINDS, Scheduler, raster_of
+from test_through_cups import LINES as FIVE
+from test_through_cups import Bars, Queue, bars_of, shift_of, with_end
 
 LINES = support.file_of(
     [(f"ean13 {support.ean13(400638000000 + number)}", {"title": "Seife"}) for number in range(3)]
 )
-# a program that keeps its words and its standard input, and one that lists the options of a queue
-LP = """#!/bin/sh
-printf '%s\\n' "$@" > "$KEPT/words"; cat > "$KEPT/input"
-[ "$2" != broken ] || { echo 'lp: The printer or class does not exist.' >&2; exit 1; }
-echo "request id is $2-7 (1 file(s))"
-"""
-LPOPTIONS = """#!/bin/sh
-case $2 in
-zebra) echo 'PageSize/Media Size: *w288h360 Custom.WIDTHxHEIGHT'
-    echo 'Resolution/Resolution: *203dpi 300dpi 600dpi' ;;
-dymo) echo 'Resolution/Resolution: 300dpi *300x600dpi' ;;
-*) echo 'lpoptions: Unable to get PPD file' >&2; exit 1 ;;
-esac
-"""
 
 
 def setUpModule() -> None:
@@ -83,77 +74,126 @@ class Lines(unittest.TestCase):
         self.assertIn(b"3 labels; print the file by: lp -d NAME -o raw FILE.zpl", shown.stdout)
 
 
-class Printing(unittest.TestCase):
-    def setUp(self) -> None:
-        folder = tempfile.TemporaryDirectory()
-        self.addCleanup(folder.cleanup)
-        self.folder = Path(folder.name)
-        for name, script in (("lp", LP), ("lpoptions", LPOPTIONS)):
-            (self.folder / name).write_text(script)
-            (self.folder / name).chmod(0o755)
+@support.slow
+class Queues(unittest.TestCase):
+    """Queues of a scheduler of this test's own, with the kinds of drivers that are in use."""
+
+    scheduler: Scheduler
+    labels: Printer
+    # what each says: its own dots; those of labels on sheets, and on rolls; the word of 600
+    SAID = {
+        "foomatic": (300, 600, 300, "600x600dpi"),
+        "driverless": (600, 600, 600, None),
+        "hplip": (300, 300, 300, None),
+        "gutenprint": (360, 360, 360, None),
+        "fine": (1200, 600, 1200, None),
+        "modes": (600, 600, 600, None),
+        "silent": (0, 600, 0, None),
+        "generpcl": (300, 600, 300, "600dpi"),
+        "zebra": (203, 600, 203, "600dpi"),
+        "raw": (0, 600, 0, None),
+    }
+
+    @classmethod
+    def setUpClass(cls) -> None:
+        support.needs_module("cups")
+        cls.scheduler = Scheduler()
+        cls.addClassCleanup(cls.scheduler.stop)
+        cls.labels = Printer().start()
+        cls.addClassCleanup(cls.labels.off)
+        for name in cls.SAID:
+            is_label_printer = name in ("raw", "zebra")
+            device = cls.labels.name.replace("tcp", "socket") if is_label_printer else ""
+            cls.scheduler.add(name, "" if name == "raw" else name, device)
 
     def printed(self, *arguments: str) -> "support.Finished[bytes]":
-        """Runs label-print with the programs of this test in place of those of CUPS."""
-        path = f"{self.folder}{os.pathsep}{os.environ['PATH']}"
-        return support.printed(*arguments, input=LINES, PATH=path, KEPT=str(self.folder))
+        """Runs label-print with five labels."""
+        return support.printed(*arguments, input=FIVE)
 
-    def sent(self) -> tuple[str, bytes]:
-        """The words and the standard input of lp."""
-        words = (self.folder / "words").read_text().split("\n")[:-1]
-        return " ".join(words), (self.folder / "input").read_bytes()
+    def test_what_each_kind_says(self) -> None:
+        self.assertEqual(queues(), sorted(self.SAID))
+        sheet = planned(PrintOptions(stock="Avery L7160"))
+        for name, (dpi, on_sheets, on_rolls, word) in self.SAID.items():
+            queue = queue_of(name)
+            found = queue.dpi, queue.dpi_for(True), queue.dpi_for(False)
+            self.assertEqual(found, (dpi, on_sheets, on_rolls), name)
+            self.assertEqual(bool(queue.doubt), not dpi, name)
+            if on_sheets == 600:
+                self.assertEqual(queue.options(sheet).get("Resolution"), word, name)
 
-    def test_a_queue_of_the_same_dots(self) -> None:
-        done = self.printed("--paper", "60x40", "--dpi", "300", "--print", "zebra")
-        self.assertEqual((done.returncode, done.stdout), (0, b""), done.stderr)
-        self.assertEqual(support.messages(done), ["label-print: request id is zebra-7 (1 file(s))"])
-        words, data = self.sent()
-        size = "media=Custom.60x40mm"
-        self.assertEqual(words, f"-d zebra -o {size} -o Resolution=300dpi -o print-scaling=none")
-        plain = support.printed("--paper", "60x40", "--dpi", "300", input=LINES).stdout
-        self.assertEqual(data, plain)
+    def test_what_is_chosen_for_a_job(self) -> None:
+        self.assertEqual(queue_of("hplip", {"OutputMode": "Best"}).dpi, 600)
+        self.assertEqual(queue_of("driverless", {"cupsPrintQuality": "Draft"}).dpi, 300)
+        self.assertEqual(queue_of("generpcl", {"Resolution": "600dpi", "PageSize": "A4"}).dpi, 600)
+
+    def test_labels_arrive_dot_for_dot(self) -> None:
+        sheet = ("--stock", "Avery L7160")
+        for name, (_, dpi, _, _) in self.SAID.items():
+            if name not in KINDS:
+                continue
+            with self.subTest(queue=name):
+                done = self.printed(*sheet, "--print", name)
+                (said,) = support.messages(done)
+                self.assertRegex(said, f"5 labels sent to {name}, at {dpi} dpi: job [0-9]+")
+                self.assertEqual("scan a label" in said, name == "silent")
+                (across, down), page = raster_of(self.scheduler.printed(name))
+                if name in ("silent", "modes", "driverless"):
+                    continue
+                self.assertEqual((across % dpi, down % dpi), (0, 0))
+                for bars in bars_of(Queue("", sheet, "A4", pages_of_pcl, ()), dpi):
+                    self.assertIsNotNone(shift_of(page, larger(bars, across // dpi, down // dpi)))
+
+    def test_a_driver_gets_its_own_word(self) -> None:
+        done = self.printed("--stock", "Avery L7160", "--print", "generpcl")
+        self.assertIn(b"at 600 dpi", done.stderr)
+        pages = [with_end(page) for page in pages_of_pcl(self.scheduler.printed("generpcl"))]
+        sheet = Queue("", ("--stock", "Avery L7160"), "A4", pages_of_pcl, ())
+        for bars in bars_of(sheet, 600):
+            self.assertIsNotNone(shift_of(pages[0], bars))
 
     def test_a_job_for_the_printer_itself(self) -> None:
-        done = self.printed("--paper", "60x40", "--dpi", "203", "--to", "zpl", "--print", "raw")
-        self.assertEqual(done.returncode, 0, done.stderr)
-        words, data = self.sent()
-        self.assertEqual(words, "-d raw -o raw")
-        self.assertEqual(len(jobs.dots_of_zpl(data)), 3)
+        words = ("--paper", "60x40", "--to", "zpl")
+        done = self.printed(*words, "--print", "zebra")
+        self.assertIn(b"5 labels sent to zebra, at 203 dpi", done.stderr)
+        self.labels.wait(5)
+        plain = self.printed(*words, "--dpi", "203").stdout
+        self.assertEqual(b"".join(self.labels.labels), plain)
+        grid = ("--cell", "60x40", "--columns", "1", "--rows", "1", "--to", "zpl")
+        done = self.printed(*grid, "--print", "zebra")
+        self.assertIn(b"at 203 dpi", done.stderr)
+        done = self.printed(*words, "--print", "raw")
+        self.assertIn(b"--to zpl needs --dpi", done.stderr)
 
-    def test_a_queue_of_other_dots_is_refused(self) -> None:
-        for arguments, said in (
-            (
-                ("--dpi", "180", "--print", "zebra"),
-                "prints at 203dpi or 300dpi or 600dpi, and the labels",
-            ),
-            (("--print", "zebra", "--paper", "60x40", "--dpi", "1200"), "the labels have 1200 dpi"),
-            (("--dpi", "203", "--to", "zpl", "--print", "dymo"), "prints at 300dpi or 300x600dpi"),
-            (("--dpi", "203", "--print", "unknown"), "does not say its resolution"),
+    def test_what_cannot_be_printed(self) -> None:
+        roll = ("--paper", "60x40")
+        for words, status, said in (
+            ((*roll, "--dpi", "180", "--print", "zebra"), 2, "at 203 or 300 or 600 dpi, and the"),
+            ((*roll, "--dpi", "101", "--to", "zpl", "--print", "zebra"), 2, "leave out --dpi"),
+            ((*roll, "--print", "nobody"), 1, "there is no queue nobody: the queues are driverl"),
+            ((*roll, "--dpi", "203", "--to", "png", "--print", "zebra"), 2, "do not take png"),
+            ((*roll, "--print", "zebra", "--each", "x/%d.pdf"), 2, "not allowed with"),
         ):
-            sheet = () if "--paper" in arguments else ("--paper", "60x40")
-            done = self.printed(*sheet, *arguments)
-            self.assertNotEqual(done.returncode, 0)
-            self.assertIn(said, done.stderr.decode())
-            self.assertFalse((self.folder / "input").exists(), arguments)
-        self.assertIn("type: lp -d unknown -o media=Custom.60x40mm", done.stderr.decode())
+            done = self.printed(*words)
+            self.assertEqual(done.returncode, status, words)
+            self.assertIn(said, done.stderr.decode(), words)
 
-    def test_forms_that_no_printer_takes(self) -> None:
-        done = self.printed("--paper", "60x40", "--dpi", "203", "--to", "png", "--print", "zebra")
-        self.assertEqual(done.returncode, 2)
-        self.assertIn(b"printers do not take png", done.stderr)
-        done = self.printed("--paper", "60x40", "--print", "zebra", "--each", "x/%d.pdf")
-        self.assertEqual(done.returncode, 2)
+    def test_no_scheduler_and_no_library(self) -> None:
+        words = ("--paper", "60x40", "--print", "zebra")
+        done = support.run("label-print", *words, input=FIVE, CUPS_SERVER="127.0.0.1:1")
+        self.assertEqual(done.returncode, 1)
+        self.assertIn(b"CUPS does not answer", done.stderr)
+        with tempfile.TemporaryDirectory() as folder:
+            Path(folder, "cups.py").write_text("raise ImportError\n")
+            path = f"{folder}{os.pathsep}{os.environ.get('PYTHONPATH', '')}"
+            done = support.run("label-print", *words, input=FIVE, PYTHONPATH=path)
+        self.assertEqual(done.returncode, 1)
+        self.assertIn(b"apt-get install python3-cups", done.stderr)
 
-    def test_what_lp_refuses(self) -> None:
-        lpoptions = (self.folder / "lpoptions").read_text().replace("zebra)", "broken)")
-        (self.folder / "lpoptions").write_text(lpoptions)
-        done = self.printed("--paper", "60x40", "--dpi", "203", "--print", "broken")
-        self.assertEqual(done.returncode, 1)
-        self.assertIn(b"does not exist", done.stderr)
-        (self.folder / "lpoptions").unlink()
-        path = str(self.folder)
-        done = support.printed("--paper", "60x40", "--print", "zebra", input=LINES, PATH=path)
-        self.assertEqual(done.returncode, 1)
-        self.assertIn(b"apt-get install cups-client", done.stderr)
+
+def larger(bars: Bars, across: int, down: int) -> Bars:
+    """Bars of which each dot is several of the printer's."""
+    dots = bars.dots.repeat(across, axis=1).repeat(down, axis=0)
+    return Bars(bars.page, bars.left * across, bars.top * down, dots)
 
 
 class Edges(unittest.TestCase):

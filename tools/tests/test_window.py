@@ -17,6 +17,9 @@ from unittest import mock
 
 import cairo
 import support
+from labeltools.printer import Queue
+from printers import Printer
+from scheduler import Scheduler, raster_of
 
 TOOLS = Path(__file__).resolve().parent.parent
 TABLE = """Nr;EAN;Name;Price;Stock;Labels
@@ -34,6 +37,7 @@ SCALE = 4  # pixels of a millimetre
 TRIES = 3  # a window that stands still does so each time
 # What setUpModule makes.
 screen: Any = None
+scheduler: Any = None
 folder: Any = None
 application: Any = None
 menu: Any = None
@@ -47,7 +51,9 @@ def setUpModule() -> None:
     """Starts a screen; GTK is loaded when there is one."""
     support.labels_program()
     support.needs(*PROGRAMS)
-    global screen, folder, application, menu, window, Gio, GLib, Gtk
+    global screen, scheduler, folder, application, menu, window, Gio, GLib, Gtk
+    support.needs_module("cups")
+    scheduler = Scheduler()  # GTK finds it where it looks for printers
     folder = tempfile.TemporaryDirectory()
     reading, writing = os.pipe()
     words = ["Xvfb", "-displayfd", str(writing), "-screen", "0", "1280x900x24", "-nolisten", "tcp"]
@@ -72,6 +78,7 @@ def tearDownModule() -> None:
     """Ends the screen."""
     screen.terminate()
     screen.wait()
+    scheduler.stop()
     folder.cleanup()
 
 
@@ -259,7 +266,6 @@ class WindowTest(unittest.TestCase):
         operation.set_allow_async(False)
         operation.run(Gtk.PrintOperationAction.EXPORT, self.window)
         settings = operation.get_print_settings()
-        self.assertEqual(settings.get("cups-Resolution"), "600dpi")
         self.assertEqual(settings.get("cups-print-scaling"), "none")
         other = self.folder / "command.pdf"
         other.write_bytes(self.by_commands("--stock", "Avery L7160", "--dpi", "600"))
@@ -414,37 +420,38 @@ class WindowTest(unittest.TestCase):
         summary = dialog.get_property("secondary-text")
         self.assertIn("1001 labels of 3 rows", summary)
 
-    def test_a_queue_gets_the_file_as_it_is(self) -> None:
-        for name, script in (
-            ("lpstat", "printf 'office\\nzebra\\n'"),
-            ("lp", f'echo "$@" > {self.folder}/words; cat > {self.folder}/sent'),
-        ):
-            program = self.folder / name
-            program.write_text(f"#!/bin/sh\n{script}\n")
-            program.chmod(0o755)
+    def test_a_printer_of_a_language_of_its_own_gets_the_file_as_it_is(self) -> None:
         self.open()
         self.change(roll=True, to="zpl", dpi="203")
-        path = f"{self.folder}{os.pathsep}{os.environ['PATH']}"
-        with mock.patch.dict(os.environ, {"PATH": path}):
-            asked = []
+        asked = []
+        with mock.patch.object(window, "queues", return_value=["office", "zebra"]):
             self.window.ask_queue = lambda *values: asked.append(values)
             self.window.ask_printer()
             self.until(lambda: asked)
-            (names,) = asked[0]
-            self.assertEqual(names, ["office", "zebra"])
-            window.Window.ask_queue(self.window, names)
-            self.window.send(None, "zebra")
-            self.until(lambda: self.window.talk.is_stopped)
-            self.assertEqual(self.problem(), "")
-            options = self.folder / "lpoptions"
-            options.write_text("#!/bin/sh\necho 'Resolution/Resolution: *300dpi'\n")
-            options.chmod(0o755)
+        (names,) = asked[0]
+        window.Window.ask_queue(self.window, names)
+        printer = Printer().start()
+        self.addCleanup(printer.off)
+        roll = ("--paper", "60x40", "--to", "zpl", "--dpi", "203")
+        for name, answer in ((printer.name[6:], Gtk.ResponseType.OK), ("", Gtk.ResponseType.OK)):
+            self.window.network = mock.Mock()
+            self.window.network.run.return_value = answer
+            self.window.address.set_text(name)
+            self.window.ask_address(None)
+            self.until(lambda: self.window.done.get_visible() or self.problem())
+            if name:
+                self.assertEqual(self.window.said.get_text(), f"6 labels taken by {printer.name}")
+                self.assertEqual(b"".join(printer.labels), self.by_commands(*roll))
+                self.window.done.hide()
+        self.assertIn("is not as tcp://HOST", self.problem())
+
+    def test_a_queue_of_other_dots_gets_no_file_of_dots(self) -> None:
+        self.open()
+        self.change(roll=True, to="zpl", dpi="203")
+        with mock.patch.object(window, "queue_of", return_value=Queue("zebra", 300, {})):
             self.window.send(None, "zebra")
             self.until(self.problem)
-            self.assertIn("prints at 300dpi", self.problem())
-        self.assertEqual((self.folder / "words").read_text(), "-d zebra -o raw\n")
-        roll = ("--paper", "60x40", "--to", "zpl", "--dpi", "203")
-        self.assertEqual((self.folder / "sent").read_bytes(), self.by_commands(*roll))
+        self.assertIn("prints at 300 dpi", self.problem())
 
     def test_guesses_and_remembers_by_names(self) -> None:
         self.open()
@@ -637,32 +644,75 @@ class WindowTest(unittest.TestCase):
         self.table.unlink()
         self.assertNotIn(str(self.table), menu.recent_tables())
 
-    def test_a_printer_of_other_dots_is_refused(self) -> None:
-        self.open()
-        options = self.folder / "lpoptions"
-        options.write_text("#!/bin/sh\necho 'Resolution/Resolution: *300dpi'\n")
-        options.chmod(0o755)
+    def asked(self, queue: Any, **chosen: str) -> Any:
+        """What becomes of a job for a printer that was chosen in the dialog."""
         operation = mock.Mock()
-        path = f"{self.folder}{os.pathsep}{os.environ['PATH']}"
-        with mock.patch.dict(os.environ, {"PATH": path}):
-            for printer, file, is_refused in (
-                ("office", None, True),
-                ("office", "file:///labels.pdf", False),
-                (None, None, False),
-            ):
-                operation.reset_mock()
-                settings = operation.get_print_settings.return_value
-                settings.get_printer.return_value = printer
-                settings.get.return_value = file
-                self.window.info.hide()
-                self.window.check_printer(operation, None)
-                self.assertEqual(operation.cancel.called, is_refused)
-                self.assertEqual("prints at 300dpi" in self.problem(), is_refused)
-            options.write_text("#!/bin/sh\necho 'Resolution/Resolution: 300dpi *600dpi'\n")
-            settings.get_printer.return_value = "office"
-            self.window.info.hide()
+        settings = Gtk.PrintSettings()
+        for name, value in chosen.items():
+            settings.set(name.replace("_", "-"), value)
+        operation.get_print_settings.return_value = settings
+        self.window.info.hide()
+        with mock.patch.object(window, "queue_of", return_value=queue) as queue_of:
             self.window.check_printer(operation, None)
-            self.assertEqual(self.problem(), "")
+        return operation, queue_of
+
+    def test_a_printer_of_other_dots_gets_labels_for_these(self) -> None:
+        self.open()
+        operation, _ = self.asked(Queue("office", 360, {}), printer="office")
+        self.assertTrue(operation.cancel.called)
+        self.until(self.problem)
+        self.assertIn("office prints at 360 dpi: the labels are drawn for it", self.problem())
+        self.until(lambda: self.window.has_labels)
+        self.assertEqual(self.window.dpi.get_active_id(), "360")
+        self.assertEqual(self.window.labels.job.plan.dpi, 360)
+        chosen = {"cups_Quality": "Best", "printer": "office"}
+        operation, queue_of = self.asked(Queue("office", 720, {}), **chosen)
+        self.assertEqual(queue_of.call_args.args, ("office", {"Quality": "Best"}))
+        self.assertFalse(operation.cancel.called)
+        to_file = {"printer": "office", "output_uri": "file:///labels.pdf"}
+        others: list[dict[str, str]] = [to_file, {}]
+        for chosen in others:
+            operation, queue_of = self.asked(Queue("office", 203, {}), **chosen)
+            self.assertFalse(queue_of.called or operation.cancel.called)
+
+    def test_a_roll_takes_the_dots_that_its_queue_has_by_itself(self) -> None:
+        self.open()
+        self.change(roll=True, dpi="600")
+        queue = Queue("zebra", 203, {203: "203dpi", 600: "600dpi"})
+        operation, _ = self.asked(queue, printer="zebra")
+        self.assertTrue(operation.cancel.called)
+        self.until(self.problem)
+        self.assertEqual(self.window.dpi.get_active_id(), "203")
+
+    def test_says_what_was_sent_where(self) -> None:
+        self.open()
+        operation = self.asked(Queue("office", 0, {}), printer="office")[0]
+        operation.get_status.return_value = Gtk.PrintStatus.FINISHED_ABORTED
+        self.window.on_sent(operation)  # it was cancelled
+        self.assertEqual((self.window.done.get_visible(), self.problem()), (False, ""))
+        self.window.printing = operation
+        self.window.on_sent(operation)
+        self.assertEqual(self.problem(), "nothing was sent to office")
+        operation.get_status.return_value = Gtk.PrintStatus.FINISHED
+        self.window.on_sent(operation)
+        said, doubt = self.window.said.get_text().split("\n")
+        self.assertEqual(said, "6 labels sent to office")
+        self.assertIn("office does not say its resolution", doubt)
+        self.assertEqual(len(self.printed_codes()), 3)
+
+    def printed_codes(self) -> Any:
+        return [record.data for record in self.window.table.printed_records()]
+
+    def test_a_queue_of_cups_gets_the_word_of_its_driver(self) -> None:
+        """By GTK, which tells a job what was chosen before it asks what the labels have."""
+        self.open()
+        scheduler.add("office", "foomatic")
+        settings = Gtk.PrintSettings()
+        settings.set_printer("office")
+        self.window.print_at(settings)
+        self.until(lambda: self.window.done.get_visible())
+        self.assertEqual(self.window.said.get_text(), "6 labels sent to office")
+        self.assertEqual(raster_of(scheduler.printed("office"))[0], (600, 600))
 
     def test_a_file_is_read_next_week_as_this_week(self) -> None:
         """Its encoding is kept for its name: without it the names cannot be read."""
