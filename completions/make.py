@@ -17,7 +17,7 @@ HERE = Path(__file__).resolve().parent
 sys.path.insert(0, str(HERE.parent / "tools"))
 
 PROGRAM = os.environ.get("LABELS") or HERE.parent / "crates/labels/out/labels"
-TOOLS = {"label-table": "table_command", "label-print": "print_command"}
+TOOLS = {"label-table": "commands.label_table", "label-print": "commands.label_print"}
 NAMES = " ".join(["labels", *TOOLS])
 # What takes the name of a file, and what is proposed where a parser takes any number.
 FILES = ("--new-since", "--each", "--journal", "--design")

@@ -6,12 +6,12 @@ from typing import Any, Sequence
 
 import jobs
 import support
-from labeltools.messages import Silence
-from labeltools.own_fit import OwnText
-from labeltools.own_layout import OwnLayout
-from labeltools.pen import Medium
-from labeltools.press import pen_of
-from labeltools.print_job import Prepared, PrintOptions, labels_of, planned
+from labeltools.common.messages import Silence
+from labeltools.designs.fit import OwnText
+from labeltools.designs.layout import OwnLayout
+from labeltools.drawing.pen import Medium
+from labeltools.printing.press import pen_of
+from labeltools.printing.job import Prepared, PrintOptions, labels_of, planned
 from reading import fault_of
 
 FOLDER = support.TOP / "designs"

@@ -6,12 +6,12 @@ from dataclasses import dataclass
 from typing import Any, Optional, Sequence
 
 import jobs
-from labeltools.forms.dots import drawn_page
-from labeltools.layout import LaidOut
-from labeltools.messages import Silence
-from labeltools.pen import Medium, Pen
-from labeltools.press import PrintJob
-from labeltools.print_job import Prepared, PrintOptions, labels_of, planned
+from labeltools.drawing.dots import drawn_page
+from labeltools.layout.layout import LaidOut
+from labeltools.common.messages import Silence
+from labeltools.drawing.pen import Medium, Pen
+from labeltools.printing.press import PrintJob
+from labeltools.printing.job import Prepared, PrintOptions, labels_of, planned
 from reading import fault_of
 
 AROUND = 40  # dots of white in which ink would be seen that leaves the area

@@ -15,7 +15,7 @@ import cairo
 import numpy
 
 import support
-from labeltools import area
+from labeltools.paper import area
 from laying import laid_out
 
 SCALE = 2.7  # pixels of a millimetre

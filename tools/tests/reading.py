@@ -5,13 +5,13 @@ from typing import Optional, Sequence
 
 import zxingcpp
 
-from labeltools.area import Area
-from labeltools.engine import Modules
-from labeltools.forms.dots import drawn_page
-from labeltools.frames import Box
-from labeltools.layout import LaidOut
-from labeltools.own_layout import CODE, OwnSymbol, symbols_of
-from labeltools.pen import Pen, bits_of
+from labeltools.paper.area import Area
+from labeltools.lines.engine import Modules
+from labeltools.drawing.dots import drawn_page
+from labeltools.layout.frames import Box
+from labeltools.layout.layout import LaidOut
+from labeltools.designs.layout import CODE, OwnSymbol, symbols_of
+from labeltools.drawing.pen import Pen, bits_of
 
 NOT_READ = "as drawn it is not read"
 NOT_DRAWN = "its bars as drawn are not those of labels"

@@ -29,7 +29,9 @@ OURS = TOP / "tools"
 TOOLS = Path(os.environ.get("TOOLS") or OURS)
 LOCALES = ("C", "C.UTF-8")
 SECONDS = 600  # that a program may take on a busy machine: one that hangs is ended
-MODULES = {"label-table": "labeltools.table_command"}  # of the tools that run in this process
+MODULES = {
+    "label-table": "labeltools.commands.label_table"
+}  # of the tools that run in this process
 os.environ["LC_ALL"] = "C.UTF-8"  # of these too: their dates are those of the locale
 
 if str(OURS) not in sys.path:
@@ -227,8 +229,8 @@ def printed(
             with mock.patch.multiple(sys, **changed), mock.patch.dict(
                 os.environ, {**environment(), **variables}
             ):
-                with mock.patch("labeltools.command_line.on_signals", mock.MagicMock()):
-                    status = status_of("labeltools.print_main")
+                with mock.patch("labeltools.common.command_line.on_signals", mock.MagicMock()):
+                    status = status_of("labeltools.commands.start")
                 if sys.stderr is not streams["stderr"]:  # of a stream: else Python warns of it
                     sys.stderr.close()
         finally:

@@ -22,8 +22,8 @@ class Ending(unittest.TestCase):
     SCRIPT = """
 import sys
 sys.path.insert(0, {tools!r})
-from labeltools.command_line import Parser, main_of, standard_output
-from labeltools.messages import ToolError
+from labeltools.common.command_line import Parser, main_of, standard_output
+from labeltools.common.messages import ToolError
 def function():
     about = "A tool for this test."
     arguments = Parser(prog="small-tool", description=about, allow_abbrev=False).parse_args()

@@ -13,16 +13,20 @@ from typing import Any, Callable, Iterator, Optional, Sequence
 from unittest import mock
 
 import support
-from labeltools import compare, decode, engine, own_layout, pen, press
-from labeltools.engine import Modules
-from labeltools.drawn_pdf import pages_of
-from labeltools.forms import dots, escpos, zpl
-from labeltools.forms.dots import Picture
-from labeltools.frames import Box
-from labeltools.kept import Kept
-from labeltools.messages import Silence, ToolError
-from labeltools.print_job import Prepared, PrintOptions, labels_of, planned
-from labeltools.text import Text, translated
+from labeltools.checking import compare, decode
+from labeltools.lines import engine
+from labeltools.designs import layout as own_layout
+from labeltools.drawing import pen
+from labeltools.printing import press
+from labeltools.lines.engine import Modules
+from labeltools.checking.pdf import pages_of
+from labeltools.drawing import dots, escpos, zpl
+from labeltools.drawing.dots import Picture
+from labeltools.layout.frames import Box
+from labeltools.common.kept import Kept
+from labeltools.common.messages import Silence, ToolError
+from labeltools.printing.job import Prepared, PrintOptions, labels_of, planned
+from labeltools.common.text import Text, translated
 
 SHOP: list[tuple[str, dict[str, Any]]] = [
     ("ean13 4006381333931", {"title": "Bleistift, weich", "price": "0,80 €", "text": ["rot"]}),
@@ -265,7 +269,7 @@ RUN_LABELS = engine.run_labels
 ENGINE_DRAW = engine.Engine.draw
 PAGE = press.Press.page
 IMAGE = escpos.image
-PEN = "labeltools.pen."
+PEN = "labeltools.drawing.pen."
 PAIR = [SHOP[0], ("ean13 5901234123457", SHOP[0][1])]
 COPIES = [(line, {**fields, "copies": 2}) for line, fields in SHOP]
 
@@ -324,8 +328,10 @@ FAULTS = {
     ),
     "half a dot too wide": Fault(PEN + "INSET", -0.5, ("svg",)),
     "a code twice in its place": Fault(PEN + "Pen.draw_modules", twice, ("pdf",)),
-    "lines mixed up": Fault("labeltools.print_job.run_labels", mixed, FORMS, PAIR),
-    "a quiet zone a module short": Fault("labeltools.engine.Engine.draw", without_zone, FORMS),
+    "lines mixed up": Fault("labeltools.printing.job.run_labels", mixed, FORMS, PAIR),
+    "a quiet zone a module short": Fault(
+        "labeltools.lines.engine.Engine.draw", without_zone, FORMS
+    ),
     "a title over the code": Fault(PEN + "Pen.texts", moved_text(False, 0, 110), DOTS),
     "a price over the code": Fault(PEN + "Pen.texts", moved_text(True, -150, 40), DOTS),
     "digits over the code": Fault(
@@ -336,23 +342,25 @@ FAULTS = {
     ),
     "no white below codes": Fault(PEN + "boxes_of", lambda symbol: (), ("pdf", "svg")),
     "something drawn last": Fault(PEN + "Pen.draw", with_a_line, ("pdf", "svg")),
-    "a cell off the sheet": Fault("labeltools.press.Press.page", placed(900), ("pdf", "pbm")),
-    "labels overlapping": Fault("labeltools.press.Press.page", placed(0), ("svg", "png")),
+    "a cell off the sheet": Fault(
+        "labeltools.printing.press.Press.page", placed(900), ("pdf", "pbm")
+    ),
+    "labels overlapping": Fault("labeltools.printing.press.Press.page", placed(0), ("svg", "png")),
     "copies lost": Fault(
-        "labeltools.press.zpl", changed(zpl.zpl, copies=lambda copies: 1), ("zpl",), COPIES
+        "labeltools.printing.press.zpl", changed(zpl.zpl, copies=lambda copies: 1), ("zpl",), COPIES
     ),
     "a wrong count in a row without a code": Fault(
-        "labeltools.forms.zpl.run_lengths", in_rows(wrong_count), ("zpl",)
+        "labeltools.drawing.zpl.run_lengths", in_rows(wrong_count), ("zpl",)
     ),
     "a row repeated where letters begin": Fault(
-        "labeltools.forms.zpl.run_lengths", in_rows(wrong_repeat), ("zpl",)
+        "labeltools.drawing.zpl.run_lengths", in_rows(wrong_repeat), ("zpl",)
     ),
-    "a row lost": Fault("labeltools.forms.zpl.run_lengths", in_rows(row_lost), ("zpl",)),
+    "a row lost": Fault("labeltools.drawing.zpl.run_lengths", in_rows(row_lost), ("zpl",)),
     "a wrong byte in an image": Fault(
-        "labeltools.forms.escpos.image", lambda rows: IMAGE(rows)[:-1] + b"\x01", ("escpos",)
+        "labeltools.drawing.escpos.image", lambda rows: IMAGE(rows)[:-1] + b"\x01", ("escpos",)
     ),
     "a row of a png blank": Fault(
-        "labeltools.press.png",
+        "labeltools.printing.press.png",
         lambda picture, dot: dots.png(without_row(picture), dot),
         ("png",),
     ),
@@ -383,7 +391,7 @@ class Named(unittest.TestCase):
 
     def message(self, form: str, labels: Sequence[Any], **others: Any) -> Text:
         """The message of two labels whose symbols are mixed up."""
-        with mock.patch("labeltools.print_job.run_labels", mixed):
+        with mock.patch("labeltools.printing.job.run_labels", mixed):
             found = found_of(options_of(form, **others), labels)
         with self.assertRaises(ToolError) as caught:
             write(found)
@@ -420,7 +428,7 @@ class Named(unittest.TestCase):
                 source = support.TOOLS / f"po/{language}.po"
                 subprocess.run(["msgfmt", "-o", path, source], check=True)
                 texts = gettext.translation("label-tools", folder, [language])
-                with mock.patch("labeltools.text.one_text", texts.gettext):
+                with mock.patch("labeltools.common.text.one_text", texts.gettext):
                     self.assertRegex(translated(message), said)
 
 
@@ -478,7 +486,7 @@ class OwnDesigns(unittest.TestCase):
             job = planned(options)
             lines = support.file_of(self.LABELS)
             first = labels_of(options, job, "lines", lines, Silence()).labels[0].label
-            with mock.patch("labeltools.own_layout.values_of", texts):
+            with mock.patch("labeltools.designs.layout.values_of", texts):
                 found = labels_of(options, job, "lines", lines, Silence())
         with self.assertRaisesRegex(ToolError, "^row 3: its code says other data than its line"):
             write(found)
@@ -567,7 +575,7 @@ class Again(unittest.TestCase):
             options = options_of("zpl", design=design, paper=(100.0, 60.0))
             found = found_of(options, OwnDesigns.LABELS)
         copied = write(found)
-        with mock.patch("labeltools.own_pen.UPRIGHT", None):
+        with mock.patch("labeltools.drawing.own_pen.UPRIGHT", None):
             self.assertEqual(write(found), copied)
 
 

@@ -15,9 +15,9 @@ import numpy
 import designs
 import support
 from designs import CODE, Label, dots_of, reasons_of, said_of, texts_of
-from labeltools.messages import Silence, ToolError
-from labeltools.own_layout import OwnLayout
-from labeltools.print_job import Prepared, PrintOptions, labels_of, planned
+from labeltools.common.messages import Silence, ToolError
+from labeltools.designs.layout import OwnLayout
+from labeltools.printing.job import Prepared, PrintOptions, labels_of, planned
 
 TITLE = '<rect id="title" {}/>' + CODE
 WIDE = 'x="2" y="2" width="56" height="10"'
@@ -862,7 +862,7 @@ class Frames(OwnPages):
         self.assertEqual((nothing.returncode, nothing.stdout), (1, b""))
 
     def test_the_same_label_is_printed(self) -> None:
-        from labeltools.own_frame import svg_of
+        from labeltools.designs.frame import svg_of
 
         fields = {"title": "Bleistift, weich", "price": "12,80 €", "unit": "1 kg = 5,98 €"}
         for line in ("ean13 400638133393", "code128 ABC-1", "qr hello"):

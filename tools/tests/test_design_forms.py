@@ -14,8 +14,8 @@ import numpy
 import designs
 import jobs
 import support
-from labeltools.messages import Silence
-from labeltools.own_layout import OwnLayout
+from labeltools.common.messages import Silence
+from labeltools.designs.layout import OwnLayout
 from reading import fault_in
 from test_forms import dots_of_svg, rendered
 

@@ -14,13 +14,13 @@ from unittest import mock
 
 import designs
 import support
-from labeltools.journal import Journal, code_of, escaped
-from labeltools.lines_file import read_lines
-from labeltools.messages import Silence, ToolError
-from labeltools.network import NetworkPrinter
-from labeltools.print_job import PrintOptions, labels_of, planned
-from labeltools.selection import selection_of
-from labeltools.sending import Sender
+from labeltools.printing.journal import Journal, code_of, escaped
+from labeltools.lines.file import read_lines
+from labeltools.common.messages import Silence, ToolError
+from labeltools.printing.network import NetworkPrinter
+from labeltools.printing.job import PrintOptions, labels_of, planned
+from labeltools.printing.selection import selection_of
+from labeltools.printing.sending import Sender
 from printers import LABEL, Printer
 
 ROLL = ("--paper", "60x40", "--dpi", "203", "--to", "zpl")
@@ -179,7 +179,7 @@ class Network(Folder):
 
     def test_one_that_hangs(self) -> None:
         printer = Printer(stuck=3).start()
-        with mock.patch("labeltools.print_command.NetworkPrinter", SHORT):
+        with mock.patch("labeltools.commands.label_print.NetworkPrinter", SHORT):
             done = printed("--print", printer.name, "--dpi", "600")
         self.said(done, 1, "takes nothing for 0 seconds: it took .* print from line")
 
@@ -256,8 +256,8 @@ class Journals(Folder):
         """A lock is of a process: the other lane is one."""
         script = (
             "import sys\n"
-            "from labeltools.journal import Journal\n"
-            "from labeltools.lines_file import read_lines\n"
+            "from labeltools.printing.journal import Journal\n"
+            "from labeltools.lines.file import read_lines\n"
             "journal = Journal(sys.argv[1], 'tcp://b'); print(journal.lane)\n"
             "records = read_lines(b'qr T00001\\nqr T00002\\n', '').records\n"
             "print([journal.claim(record) for record in records], flush=True); sys.stdin.read()\n"
@@ -279,7 +279,7 @@ class Journals(Folder):
     def test_a_lane_that_is_killed_while_another_one_waits(self) -> None:
         script = (
             "import sys\n"
-            "from labeltools.journal import Journal\n"
+            "from labeltools.printing.journal import Journal\n"
             "with Journal(sys.argv[1], 'tcp://b').locked():\n"
             "    print('locked', flush=True); sys.stdin.read()\n"
         )

@@ -20,11 +20,11 @@ from typing import Optional
 from unittest import mock
 
 import support
-from labeltools import journal as journals
-from labeltools.journal import Journal
-from labeltools.messages import ToolError
-from labeltools.network import NetworkPrinter, Unreachable
-from labeltools.text import Text
+from labeltools.printing import journal as journals
+from labeltools.printing.journal import Journal
+from labeltools.common.messages import ToolError
+from labeltools.printing.network import NetworkPrinter, Unreachable
+from labeltools.common.text import Text
 from printers import BROKEN, LABEL, Printer
 from test_desk import ROLL, TICKETS, Folder, ended, labels_in, printed
 
@@ -307,7 +307,9 @@ class Editors(Folder):
 
     def test_a_journal_that_goes_while_a_label_goes_out(self) -> None:
         """The label was sent: nothing else may be said."""
-        with mock.patch("labeltools.sending.send", lambda file, output: os.unlink(self.path)):
+        with mock.patch(
+            "labeltools.printing.sending.send", lambda file, output: os.unlink(self.path)
+        ):
             done = printed("--journal", self.path)
         self.said(done, 1, "it took 0 labels whole; line 1 may be on paper; it has not line 1")
         self.assertNotIn(b"not sent", done.stderr)
@@ -358,7 +360,7 @@ class Lanes(Folder):
         Journal(self.path, "tcp://a")
         script = (
             "import sys\n"
-            "from labeltools.journal import Journal\n"
+            "from labeltools.printing.journal import Journal\n"
             "with Journal(sys.argv[1], 'tcp://b').locked():\n"
             "    print('locked', flush=True); sys.stdin.read()\n"
         )
@@ -367,7 +369,7 @@ class Lanes(Folder):
         with subprocess.Popen(words, stdin=pipe, stdout=pipe, cwd=support.TOOLS) as other:
             assert other.stdin and other.stdout
             other.stdout.readline()
-            with mock.patch("labeltools.journal.STUCK", 0.2):
+            with mock.patch("labeltools.printing.journal.STUCK", 0.2):
                 done = printed("--journal", self.path)
             self.said(done, 1, "another lane keeps it for 0 seconds; is it stopped[?] let it go on")
             self.assertEqual(labels_in(done), [])
@@ -614,13 +616,15 @@ class Streams(Folder):
         self.assertEqual(stream.wait(support.SECONDS), 1)
 
     def test_a_mark_that_the_journal_does_not_take(self) -> None:
-        with mock.patch("labeltools.sending.send", lambda file, output: os.unlink(self.path)):
+        with mock.patch(
+            "labeltools.printing.sending.send", lambda file, output: os.unlink(self.path)
+        ):
             done = printed("--stream", "--journal", self.path)
         self.said(done, 1, r"\Adoubtful 1 .*another program has changed it.*\n\Z")
 
     def test_a_label_that_is_drawn_wrongly(self) -> None:
         """The stream ends with an answer, and status 3."""
-        with mock.patch("labeltools.press.zpl", lambda picture, copies: b"^XA^XZ\n"):
+        with mock.patch("labeltools.printing.press.zpl", lambda picture, copies: b"^XA^XZ\n"):
             done = printed("--stream", input=TICKETS)
         self.said(done, 3, r"\Aunsent 1 .*\n\Z")
         self.assertEqual(done.stdout, b"")

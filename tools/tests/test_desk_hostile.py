@@ -15,19 +15,20 @@ from typing import Callable
 from unittest import mock
 
 import support
-from labeltools import files, network, stream
-from labeltools.journal import Journal
-from labeltools.network import Broken, NetworkPrinter
+from labeltools.common import files
+from labeltools.printing import network, stream
+from labeltools.printing.journal import Journal
+from labeltools.printing.network import Broken, NetworkPrinter
 from printers import LABEL, Printer
 from test_desk import ROLL, TICKETS, Folder, ended, labels_in, printed
 
 WAIT = 20.0  # seconds in which a stream ends that has nothing to do
 START = """
 import os, signal
-from labeltools.network import Broken
-from labeltools.print_main import main
-from labeltools.sending import StandardOutput
-from labeltools.text import Text
+from labeltools.printing.network import Broken
+from labeltools.commands.start import main
+from labeltools.printing.sending import StandardOutput
+from labeltools.common.text import Text
 
 def end():
     os.kill(os.getpid(), signal.SIGTERM)
@@ -56,7 +57,7 @@ tempfile.gettempdir = gettempdir
 LIMIT = "import resource; resource.setrlimit(resource.RLIMIT_FSIZE, ({size}, {size}))"
 LOCK = """
 import fcntl, os, sys
-from labeltools.journal import FAR
+from labeltools.printing.journal import FAR
 fcntl.lockf(os.open(sys.argv[1], os.O_RDWR), fcntl.LOCK_EX | fcntl.LOCK_NB, 1, FAR)
 """
 
@@ -152,7 +153,7 @@ class Connections(Starts):
             if is_read:
                 outlet.close()
                 continue
-            with mock.patch("labeltools.network.REGRET", 5.0, create=True):
+            with mock.patch("labeltools.printing.network.REGRET", 5.0, create=True):
                 self.assertRaises(Broken, outlet.close)
             late.join()
 
@@ -443,7 +444,7 @@ class Ends(Folder):
                 order.append(" ".join([names.get(file) or Path(path).name, *events]))
 
             with mock.patch.multiple("os", fsync=sync, fdatasync=sync):
-                with mock.patch("labeltools.sending.standard_output", lambda: labels):
+                with mock.patch("labeltools.printing.sending.standard_output", lambda: labels):
                     done = printed("--journal", self.path, input=TICKETS[:10])
         self.assertEqual(done.returncode, 0, done.stderr)
         folder = Path(self.folder).name
@@ -526,7 +527,7 @@ class Streams(Starts):
         os.mkfifo(path)
         for error in (MemoryError(), ValueError("bad")):
             reads = [b"qr A\n", error]
-            with mock.patch("labeltools.stream.BufferedReader") as reader:
+            with mock.patch("labeltools.printing.stream.BufferedReader") as reader:
                 reader.return_value.readline.side_effect = reads
                 lines = stream.Ahead(stream.Fifo(path))
                 self.assertEqual(lines.readline(9), b"qr A\n")
@@ -598,7 +599,7 @@ class Streams(Starts):
     def test_a_fifo_that_goes_while_nobody_writes(self) -> None:
         fifo = f"{self.folder}/till"
         os.mkfifo(fifo)
-        stream = self.start(fifo, code="from labeltools import stream; stream.LOOK = 0.1")
+        stream = self.start(fifo, code="from labeltools.printing import stream; stream.LOOK = 0.1")
         Path(fifo).write_bytes(b"qr A\n")
         assert stream.stderr
         self.assertRegex(stream.stderr.readline(), b"^taken 1 ")
@@ -613,7 +614,9 @@ class Streams(Starts):
         """It has opened it, and taken its name away: it may write whenever it likes."""
         fifo = Path(self.folder, "till")
         os.mkfifo(fifo)
-        stream = self.start(str(fifo), code="from labeltools import stream; stream.LOOK = 0.1")
+        stream = self.start(
+            str(fifo), code="from labeltools.printing import stream; stream.LOOK = 0.1"
+        )
         assert stream.stderr
         with fifo.open("wb", buffering=0) as writer:
             while sum(path.samefile(fifo) for path in open_files(stream)) < 1:

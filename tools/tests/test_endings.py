@@ -16,8 +16,8 @@ from typing import Any, Callable, Dict, Iterator, Sequence, Tuple
 
 import jobs
 import support
-from labeltools.lines_file import LineRecord, read_lines
-from labeltools.messages import ToolError
+from labeltools.lines.file import LineRecord, read_lines
+from labeltools.common.messages import ToolError
 
 LABELS = [
     (
@@ -251,11 +251,11 @@ class Running(unittest.TestCase):
     def test_progress_on_a_terminal(self) -> None:
         import pty
 
-        from labeltools.print_command import PrintTalk
+        from labeltools.commands.label_print import PrintTalk
 
         controller, terminal = pty.openpty()
         with open(terminal, "w") as stream, unittest.mock.patch("sys.stderr", stream):
-            with unittest.mock.patch("labeltools.print_command.QUIET", 0.0):
+            with unittest.mock.patch("labeltools.commands.label_print.QUIET", 0.0):
                 talk = PrintTalk()
             for done in (0, 1, 2, 3):
                 talk.go_on(done, 3)

@@ -10,11 +10,11 @@ from unittest import mock
 import designs
 import support
 from designs import Label
-from labeltools.fitting import LINE_END
-from labeltools.layout import LaidOut
-from labeltools.messages import Silence
-from labeltools.own_pen import OwnPen
-from labeltools.pen import Placed
+from labeltools.layout.fitting import LINE_END
+from labeltools.layout.layout import LaidOut
+from labeltools.common.messages import Silence
+from labeltools.drawing.own_pen import OwnPen
+from labeltools.drawing.pen import Placed
 
 WORDS = (
     "AVATAR Tafel Wörter Ägypten Ton Vase V. L'Y 12,5 Größe Übergröße Blatt kariert To Ty rot und "

@@ -13,9 +13,9 @@ import numpy
 
 import jobs
 import support
-from labeltools.layout import LaidOut
-from labeltools.messages import Silence
-from labeltools.print_job import PrintOptions, labels_of, planned
+from labeltools.layout.layout import LaidOut
+from labeltools.common.messages import Silence
+from labeltools.printing.job import PrintOptions, labels_of, planned
 
 LINES = (
     "ean13 400638133393",
@@ -182,7 +182,7 @@ class Zpl(unittest.TestCase):
 
     def test_run_lengths_as_the_manual_has_them(self) -> None:
         """The worked example of the ZPL II manual: M is 7, hM is 47 (40 and 7), and so on."""
-        from labeltools.forms.zpl import count_of, run_lengths
+        from labeltools.drawing.zpl import count_of, run_lengths
 
         for count, text in (
             (1, "G"),

@@ -15,7 +15,7 @@ from typing import Iterator
 from unittest import mock
 
 import support
-from labeltools.reasons import REASONS, WITH_FIELDS, reason_of
+from labeltools.lines.reasons import REASONS, WITH_FIELDS, reason_of
 
 LANGUAGES = sorted(path.stem for path in (support.TOOLS / "po").glob("*.po"))
 NAMES = [f'Spalte "{number}"' for number in range(40)]
@@ -64,7 +64,7 @@ def texts_of_tools() -> dict[str, str]:
     words += [f"--keyword={one}" for one in KEYWORDS]
     found = subprocess.run([*words, *sources()], capture_output=True, check=True).stdout
     window = ["xgettext", "--language=Glade", "--from-code=UTF-8", "--output=-"]
-    window += [str(support.TOOLS / "labeltools/window.ui")]
+    window += [str(support.TOOLS / "labeltools/window/window.ui")]
     both = entries(found), entries(subprocess.run(window, capture_output=True, check=True).stdout)
     return {one: many for text in both for one, many in ENTRY.findall(text)}
 
@@ -115,8 +115,8 @@ def german(folder: str) -> dict[str, str]:
 # the seconds of a message with 40 quoted names, and of 2,000 notes, the least of some tries
 TIMES = """
 import time
-from labeltools.messages import quoted
-from labeltools.text import Text, joined, translated
+from labeltools.common.messages import quoted
+from labeltools.common.text import Text, joined, translated
 names = joined(", ", (quoted(f'Spalte "{number}"') for number in range(40)))
 message = Text("no column {}; row {} has {}", quoted("EAN"), 1, names)
 note = Text("{}: the check digit is {}, should be {}", "4006381333932", 2, 1)
@@ -188,8 +188,8 @@ class German(unittest.TestCase):
         }
         lines = 0
         for name, (text, words) in tables.items():
-            with mock.patch("labeltools.text.one_text", in_capitals), mock.patch(
-                "labeltools.text.ngettext",
+            with mock.patch("labeltools.common.text.one_text", in_capitals), mock.patch(
+                "labeltools.common.text.ngettext",
                 lambda one, many, count: in_capitals(one if count == 1 else many),
             ):
                 ran = support.run_here(
@@ -229,7 +229,7 @@ class German(unittest.TestCase):
 
     def test_counts_have_their_plurals(self) -> None:
         support.needs("msgfmt")
-        code = "from labeltools.summary import rows_text; from labeltools.text import translated;"
+        code = "from labeltools.tables.summary import rows_text; from labeltools.common.text import translated;"
         code += " print(*(translated(rows_text(count)) for count in (0, 1, 3)), sep=', ')"
         for language, said in (
             ("de", "0 Zeilen, 1 Zeile, 3 Zeilen"),

@@ -6,10 +6,10 @@ from pathlib import Path
 from typing import Sequence
 
 import support
-from labeltools.file_options import FileOptions
-from labeltools.guess import Guess, guess, guess_of
-from labeltools.messages import Silence
-from labeltools.table_options import TableOptions
+from labeltools.sheets.options import FileOptions
+from labeltools.tables.guess import Guess, guess, guess_of
+from labeltools.common.messages import Silence
+from labeltools.tables.options import TableOptions
 
 # the names of the columns, a row, and what is to be guessed; what has a `?` is asked
 TABLES = (

@@ -54,7 +54,7 @@ class Kills(unittest.TestCase):
             # the streams of the process, not those in which a runner keeps what tests print
             sys.stdin, sys.stdout, sys.stderr = sys.__stdin__, sys.__stdout__, sys.__stderr__
             sys.argv = ["label-print", *self.words(printer)]
-            status = support.status_of("labeltools.print_main")
+            status = support.status_of("labeltools.commands.start")
         finally:
             os._exit(status)
 

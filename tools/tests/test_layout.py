@@ -11,10 +11,10 @@ from typing import Any, Dict, List, Sequence, Tuple
 import numpy
 
 import support
-from labeltools.area import ROLL_SMALLEST
-from labeltools.letters import Letters, Fonts
-from labeltools.selection import selection_of
-from labeltools.symbologies import SYMBOLOGIES
+from labeltools.paper.area import ROLL_SMALLEST
+from labeltools.layout.letters import Fonts, Letters
+from labeltools.printing.selection import selection_of
+from labeltools.lines.symbologies import SYMBOLOGIES
 from jobs import Dots
 from laying import AROUND, laid_out, look
 

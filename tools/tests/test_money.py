@@ -11,7 +11,7 @@ from itertools import product
 from unittest import mock
 
 import support
-from labeltools import money
+from labeltools.tables import money
 
 SPACES = str.maketrans({"~": "\u00a0", "^": "\u202f", "_": "\u2009"})
 

@@ -7,10 +7,10 @@ from pathlib import Path
 from typing import Any
 
 import support
-from labeltools.messages import Cancelled, Place, Silence
-from labeltools.press import Press, once, with_copies
-from labeltools.print_job import PrintOptions, labels_of, planned
-from labeltools.text import Text
+from labeltools.common.messages import Cancelled, Place, Silence
+from labeltools.printing.press import Press, once, with_copies
+from labeltools.printing.job import PrintOptions, labels_of, planned
+from labeltools.common.text import Text
 
 LABELS: list[tuple[str, dict[str, Any]]] = [
     (f"ean13 {support.ean13(400638000000 + number)}", {"title": f"Artikel {number}"})

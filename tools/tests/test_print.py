@@ -17,7 +17,7 @@ import zxingcpp
 
 import jobs
 import support
-from labeltools.stock import stock_sheet
+from labeltools.paper.stock import stock_sheet
 
 TITLES = (
     "Bleistift, weich, 2B",

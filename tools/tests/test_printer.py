@@ -10,8 +10,8 @@ from unittest import mock
 
 import jobs
 import support
-from labeltools.print_job import PrintOptions, planned
-from labeltools.printer import lp_words, queue_of, queues
+from labeltools.printing.job import PrintOptions, planned
+from labeltools.printing.cups import lp_words, queue_of, queues
 from drivers import pages_of_pcl
 from laying import laid_out, look
 from printers import Printer
@@ -305,8 +305,8 @@ class Hostile(unittest.TestCase):
 
     def test_another_version_of_the_library(self) -> None:
         """Later ones of the same major version are taken."""
-        from labeltools import engine
-        from labeltools.messages import ToolError
+        from labeltools.lines import engine
+        from labeltools.common.messages import ToolError
 
         module = engine.library()
         for version, is_taken in (("1.0.0", True), ("1.9.3", True), ("2.0.0", False)):
@@ -321,8 +321,8 @@ class Hostile(unittest.TestCase):
 
     def test_options_are_those_of_the_program(self) -> None:
         """Each that the program takes or refuses."""
-        from labeltools.engine import settings_of
-        from labeltools.messages import ToolError
+        from labeltools.lines.engine import settings_of
+        from labeltools.common.messages import ToolError
 
         values = {
             "--level": ["L", "H", "h", ""],

@@ -7,9 +7,9 @@ from pathlib import Path
 from typing import Dict
 
 import support
-from labeltools import stock
-from labeltools.messages import ToolError
-from labeltools.stock import Grid
+from labeltools.paper import stock
+from labeltools.common.messages import ToolError
+from labeltools.paper.stock import Grid
 
 
 class Stock(unittest.TestCase):

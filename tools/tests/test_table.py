@@ -17,7 +17,7 @@ from pathlib import Path
 from typing import Any, Callable, Dict, List, Sequence, Tuple, Union
 
 import support
-from labeltools.messages import quoted as shown
+from labeltools.common.messages import quoted as shown
 
 REFUSED = "refused: "
 

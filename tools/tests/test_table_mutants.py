@@ -19,9 +19,9 @@ from contextlib import contextmanager
 from typing import Callable, Dict, Iterator, List, Sequence
 
 import support
-from labeltools.messages import Silence, ToolError
-from labeltools.table import lines_of_table
-from labeltools.table_options import ColumnOptions, TableOptions
+from labeltools.common.messages import Silence, ToolError
+from labeltools.tables.table import lines_of_table
+from labeltools.tables.options import ColumnOptions, TableOptions
 from test_table import BOOK, PENCIL, SMALL
 from test_table_workbooks import (
     KINDS,

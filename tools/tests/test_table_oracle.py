@@ -25,11 +25,11 @@ from typing import Any, Callable, Dict, Iterator, List, NamedTuple, Optional, Se
 from xml.etree import ElementTree
 
 import support
-from labeltools.cells import PRINTED, taken_of
-from labeltools.messages import RowError
-from labeltools.number_format import Formatter, Signs
-from labeltools.rows import Row
-from labeltools.table import rows_of_workbook
+from labeltools.sheets.cells import PRINTED, taken_of
+from labeltools.common.messages import RowError
+from labeltools.sheets.number_format import Formatter, Signs
+from labeltools.sheets.rows import Row
+from labeltools.tables.table import rows_of_workbook
 from test_table_workbooks import ODS_SPACES, XML, packed
 
 SEED = 60

@@ -11,7 +11,7 @@ import re
 import unittest
 
 import support
-from labeltools.messages import quoted
+from labeltools.common.messages import quoted
 from test_table import BOOK, PENCIL, SMALL, SOAP, Label, TableTest, parts_of
 from test_table_workbooks import cell, ods, ods_cell, packed, relations, rows, table, unpacked, xlsx
 

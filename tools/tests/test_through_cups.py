@@ -19,10 +19,10 @@ import numpy
 import drivers
 import support
 from jobs import Dots, JobError
-from labeltools.messages import Silence
-from labeltools.press import Press, with_copies
-from labeltools.print_command import command_line
-from labeltools.print_job import PrintOptions, labels_of, planned
+from labeltools.common.messages import Silence
+from labeltools.printing.press import Press, with_copies
+from labeltools.commands.label_print import command_line
+from labeltools.printing.job import PrintOptions, labels_of, planned
 
 DRIVERS = "/usr/share/cups/drv/sample.drv"
 CUPSFILTER = "/usr/sbin/cupsfilter"

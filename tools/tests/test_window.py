@@ -17,7 +17,7 @@ from unittest import mock
 
 import cairo
 import support
-from labeltools.printer import Queue
+from labeltools.printing.cups import Queue
 from printers import Printer
 from scheduler import Scheduler, raster_of
 
@@ -68,7 +68,8 @@ def setUpModule() -> None:
     os.environ["DBUS_SESSION_BUS_ADDRESS"] = "disabled:"
     sys.path.insert(0, str(TOOLS))
     application, menu, window, gtk = (
-        import_module(f"labeltools.{name}") for name in ("application", "menu", "window", "gtk")
+        import_module(f"labeltools.window.{name}")
+        for name in ("application", "menu", "window", "gtk")
     )
     Gio, GLib, Gtk = gtk.Gio, gtk.GLib, gtk.Gtk
     Gtk.init([])
@@ -178,7 +179,7 @@ class WindowTest(unittest.TestCase):
         sys.excepthook = lambda *error: self.raised.append(error)  # GTK goes on after an error
         self.addCleanup(setattr, sys, "excepthook", hook)
         self.folder = Path(tempfile.mkdtemp(dir=folder.name))
-        memory = mock.patch("labeltools.shop.MEMORY", self.folder / "labels/window.json")
+        memory = mock.patch("labeltools.window.shop.MEMORY", self.folder / "labels/window.json")
         memory.start()
         self.addCleanup(memory.stop)
         self.table = self.folder / "articles.csv"
@@ -371,8 +372,8 @@ class WindowTest(unittest.TestCase):
             application.Application().help()
         path = Gio.File.new_for_uri(shown.call_args[0][1]).get_path()
         self.assertTrue(Path(path).read_text().startswith("# Printing from a window"))
-        installed = Path("/usr/share/label-tools/labeltools/application.py")
-        there = installed.parents[2] / application.PAGES[1].relative_to(application.TOP)
+        installed = Path("/usr/share/label-tools/labeltools/window/application.py")
+        there = installed.parents[3] / application.PAGES[1].relative_to(application.TOP)
         self.assertEqual(there, Path("/usr/share/doc/labels/docs/WINDOW.md"))
 
     def test_a_table_is_opened_by_the_button(self) -> None:
@@ -970,8 +971,8 @@ class WindowTest(unittest.TestCase):
         subprocess.run([*catalogue, str(TOOLS / "po/de.po")], check=True)
         code = (
             "import sys; sys.path.insert(0, sys.argv[1])\n"
-            "from labeltools import window\n"
-            "from labeltools.window import _, Gtk\n"
+            "from labeltools.window import window\n"
+            "from labeltools.window.window import Gtk, _\n"
             "print(_('of {all}').format(all=1))\n"
             "text = window.FILE.read_text()\n"
             "text = text.replace('<template class=', '<object id=')\n"

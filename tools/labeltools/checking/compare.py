@@ -1,0 +1,376 @@
+"""Compares what goes out with the codes that have to be there, each label, before it leaves.
+
+The bytes that go out are read back: forms of dots into the dots of the page that was drawn, all of
+them; drawings into their codes, which are drawn last, on white. The code of each line is drawn anew
+from the line itself, and each module of it, its quiet zones included, has to be in its place, in
+its size, and turned as it is asked for. This holds for each symbol of a label: a design of the
+user's own may have several.
+"""
+
+from operator import mul
+from typing import Any, Iterator, NamedTuple, Optional, Sequence
+
+from labeltools.paper.area import Plan
+from labeltools.checking.decode import Dots, NotDecoded, dots_of, rows_in
+from labeltools.checking.pdf import DrawnPage, is_at, pages_of
+from labeltools.checking.svg import dots_of_svg
+from labeltools.lines.engine import Engine, LABELS_FAILED, Refused, bytes_a_row
+from labeltools.layout.frames import Box
+from labeltools.layout.layout import LaidOut, short
+from labeltools.lines.file import LineRecord
+from labeltools.common.messages import Talk, ToolError
+from labeltools.designs.layout import OwnSymbol, symbols_of
+from labeltools.designs.places import PARTS, Place, key_of
+from labeltools.common.text import Text
+
+Labels = Sequence[tuple[LaidOut, tuple[int, int]]]
+LONGER = 5  # modules by which guards are longer (GS1 General Specifications, 5.2)
+# modules of the longer bars, from the first bar on: ISO/IEC 15420
+GUARDS = {
+    "ean13": ((0, 3), (45, 50), (92, 95)),
+    "ean8": ((0, 3), (31, 36), (64, 67)),
+    "upca": ((0, 10), (45, 50), (85, 95)),
+}
+DIGITS = bytes.maketrans(b"\0\1", b"01")
+FAULT = Text("this is a fault of label-print: nothing of it has gone out; report it")
+
+
+class Different(Exception):
+    """What differs in a label of a line, if that is known."""
+
+    def __init__(self, what: Text, record: Optional[LineRecord] = None) -> None:
+        super().__init__(what)
+        self.what = what
+        self.record = record
+
+
+class Document(NamedTuple):
+    """What goes out: its bytes, the labels that are on its pages, how often it is printed, and of a
+    form of dots those that were drawn.
+    """
+
+    data: bytes
+    pages: Sequence[Labels]
+    copies: int = 1
+    drawn: Optional[bytes] = None
+
+
+class Spot(NamedTuple):
+    """Where a symbol of a label has to be: its line, whether that has escapes for certain, its
+    data; the room in which it is, which is turned by some quarters, and its bars in that room; the
+    dots of a module.
+    """
+
+    line: bytes
+    is_escaped: bool
+    data: bytes
+    room: Box
+    quarters: int
+    bars: Box
+    module: int
+
+
+class Band(NamedTuple):
+    """Rows of modules that are the same: which are dark, which are looked at, how many there are.
+    Between longer guards nothing is looked at, since digits are there.
+    """
+
+    dark: str
+    looked: str
+    high: int
+
+
+class Wanted(NamedTuple):
+    """What has to be on a page for a symbol: of which line it is; its bands as it is read; its
+    longer guards and its picture, which has them too, on the page; its quarters; the dots of a
+    module.
+    """
+
+    record: LineRecord
+    bands: Sequence[Band]
+    bars: Box
+    guards: Sequence[Box]
+    picture: Box
+    quarters: int
+    scale: int
+
+
+class Comparison:
+    """Compares the documents of a job; `is_turned` is whether labels are turned to the right, and
+    `go_on` of the talk is called for every page and may stop the work.
+    """
+
+    def __init__(
+        self, plan: Plan, form: str, words: Sequence[str], is_turned: bool, talk: Talk
+    ) -> None:
+        self.plan = plan
+        self.talk = talk
+        self.form = form
+        self.engine = Engine(words)
+        is_escaped = "--escapes" in words
+        self.escaped = self.engine if is_escaped else Engine([*words, "--escapes"])
+        self.is_turned = is_turned
+        area = plan.area.turned() if is_turned else plan.area
+        self.area = Box(0, 0, area.width, area.height)
+        self.cells = dict(zip(plan.places, plan.sheet.places))
+
+    def check(self, document: Document) -> None:
+        """Raises `ToolError` where a document has not the codes of the labels on its pages, or, of
+        a form of dots, not the dots of the page that was drawn.
+        """
+        try:
+            self.compare(document)
+        except (Different, NotDecoded) as error:
+            record = error.record if isinstance(error, Different) else None
+            place = (record or first_of(document.pages[0])).place.text
+            raise ToolError(Text("{}: {}", place, error.what), FAULT, LABELS_FAILED) from error
+
+    def compare(self, document: Document) -> None:
+        """Raises `Different` and `NotDecoded` as `check` does."""
+        wanted = [[*self.wanted_on(labels)] for labels in document.pages]
+        dpi = self.plan.dpi
+        if self.form == "pdf":
+            pages = pages_of(document.data, dpi, [*map(len, wanted)])
+            for labels, symbols in zip(document.pages, wanted):
+                self.talk.go_on(0, 0)
+                try:
+                    check_codes(symbols, next(pages), self.plan.dot)
+                except NotDecoded as error:
+                    raise Different(error.what, first_of(labels)) from error
+            return
+        if self.form == "svg":
+            dots = dots_of_svg(document.data, dpi, self.plan.page)
+        else:
+            dots = dots_of(self.form, document.data, self.plan.page[0])
+            self.check_size(dots, document.copies)
+            self.check_drawn(dots, document)
+        rows = dots.rows
+        for symbol in wanted[0]:
+            check_dots(symbol, rows, dots.width, self.plan.dot)
+
+    def check_size(self, dots: Dots, copies: int) -> None:
+        """Raises `Different` where a page has not its size, or not its copies."""
+        width, height = self.plan.page
+        if (dots.width, dots.height) != (width, height):
+            found = Text("{} by {}", dots.width, dots.height)
+            its = Text("{} by {}", width, height)
+            raise Different(Text("a page goes out with {} dots and has {}", found, its))
+        if dots.copies != copies:
+            what = Text("{} copies go out, and {} are asked for", dots.copies, copies)
+            raise Different(what)
+
+    def check_drawn(self, dots: Dots, document: Document) -> None:
+        """Raises `Different` where dots are not those of the page that was drawn."""
+        if document.drawn is None or dots.packed == document.drawn:
+            return
+        pairs = enumerate(zip(dots.rows, rows_in(document.drawn, dots.stride)))
+        number = next(number for number, (found, row) in pairs if found != row)
+        what = Text("its dots are wrong as they go out, {:.1f} mm down", number * self.plan.dot)
+        high = self.plan.area.height
+        there = [item for item, (_, top) in document.pages[0] if top <= number < top + high]
+        raise Different(what, there[0].label.record if there else None)
+
+    def wanted_on(self, labels: Labels) -> Iterator[Wanted]:
+        """Yields what has to be on a page, in the order of its drawing; raises `Different`."""
+        for item, at in labels:
+            for spot in spots_of(item, self.area):
+                try:
+                    yield self.wanted(spot, at, item.label.record)
+                except Different as error:
+                    raise Different(error.what, item.label.record) from error
+
+    def wanted(self, spot: Spot, at: tuple[int, int], record: LineRecord) -> Wanted:
+        """Returns what has to be on a page for a symbol of a label whose area is at a place."""
+        symbol = self.code(spot)
+        left, right, above, below = symbol.quiet_zones
+        bars = spot.bars
+        wide = left + symbol.width + right
+        scale = spot.module
+        high = bars.height // scale if symbol.rows == 1 else above + symbol.rows + below
+        if not scale or (wide * scale, high * scale) != (bars.width, bars.height):
+            raise Different(Text("its modules are no whole dots"))
+        bands = bands_of(symbol, high)
+        spans = GUARDS.get(symbol.symbology, ())
+        low, longer = bars.bottom, LONGER * scale
+        guards = [
+            Box(bars.left + (left + first) * scale, low, (end - first) * scale, longer)
+            for first, end in spans
+        ]
+        picture = bars._replace(height=sum(band.high for band in bands) * scale)
+        bars, picture, *guards = (self.on_page(spot, box, at) for box in (bars, picture, *guards))
+        self.check_cell(at, picture)
+        quarters = (spot.quarters + self.is_turned) % 4
+        return Wanted(record, bands, bars, guards, picture, quarters, scale)
+
+    def code(self, spot: Spot) -> Any:
+        """Returns the symbol of a spot, drawn anew from its line; raises `Different` where that
+        does not say its data.
+        """
+        engine = self.escaped if spot.is_escaped else self.engine
+        try:
+            symbol = engine.symbol(spot.line)
+        except Refused as refused:
+            raise Different(Text("{}", str(refused))) from refused
+        if symbol.data != spot.data:
+            raise Different(Text("its code says other data than its line"))
+        return symbol
+
+    def on_page(self, spot: Spot, box: Box, at: tuple[int, int]) -> Box:
+        """Returns where a box in the room of a spot is on the page."""
+        room = spot.room
+        size = (room.height, room.width) if spot.quarters % 2 else (room.width, room.height)
+        found = turned(box, size, spot.quarters)
+        found = found._replace(left=found.left + room.left, top=found.top + room.top)
+        if self.is_turned:
+            found = turned(found, (self.area.width, self.area.height), 1)
+        return found._replace(left=found.left + at[0], top=found.top + at[1])
+
+    def check_cell(self, at: tuple[int, int], box: Box) -> None:
+        """Raises `Different` where a code is not in the cell of its label, by the millimetres of
+        the sheet.
+        """
+        if at not in self.cells:
+            raise Different(Text("it is at no place of its sheet"))
+        x, y = self.cells[at]
+        wide, high = self.plan.sheet.cell
+        dot = self.plan.dot
+        is_across = x - dot <= box.left * dot and box.right * dot <= x + wide + dot
+        is_down = y - dot <= box.top * dot and box.bottom * dot <= y + high + dot
+        if not is_across or not is_down:
+            raise Different(Text("its code leaves its cell"))
+
+
+def first_of(labels: Labels) -> LineRecord:
+    """Returns the line of the first label of a page."""
+    return labels[0][0].label.record
+
+
+def bands_of(symbol: Any, high: int) -> list[Band]:
+    """Returns the bands of a symbol with its quiet zones, which is so many modules high."""
+    left, right, above, below = symbol.quiet_zones
+    digits = symbol.modules.translate(DIGITS).decode("ascii")
+    starts = range(0, len(digits), symbol.width)
+    rows = ["0" * left + digits[start : start + symbol.width] + "0" * right for start in starts]
+    whole = "1" * len(rows[0])
+    if len(rows) > 1:
+        blank = "0" * len(whole)
+        return [Band(row, whole, 1) for row in (*[blank] * above, *rows, *[blank] * below)]
+    bars = Band(rows[0], whole, high)
+    spans = GUARDS.get(symbol.symbology)
+    if not spans:
+        return [bars]
+    looked = ["0"] * len(whole)
+    for first, end in spans:
+        looked[left + first : left + end] = "1" * (end - first)
+    dark = "".join(min(pair) for pair in zip(rows[0], looked))
+    return [bars, Band(dark, "".join(looked), LONGER)]
+
+
+def check_dots(wanted: Wanted, rows: Sequence[bytes], width: int, dot: float) -> None:
+    """Raises `Different` where dots of a page are not those of a symbol."""
+    box = wanted.picture
+    if box.left < 0 or box.right > width or not 0 <= box.top <= box.bottom <= len(rows):
+        raise Different(Text("its code leaves the page"), wanted.record)
+    first, last = box.left // 8, bytes_a_row(box.right)
+    behind = 8 * last - box.right
+    top = box.top
+    for dark, looked, high in turned_bands(wanted):
+        for row in {row[first:last] for row in rows[top : top + high]}:  # most are the same
+            if ((int.from_bytes(row, "big") >> behind) ^ dark) & looked:
+                raise wrong(wanted, dot)
+        top += high
+
+
+def turned_bands(wanted: Wanted) -> Iterator[tuple[int, int, int]]:
+    """Yields the bands of a symbol as it is on a page: dark dots and those that are looked at, as
+    numbers, and how many rows of dots are so.
+    """
+    darks = [band.dark for band in wanted.bands]
+    looks = [band.looked for band in wanted.bands]
+    highs = [band.high * wanted.scale for band in wanted.bands]
+    wides = [wanted.scale] * len(darks[0])
+    for _ in range(wanted.quarters):
+        darks = ["".join(column) for column in zip(*darks[::-1])]
+        looks = ["".join(column) for column in zip(*looks[::-1])]
+        highs, wides = wides, highs[::-1]
+    known: dict[str, int] = {}
+    for line in {*darks, *looks}:
+        known[line] = int("".join(map(mul, line, wides)), 2)
+    for dark, look, high in zip(darks, looks, highs):
+        yield known[dark], known[look], high
+
+
+def check_codes(symbols: Sequence[Wanted], page: DrawnPage, dot: float) -> None:
+    """Raises `Different` where codes of a drawing are not the symbols that have to be there, one
+    behind another, or are not on white.
+    """
+    whites = iter(page.whites)
+    for wanted, code in zip(symbols, page.codes):
+        packed = [packed_of(band.dark) * band.high for band in wanted.bands]
+        wide, high = len(wanted.bands[0].dark), sum(band.high for band in wanted.bands)
+        is_same = (code.width, code.height, code.modules) == (wide, high, b"".join(packed))
+        is_there = is_at(code.corners, wanted.picture, wanted.quarters)
+        is_on_white = all(next(whites, None) == box for box in (wanted.bars, *wanted.guards))
+        if not (is_same and is_there and is_on_white):
+            raise wrong(wanted, dot)
+
+
+def packed_of(digits: str) -> bytes:
+    """Returns a row of modules in whole bytes."""
+    return (int(digits, 2) << -len(digits) % 8).to_bytes(bytes_a_row(len(digits)), "big")
+
+
+def wrong(wanted: Wanted, dot: float) -> Different:
+    """Returns where a code is wrong."""
+    across, down = wanted.picture.left * dot, wanted.picture.top * dot
+    what = Text(
+        "its code is wrong as it goes out, {:.1f} mm from the left, {:.1f} mm down", across, down
+    )
+    return Different(what, wanted.record)
+
+
+def spots_of(item: LaidOut, area: Box) -> Iterator[Spot]:
+    """Yields where the symbols of a label have to be."""
+    for symbol in symbols_of(item, area):
+        yield spot_of(symbol, item.label.record)
+
+
+def spot_of(symbol: OwnSymbol, record: LineRecord) -> Spot:
+    """Returns where a symbol has to be."""
+    place = symbol.place
+    where = (symbol.box, place.quarters, symbol.boxes["bars"], symbol.module)
+    if not place.symbology:
+        return Spot(record.line, False, record.data, *where)
+    text = own_text(place, record)
+    data = symbol.data if text is None else text.encode("utf-8", "surrogateescape")
+    escaped = data.replace(b"\\", b"\\\\").replace(b"\n", b"\\n")
+    line = ",".join((place.symbology, *place.settings)).encode() + b" " + escaped
+    return Spot(line, True, symbol.data, *where)
+
+
+def own_text(place: Place, record: LineRecord) -> Optional[str]:
+    """Returns the text of a label in a place, by the line itself; None where it is put together of
+    several.
+    """
+    label = record.label
+    texts = {
+        "code": record.data.decode("utf-8", "surrogateescape"),
+        "title": short(label.title),
+        "price": label.price,
+        "unit": label.unit,
+        "was": label.was,
+    }
+    for name, text in zip(label.names, label.text):
+        key = key_of(name)
+        if key not in PARTS:
+            texts.setdefault(key, short(text))
+    return texts.get(place.key) or texts.get(place.part)
+
+
+def turned(box: Box, size: tuple[int, int], quarters: int) -> Box:
+    """Returns where a box is in a room of a size that is turned to the right by some quarters."""
+    width, height = size
+    for _ in range(quarters):
+        box = Box(height - box.bottom, box.left, box.height, box.width)
+        width, height = height, width
+    return box

@@ -1,0 +1,61 @@
+"""Reads the codes of an SVG of Cairo: dark rectangles that are drawn last, each code on white, so
+that nothing else of the page is over them.
+"""
+
+import re
+from itertools import takewhile
+from typing import Sequence
+from xml.etree import ElementTree
+from xml.etree.ElementTree import Element
+
+from labeltools.checking.decode import Dots, NotDecoded
+from labeltools.checking.pdf import NEAR, POINTS
+from labeltools.common.text import Text
+
+PATH = "{http://www.w3.org/2000/svg}path"
+WHITE = "fill:rgb(100%,100%,100%);fill-opacity:1"
+FILL = re.compile(r"stroke:none;.*fill:rgb\((0|100)%,\1%,\1%\);fill-opacity:1;?")
+NUMBER = r"-?[0-9.]+(?:e-?[0-9]+)?"
+RECTANGLE = re.compile(r"M X X L X X L X X L X X Z ".replace("X", f"({NUMBER})"))
+
+
+def dots_of_svg(data: bytes, dpi: float, size: tuple[int, int]) -> Dots:
+    """Returns the rectangles that a page ends in as dots; what none of them fills is dark. Raises
+    `NotDecoded` where one is not on whole dots, or leaves the page.
+    """
+    width, height = size
+    stride = (width + 7) // 8
+    rows = [(1 << 8 * stride) - 1] * height
+    try:
+        root = ElementTree.fromstring(data)
+        last = [*takewhile(is_rectangles, reversed([*root[-1]]))]
+        for element in reversed(last):
+            is_white = WHITE in element.get("style", "")
+            for corners in RECTANGLE.findall(element.get("d", "")):
+                left, top, right, bottom = sides_of(corners, dpi / POINTS)
+                bits = ((1 << (right - left)) - 1) << (8 * stride - right)
+                if not 0 <= left < right <= width or not 0 <= top < bottom <= height:
+                    raise NotDecoded(Text("its code leaves the page"))
+                for row in range(top, bottom):
+                    rows[row] = rows[row] & ~bits if is_white else rows[row] | bits
+    except (ElementTree.ParseError, ValueError, LookupError) as error:
+        raise NotDecoded(Text("no svg of Cairo: {}", error)) from error
+    return Dots(width, height, b"".join([row.to_bytes(stride, "big") for row in rows]))
+
+
+def is_rectangles(element: Element) -> bool:
+    """Returns whether an element is rectangles alone, filled with black or white."""
+    rest = RECTANGLE.sub("", element.get("d", "M"))
+    is_whole = re.fullmatch(f"M {NUMBER} {NUMBER} ", rest) is not None
+    has_style = FILL.search(element.get("style", "")) is not None
+    return element.tag == PATH and has_style and is_whole and "transform" not in element.keys()
+
+
+def sides_of(corners: Sequence[str], scale: float) -> tuple[int, int, int, int]:
+    """Returns the sides of a rectangle in whole dots; raises `NotDecoded` where they are none."""
+    places = [float(number) * scale for number in corners]
+    across, down = {round(x) for x in places[::2]}, {round(y) for y in places[1::2]}
+    is_near = all(abs(place - round(place)) <= NEAR for place in places)
+    if not is_near or len(across) != 2 or len(down) != 2:
+        raise NotDecoded(Text("its modules are no whole dots"))
+    return min(across), min(down), max(across), max(down)

@@ -1,0 +1,1 @@
+"""The programs label-table and label-print."""

@@ -1,0 +1,1 @@
+"""Texts, messages, files, and how a tool starts and ends: all others know it."""

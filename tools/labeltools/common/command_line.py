@@ -1,0 +1,233 @@
+"""How a tool starts and ends: its arguments, standard input and output, signals, messages and
+statuses.
+"""
+
+import argparse
+import os
+import signal
+import sys
+from contextlib import contextmanager, suppress
+from io import RawIOBase, TextIOWrapper
+from pathlib import Path
+from typing import Any, BinaryIO, Callable, Iterator, Mapping, NoReturn, Optional
+
+from labeltools.common.text import NOTHING, Text, translated
+from labeltools.common.messages import (
+    BadArguments,
+    Place,
+    ToolError,
+    of_system,
+    sentence,
+    write_message,
+)
+
+STANDARD_ERROR = 2
+ENDING = (signal.SIGHUP, signal.SIGINT, signal.SIGTERM)
+HELD: list[list[int]] = []  # the signals that came while they are held back, where they are
+
+
+# what argparse says of bad arguments; it looks for them where words.py has the translations
+OF_ARGPARSE = (
+    Text("argument %(argument_name)s: %(message)s"),
+    Text("unrecognized arguments: %s"),
+    Text("not allowed with argument %s"),
+    Text("ignored explicit argument %r"),
+    Text("the following arguments are required: %s"),
+    Text("one of the arguments %s is required"),
+    Text("expected one argument"),
+    Text("expected at most one argument"),
+    Text("expected at least one argument"),
+    Text("invalid %(type)s value: %(value)r"),
+    Text("invalid choice: %(value)r (choose from %(choices)s)"),
+)
+
+
+class Parser(argparse.ArgumentParser):
+    """A parser whose bad arguments are an error like others: `main_of` writes it, a window shows
+    it.
+    """
+
+    def error(self, message: str) -> NoReturn:
+        """Raises `BadArguments`; a message of argparse is in the language of the user already."""
+        what = message if isinstance(message, Text) else Text("{}", message)
+        raise BadArguments(what, self.format_usage())
+
+
+def wrong_argument(what: Text) -> argparse.ArgumentTypeError:
+    """Returns the error of an argument, which argparse says behind its name."""
+    return argparse.ArgumentTypeError(translated(what))
+
+
+class CommandTalk:
+    """The talk of a command: what it is told is written on standard error."""
+
+    def __init__(self, tool: str) -> None:
+        self.tool = tool
+
+    def note(self, place: Place, cell: str, reason: Text, hint: Text) -> None:
+        """Writes why a row or line is left out."""
+        write_message(self.tool, Text("{}: {}", place.text, sentence(reason, hint)))
+
+    def say(self, text: Text, hint: Text = NOTHING) -> None:
+        """Writes something about the whole."""
+        write_message(self.tool, sentence(text, hint))
+
+    def go_on(self, done: int, total: int) -> None:
+        """Does nothing: a signal ends a command."""
+
+
+def words_of(options: Mapping[str, Any]) -> list[str]:
+    """Returns the words of a command for options by their names; those without a value are left
+    out.
+
+    >>> words_of({"code": "2", "title": "", "header-row": 3.0, "hidden": True})
+    ['--code', '2', '--header-row', '3', '--hidden']
+    """
+    found = []
+    for name, value in options.items():
+        if value is True:
+            found.append(f"--{name}")
+        elif value:
+            found += [f"--{name}", value if isinstance(value, str) else f"{value:g}"]
+    return found
+
+
+def read_input(path: Optional[str]) -> tuple[str, bytes]:
+    """Returns the name and bytes of a file, or of standard input where it is None or `-`.
+
+    Raises `ToolError` if it is empty, and `OSError`.
+    """
+    is_standard = path is None or path == "-"
+    if is_standard and sys.stdin is None:
+        raise ToolError(Text("standard input is closed"))
+    name = Text("standard input") if is_standard else str(path)
+    data = sys.stdin.buffer.read() if is_standard else Path(str(path)).read_bytes()
+    if not data:
+        raise ToolError(Text("{} is empty: nothing is printed", name))
+    return name, data
+
+
+def standard_output() -> BinaryIO:
+    """Returns standard output for bytes; inside `main_of` its `write` takes all of them or
+    fails.
+    """
+    if sys.stdout is None:
+        raise ToolError(Text("standard output is closed"))
+    return sys.stdout.buffer
+
+
+def main_of(tool: str, function: Callable[[], Optional[int]]) -> NoReturn:
+    """Runs a tool and ends with its status (None is 0), or with a message and a status for
+    ToolError and OSError.
+    """
+    on_signals()
+    fill_standard_streams()
+    if sys.stderr is None:  # Python would write messages to standard output, which may be a printer
+        sys.stderr = open(os.devnull, "w", encoding="utf-8")
+    status = status_of(tool, function)
+    for stream in (sys.stdout, sys.stderr):
+        flush_or_forget(stream)
+    sys.exit(status)
+
+
+def fill_standard_streams() -> None:
+    """Opens /dev/null by the numbers of standard streams that are closed: a file that got one would
+    have in it what libraries of the system write on standard error.
+    """
+    while (file := os.open(os.devnull, os.O_RDWR)) <= STANDARD_ERROR:
+        pass
+    os.close(file)
+
+
+def status_of(tool: str, function: Callable[[], Optional[int]]) -> int:
+    """Returns the status of a tool; its messages are written."""
+    try:
+        buffer_output()
+        status = ended(function)
+        if sys.stdout is not None:
+            sys.stdout.flush()
+        return status
+    except BadArguments as error:
+        with suppress(OSError):
+            sys.stderr.write(error.usage)
+        write_message(tool, Text("error: {}", error.args[0]))
+        return error.status
+    except ToolError as error:
+        write_message(tool, error.args[0])
+        return error.status
+    except OSError as error:
+        write_message(tool, of_system(error).args[0])
+        return 1
+
+
+def ended(function: Callable[[], Optional[int]]) -> int:
+    """Returns the status of a function, also where argparse ends it after a help text or bad
+    arguments.
+    """
+    try:
+        return function() or 0
+    except SystemExit as end:
+        return int(end.code or 0)
+
+
+def buffer_output() -> None:
+    """Gives standard output a buffer where PYTHONUNBUFFERED left it without one: its writes may
+    take a part only.
+    """
+    if sys.stdout is not None and isinstance(sys.stdout.buffer, RawIOBase):
+        whole = open(sys.stdout.fileno(), "wb", closefd=False)
+        sys.stdout = TextIOWrapper(whole, sys.stdout.encoding)
+
+
+def keep_standard_error() -> None:
+    """Leaves standard error to the tool alone, where each line is an answer: what the libraries of
+    the system write there, such as warnings about fonts, goes nowhere.
+    """
+    own = os.dup(sys.stderr.fileno())
+    null = os.open(os.devnull, os.O_WRONLY)
+    os.dup2(null, sys.stderr.fileno())
+    os.close(null)
+    sys.stderr = open(own, "w", encoding=sys.stderr.encoding, errors="backslashreplace")
+
+
+def flush_or_forget(stream: Any) -> None:
+    """Flushes a stream, or sends what is left nowhere: Python's last flush would change the status
+    to 120.
+    """
+    try:
+        if stream is not None:
+            stream.flush()
+    except OSError:
+        os.dup2(os.open(os.devnull, os.O_WRONLY), stream.fileno())
+
+
+def on_signals(action: Any = signal.SIG_DFL) -> None:
+    """Sets what the signals do that end a tool, but for those that it was started to ignore."""
+    for number in ENDING:
+        if signal.getsignal(number) != signal.SIG_IGN:
+            signal.signal(number, action)
+
+
+@contextmanager
+def hold_signals() -> Iterator[list[int]]:
+    """Holds a signal back while something goes out that has to be whole, and gives a list in which
+    it then is; a second one ends the tool at once. Within another such time it does nothing.
+    """
+    if HELD:
+        yield HELD[0]
+        return
+    taken: list[int] = []
+    HELD.append(taken)
+
+    def take(number: int, _: object) -> None:
+        taken.append(number)
+        on_signals()
+
+    on_signals(take)
+    try:
+        yield taken
+    finally:
+        HELD.clear()
+        on_signals()
+        for number in taken:
+            os.kill(os.getpid(), number)

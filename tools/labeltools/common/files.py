@@ -1,0 +1,80 @@
+"""Files that are whole or not there, and errors that name them."""
+
+import os
+import stat
+import tempfile
+from contextlib import contextmanager
+from pathlib import Path
+from typing import IO, Iterator
+
+from labeltools.common.text import Text
+from labeltools.common.messages import ToolError
+
+PART = ".{number}.part"  # a name that no label has: those begin with no dot
+BLOCK = 1 << 20
+
+
+class Unwritten(OSError):
+    """An error at which nothing was written, or all of it was taken back."""
+
+
+@contextmanager
+def temporary() -> Iterator[None]:
+    """Names the folder of temporary files in a `ToolError` where an error names no file."""
+    try:
+        yield
+    except OSError as error:
+        if error.filename is not None:
+            raise
+        hint = Text("make room there, or name another folder in $TMPDIR")
+        reason = error.strerror or str(error)
+        folder = tempfile.tempdir or "$TMPDIR"  # none that can be written was found
+        raise ToolError(Text("{}: {}", folder, reason), hint) from error
+
+
+def save(file: IO[bytes], path: Path, number: int = 1) -> None:
+    """Writes a whole file, which has its name once it is whole; raises `OSError` with its name."""
+    part = path.with_name(PART.format(number=number))
+    try:
+        with part.open("xb") as stream:
+            while data := file.read(BLOCK):
+                stream.write(data)
+        part.rename(path)
+    except OSError as error:
+        if not isinstance(error, FileExistsError):
+            part.unlink(missing_ok=True)
+        raise OSError(error.errno, error.strerror, str(path)) from error
+    except BaseException:
+        part.unlink(missing_ok=True)
+        raise
+
+
+def send(file: IO[bytes], output: int) -> None:
+    """Writes a whole file to an open one, which gets nothing where it does not take all; raises
+    `Unwritten` where that is so, and `OSError`.
+    """
+    size = os.fstat(output).st_size
+    data = b""
+    done = 0
+    try:
+        while data := data or file.read(BLOCK):
+            written = os.write(output, data)
+            data = data[written:]
+            done += written
+    except OSError as error:
+        if take_back(output, size, done):
+            raise Unwritten(error.errno, error.strerror) from error
+        raise
+
+
+def take_back(output: int, size: int, done: int) -> bool:
+    """Takes the last `done` bytes out of an open file that had a size before them, unless another
+    program has written to it since; what is written next follows what is there. Returns whether
+    nothing of them is left.
+    """
+    state = os.fstat(output)
+    if done and stat.S_ISREG(state.st_mode) and state.st_size == size + done:
+        os.ftruncate(output, size)
+        os.lseek(output, -done, os.SEEK_CUR)
+        done = 0
+    return not done

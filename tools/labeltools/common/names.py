@@ -1,0 +1,125 @@
+"""The row of names, the rows that repeat it, and the rows that are named together in a message."""
+
+import re
+import unicodedata
+from collections import Counter
+from decimal import Decimal
+from typing import Iterable, Mapping, Sequence
+
+from labeltools.common.text import Text, counted
+
+NUMBER = re.compile("[0-9]{1,15}(?:[.,][0-9]{1,9})?")
+# letters of Greek and Cyrillic as those of Latin that look so
+LOOKS = str.maketrans("аеорсухікмнтвјѕοαυνκρτχ", "aeopcyxikmhtbjsoauvkptx")
+MOST_NAMED = 5  # rows in one message
+
+
+def name_of(text: str) -> str:
+    """Returns a name as it is compared: composed (macOS takes ü apart), without white space at its
+    ends.
+
+    >>> name_of("Stu\\u0308ck ") == name_of("Stück"), name_of("EAN\\n 13")
+    (True, 'EAN 13')
+    """
+    return unicodedata.normalize("NFC", " ".join(text.split()))
+
+
+def is_repeated(cells: Iterable[str], names: Sequence[str]) -> bool:
+    """Returns whether a row is the row of names again, as lists have it on each page.
+
+    Two cells at least have to be the same.
+
+    >>> names = ["EAN", "Name", "Preis"]
+    >>> is_repeated(["EAN", "Name", ""], names), is_repeated(["EAN", "Pen", "1"], names)
+    (True, False)
+    """
+    same = 0
+    for cell, name in zip(cells, names):
+        if cell.strip():
+            if name_of(cell) != name:
+                return False
+            same += 1
+    return same > 1
+
+
+def row_of_names(rows: Iterable[tuple[int, Sequence[str]]], asked: Sequence[str]) -> int:
+    """Returns the first row that has every name that was asked for, once; 0 where there is none.
+
+    >>> row_of_names([(1, ["Preisliste"]), (5, ["EAN", "Name"])], ["EAN", "Name"])
+    5
+    >>> row_of_names([(1, ["a"])], ["EAN"])
+    0
+    """
+    wanted = [name_of(one) for one in asked if not one.isdecimal()]
+    for number, cells in rows:
+        names = Counter(name_of(cell) for cell in cells)
+        if wanted and all(names[one] == 1 for one in wanted):
+            return number
+    return 0
+
+
+def unlike(codes: Mapping[int, str]) -> list[int]:
+    """Returns the rows of the codes without a digit, where nearly all codes of the column have one.
+
+    It is the only one among three others or more, or one of five among ten others or more.
+
+    >>> unlike({2: "1001", 3: "1002", 4: "1003", 5: "Summe"})
+    [5]
+    >>> unlike({2: "A", 3: "1", 4: "2"}), unlike({2: "WIFI:T", 3: "HELLO"})
+    ([], [])
+    """
+    without = [row for row, code in codes.items() if not re.search("[0-9]", code)]
+    others = len(codes) - len(without)
+    is_only = len(without) == 1 and others >= 3
+    is_rare = others >= 10 and others >= 4 * len(without)
+    return without if is_only or is_rare else []
+
+
+def looks_like(text: str, other: str) -> bool:
+    """Returns whether people may take a text for another one: by letters of another script, by what
+    nobody sees, by a letter twice, or by zeros of a number.
+
+    >>> [looks_like(one, "x") for one in ("х", "xx", "x\\u200b", "X!", "y", "box")]
+    [True, True, True, True, False, False]
+    >>> looks_like("01", "1"), looks_like("1,00", "1"), looks_like("11", "1")
+    (True, True, False)
+    """
+    if NUMBER.fullmatch(text) and NUMBER.fullmatch(other):
+        return Decimal(text.replace(",", ".")) == Decimal(other.replace(",", "."))
+    return likeness(text) == likeness(other) != ""
+
+
+def likeness(text: str) -> str:
+    """Returns the letters and digits of a text as they look."""
+    folded = unicodedata.normalize("NFKC", text).casefold().translate(LOOKS)
+    return re.sub(r"([^\W\d])\1+", r"\1", "".join(one for one in folded if one.isalnum()))
+
+
+def listed(rows: Sequence[int]) -> Text:
+    """Returns rows for a message.
+
+    >>> listed([3]), listed([3, 4]), listed(list(range(2, 12)))
+    ('row 3', 'rows 3 and 4', 'rows 2, 3, 4, 5, 6 and 5 more')
+    """
+    if len(rows) == 1:
+        return Text("row {}", rows[0])
+    numbers = list(map(str, rows))
+    if len(rows) <= MOST_NAMED:
+        return Text("rows {} and {}", ", ".join(numbers[:-1]), numbers[-1])
+    first = ", ".join(numbers[:MOST_NAMED])
+    return Text("rows {} and {} more", first, len(rows) - MOST_NAMED)
+
+
+def said_of_empty(what: str, rows: Sequence[int], labels: int) -> Text:
+    """Returns the one message of empty titles or prices.
+
+    >>> said_of_empty("title", [3, 4], 3)
+    'rows 3 and 4 have no title (2 of 3 labels)'
+    """
+    named = listed(rows)
+    part = counted("{1} of {0} label", "{1} of {0} labels", labels, len(rows))
+    if what == "title":
+        one = Text("{} has no title ({})", named, part)
+        return one if len(rows) == 1 else Text("{} have no title ({})", named, part)
+    one = Text("{} has no price ({})", named, part)
+    return one if len(rows) == 1 else Text("{} have no price ({})", named, part)

@@ -1,0 +1,84 @@
+"""Why labels are left out, in a handful of messages."""
+
+from dataclasses import dataclass
+from itertools import groupby
+from typing import Iterable, Iterator, Optional, Sequence
+
+from labeltools.common.text import NOTHING, Text, joined
+from labeltools.common.messages import Place
+
+MOST_REASONS = 8  # that have a message of their own
+MOST_RANGES = 10  # of rows that a message names
+
+
+@dataclass(frozen=True, slots=True)
+class LeftOut:
+    """A label that is not printed: its place where that is known, its data, why, and what to do."""
+
+    place: Optional[Place]
+    data: str
+    reason: Text
+    hint: Text = NOTHING
+
+
+def report(left_out: Sequence[LeftOut], tables: Iterable[str]) -> Iterator[Text]:
+    """Yields a message for each reason, those of the most labels first, and one for all further
+    reasons; places are named with their table where there are several.
+    """
+    has_tables = len(set(tables)) > 1
+    places: dict[Text, list[Place]] = {}
+    for one in left_out:
+        named = places.setdefault(one.reason, [])
+        if one.place is not None:
+            named.append(one.place)
+    reasons = sorted(places, key=lambda reason: -len(places[reason]))
+    for reason in reasons[:MOST_REASONS]:
+        named = places[reason]
+        yield Text("{}: {}", places_text(named, has_tables), reason) if named else reason
+    rest = [place for reason in reasons[MOST_REASONS:] for place in places[reason]]
+    if rest:
+        where = places_text(rest, has_tables)
+        yield Text("{}: left out for other reasons, such as: {}", where, reasons[MOST_REASONS])
+
+
+def places_text(places: Iterable[Place], has_tables: bool) -> Text:
+    """Returns places in words, such as `rows 2, 5-9`."""
+    texts = []
+    for (table, unit), group in groupby(sorted(set(places)), key=lambda place: place[:2]):
+        numbers = [place.number for place in group]
+        ranges = [range_text(first, last) for first, last in ranges_of(numbers)]
+        named = ", ".join(ranges[:MOST_RANGES])
+        if unit == "row":
+            text = Text("row {}", named) if len(numbers) == 1 else Text("rows {}", named)
+        else:
+            text = Text("line {}", named) if len(numbers) == 1 else Text("lines {}", named)
+        if len(ranges) > MOST_RANGES:
+            text = Text("{} .. ({} in all)", text, len(numbers))
+        texts.append(Text("{}, {}", table, text) if has_tables and table else text)
+    return joined("; ", texts) if texts else Text("some rows")
+
+
+def few(names: Sequence[str], count: int) -> Text:
+    """Returns names; where they are many, the first of them and the count of what all name."""
+    text = joined(", ", names[:MOST_RANGES])
+    return Text("{} .. ({} in all)", text, count) if len(names) > MOST_RANGES else text
+
+
+def ranges_of(numbers: Iterable[int]) -> list[tuple[int, int]]:
+    """Returns the first and last numbers of runs of numbers in order.
+
+    >>> ranges_of([2, 5, 6, 7])
+    [(2, 2), (5, 7)]
+    """
+    found: list[tuple[int, int]] = []
+    for number in numbers:
+        if found and number == found[-1][1] + 1:
+            found[-1] = (found[-1][0], number)
+        else:
+            found.append((number, number))
+    return found
+
+
+def range_text(first: int, last: int) -> str:
+    """Returns a range in words."""
+    return f"{first}" if first == last else f"{first}-{last}"

@@ -1,0 +1,1 @@
+"""Designs of a user's own, as SVG."""

@@ -1,0 +1,403 @@
+"""A design of a user's own: an SVG page of the label's size, drawn in any program.
+
+A rectangle with a name is the place of a part of labels, and is not drawn itself; all else is drawn
+on each label as it is, but for a group with the name of a part or a column, which is drawn where a
+label has that. The name is that of the part, then how it is drawn:
+
+    <rect data-place="title, bold, middle" x="2" y="2" width="96" height="22"/>
+    <rect data-place="code" x="2" y="25" width="72" height="23"/>
+    <rect data-place="code-2, qr, level=Q" x="76" y="25" width="22" height="22"/>
+
+It is the value of `data-place`, or else the name that Inkscape, Affinity or Illustrator writes, or
+else the id. Lengths are in millimetres from the left upper corner of the label as it is read.
+"""
+
+import re
+from dataclasses import dataclass, replace
+from typing import Any, Callable, Iterator, Mapping, Optional
+from xml.etree.ElementTree import Element
+
+import cairo
+
+from labeltools.paper.area import Edges
+from labeltools.common.messages import BAD_ARGUMENTS, ToolError
+from labeltools.designs.drawing import HOLDERS, SvgPage, named, read_page, rectangle, tag_of
+from labeltools.designs.places import Colour, PARTS, Place, key_of, part_of, place_of
+from labeltools.designs.places import title_of, written_name
+from labeltools.paper.stock import Size, size_text
+from labeltools.common.text import Text
+
+SUFFIXES = (".svg", ".svgz")
+MODE = "{http://www.inkscape.org/namespaces/inkscape}groupmode"  # of layers
+NEAR = 1.0  # millimetres by which a page may differ from a label
+ALIKE = 0.015  # by which the proportions of a page without millimetres may
+MOST_PLACES = 400
+SHAPES = ("path", "circle", "ellipse", "polygon", "polyline", "line", "image", "use", "text")
+FILLED = re.compile(r"(?<![\w-])fill:\s*url\(")  # by a picture, or a gradient
+THIN = "1e-7px"  # the height of what shows the upper edge of a place
+TINY = 0.01  # millimetres
+BLACK = (0.0, 0.0, 0.0)
+WHITE = (1.0, 1.0, 1.0)
+CHECKED = 12.0  # dots a millimetre, in which a drawing is looked at
+WHITEST = bytes((254, 255))  # what symbols take behind them: a line far thinner than a dot is seen
+LIGHT = bytes(range(128, 256))  # what is white in dots
+# the least part of a place, but for so many millimetres at its edges, that some letters may lie on
+SPOTTED = 0.05
+FRAME = 0.5
+EDGE = 0.05  # of the place of a symbol, where the drawing may end
+CONTRAST = 0.3  # between letters and what is behind them, of that between black and white
+
+
+@dataclass(frozen=True, eq=False)
+class OwnDesign:
+    """A design that suits a label: its page, the sides of a label as it is read, whether labels are
+    turned to the right, its places, its groups, by the parts or columns with which they are drawn,
+    each with what it is without a number behind it, what other shapes with a name are, by its key,
+    and what is said of it.
+    """
+
+    page: SvgPage
+    label: Size
+    is_turned: bool
+    groups: Mapping[str, str]
+    shapes: Mapping[str, str]
+    places: tuple[Place, ...] = ()
+    remarks: tuple[Text, ...] = ()
+
+    @property
+    def file(self) -> str:
+        """The name of its file."""
+        return self.page.file
+
+    def area(self, scale: float) -> Any:
+        """Returns where its page is on a label, in so many units a millimetre."""
+        size = self.page.size if self.page.is_real else self.label
+        left, top = ((one - other) / 2 for one, other in zip(self.label, size))
+        return rectangle(left, top, *size, scale)
+
+    def draw(self, canvas: Any, scale: float, absent: frozenset[str] = frozenset()) -> None:
+        """Draws what is alike on all labels without some parts, in so many units a millimetre;
+        raises `ToolError`.
+        """
+        hidden = [f"#place-{number}" for number in range(len(self.places))]
+        hidden += [f".group-{number}" for number, key in enumerate(self.groups) if key in absent]
+        self.page.draw(canvas, self.area(scale), f"{','.join(hidden)}{{display:none!important}}")
+
+    def recorded(self, scale: float, absent: frozenset[str]) -> cairo.RecordingSurface:
+        """Returns what `draw` draws, which ends at the edges of a label."""
+        area = cairo.Rectangle(0, 0, *(side * scale for side in self.label))
+        surface = cairo.RecordingSurface(cairo.CONTENT_COLOR_ALPHA, area)
+        canvas = cairo.Context(surface)
+        canvas.rectangle(*area)
+        canvas.clip()
+        self.draw(canvas, scale, absent)
+        return surface
+
+    def seen(self, absent: frozenset[str]) -> cairo.RecordingSurface:
+        """Returns the drawing as it is looked at."""
+        return self.recorded(CHECKED, absent)
+
+    def colours(self, seen: cairo.Surface) -> dict[Place, Colour]:
+        """Returns the colours of letters in places on a drawing: without some parts they may be
+        other ones.
+        """
+        texts = (place for place in self.places if not place.is_symbol)
+        return {place: colour_on(place, behind(seen, place, 0.0)) for place in texts}
+
+
+def is_file(design: str) -> bool:
+    """Returns whether a design is a file."""
+    return design.lower().endswith(SUFFIXES)
+
+
+def size_of_page(file: str) -> Size:
+    """Returns the size of the page of a file; raises `ToolError` where that is not in
+    millimetres.
+    """
+    page = read_page(file)
+    if not page.is_real:
+        hint = Text("name the paper by --paper, --stock or --cell")
+        raise ToolError(Text("{} has no size in millimetres", file), hint, BAD_ARGUMENTS)
+    return page.size
+
+
+def read_design(file: str, cell: Size, white: Edges, turn: Optional[bool]) -> OwnDesign:
+    """Returns the design of a file for cells of a size, of which `white` takes no ink; raises
+    `ToolError` where it does not suit them, or is no design.
+    """
+    page = read_page(file)
+    is_turned = fitting_turn(page, cell, turn)
+    label = cell[::-1] if is_turned else cell
+    edges = (white[1], white[2], white[3], white[0]) if is_turned else white
+    shapes = {key_of(title_of(one)): tag_of(one) for one in page.root.iter() if is_drawn(one)}
+    groups = marked_groups(page.root)
+    design = OwnDesign(page, label, is_turned, groups, shapes)
+    placed = tuple(located(design, marked_places(page)))
+    check_places(file, placed, label)
+    cut = tuple(inside(file, place, label, edges) for place in placed)
+    smaller = [one.title for one, whole in zip(cut, placed) if is_smaller(one, whole)]
+    design = replace(design, places=cut)
+    seen = design.seen(frozenset())
+    for drawing in (seen, design.seen(frozenset(groups))) if groups else (seen,):
+        check_white(design, drawing)
+    said = tuple(remarks_on(design, seen, smaller, edges))
+    colours = design.colours(seen)
+    places = (replace(place, colour=colours.get(place, BLACK)) for place in cut)
+    return replace(design, places=tuple(places), remarks=said)
+
+
+def fitting_turn(page: SvgPage, cell: Size, turn: Optional[bool]) -> bool:
+    """Returns whether labels of a page are turned; raises `ToolError` where it does not suit."""
+    for is_turned in (False, True):
+        label = cell[::-1] if is_turned else cell
+        if turn in (None, is_turned) and is_fitting(page, label):
+            return is_turned
+    label = cell[::-1] if turn else cell
+    if page.is_real:
+        taken = size_text(page.size)
+        hint = Text("set the size of its page to that, or take other paper")
+    else:
+        taken = Text("{:g} by {:g} without a unit", *page.size)
+        sides = f'width="{label[0]:g}mm" height="{label[1]:g}mm"'
+        hint = Text("draw it in these proportions, or give it {}", sides)
+    raise ToolError(Text("{} is {}, and a label is {}", page.file, taken, size_text(label)), hint)
+
+
+def is_fitting(page: SvgPage, label: Size) -> bool:
+    """Returns whether a page has the size of a label, or its proportions where its own size is not
+    in millimetres.
+    """
+    if page.is_real:
+        return all(abs(one - other) <= NEAR for one, other in zip(page.size, label))
+    across = page.size[0] / label[0]
+    down = page.size[1] / label[1]
+    return abs(across - down) <= ALIKE * down
+
+
+def is_drawn(element: Element) -> bool:
+    """Returns whether an element with a name is drawn as it is, and is no group. A text that a
+    program has named by its words is not meant.
+    """
+    title = title_of(element)
+    words = "".join(element.itertext()) if tag_of(element) == "text" else ""
+    return tag_of(element) in SHAPES and title != "" and key_of(title) != key_of(words)
+
+
+def marked_groups(root: Element) -> dict[str, str]:
+    """Returns the keys of the groups with a name, but for layers of Inkscape, each with its part,
+    and gives these a class.
+    """
+    groups: dict[str, str] = {}
+    for group in root.iter():
+        title = title_of(group)
+        if tag_of(group) == "g" and title and group.get(MODE) != "layer":
+            groups.setdefault(key_of(title), part_of(title))
+            number = [*groups].index(key_of(title))
+            group.set("class", f"{group.get('class', '')} group-{number}")
+    return groups
+
+
+def marked_places(page: SvgPage) -> list[Place]:
+    """Returns the rectangles that are places, and gives these an id; raises `ToolError` for a wrong
+    name. But for parts, what a picture or a gradient fills is drawn, as is what stands for others.
+    """
+    held = {
+        one for element in page.root.iter() if tag_of(element) in HOLDERS for one in element.iter()
+    }
+    found: list[Place] = []
+    for rect in page.root.iter():
+        title = title_of(rect) if tag_of(rect) == "rect" else ""
+        is_filled = FILLED.search(f"fill:{rect.get('fill')};{rect.get('style')}")
+        if title and (part_of(title) in PARTS or not (is_filled or rect in held)):
+            place = place_of(page.file, written_name(rect))
+            rect.set("id", f"place-{len(found)}")
+            found.append(place)
+    if len(found) > MOST_PLACES:
+        raise ToolError(Text("{} has more than {} places", page.file, MOST_PLACES))
+    if not any(place.part == "code" for place in found):
+        hint = Text("draw a rectangle with the id code")
+        raise ToolError(Text("{} has no place for the code", page.file), hint)
+    return found
+
+
+def located(design: OwnDesign, places: list[Place]) -> Iterator[Place]:
+    """Yields places with their sides; raises `ToolError` for one that has none, or is askew. It
+    asks librsvg where they are, and where their upper and left edges are.
+    """
+    names = [f"#place-{number}" for number in range(len(places))]
+    edges = (f"{','.join(names)}{{{side}:{THIN}!important}}" for side in ("height", "width"))
+    handles = [design.page.handle(sheet) for sheet in ("", *edges)]
+    area = design.area(1.0)
+    for name, place in zip(names, places):
+        whole, upper, left = (
+            handle.get_geometry_for_layer(name, area).out_logical_rect for handle in handles
+        )
+        placed = located_place(design.file, place, whole, upper, left)
+        yield replace(placed, colour=colour_of(handles[0], name, area, placed))
+
+
+def located_place(file: str, place: Place, whole: Any, upper: Any, left: Any) -> Place:
+    """Returns a place with its sides and its turn, by the rectangles of it and of its upper and
+    left edge; raises `ToolError`.
+    """
+    if min(whole.width, whole.height) < TINY:
+        hint = Text("give it a width and a height, and show its layer, or take its name away")
+        what = Text("{}: the place {} is hidden, or has no size", file, place.title)
+        raise ToolError(what, hint)
+    is_across = upper.height < upper.width
+    is_slanted = (
+        max(upper.width, upper.height) < (whole.width if is_across else whole.height) - TINY
+    )
+    if min(upper.width, upper.height) > TINY or is_slanted:
+        hint = Text("turn it by a quarter, or not at all")
+        raise ToolError(Text("{}: the place {} is askew", file, place.title), hint)
+    middle = whole.x + whole.width / 2
+    if is_across:  # one that is mirrored is upright
+        is_below = upper.y > whole.y + whole.height / 2
+        quarters = 2 if is_below and left.x > middle else 0
+    else:
+        quarters = 3 if upper.x < middle else 1
+    sides = {"left": whole.x, "top": whole.y, "width": whole.width, "height": whole.height}
+    return replace(place, quarters=quarters, **sides)
+
+
+def colour_of(handle: Any, name: str, area: Any, place: Place) -> Optional[Colour]:
+    """Returns the colour in the middle of a place; None where it is not filled, or more than half
+    transparent.
+    """
+    surface = cairo.ImageSurface(cairo.FORMAT_ARGB32, 1, 1)
+    canvas = cairo.Context(surface)
+    dot = min(place.width, place.height) / 2  # so large that what has a filter takes little time
+    canvas.scale(1 / dot, 1 / dot)
+    canvas.translate((dot - place.width) / 2 - place.left, (dot - place.height) / 2 - place.top)
+    handle.render_layer(canvas, name, area)
+    surface.flush()
+    blue, green, red, alpha = bytes(surface.get_data())[:4]
+    return (red / alpha, green / alpha, blue / alpha) if alpha >= 128 else None
+
+
+def check_places(file: str, places: tuple[Place, ...], label: Size) -> None:
+    """Raises `ToolError` where a place leaves the label, or a symbol has not its place alone."""
+    for number, place in enumerate(places):
+        ends = (label[0] - place.left - place.width, label[1] - place.top - place.height)
+        beyond = -min(place.left, place.top, *ends)
+        if beyond > NEAR / 2 + TINY:
+            what = Text("{}: the place {} leaves the label by {:.1f} mm", file, place.title, beyond)
+            raise ToolError(what, Text("the page is {}", size_text(label)))
+        for other in places[number + 1 :]:
+            if (place.is_symbol or other.is_symbol) and place.common(other) > TINY:
+                titles = place.title, other.title
+                what = Text("{}: the places {} and {} have room in common", file, *titles)
+                hint = Text("move them apart, or take the name of what is to be drawn away")
+                raise ToolError(what, hint)
+
+
+def inside(file: str, place: Place, label: Size, edges: Edges) -> Place:
+    """Returns the part of a place that takes ink; raises `ToolError` where nothing of it does."""
+    left = max(place.left, edges[0])
+    top = max(place.top, edges[1])
+    wide = min(place.left + place.width, label[0] - edges[2]) - left
+    high = min(place.top + place.height, label[1] - edges[3]) - top
+    if min(wide, high) < TINY:
+        what = Text(
+            "{}: the place {} is at an edge of the paper that takes no ink", file, place.title
+        )
+        raise ToolError(what, Text("move it, or give another --edge"))
+    return replace(place, left=left, top=top, width=wide, height=high)
+
+
+def is_smaller(one: Place, other: Place) -> bool:
+    """Returns whether a place is so much smaller than another one that it is said."""
+    return max(other.width - one.width, other.height - one.height) > NEAR / 2 + TINY
+
+
+def remarks_on(
+    design: OwnDesign, seen: cairo.Surface, smaller: list[str], edges: Edges
+) -> Iterator[Text]:
+    """Yields what is said of a design and its drawing, of which some places are smaller than drawn,
+    since an edge takes no ink.
+    """
+    file = design.file
+    if smaller:
+        why = Text("an edge of the page takes no ink there (--edge)")
+        yield Text("{}: smaller than drawn: {}: {}", file, ", ".join(smaller), why)
+    left, top, right, bottom = (max(0.0, edge - NEAR / 2) for edge in edges)
+    wide, high = design.label
+    if max(left, top, right, bottom) > 0:
+        areas = ((0, 0, wide, high), (left, top, wide - left - right, high - top - bottom))
+        whole, within = (behind(seen, Place("", *sides), 0.0) for sides in areas)
+        if len(whole.translate(None, LIGHT)) > len(within.translate(None, LIGHT)):
+            what = Text("{}: the drawing is cut at the edge", file)
+            yield Text("{}: {}", what, Text("move it in, or give another --edge or --shift"))
+    texts = (place for place in design.places if not place.is_symbol)
+    parts = {one.title: dark_part(behind(seen, one, FRAME)) for one in texts}
+    spotted = [title for title, part in parts.items() if SPOTTED < part < 1 - SPOTTED]
+    if spotted:
+        what = Text("{}: the drawing is light and dark in the place {}", file, ", ".join(spotted))
+        hint = Text("letters need light or dark behind them: move the place")
+        yield Text("{}: {}", what, hint)
+    if names := design.page.unlike:
+        what = Text("{}: {} may be drawn otherwise, or not at all", file, named(names))
+        hint = Text("look at it by --to png, save it with texts as paths, or make it a picture")
+        yield Text("{}: {}", what, hint)
+
+
+def check_white(design: OwnDesign, seen: cairo.Surface) -> None:
+    """Raises `ToolError` where a drawing is not white in the place of a symbol."""
+    for place in design.places:
+        if place.is_symbol and behind(seen, place, EDGE).translate(None, WHITEST):
+            what = Text("{}: the drawing is not white in the place {}", design.file, place.title)
+            raise ToolError(what, Text("a symbol needs white there, up to the edge of its place"))
+
+
+def behind(seen: cairo.Surface, place: Place, edge: float) -> bytes:
+    """Returns how light a drawing is in a place, but for so many millimetres at its edges."""
+    sides = ((side - 2 * edge) * CHECKED for side in (place.width, place.height))
+    wide, high = (max(1, round(side)) for side in sides)
+
+    def paint(canvas: Any) -> None:
+        corner = (-(start + edge) * CHECKED for start in (place.left, place.top))
+        canvas.set_source_surface(seen, *corner)
+        canvas.paint()
+
+    return lightness(paint, wide, high)
+
+
+def dark_part(light: bytes) -> float:
+    """Returns which part of dots is dark."""
+    return len(light.translate(None, LIGHT)) / max(1, len(light))
+
+
+def colour_on(place: Place, behind: bytes) -> Colour:
+    """Returns the colour of letters on what is behind them: that of their place where it can be
+    read, or else black or white.
+    """
+    usual = BLACK if dark_part(behind) <= 0.5 else WHITE
+    wanted = place.colour or usual
+    contrast = abs(light_of(wanted) - sum(behind) / 255 / max(1, len(behind)))
+    return wanted if is_light(wanted) == is_light(usual) and contrast > CONTRAST else usual
+
+
+def light_of(colour: Colour) -> float:
+    """Returns how light a colour is, from 0 to 1."""
+    red, green, blue = colour
+    return 0.3 * red + 0.59 * green + 0.11 * blue
+
+
+def is_light(colour: Colour) -> bool:
+    """Returns whether a colour is white in dots."""
+    return light_of(colour) >= 0.5
+
+
+def lightness(paint: Callable[[Any], None], wide: int, high: int) -> bytes:
+    """Returns how light each of some dots is with what is painted there: a byte, 0 for black."""
+    surface = cairo.ImageSurface(cairo.FORMAT_RGB24, wide, high)
+    canvas = cairo.Context(surface)
+    canvas.set_source_rgb(1, 1, 1)
+    canvas.paint()
+    paint(canvas)
+    canvas.set_operator(cairo.Operator.HSL_COLOR)  # grey, as light as the colours are
+    canvas.set_source_rgb(1, 1, 1)
+    canvas.paint()
+    surface.flush()
+    return bytes(surface.get_data())[0::4]

@@ -1,0 +1,229 @@
+"""The drawing of a design: a page of SVG, as librsvg draws it.
+
+What a page may be made of is listed here. An element that is not in the list is refused, since
+librsvg would leave it out; attributes that it is known to leave out are named once. All else is as
+the preview shows it, alike on all labels. Nothing of a page is written anew: what is not to be seen
+is hidden by a style sheet.
+"""
+
+import re
+import zlib
+from dataclasses import dataclass
+from functools import cached_property
+from pathlib import Path
+from typing import Any, Iterable
+from xml.etree import ElementTree
+from xml.etree.ElementTree import Element
+
+from labeltools.layout.letters import font_instead
+from labeltools.common.messages import ToolError
+from labeltools.layout.pango import library
+from labeltools.paper.stock import Size
+from labeltools.common.text import Text
+
+SPACE = "{http://www.w3.org/2000/svg}"
+BEGIN = '<svg xmlns="http://www.w3.org/2000/svg"'
+LINKS = ("href", "{http://www.w3.org/1999/xlink}href")
+NO_STYLES = (*LINKS, "d", "points")  # long ones
+DPI = 96.0  # of CSS, in which lengths without a unit are; librsvg takes 90 where nothing is said
+PX = 25.4 / DPI  # millimetres
+MOST_BYTES = 8_000_000
+LARGEST = 4000.0  # millimetres of a page
+PACKED = b"\x1f\x8b"  # what .svgz begins with
+WITHIN = re.compile("#|data:image/(?:png|jpeg);base64,")
+OUTSIDE = re.compile(r"url\((?!\s*[\"']?(?:#|data:))|@import", re.IGNORECASE)
+# what is drawn, and what draws nothing anywhere
+ELEMENTS = frozenset(
+    "a circle clipPath defs desc ellipse feBlend feColorMatrix feComponentTransfer feComposite"
+    " feDisplacementMap feFlood feFuncA feFuncB feFuncG feFuncR feGaussianBlur feMerge feMergeNode"
+    " feOffset feTurbulence filter g image line linearGradient marker mask metadata path pattern"
+    " polygon polyline radialGradient rect script stop style svg symbol text title tspan use view"
+    " animate animateColor animateMotion animateTransform color-profile cursor font font-face"
+    " font-face-format font-face-name font-face-src font-face-uri glyph hkern missing-glyph mpath"
+    " set vkern".split()
+)
+# what stands in a rectangle of its own, or of others, and is no place
+HOLDERS = ("clipPath", "defs", "marker", "mask", "pattern", "symbol")
+# properties that librsvg leaves out, but for values that change nothing; what newer CSS computes
+UNDRAWN = re.compile(
+    r"(?<![\w-])(?:baseline-shift|dominant-baseline|font-variant|rotate|scale|textLength|translate"
+    r"|text-shadow|transform-origin|vector-effect|word-spacing|writing-mode):\s*(?!(?:0(?:px)?|auto"
+    r"|alphabetic|baseline|horizontal-tb|inherit|lr(?:-tb)?|none|normal)\s*(?:;|$))[^;{}]{1,20}"
+    r"|(?:calc|light-dark|var)\([^;{}]{0,20}|@(?:font-face|media|supports)"
+)
+SPREAD = re.compile(r"^d?[xy]:[-+.\de]+[\s,]+[-+.\de]+")  # letters that are placed one by one
+FAMILY = re.compile(r"(?<![\w-])font-family:([^;{}]+)")
+GENERAL = ("serif", "sans-serif", "sans", "monospace", "cursive", "fantasy", "system-ui", "inherit")
+MOST_NAMED = 9
+PLAIN = Text("save it as plain SVG with texts as paths, or make it a picture")
+
+
+@dataclass(frozen=True, eq=False)
+class SvgPage:
+    """A page of SVG: its file, its elements, its sides, and whether these are in millimetres."""
+
+    file: str
+    root: Element
+    size: Size
+    is_real: bool
+
+    @cached_property
+    def data(self) -> bytes:
+        """Its bytes, once its places and groups are marked."""
+        return ElementTree.tostring(self.root)
+
+    def handle(self, sheet: str = "") -> Any:
+        """Returns what draws it in a style sheet of its own; raises `ToolError`."""
+        return handle_of(self.file, self.data, sheet)
+
+    def draw(self, canvas: Any, area: Any, sheet: str) -> None:
+        """Draws all of it into an area; raises `ToolError`."""
+        try:
+            self.handle(sheet).render_document(canvas, area)
+        except library("GLib", "2.0").Error as error:
+            what = Text("{} cannot be drawn: {}", self.file, error.message)
+            raise ToolError(what, PLAIN) from error
+
+    def has(self, *tags: str) -> bool:
+        """Returns whether it has an element of one of some tags."""
+        return any(tag_of(element) in tags for element in self.root.iter())
+
+    @property
+    def unlike(self) -> list[str]:
+        """What is known to be drawn otherwise, or not at all, and fonts that are not there."""
+        found = {"<svg transform>"} if "transform" in self.root.attrib else set()
+        fonts: set[str] = set()
+        for element in self.root.iter():
+            kinds = (UNDRAWN, SPREAD) if tag_of(element) in ("text", "tspan") else (UNDRAWN,)
+            for value in values_of(element):
+                found.update(one.strip() for kind in kinds for one in kind.findall(value))
+                fonts.update(FAMILY.findall(value))
+        for families in fonts if self.has("text") else ():
+            family, *_ = names = re.sub("[\"']", "", families).strip().split(",")
+            if family.lower() not in GENERAL and font_instead(",".join(names)):
+                found.add(f"font-family:{family}")
+        return sorted(found)
+
+
+def read_page(file: str) -> SvgPage:
+    """Returns the page of a file; raises `ToolError` where that is none, or would not be drawn."""
+    data = data_of(file)
+    try:
+        root = ElementTree.fromstring(data)
+    except (ElementTree.ParseError, LookupError, ValueError) as error:
+        raise ToolError(Text("{} is no SVG: {}", file, error)) from error
+    if root.tag != f"{SPACE}svg":
+        raise ToolError(Text("{} is no SVG", file), Text("it begins with {}", BEGIN))
+    check_elements(file, root)
+    return sized_page(file, root, handle_of(file, data))
+
+
+def data_of(file: str) -> bytes:
+    """Returns the bytes of a file; raises `ToolError`."""
+    try:
+        with Path(file).open("rb") as opened:
+            data = opened.read(MOST_BYTES + 1)
+        if data.startswith(PACKED):
+            data = zlib.decompressobj(zlib.MAX_WBITS + 16).decompress(data, MOST_BYTES + 1)
+    except OSError as error:
+        raise ToolError(Text("--design {}: {}", file, error.strerror)) from error
+    except zlib.error as error:
+        raise ToolError(Text("{} is no SVG: {}", file, error)) from error
+    if len(data) > MOST_BYTES:
+        hint = Text("make its pictures smaller")
+        raise ToolError(Text("{} has more than {} MB", file, MOST_BYTES // 1_000_000), hint)
+    return data
+
+
+def sized_page(file: str, root: Element, handle: Any) -> SvgPage:
+    """Returns a page, which takes all of what it is drawn on from here on; raises `ToolError` where
+    it has no size.
+    """
+    found = handle.get_intrinsic_dimensions()
+    units = {side.unit.value_nick for side in (found.out_width, found.out_height)}
+    is_sized, *sides = handle.get_intrinsic_size_in_pixels()
+    box = found.out_viewbox
+    if not is_sized:
+        sides = [box.width, box.height]
+    if not found.out_has_viewbox:
+        root.set("viewBox", "0 0 {:.6f} {:.6f}".format(*sides))
+    elif not min(box.width, box.height) > 0:
+        sides = [0.0, 0.0]
+    is_real = is_sized and units != {"px"}
+    width, height = (round(side * (PX if is_real else 1.0), 3) for side in sides)
+    if not 0 < min(width, height) <= max(width, height) < LARGEST:
+        example = 'width="60mm" height="40mm" viewBox="0 0 60 40"'
+        hint = Text("give it width, height and viewBox, as {}", example)
+        raise ToolError(Text("{} has no size", file), hint)
+    root.set("style", f"{root.get('style', '')};width:auto;height:auto")
+    return SvgPage(file, root, (width, height), is_real)
+
+
+def tag_of(element: Element) -> str:
+    """Returns the tag of an element, without the name space of SVG."""
+    return str(element.tag).removeprefix(SPACE)
+
+
+def values_of(element: Element) -> list[str]:
+    """Returns the attributes of an element and what is in a style sheet, as CSS writes them."""
+    found = [f"{key}:{value}" for key, value in element.items() if key not in NO_STYLES]
+    return [*found, element.text or ""] if tag_of(element) == "style" else found
+
+
+def check_elements(file: str, root: Element) -> None:
+    """Raises `ToolError` for what would not be drawn: elements that are not known, other files,
+    pictures of other kinds.
+    """
+    filled = (one for one in root.iter() if not is_empty_flow(one))
+    tags = dict.fromkeys(map(tag_of, filled))
+    if unknown := [tag for tag in tags if not tag.startswith("{") and tag not in ELEMENTS]:
+        raise ToolError(Text("{}: {} is not drawn", file, named(unknown)), PLAIN)
+    for element in root.iter():
+        links = [*filter(None, map(element.get, LINKS))]
+        if tag_of(element) == "a":  # of which Cairo makes no PDF
+            element.tag = f"{SPACE}g"
+        elif not all(map(WITHIN.match, links)) or any(map(OUTSIDE.search, values_of(element))):
+            what = Text("{}: {} is of another file, or is no PNG or JPEG", file, tag_of(element))
+            raise ToolError(what, Text("embed it, in Inkscape by Extensions, Images, Embed Images"))
+
+
+def is_empty_flow(element: Element) -> bool:
+    """Returns whether an element is of text that flows, as Inkscape leaves it behind, and empty."""
+    return tag_of(element).startswith("flow") and not "".join(element.itertext()).strip()
+
+
+def named(names: Iterable[str]) -> str:
+    """Returns some names, the first of many."""
+    found = list(names)
+    return ", ".join([*found[:MOST_NAMED], *[".."] * (len(found) > MOST_NAMED)])
+
+
+def rectangle(left: float, top: float, width: float, height: float, scale: float) -> Any:
+    """Returns a rectangle of librsvg."""
+    area = rsvg().Rectangle()
+    area.x, area.y, area.width, area.height = (side * scale for side in (left, top, width, height))
+    return area
+
+
+def rsvg() -> Any:
+    """Returns librsvg; raises `ToolError` where it is not there."""
+    try:
+        return library("Rsvg", "2.0")
+    except (ImportError, ValueError) as error:
+        hint = Text("apt-get install gir1.2-rsvg-2.0")
+        raise ToolError(Text("{}: a design of SVG needs it", error), hint) from error
+
+
+def handle_of(file: str, data: bytes, sheet: str = "") -> Any:
+    """Returns what draws SVG; without the name of a file it reads no other one. Raises
+    `ToolError`.
+    """
+    stream = library("Gio", "2.0").MemoryInputStream.new_from_data(data)
+    try:
+        flags = rsvg().HandleFlags.FLAGS_NONE
+        handle = rsvg().Handle.new_from_stream_sync(stream, None, flags, None)
+        handle.set_dpi(DPI)
+        handle.set_stylesheet(sheet.encode())
+    except library("GLib", "2.0").Error as error:
+        raise ToolError(Text("{} is no SVG: {}", file, error.message)) from error
+    return handle

@@ -1,0 +1,196 @@
+"""Fits the texts of all labels into a place of a design: letters as large as it takes, alike on
+nearly all labels. Lengths are in dots, those of texts in sizes of their letters.
+"""
+
+import math
+import re
+from bisect import bisect_left
+from collections import Counter
+from functools import cache
+from typing import NamedTuple, Optional
+
+from labeltools.layout.fitting import LINE_END, Style
+from labeltools.layout.frames import Box, HINTING, LEAST_TEXT, LINE, share
+from labeltools.common.kept import Found
+from labeltools.layout.letters import BLANK, Letters, Sign, extent_of
+from labeltools.common.messages import quoted
+from labeltools.designs.places import Place
+from labeltools.common.text import Text
+
+SIDE = 1 / 8  # white at both sides of wrapped lines, in letters
+STEP = 0.97  # the next smaller size of letters that is tried
+STEPS = 160  # of these: from the largest letters to less than a hundredth of them
+PRICES = ("price", "unit", "was")  # they stay on one line, and are never cut
+NUMBER = re.compile(r"\W*\d[\d\W]+")
+LOW = 0.5  # of the size of letters: signs with lower ink, as hyphens, are as beside a LETTER
+LETTER = "H"
+MOST_LINES = 20  # of a text in a place
+ENDS = re.compile(f"[\n{LINE_END}]")
+ENLARGE = Text("enlarge it")
+
+
+class NoRoom(Exception):
+    """Why a price or a symbol has no room in its place."""
+
+    def __init__(self, reason: Text) -> None:
+        super().__init__(reason)
+        self.reason = reason
+
+
+class OwnText(NamedTuple):
+    """A text in a place, with the ends of its lines: its letters, its lines, how they are written,
+    and the room of the place as it is read.
+    """
+
+    place: Place
+    text: str
+    box: Box
+    size: int
+    lines: int
+    style: Style
+    wide: int
+    high: int
+
+
+class Fit(NamedTuple):
+    """The largest letters of a text in a place, and the text with the ends of its lines then, but
+    of one that is cut.
+    """
+
+    size: int
+    text: str
+    is_cut: bool = False
+
+
+class Room:
+    """The room of a place, and the texts of all labels in it, with how often each of them comes."""
+
+    def __init__(
+        self, place: Place, box: Box, letters: Letters, dot: float, counts: Counter[str]
+    ) -> None:
+        self.place = place
+        self.box = box
+        self.letters = letters
+        self.dot = dot
+        self.wide, self.high = (box.width, box.height)[:: -1 if place.quarters % 2 else 1]
+        self.sign = cache(self.new_sign)
+        self.style = cache(self.new_style)
+        self.texts: Found[str, OwnText] = Found(self.new_text)
+        signs = [self.sign(line) for line in {one for text in counts for one in text.split("\n")}]
+        if max(sign.bottom - sign.top for sign in signs) < LOW:
+            signs.append(self.sign(LETTER))
+        self.top = min(sign.top for sign in signs)
+        self.bottom = max(sign.bottom for sign in signs)
+        if self.bottom - self.top <= 0:
+            self.top, self.bottom = -1.0, 0.0
+        self.least = max(1, min(math.ceil(LEAST_TEXT / dot), self.largest(1)))
+        self.most_lines = 1
+        while self.most_lines < (place.lines or MOST_LINES):
+            if self.largest(self.most_lines + 1) < self.least:
+                break
+            self.most_lines += 1
+        self.fits = {text: self.fit_of(text) for text in counts}
+        sizes: Counter[float] = Counter()
+        for text, labels in counts.items():
+            sizes[1 / self.fits[text].size] += labels
+        self.common = round(1 / share(sizes))
+
+    def largest(self, lines: int) -> int:
+        """Returns the largest letters of a number of lines."""
+        size = int(self.high / ((lines - 1) * LINE + self.bottom - self.top))
+        wished = int(self.place.size / self.dot)
+        return min(size, wished) if wished else size
+
+    def new_sign(self, line: str) -> Sign:
+        """Returns what a line takes, also where letters change beside others."""
+        is_bold = self.place.is_bold
+        if not line.strip():
+            return BLANK
+        return self.letters.line(line, is_bold) or self.letters.whole_sign(line, is_bold)
+
+    def with_lines(self, text: str) -> str:
+        """Returns a text whose line ends are spaces where there is no room for so many lines."""
+        return text if text.count("\n") < self.most_lines else text.replace("\n", " ")
+
+    def fit_of(self, text: str) -> Fit:
+        """Returns the largest letters in which a text is whole, or else the least ones."""
+        text = self.with_lines(text)
+        sizes = sizes_between(self.least, self.largest(text.count("\n") + 1))
+        number = bisect_left(sizes, True, key=lambda size: self.lines_of(text, size) is not None)
+        whole = self.lines_of(text, sizes[number]) if number < len(sizes) else None
+        return Fit(self.least, text, True) if whole is None else Fit(sizes[number], whole)
+
+    def lines_of(self, text: str, size: int) -> Optional[str]:
+        """Returns a text with the ends of its lines in letters of a size; None where it does not
+        fit.
+        """
+        room = self.wide / size / HINTING
+        if "\n" not in text and extent_of(self.sign(text)).width <= room:
+            return text
+        found = []
+        for paragraph in text.split("\n"):
+            lines = self.wrapped(paragraph, room - SIDE)
+            if not lines:
+                return None
+            found.append(LINE_END.join(lines))
+        whole = "\n".join(found)
+        lines_there = count_of(whole)
+        is_fitting = lines_there <= self.most_lines and size <= self.largest(lines_there)
+        return whole if is_fitting else None
+
+    def wrapped(self, paragraph: str, room: float) -> list[str]:
+        """Returns the lines of a paragraph; none where a part of it is too wide. A price is one
+        part.
+        """
+        is_price = self.place.part in PRICES
+        lines = [""]
+        used = 0.0
+        for part in [paragraph] if is_price else self.letters.parts(paragraph):
+            bare = part.rstrip(" ")
+            wide = self.sign(bare).advance
+            if wide > room:
+                return []
+            if used and used + wide > room:
+                lines.append("")
+                used = 0.0
+            lines[-1] += part
+            used += wide + self.letters.spaces[self.place.is_bold] * (len(part) - len(bare))
+        return [line.rstrip(" ") for line in lines]
+
+    def new_text(self, text: str) -> OwnText:
+        """Returns where a text is; raises `NoRoom` for a price that would be cut."""
+        place = self.place
+        fit = self.fits[text]
+        if fit.is_cut and place.part in PRICES:
+            what = Text("{} has no room in the place {}", quoted(text), place.title)
+            raise NoRoom(Text("{}: {}", what, ENLARGE))
+        size = min(fit.size, self.common)
+        written = fit.text
+        if size < fit.size and LINE_END in written:
+            written = self.lines_of(self.with_lines(text), size) or written
+        is_number = fit.is_cut and any(map(NUMBER.fullmatch, text.split()))
+        lines = self.most_lines if fit.is_cut else count_of(written)
+        lines = 1 if is_number else lines  # a number in two lines would be two numbers
+        tall = ((lines - 1) * LINE + self.bottom - self.top) * size
+        base = round((self.high - tall) * place.down - self.top * size)
+        struck = len(text.encode()) if place.part == "was" else 0
+        is_parted = lines > 1 or fit.is_cut or "\n" in written
+        style = self.style(size, lines * is_parted, struck, base)
+        return OwnText(place, written, self.box, size, lines, style, self.wide, self.high)
+
+    def new_style(self, size: int, lines: int, struck: int, base: int) -> Style:
+        """Returns how texts are written."""
+        bold, across = self.place.is_bold, self.place.across
+        return Style(self.letters.family, bold, size, lines, across, 0.0, struck, base)
+
+
+def count_of(text: str) -> int:
+    """Returns how many lines a text has."""
+    return len(ENDS.findall(text)) + 1
+
+
+@cache
+def sizes_between(least: int, most: int) -> list[int]:
+    """Returns sizes of letters from the largest to the least one."""
+    sizes = {max(least, int(most * STEP**step)) for step in range(STEPS)}
+    return sorted(sizes, reverse=True)

@@ -1,0 +1,333 @@
+"""Lays out labels in a design of a user's own: texts in their places, and symbols of the largest
+module that their place takes. Lengths are in dots.
+"""
+
+import math
+from collections import Counter
+from dataclasses import dataclass, field
+from functools import cache
+from itertools import combinations, repeat
+from operator import itemgetter
+from typing import Iterable, Iterator, Mapping, NamedTuple, Sequence
+
+from labeltools.paper.area import Area, LARGEST_MODULE, TINY
+from labeltools.lines.engine import Modules, run_labels
+from labeltools.layout.frames import Box, DIGITS_ROOM, Frame, LOWEST
+from labeltools.layout.layout import ASKED, LaidOut, LaidOutFile, Layout, PrintLabel, short
+from labeltools.layout.letters import Fonts, Letters
+from labeltools.lines.file import symbology_and_data
+from labeltools.common.messages import Talk, ToolError, quoted
+from labeltools.designs.design import NEAR, OwnDesign
+from labeltools.designs.fit import ENLARGE, NoRoom, OwnText, Room
+from labeltools.designs.places import PARTS, Place, key_of
+from labeltools.paper.stock import size_text
+from labeltools.lines.symbologies import SYMBOLOGIES, Symbology
+from labeltools.common.text import Text
+
+WHOLE = frozenset(("price", "unit", "was", "code", "note"))  # parts that are as long as they are
+CODE = Place("code")  # of a built-in design
+NO_FRAME = Frame("own", {}, {}, 0, 0, 0, 0, 0, 0, True, 0.0)
+
+
+class OwnSymbol(NamedTuple):
+    """A symbol in a place: its box, its data and modules, and where its bars and digits are in that
+    as it is read.
+    """
+
+    place: Place
+    box: Box
+    data: bytes
+    modules: Modules
+    symbology: Symbology
+    module: int
+    boxes: Mapping[str, Box]
+
+
+@dataclass(frozen=True, slots=True)
+class OwnLayout(Layout):
+    """What is on a label beside the drawing, and the parts that it has not, whose groups are not
+    drawn; as a layout it is that of its finest symbol of QR, or else of its finest one.
+    """
+
+    texts: tuple[OwnText, ...]
+    symbols: tuple[OwnSymbol, ...]
+    absent: frozenset[str]
+
+
+def symbols_of(item: LaidOut, area: Box = Box(0, 0, 0, 0)) -> Sequence[OwnSymbol]:
+    """Returns the symbols of a label of any design; a built-in one has one, in its whole area."""
+    layout = item.layout
+    if isinstance(layout, OwnLayout):
+        return layout.symbols
+    how = (item.label.record.data, item.label.modules, layout.symbology)
+    return [OwnSymbol(CODE, area, *how, layout.module, layout.boxes)]
+
+
+class Values(NamedTuple):
+    """What a label has for places: texts by their keys, and the other names of these keys."""
+
+    texts: Mapping[str, str]
+    names: Mapping[str, str]
+
+
+# symbols by their places and texts: their modules and data, or why they are refused
+Made = dict[tuple[Place, str], tuple[Modules, bytes] | Text]
+
+
+def values_of(label: PrintLabel, note: str, own: frozenset[str]) -> Values:
+    """Returns the texts of a label: those with a place or a group of their own by their names, the
+    others together as its text.
+    """
+    whole = label.record.label
+    texts = {"title": whole.title, "price": whole.price, "unit": whole.unit, "was": whole.was}
+    texts["code"] = label.record.data.decode("utf-8", "surrogateescape")
+    names = {key: key for key in texts}
+    columns = [*zip(whole.names or repeat(""), whole.text), *[("note", note)] * bool(note)]
+    rest = []
+    for name, text in columns:
+        key = key_of(name)
+        if key in own and key not in texts and (key not in PARTS or text is note):
+            texts[key], names[key] = text, name
+        else:
+            rest.append((name, text))
+    if rest:
+        texts["text"] = "\n".join(text for _, text in rest)
+        names["text"] = ", ".join(dict.fromkeys(name or "text" for name, _ in rest))
+    short_ones = {key: text if key in WHOLE else short(text) for key, text in texts.items()}
+    return Values({key: text for key, text in short_ones.items() if text}, names)
+
+
+@dataclass
+class OwnLayouts:
+    """Lays out labels in a design; `empty` are columns of which no label has a text."""
+
+    design: OwnDesign
+    area: Area
+    letters: Letters
+    note: str
+    words: tuple[str, ...]
+    empty: frozenset[str]
+    left_out: dict[int, Text] = field(default_factory=dict)
+
+    def __post_init__(self) -> None:
+        self.places = self.design.places
+        groups = self.design.groups
+        self.own = frozenset(key for place in self.places for key in (place.key, place.part))
+        self.known = self.own | {*groups, *groups.values()}.difference(PARTS)
+        self.asked = frozenset(PARTS).union(map(key_of, self.empty))
+        self.boxes = {place: self.box_of(place) for place in self.places}
+        self.boxes_of = cache(self.new_boxes)
+
+    def box_of(self, place: Place) -> Box:
+        """Returns the dots of a place that the paper takes."""
+        dot = self.area.dot
+        left, top = (max(0, math.ceil(at / dot - TINY)) for at in (place.left, place.top))
+        right = math.floor((place.left + place.width) / dot + TINY)
+        bottom = math.floor((place.top + place.height) / dot + TINY)
+        wide, high = min(right, self.area.width) - left, min(bottom, self.area.height) - top
+        return Box(left, top, max(1, wide), max(1, high))
+
+    def lay_out(self, labels: Sequence[PrintLabel], talk: Talk) -> LaidOutFile:
+        """Returns labels with their layouts, why others are left out, and what is said of all."""
+        values = [values_of(label, self.note, self.known) for label in labels]
+        rows = self.rows_of(values)
+        symbols = self.second_symbols(rows, talk)
+        rooms = self.rooms(rows)
+        named = self.own.union(self.asked, *(value.texts for value in values))
+        every = self.design.groups.items()
+        known = ((key, key if key in named else part) for key, part in every)
+        groups = {key: part for key, part in known if part in named}
+        placed = []
+        for number, label in enumerate(labels):
+            if number % ASKED == 0:
+                talk.go_on(number, 0)
+            texts = values[number].texts
+            absent = frozenset(key for key, part in groups.items() if part not in texts)
+            try:
+                layout = self.layout(label, rows[number], absent, rooms, symbols)
+            except NoRoom as problem:
+                self.left_out[label.record.number] = problem.reason
+            else:
+                placed.append(LaidOut(label, layout))
+        said = ((labels[0].record.place, one) for one in self.said(labels, values, rows, rooms))
+        return LaidOutFile(tuple(placed), self.area, self.left_out, tuple(said if labels else ()))
+
+    def texts_in_places(self, labels: Iterable[PrintLabel]) -> Mapping[int, Sequence[str]]:
+        """Returns the texts of labels in places of letters, by the numbers of their lines."""
+        found = [*labels]
+        rows = self.rows_of([values_of(label, self.note, self.known) for label in found])
+        wanted = [number for number, place in enumerate(self.places) if not place.is_symbol]
+        return {
+            label.record.number: [row[number] for number in wanted]
+            for label, row in zip(found, rows)
+        }
+
+    def rows_of(self, values: Sequence[Values]) -> list[list[str]]:
+        """Returns the texts of labels in all places: Line-2 is a column where any label has one of
+        that name, or else the second place of Line, on all labels alike.
+        """
+        known = frozenset(key for value in values for key in value.names)
+        keys = [one.key if one.key in known else one.part for one in self.places]
+        return [[value.texts.get(key, "") for key in keys] for value in values]
+
+    def rooms(self, rows: Sequence[Sequence[str]]) -> dict[Place, Room]:
+        """Returns the rooms of texts."""
+        rooms = {}
+        known = {"": self.letters}
+        for number, place in enumerate(self.places):
+            if place.is_symbol:
+                continue
+            if place.font not in known:
+                known[place.font] = Letters(Fonts(place.font))
+            counts = Counter(map(itemgetter(number), rows))
+            del counts[""]
+            if counts:
+                how = (self.boxes[place], known[place.font], self.area.dot)
+                rooms[place] = Room(place, *how, counts)
+        return rooms
+
+    def second_symbols(self, rows: Sequence[Sequence[str]], talk: Talk) -> Made:
+        """Returns the symbols that are made of texts, or why they are refused."""
+        numbers = [number for number, place in enumerate(self.places) if place.symbology]
+        every = ((self.places[number], row[number]) for number in numbers for row in rows)
+        wanted = [*dict.fromkeys((place, text) for place, text in every if text)]
+        if not wanted:
+            return {}
+        lines = [line_of(place, text) for place, text in wanted]
+        words = self.words if "--escapes" in self.words else (*self.words, "--escapes")
+        drawn = run_labels(b"".join(line + b"\n" for line in lines), words, talk)
+        found: Made = {}
+        for number, (key, line) in enumerate(zip(wanted, lines), 1):
+            modules = drawn.pictures.get(number)
+            _, data = symbology_and_data(line, True)
+            found[key] = (modules, data) if modules else drawn.refused[number]
+        return found
+
+    def layout(
+        self,
+        label: PrintLabel,
+        row: Sequence[str],
+        absent: frozenset[str],
+        rooms: Mapping[Place, Room],
+        made: Made,
+    ) -> OwnLayout:
+        """Returns the layout of a label whose texts are those of a row; raises `NoRoom`."""
+        texts = []
+        symbols = []
+        for place, text in zip(self.places, row):
+            if not text:
+                continue
+            if place in rooms:
+                texts.append(rooms[place].texts[text])
+                continue
+            symbology, modules, data = label.symbology, label.modules, label.record.data
+            if place.symbology:
+                second = made[place, text]
+                if isinstance(second, Text):
+                    raise NoRoom(Text("place {}: {}", place.title, second))
+                symbology, (modules, data) = SYMBOLOGIES[place.symbology], second
+            module, boxes = self.boxes_of(place, symbology.name, modules.width, modules.height)
+            how = (data, modules, symbology, module, boxes)
+            symbols.append(OwnSymbol(place, self.boxes[place], *how))
+        finest = min(symbols, key=lambda one: (one.symbology.nominal > 0, one.module))
+        found = (finest.symbology, finest.module, finest.boxes, False)
+        return OwnLayout(NO_FRAME, *found, tuple(texts), tuple(symbols), absent)
+
+    def new_boxes(
+        self, place: Place, name: str, width: int, height: int
+    ) -> tuple[int, Mapping[str, Box]]:
+        """Returns the module and the boxes of symbols of a size in modules; raises `NoRoom`."""
+        symbology = SYMBOLOGIES[name]
+        box = self.boxes[place]
+        wide, high = (box.width, box.height)[:: -1 if place.quarters % 2 else 1]
+        least, most = self.allowed(place, symbology)
+        rows = height if height > 1 else 0  # else bars are as high as there is room
+        below = DIGITS_ROOM if symbology.nominal else 0
+        lowest = rows * least or math.ceil(LOWEST / self.area.dot)
+        module = min(most, wide // width, high // (rows + below) if rows else most)
+        tall = rows * module or high - below * module
+        if module < least or tall < lowest:
+            raise NoRoom(self.no_room(place, symbology, (width * least, lowest + below * least)))
+        tall -= tall % module
+        left = (wide - width * module) // 2
+        bars = Box(left, (high - tall - below * module) // 2, width * module, tall)
+        boxes = {"bars": bars}
+        if below:
+            boxes["digits"] = bars._replace(top=bars.bottom, height=below * module)
+        return module, boxes
+
+    def allowed(self, place: Place, symbology: Symbology) -> tuple[int, int]:
+        """Returns the least and the most dots of a module. EAN and UPC have a largest one."""
+        dot = self.area.dot
+        least = max(1, math.ceil(self.area.smallest(symbology) / dot - TINY))
+        wished = place.module or self.area.wishes.module
+        if wished:
+            least = max(least, round(wished / dot))
+            return least, least
+        most = int(LARGEST_MODULE / dot + TINY) if symbology.is_number else self.area.width
+        return least, max(least, most)
+
+    def no_room(self, place: Place, symbology: Symbology, wanted: tuple[int, int]) -> Text:
+        """Returns why a symbol, which takes so many dots at least, has no room in its place: a dot
+        more has as many whole ones wherever it is.
+        """
+        wide, high = (math.ceil((dots + 1) * self.area.dot * 10) / 10 for dots in wanted)
+        sides = (place.width, place.height)
+        if place.quarters % 2:
+            sides = sides[::-1]
+        hint = ENLARGE if symbology.is_number else Text("enlarge it, or take shorter data")
+        what = Text(
+            "{} needs {}, and the place {} of {} has {}",
+            symbology.title,
+            size_text((wide, high)),
+            place.title,
+            self.design.file,
+            size_text(sides),
+        )
+        return Text("{}: {}", what, hint)
+
+    def said(
+        self,
+        labels: Sequence[PrintLabel],
+        values: Sequence[Values],
+        rows: Sequence[Sequence[str]],
+        rooms: Mapping[Place, Room],
+    ) -> Iterator[Text]:
+        """Yields what is said of the design, of texts over each other, of parts without a place,
+        and of places for which no label has anything. Raises `ToolError` where a shape that is no
+        rectangle has the name of a column.
+        """
+        file = self.design.file
+        yield from self.design.remarks
+        for (one, place), (two, other) in combinations(enumerate(self.places), 2):
+            is_common = {place, other} <= rooms.keys() and place.common(other) > NEAR / 2
+            if is_common and any(row[one] and row[two] for row in rows):
+                titles = place.title, other.title
+                what = Text("{}: the places {} and {} have room in common", file, *titles)
+                yield Text("{}: {}", what, Text("a label has a text for each: move them apart"))
+        names: dict[str, str] = {}
+        for value in values:
+            for key in value.texts:
+                names.setdefault(key, value.names[key])
+        columns = {key_of(name) for label in labels for name in label.record.label.names}
+        for key in sorted(self.design.shapes.keys() & columns.union(PARTS)):
+            what = Text("{}: {} is no rectangle ({})", file, key, self.design.shapes[key])
+            raise ToolError(what, Text("draw a rectangle for its place"))
+        if lost := [name for key, name in names.items() if key not in self.known]:
+            yield Text("{} has no place for {}: not on the labels", file, ", ".join(lost))
+        known = {*names, *self.asked}
+        empty = [one.title for one in self.places if not known & {one.key, one.part}]
+        if empty:
+            hint = Text(
+                "name a column so, by label-table --text {}, or take the name away",
+                quoted(empty[0]),
+            )
+            names_of = ", ".join(empty)
+            yield Text("{}: no label has anything for {}: {}", file, names_of, hint)
+
+
+def line_of(place: Place, text: str) -> bytes:
+    """Returns the line of labels(1) that draws a text as a symbol."""
+    escaped = text.replace("\\", "\\\\").replace("\n", "\\n")
+    line = f"{','.join((place.symbology, *place.settings))} {escaped}"
+    return line.encode("utf-8", "surrogateescape")

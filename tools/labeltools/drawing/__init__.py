@@ -1,0 +1,1 @@
+"""Labels on a page, and a page in each form."""

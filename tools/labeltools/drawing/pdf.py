@@ -1,0 +1,95 @@
+"""Drawings: PDF and SVG by Cairo."""
+
+import mmap
+import os
+import re
+import tempfile
+from dataclasses import dataclass
+from typing import IO, Any, Callable, Iterable
+
+import cairo
+
+from labeltools.paper.area import MILLIMETRES
+from labeltools.common.files import BLOCK
+from labeltools.drawing.pen import Page, Pen
+from labeltools.paper.stock import Size
+
+POINTS = 72  # in an inch
+OBJECT = re.compile(rb"([0-9]{10}) [0-9]{5} n")
+TABLE_AT = 64  # bytes from the end of a PDF, in which the place of its table of objects is
+
+
+@dataclass(frozen=True)
+class Paper:
+    """The size of a page in millimetres, the dots an inch in which labels are laid out, and how
+    labels are turned, as in `Pen.draw`.
+    """
+
+    size: Size
+    dpi: int
+    turn: int
+
+
+def drawing(
+    paper: Paper, pens: Iterable[Pen], pages: Callable[[], Iterable[Page]], is_svg: bool
+) -> IO[bytes]:
+    """Returns a file of pages, at its begin.
+
+    Cairo leaves out fonts that it cannot embed. So the first pen is taken whose PDF is whole; the
+    later ones draw more letters as shapes.
+    """
+    for pen in pens:
+        file = drawn_by(paper, pen, pages(), is_svg)
+        if is_svg or is_whole(file):
+            break
+        file.close()
+    file.seek(0)
+    return file
+
+
+def drawn_by(paper: Paper, pen: Pen, pages: Iterable[Page], is_svg: bool) -> IO[bytes]:
+    """Returns a file of pages that a pen draws."""
+    file = tempfile.TemporaryFile()
+    name = f"/proc/self/fd/{file.fileno()}"  # Cairo writes there sooner than into a file of Python
+    try:
+        draw_pages(name if os.path.exists(name) else file, paper, pen, pages, is_svg)
+        file.flush()
+    except cairo.Error:
+        with file:
+            file.seek(0, os.SEEK_END)
+            file.write(bytes(BLOCK))  # says why nothing can be written, as Cairo does not
+            file.flush()
+        raise
+    except BaseException:
+        file.close()
+        raise
+    return file
+
+
+def draw_pages(file: Any, paper: Paper, pen: Pen, pages: Iterable[Page], is_svg: bool) -> None:
+    """Draws pages into a file."""
+    width, height = (side * POINTS / MILLIMETRES for side in paper.size)
+    kind = cairo.SVGSurface if is_svg else cairo.PDFSurface
+    surface: Any = kind(file, width, height)
+    if not is_svg:  # without the time of the run the same labels give the same bytes
+        surface.set_metadata(cairo.PDF_METADATA_CREATE_DATE, "")
+    try:
+        for page in pages:
+            canvas = cairo.Context(surface)
+            canvas.scale(POINTS / paper.dpi, POINTS / paper.dpi)
+            pen.draw(canvas, page, paper.turn)
+            canvas.show_page()
+    finally:
+        surface.finish()
+
+
+def is_whole(file: IO[bytes]) -> bool:
+    """Returns whether each object of a PDF is where its table has it."""
+    with mmap.mmap(file.fileno(), 0, access=mmap.ACCESS_READ) as data:
+        start = int(data[-TABLE_AT:].split()[-2])
+        for number, entry in enumerate(OBJECT.findall(data, start), 1):
+            name = b"%d 0 obj" % number
+            place = int(entry)
+            if data[place : place + len(name)] != name:
+                return False
+    return True

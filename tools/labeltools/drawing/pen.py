@@ -1,0 +1,510 @@
+"""Draws labels by Cairo and Pango, in dots or for a drawing. Lengths are in dots."""
+
+import math
+import re
+from collections import defaultdict
+from contextlib import contextmanager
+from dataclasses import dataclass
+from functools import cache
+from typing import (
+    Any,
+    Iterable,
+    Iterator,
+    NamedTuple,
+    Optional,
+    Sequence,
+)
+
+import cairo
+
+from labeltools.paper.area import Dots
+from labeltools.lines.engine import Modules, bytes_a_row
+from labeltools.layout.fitting import Fitted, Fitter, LEFT, MIDDLE, RIGHT, Style
+from labeltools.layout.frames import Box, Frame, LINE
+from labeltools.layout.layout import LaidOut, Layout, PrintLabel
+from labeltools.layout.letters import Fonts, Letters
+from labeltools.designs.design import is_light
+from labeltools.designs.layout import OwnSymbol, symbols_of
+from labeltools.designs.places import Colour
+from labeltools.layout.pango import PangoCairo, plain_options
+from labeltools.lines.symbologies import SYMBOLOGIES, Span, Symbology
+
+DARK = re.compile("1+")
+INSET = 0.01  # of a dot: what touches a dot paints it
+SHOWN = {code: 0x2400 + code for code in range(32)} | {127: 0x2421}  # control characters
+REVERSED = bytes(int(f"{byte:08b}"[::-1], 2) for byte in range(256))
+# modules: how much longer guards are, where digits begin below bars, their size
+GUARD = 5
+DIGITS_TOP = 1
+DIGITS_SIZE = 10.4
+LARGE = 1000  # dots: the size in which digits are measured
+DIGITS = "0123456789"
+BETWEEN = "   "  # old price and unit price on one line
+WITHOUT_END = 1 << 20  # dots: the height of a text of which all lines are wanted
+Page = Sequence[tuple[LaidOut, Dots]]  # labels, with the upper left corners of their areas
+
+
+class Placed(NamedTuple):
+    """A text that is fitted into a box: its style; the box, turned to the right by some quarters;
+    its colour where that is not black.
+    """
+
+    text: Fitted
+    style: Style
+    box: Box
+    quarters: int = 0
+    colour: Optional[Colour] = None
+
+
+# glyphs of many labels that are drawn together, by their faces and sizes: a call of Cairo takes as
+# long as a line of glyphs
+Runs = defaultdict[tuple[Any, int], list[tuple[int, float, float]]]
+
+
+class DigitPlace(NamedTuple):
+    """Digits of the data, their size and where they begin below the bars."""
+
+    first: int
+    last: int
+    size: int
+    left: int
+
+
+@dataclass(frozen=True)
+class Medium:
+    """What is drawn on: its dots an inch; whether letters are made of these dots; whether bars are
+    rectangles, since programs that show it smooth a stretched picture; the fonts whose letters are
+    shapes.
+    """
+
+    dpi: int
+    is_dots: bool
+    is_smooth: bool = False
+    outlines: frozenset[str] = frozenset()
+
+    @property
+    def is_pdf(self) -> bool:
+        """Whether it is a page of PDF."""
+        return not self.is_dots and not self.is_smooth
+
+
+class Pen:
+    """Draws labels on a medium, in a built-in design."""
+
+    def __init__(self, medium: Medium, fonts: Fonts, letters: Letters) -> None:
+        self.medium = medium
+        self.fonts = fonts
+        self.letters = letters
+        self.options = options_of(medium)
+        self.fitter = Fitter(letters, self.options, medium.is_dots)
+        # Cairo keeps a face as it was first used: a name of its own for each medium
+        self.digits_face = cairo.ToyFontFace(fonts.digits + " " * medium.is_dots)
+        large = self.digits_font(plain_options(), LARGE)
+        extents = large.text_extents("0")
+        self.digit_width = extents.x_advance / LARGE
+        self.digit_height = -extents.y_bearing / LARGE
+        self.digits_of_size = cache(self.new_digits)
+        self.style = cache(self.new_style)
+        self.digit_places = cache(self.new_digit_places)
+
+    def digits_font(self, options: cairo.FontOptions, size: int) -> Any:
+        """Returns the font of digits in a size."""
+        scale = cairo.Matrix(size, 0, 0, size)
+        return cairo.ScaledFont(self.digits_face, scale, cairo.Matrix(), options)
+
+    def draw(self, canvas: Any, page: Page, turn: int = 0) -> None:
+        """Draws labels in the areas that begin at their places, turned to the right where the width
+        of the areas on the paper is given.
+        """
+        whole = canvas.get_matrix()
+        if turn:
+            canvas.transform(cairo.Matrix(0, 1, -1, 0, turn, 0))
+            page = [(item, (top, -left)) for item, (left, top) in page]
+        self.draw_below(canvas, page, bool(turn))
+        runs: Runs = defaultdict(list)
+        codes = [(symbol, place) for item, place in page for symbol in symbols_of(item)]
+        for symbol, place in codes:
+            if "digits" in symbol.boxes:
+                self.draw_digits(canvas, symbol, place, runs)
+        for item, place in page:
+            for text in self.texts(item):
+                self.draw_text(canvas, text, place)
+        self.show_runs(canvas, runs)
+        self.draw_codes(canvas, codes)
+        canvas.set_matrix(whole)
+
+    def draw_below(self, canvas: Any, page: Page, is_turned: bool) -> None:
+        """Draws what is below the symbols and texts of a page: nothing."""
+
+    def texts(self, item: LaidOut) -> Iterator[Placed]:
+        """Yields the texts of a label, each of which is drawn before the next one is fitted."""
+        label = item.label
+        layout = item.layout
+        boxes = layout.boxes
+        if "title" in boxes:
+            yield from self.head(label, layout)
+        for kind in ("text", "price", "details"):
+            if kind in boxes:
+                yield self.placed(*self.text_of(kind, label, layout), boxes[kind])
+
+    def head(self, label: PrintLabel, layout: Layout) -> Iterator[Placed]:
+        """Yields a title, and the text below it where that has no place of its own."""
+        frame = layout.frame
+        box = layout.boxes["title"]
+        has_text = bool(label.text) and "text" not in layout.boxes
+        room = box.height
+        if has_text:
+            room -= math.ceil((label.text.count("\n") + 1) * LINE * frame.sizes["text"])
+        used = 0
+        title = None
+        if label.title:
+            text, style = self.text_of("title", label, layout)
+            most = math.ceil(frame.lines * LINE * style.size)
+            fitted = self.fitter.fitted(text, style, box.width, min(most, room))
+            title = Placed(fitted, style, box)
+            used = min(fitted.height, room)
+        top = box.top
+        if frame.kind == "beside" and "price" not in frame.boxes:
+            top += (room - used) // 2
+        if title is not None:
+            yield title if top == box.top else title._replace(box=box._replace(top=top))
+        if has_text:
+            rest = box._replace(top=top + used, height=box.bottom - top - used)
+            yield self.placed(*self.text_of("text", label, layout), rest)
+
+    def placed(self, text: str, style: Style, box: Box) -> Placed:
+        """Returns a text as it fits a box; those of one line often come again."""
+        fit = self.fitter.fitted if style.lines else self.fitter.found
+        return Placed(fit(text, style, box.width, box.height), style, box)
+
+    def text_of(self, kind: str, label: PrintLabel, layout: Layout) -> tuple[str, Style]:
+        """Returns a text of a label and how it is written."""
+        frame = layout.frame
+        size = frame.sizes[kind]
+        if kind == "title":
+            title, lines = titled(label.title, frame)
+            return title, self.style(kind, frame.kind, size, lines)
+        style = self.style(kind, frame.kind, size, 1)
+        if kind == "details":
+            between = BETWEEN if frame.details_lines == 1 else "\n"
+            text = between.join(part for part in (label.was, label.unit) if part)
+            return text, style._replace(struck=len(label.was.encode()))
+        return (label.text if kind == "text" else label.price), style
+
+    def new_style(self, kind: str, arrangement: str, size: int, lines: int) -> Style:
+        """Returns how a part of a label is written; `lines` are those of each line of a title."""
+        words = MIDDLE if arrangement == "below" else LEFT
+        numbers = MIDDLE if arrangement == "below" else RIGHT
+        family = self.fonts.texts
+        if kind == "title":
+            return Style(family, True, size, lines, words, 0.0, 0)
+        if kind == "text":
+            across = RIGHT if arrangement == "foot" else words
+            return Style(family, False, size, 1, across, 0.0, 0)
+        if kind == "price":
+            return Style(family, True, size, 0, numbers, 0.5, 0)
+        return Style(family, False, size, 0, numbers, 1.0, 0)
+
+    def is_shortened(self, item: LaidOut) -> bool:
+        """Returns whether a text of a label ends in an ellipsis."""
+        return item.label.is_cut or any(self.fitter.is_cut(*text) for text in self.lines_of(item))
+
+    def shown_texts(self, item: LaidOut) -> tuple[str, ...]:
+        """Returns the texts of a label that may be cut as they are seen: up to the ellipsis, where
+        they have one.
+        """
+        return tuple(self.fitter.shown(*text) for text in self.lines_of(item))
+
+    def lines_of(self, item: LaidOut) -> Iterator[tuple[str, Style, int, int]]:
+        """Yields the texts of a label that may be cut, with the room of their lines."""
+        label = item.label
+        layout = item.layout
+        if label.title:
+            width = layout.boxes["title"].width
+            yield *self.text_of("title", label, layout), width, WITHOUT_END
+        if label.text:
+            box = layout.boxes.get("text") or layout.boxes["title"]
+            yield *self.text_of("text", label, layout), box.width, WITHOUT_END
+
+    def draw_digits(self, canvas: Any, symbol: OwnSymbol, place: Dots, runs: Runs) -> None:
+        """Draws what is below the bars of a symbol of a label whose area begins at a place."""
+        box = symbol.box
+        if not symbol.place.quarters:
+            self.draw_data(canvas, symbol, (place[0] + box.left, place[1] + box.top), runs)
+            return
+        with self.turned(canvas, box, symbol.place.quarters, place) as own:
+            self.draw_data(canvas, symbol, (0, 0), own)
+
+    def draw_codes(self, canvas: Any, codes: Sequence[tuple[OwnSymbol, Dots]]) -> None:
+        """Draws symbols of labels whose areas begin at places: last on their page, and in a drawing
+        on white, so that nothing is over them.
+        """
+        if not self.medium.is_dots:
+            canvas.set_source_rgb(1, 1, 1)
+            for symbol, place in codes:
+                with self.turned(canvas, symbol.box, symbol.place.quarters, place):
+                    for box in boxes_of(symbol):
+                        canvas.rectangle(*box)
+                        canvas.fill()
+            canvas.set_source_rgb(0, 0, 0)
+        for symbol, place in codes:
+            with self.turned(canvas, symbol.box, symbol.place.quarters, place):
+                self.draw_modules(canvas, symbol.modules, symbol)
+
+    def draw_text(self, canvas: Any, placed: Placed, place: Dots) -> None:
+        """Draws a text of a label whose area begins at a place; in dots it is black, or takes black
+        dots away.
+        """
+        text, style, box, quarters, colour = placed
+        if not quarters and colour is None:
+            self.show(canvas, text, style, place[0] + box.left, place[1] + box.top)
+            return
+        with self.turned(canvas, box, quarters, place):
+            if colour and not self.medium.is_dots:
+                canvas.set_source_rgb(*colour)
+            elif colour and is_light(colour):
+                canvas.set_operator(cairo.Operator.DEST_OUT)
+            self.show(canvas, text, style, 0, 0)
+
+    @contextmanager
+    def turned(self, canvas: Any, box: Box, quarters: int, place: Dots) -> Iterator[Runs]:
+        """Gives glyphs that are shown at the end in a box of a label, which is turned to the right
+        by some quarters, as is the canvas until then.
+        """
+        corners = ((0, 0), (box.width, 0), (box.width, box.height), (0, box.height))
+        rows = ((1, 0, 0, 1), (0, 1, -1, 0), (-1, 0, 0, -1), (0, -1, 1, 0))
+        canvas.save()
+        canvas.translate(place[0] + box.left, place[1] + box.top)
+        canvas.transform(cairo.Matrix(*rows[quarters], *corners[quarters]))
+        runs: Runs = defaultdict(list)
+        yield runs
+        self.show_runs(canvas, runs)
+        canvas.restore()
+
+    def show(self, canvas: Any, text: Fitted, style: Style, left: int, top: int) -> None:
+        """Shows a text in a box that begins there, as shapes where its font needs that."""
+        canvas.move_to(left + text.x, top + text.y)
+        if style.family in self.medium.outlines:
+            PangoCairo.layout_path(canvas, text.layout)
+            canvas.fill()
+        else:
+            show_layout(canvas, text.layout)
+
+    def show_runs(self, canvas: Any, runs: Runs) -> None:
+        """Shows glyphs, as shapes where their font needs that."""
+        canvas.set_font_options(self.options)
+        for (face, size), glyphs in runs.items():
+            canvas.set_font_face(face)
+            canvas.set_font_size(size)
+            if face is self.digits_face and self.fonts.digits in self.medium.outlines:
+                canvas.glyph_path(glyphs)
+                canvas.fill()
+            else:
+                canvas.show_glyphs(glyphs)
+
+    def draw_modules(self, canvas: Any, modules: Modules, layout: OwnSymbol) -> None:
+        """Draws the modules of a label, and the longer guards of bars."""
+        box = layout.boxes["bars"]
+        module = layout.module
+        has_rows = len(modules.packed) > modules.row_size  # bars have one, whatever their height
+        if self.medium.is_dots and has_rows and is_upright(canvas):
+            draw_dots(canvas, modules, box, module)
+            return
+        if self.medium.is_smooth or self.medium.is_dots:  # in dots that is quicker, too
+            draw_rectangles(canvas, modules, box, module, layout.symbology.guards)
+            return
+        # in whole modules: one row that is stretched far is off by a dot in Cairo's fixed numbers
+        high = box.height // module
+        mask = bars_mask(modules, layout.symbology, high)
+        if len(modules.packed) == modules.row_size and layout.symbology.guards:
+            high += GUARD
+        place = Box(box.left, box.top, box.width, high * module)
+        mask.set_matrix(scaled(place, modules.width, high))
+        canvas.mask(mask)
+
+    def draw_data(self, canvas: Any, symbol: OwnSymbol, corner: Dots, runs: Runs) -> None:
+        """Draws what is below the bars of a symbol whose box begins at a corner: digits in their
+        places, or all data in the middle.
+        """
+        box = symbol.boxes["digits"]
+        left = corner[0] + box.left
+        top = corner[1] + box.top
+        data = symbol.data.decode("ascii", "replace")
+        module = symbol.module
+        if not symbol.symbology.is_number:
+            size = round(DIGITS_SIZE * module)
+            style = Style(self.fonts.digits, False, size, 0, MIDDLE, 0.3, 0)
+            text = self.fitter.fitted(data.translate(SHOWN), style, box.width, box.height)
+            self.show(canvas, text, style, left, top)
+            return
+        base = top + round((DIGITS_TOP + DIGITS_SIZE * self.digit_height) * module)
+        for first, last, size, start in self.digit_places(symbol.symbology.name, module):
+            found = runs[self.digits_face, size]
+            digits = self.digits_of_size(size)
+            x: float = left + start
+            for digit in data[first:last]:
+                number, advance = digits[digit]
+                found.append((number, x, base))
+                x += advance
+
+    def new_digits(self, size: int) -> dict[str, tuple[int, float]]:
+        """Returns the glyphs of digits in a size, and how far each one is from the next."""
+        font = self.digits_font(self.options, size)
+        found = {}
+        for digit in DIGITS:
+            first, second = font.text_to_glyphs(0, 0, 2 * digit, False)
+            found[digit] = first.index, second.x
+        return found
+
+    def new_digit_places(self, symbology: str, module: int) -> list[DigitPlace]:
+        """Returns which digits are where below the bars, and how large."""
+        places = []
+        for digits in SYMBOLOGIES[symbology].places:
+            left = digits.span.left
+            right = digits.span.right
+            width = (digits.last - digits.first) * self.digit_width
+            size = round(min(DIGITS_SIZE, (right - left - 0.5) / width) * module)
+            start = round((left + right) * module - width * size) // 2
+            places.append(DigitPlace(digits.first, digits.last, size, start))
+        return places
+
+
+show_layout = PangoCairo.show_layout
+
+
+def options_of(medium: Medium) -> cairo.FontOptions:
+    """Returns how letters are drawn on a medium."""
+    if not medium.is_dots:
+        return plain_options()
+    options = cairo.FontOptions()
+    options.set_hint_metrics(cairo.HintMetrics.ON)
+    options.set_hint_style(cairo.HintStyle.FULL)
+    options.set_antialias(cairo.Antialias.NONE)
+    return options
+
+
+def titled(title: str, frame: Frame) -> tuple[str, int]:
+    """Returns a title and the lines that each line of it may take: line ends become spaces where a
+    frame has too few.
+    """
+    lines = frame.lines - title.count("\n")
+    if lines < 1:
+        return title.replace("\n", " "), max(1, frame.lines)
+    return title, lines
+
+
+def boxes_of(symbol: OwnSymbol) -> Iterator[Box]:
+    """Yields the boxes of a symbol: that of its bars, and those of what guards are longer."""
+    bars = symbol.boxes["bars"]
+    yield bars
+    for span in symbol.symbology.guards:
+        left, wide = bars.left + span.left * symbol.module, (span.right - span.left) * symbol.module
+        yield Box(left, bars.bottom, wide, GUARD * symbol.module)
+
+
+def bits_of(row: bytes) -> str:
+    """Returns a row of dots or modules as digits."""
+    return f"{int.from_bytes(row, 'big'):0{8 * len(row)}b}"
+
+
+@cache
+def guard_bits(symbology: str, size: int, stride: int) -> int:
+    """Returns the modules of guards as the number that a row of Cairo is."""
+    spans = SYMBOLOGIES[symbology].guards
+    places = {place for span in spans for place in range(span.left, span.right)}
+    bits = sum(1 << (8 * size - 1 - place) for place in places)
+    return int.from_bytes(padded(bits.to_bytes(size, "big"), size, stride), "big")
+
+
+def bars_mask(modules: Modules, symbology: Symbology, high: int) -> Any:
+    """Returns a picture of a code, a dot a module: of QR its rows, of bars `high` rows, and below
+    them those of guards.
+    """
+    size = modules.row_size
+    stride = size + -size % 4
+    rows = padded(modules.packed, size, stride)
+    if len(rows) == stride:
+        guards = int.from_bytes(rows, "big") & guard_bits(symbology.name, size, stride)
+        longer = GUARD if symbology.guards else 0
+        rows = rows * high + guards.to_bytes(stride, "big") * longer
+    data = memoryview(bytearray(rows))
+    picture = cairo.ImageSurface.create_for_data(
+        data, cairo.FORMAT_A1, modules.width, len(rows) // stride, stride
+    )
+    mask = cairo.SurfacePattern(picture)
+    mask.set_filter(cairo.Filter.NEAREST)
+    return mask
+
+
+def is_upright(canvas: Any) -> bool:
+    """Returns whether a canvas, whose unit is a dot, is neither turned nor scaled."""
+    return tuple(canvas.get_matrix())[:4] == (1, 0, 0, 1)
+
+
+def draw_dots(canvas: Any, modules: Modules, box: Box, module: int) -> None:
+    """Draws a code of many rows in dots, all of them at once, which takes a third of the time of
+    rectangles.
+    """
+    wide = modules.width * module
+    size = bytes_a_row(wide)
+    stride = size + -size % 4
+    blank = "0" * (8 * size - wide)
+    rows = []
+    for row in modules.rows():
+        digits = bits_of(row)[: modules.width].replace("1", "x").replace("0", "0" * module)
+        dots = int(digits.replace("x", "1" * module) + blank, 2).to_bytes(size, "big")
+        rows.append(padded(dots, size, stride) * module)
+    data = memoryview(bytearray().join(rows))
+    high = len(data) // stride
+    picture = cairo.ImageSurface.create_for_data(data, cairo.FORMAT_A1, wide, high, stride)
+    canvas.save()
+    canvas.set_operator(cairo.Operator.ADD)
+    canvas.set_source_surface(picture, box.left, box.top)
+    canvas.paint()
+    canvas.restore()
+
+
+def scaled(box: Box, width: int, height: int) -> cairo.Matrix:
+    """Returns from where in a picture the dots of a box are, which it fills but for an inset: a
+    program that draws a PDF takes each dot that the picture touches.
+    """
+    across = width / (box.width - 2 * INSET)
+    down = height / (box.height - 2 * INSET)
+    return cairo.Matrix(across, 0, 0, down, -(box.left + INSET) * across, -(box.top + INSET) * down)
+
+
+def padded(packed: bytes, size: int, stride: int) -> bytes:
+    """Returns rows of some bytes as Cairo has them: longer, the first dot in the lowest bit."""
+    found = packed.translate(REVERSED)
+    behind = bytes(stride - size)
+    return b"".join([found[at : at + size] + behind for at in range(0, len(found), size)])
+
+
+def draw_rectangles(
+    canvas: Any, modules: Modules, box: Box, module: int, guards: tuple[Span, ...]
+) -> None:
+    """Draws a code as rectangles. Guards are one rectangle each, from the top of the bars: two
+    would leave a hairline between them.
+    """
+    rows = modules.rows()
+    high = box.height // len(rows)
+    whole = (Span(0, modules.width),)
+    for number, row in enumerate(rows):
+        place = box._replace(top=box.top + number * high, height=high)
+        fill(canvas, row, whole, module, place)
+    if guards:
+        longer = box._replace(height=box.height + GUARD * module)
+        fill(canvas, rows[0], guards, module, longer)
+
+
+def fill(canvas: Any, row: bytes, spans: Iterable[Span], module: int, box: Box) -> None:
+    """Draws dark modules in spans of a row as rectangles, a bit less than their dots: what touches
+    a dot paints it.
+    """
+    modules = bits_of(row)
+    for span in spans:
+        for bar in DARK.finditer(modules, span.left, span.right):
+            left = box.left + bar.start() * module + INSET
+            width = (bar.end() - bar.start()) * module - 2 * INSET
+            canvas.rectangle(left, box.top, width, box.height - INSET)
+    canvas.fill()

@@ -1,0 +1,1 @@
+"""Letters, and where the parts of a label are."""

@@ -1,0 +1,651 @@
+"""The frame of some labels: places for their title, text, price, details (old price and unit price)
+and code, that are alike for all of them.
+
+There are four arrangements of these parts:
+
+    foot    title; price over the whole width; below it the code at the left, text and details at
+            its right
+    split   title and text; below them the code at the left, price and details at its right
+    below   title, text, price, details and code in the middle, one below another
+    beside  the code at the left over the whole height, all words at its right
+
+Of the frames that fit, the one with the largest price is taken; without a price that with the
+largest title and code. All sizes follow the size of the label, which is the root of its area. What
+is demanded goes down in four levels, and the first that has a frame counts. Lengths are in dots,
+those of texts in sizes of their letters.
+"""
+
+import math
+from collections import Counter
+from dataclasses import dataclass, field
+from itertools import product
+from typing import Callable, Iterable, Mapping, NamedTuple, Optional
+
+from labeltools.paper.area import Area, LARGEST_QR, MODULE
+from labeltools.lines.symbologies import SYMBOLOGIES, Symbology
+
+LINE = 1.2  # the distance of two base lines in sizes of letters
+# as parts of a label's size: letters of texts, and white between two parts
+TEXT_PART = 1 / 18
+GAP_PART = 1 / 36
+DETAILS_PART = 1.15  # letters of details as a part of those of texts
+# letters of titles as parts of those of texts, the largest first: without a price and with one
+TITLES_ALONE = (2.4, 2.0, 1.7, 1.4, 1.2, 1.0)
+TITLES_WITH_PRICE = (1.4, 1.2, 1.0)
+TEXT_OF_TITLE = 0.6  # texts below titles without a price, as a part of these
+# millimetres: the least gap, the smallest letters of texts, titles and prices
+LEAST_GAP = 0.6
+LEAST_TEXT = 1.8
+LEAST_TITLE = 2.1
+LEAST_PRICE = 2.1
+HIGHEST_PRICE = 0.45  # of the height of a label: the ink of its price
+SLACK = 0.2  # white at the sides of a text beside a code, in letters
+LEAST_LINE = 4  # the shortest line of a title beside a code, in letters
+SQUARE = 1.2  # labels up to this width in heights have more lines for titles
+FULL_LINE = 0.97  # of a line: a title of one line takes no more
+WRAPPED = 1.2  # by how much words leave lines of a title empty
+DIGITS_ROOM = 10  # modules: the room of digits below bars
+LOWEST_PART = 0.15  # of the width of a Code 128: its lowest height
+LOWEST = 5.0  # millimetres: the lowest bars
+FULL_BARS = 95  # modules of the bars of EAN-13: wider bars need not be higher
+QR_SMALLEST = 0.25  # millimetres
+MOST_SIDE = 0.45  # of the width of a label: what QR takes beside words
+HINTING = 1.03  # by how much letters in dots may be larger than they are measured
+# sizes are equal for all if so many take part, or at the cost of no more than this
+MOST_OF = 0.9
+LEAST_SHARE = 0.75
+ARRANGEMENTS = ("foot", "split", "below", "beside")
+
+
+class Box(NamedTuple):
+    """A rectangle in which a part of a label may have ink."""
+
+    left: int
+    top: int
+    width: int
+    height: int
+
+    @property
+    def right(self) -> int:
+        """The column behind it."""
+        return self.left + self.width
+
+    @property
+    def bottom(self) -> int:
+        """The row below it."""
+        return self.top + self.height
+
+
+class Need(NamedTuple):
+    """What decides where the parts of a label are: the symbology, width and height of its code in
+    modules (bars without a height of their own have 1); the widths of the lines of its title, the
+    lines of its text and the width of the widest, the width and height of the ink of its price, the
+    widths of its old price and its unit price; 0 for what is not there.
+    """
+
+    symbology: str
+    width: int
+    height: int
+    title: tuple[float, ...]
+    lines: int
+    text: float
+    price: float
+    price_height: float
+    was: float
+    unit: float
+
+    @property
+    def kind(self) -> Symbology:
+        """The symbology."""
+        return SYMBOLOGIES[self.symbology]
+
+    @property
+    def is_bars(self) -> bool:
+        """Whether the code is bars."""
+        return self.kind.nominal > 0
+
+    @property
+    def bars_width(self) -> int:
+        """The modules of its bars without quiet zones, up to those of an EAN-13."""
+        return min(self.width - sum(self.kind.quiet), FULL_BARS)
+
+
+class Level(NamedTuple):
+    """What is demanded: bars as a part of their width (at most), modules of QR in millimetres, the
+    least price in titles, the lines of titles in wide and in high labels.
+    """
+
+    bars: float
+    qr: float
+    price: float
+    wide: int
+    high: int
+
+
+LEVELS = (
+    Level(1.0, 0.5, 2.0, 2, 4),
+    Level(0.35, 0.375, 1.5, 2, 3),
+    Level(LOWEST_PART, 0.25, 1.2, 2, 2),
+    Level(LOWEST_PART, 0.25, 0.8, 1, 1),
+)
+
+
+WHOLE_TITLES = 2  # levels on which whole titles are looked for before titles are cut
+
+
+@dataclass(frozen=True)
+class Frame:
+    """Places for the parts of labels, from the left upper corner of the area: `code`, `title`,
+    `price`, `details`, and `text` where that is beside the code.
+
+    `sizes` are those of letters; `module` is that of bars, `bars` their height, `digits` the height
+    below them; `lines`, `text_lines` and `details_lines` are the most of each; `is_whole` is
+    whether most titles are.
+    """
+
+    kind: str
+    boxes: Mapping[str, Box]
+    sizes: Mapping[str, int]
+    module: int
+    bars: int
+    digits: int
+    lines: int
+    text_lines: int
+    details_lines: int
+    is_whole: bool
+    score: float
+
+
+def share(values: Mapping[float, int]) -> float:
+    """Returns what nine of ten values keep to, or the largest one where that is not much more.
+    Values are given with how often they come; 0 where there is none.
+
+    >>> share({1.0: 9, 1.2: 1}), share({1.0: 9, 3.0: 1})
+    (1.2, 1.0)
+    """
+    if not values:
+        return 0.0
+    most = max(values)
+    usual = ninth_of_ten(values)
+    return most if usual >= LEAST_SHARE * most else usual
+
+
+def ninth_of_ten(values: Mapping[float, int]) -> float:
+    """Returns the smallest value that nine of ten do not exceed."""
+    wanted = math.ceil(MOST_OF * sum(values.values()))
+    seen = 0
+    for value in sorted(values):
+        seen += values[value]
+        if seen >= wanted:
+            return value
+    return max(values)
+
+
+@dataclass
+class JointNeeds:
+    """What some labels need together; each need is given with how many labels have it."""
+
+    area: Area
+    needs: Mapping[Need, int]
+    lines_found: dict[tuple[int, int], int] = field(default_factory=dict)
+
+    def __post_init__(self) -> None:
+        area = self.area
+        codes = {need[:3]: need for need in self.needs}
+        self.bars = [need for need in codes.values() if need.is_bars]
+        self.modules = [area.modules(need.kind) for need in self.bars]
+        self.squares = count(self.needs, "width", lambda need: not need.is_bars)
+        self.text_size = max(area.dots(LEAST_TEXT), round(area.size * TEXT_PART))
+        self.gap = max(area.dots(LEAST_GAP), round(area.size * GAP_PART))
+        self.titles: Counter[tuple[float, ...]] = Counter()
+        for need, labels in self.needs.items():
+            if need.title:
+                self.titles[need.title] += labels
+        self.lines = max(need.lines for need in self.needs)
+        self.price = share(count(self.needs, "price", lambda need: need.price > 0))
+        self.price_height = max(need.price_height for need in self.needs)
+        self.text = share(count(self.needs, "text", lambda need: True))
+        self.details = (
+            max(need.was for need in self.needs),
+            max(need.unit for need in self.needs),
+        )
+
+    @property
+    def title_parts(self) -> tuple[float, ...]:
+        """The sizes of titles that are tried."""
+        return TITLES_WITH_PRICE if self.price else TITLES_ALONE
+
+    @property
+    def has_words(self) -> bool:
+        """Whether there is anything but codes."""
+        return bool(self.titles or self.lines or self.price or any(self.details))
+
+    def title_lines(self, size: int, room: int) -> int:
+        """Returns about how many lines the titles of nine of ten labels take."""
+        if not self.titles:
+            return 0
+        key = size, room
+        if key not in self.lines_found:
+            counts: Counter[float] = Counter()
+            for title, labels in self.titles.items():
+                counts[lines_of(title, size / room)] += labels
+            self.lines_found[key] = int(ninth_of_ten(counts))
+        return self.lines_found[key]
+
+    def lowest_bars(self, module: int, part: float) -> int:
+        """Returns the height of the lowest bars that are allowed, a part of their width."""
+        return max((self.least_height(need, module, part) for need in self.bars), default=0)
+
+    def least_height(self, need: Need, wish: int, part: float) -> int:
+        """Returns the height of the lowest bars of a code, in whole modules."""
+        area = self.area
+        module = module_in(area, need, wish, area.width) or wish
+        if need.height > 1:
+            return need.height * module
+        modules = need.bars_width * part
+        if not need.kind.is_number:
+            modules = max(modules, LOWEST_PART * need.width)
+        if area.wishes.bars:
+            modules = area.wishes.bars / area.dot / module
+        return math.ceil(max(modules, area.dots(LOWEST) / module)) * module
+
+    def highest_bars(self, module: int, low: int) -> int:
+        """Returns the height of bars where there is room: the nominal one, or as much more as their
+        module is larger.
+        """
+        if self.area.wishes.bars:
+            return low
+        nominal = max((need.kind.nominal for need in self.bars), default=0.0) / self.area.dot
+        return max(low, math.ceil(nominal * max(1.0, module * self.area.dot / MODULE)))
+
+    def bars_room(self, module: int) -> int:
+        """Returns the room across that bars claim. Code 128 has no set size: beside EAN it takes
+        narrower modules instead.
+        """
+        has_numbers = any(need.kind.is_number for need in self.bars)
+        rooms = [0]
+        for need, allowed in zip(self.bars, self.modules):
+            is_wide = need.kind.is_number or not has_numbers
+            rooms.append(need.width * (module if is_wide else min(allowed)))
+        return max(rooms)
+
+    def square(self, module: float) -> int:
+        """Returns the room that QR claims, for modules in millimetres that grow with the label."""
+        if not self.squares:
+            return 0
+        area = self.area
+        grown = area.size * area.dot / area.wishes.design.full_qr
+        wished = min(LARGEST_QR, module * max(1.0, grown))
+        least = max(self.squares) * area.dots(QR_SMALLEST)
+        return int(max(least, math.ceil(share(self.squares) * wished / area.dot)))
+
+    def largest_square(self) -> int:
+        """Returns the most room that QR can use."""
+        most = self.area.dots(self.area.wishes.module or LARGEST_QR)
+        return int(max(self.squares, default=0) * most)
+
+
+def count(
+    needs: Mapping[Need, int], name: str, is_counted: Callable[[Need], bool]
+) -> Counter[float]:
+    """Returns how many labels have each value of a field."""
+    values: Counter[float] = Counter()
+    for need, labels in needs.items():
+        if is_counted(need):
+            values[getattr(need, name)] += labels
+    return values
+
+
+def lines_of(title: tuple[float, ...], scale: float) -> int:
+    """Returns about how many lines a title takes; lines of several words are not full."""
+    lines = 0
+    for width in title:
+        part = width * scale
+        lines += 1 if part <= FULL_LINE else math.ceil(WRAPPED * part)
+    return lines
+
+
+def module_in(area: Area, need: Need, wished: int, room: int) -> int:
+    """Returns the module of bars in a room: as wished, or smaller where they are too wide; 0 where
+    none fits.
+    """
+    allowed = area.modules(need.kind)
+    return max((one for one in allowed if one <= wished and one * need.width <= room), default=0)
+
+
+def frame_of(area: Area, needs: Mapping[Need, int]) -> Optional[Frame]:
+    """Returns the frame of labels, or None where no one frame serves all of them."""
+    demand = JointNeeds(area, needs)
+    narrowest = [min(allowed, default=0) for allowed in demand.modules]
+    if not all(narrowest) or min(area.width, area.height) < 1:
+        return None
+    rooms = (need.width * one for need, one in zip(demand.bars, narrowest))
+    if any(room > area.width for room in rooms):
+        return None
+    cut = None
+    for number, wishes in product(range(len(LEVELS)), rounds_of(demand)):
+        if cut is not None and number >= WHOLE_TITLES:
+            break
+        found = list(frames_of(demand, LEVELS[number], wishes))
+        best = max(found, key=lambda frame: frame.score, default=None)
+        if best is not None and best.is_whole:
+            return best
+        cut = cut or best
+    return cut
+
+
+def rounds_of(demand: JointNeeds) -> list[list[int]]:
+    """Returns the modules that are tried, in rounds: for tills the widest that serves comes first;
+    on a shelf the price decides.
+    """
+    if not demand.bars:
+        return [[1]]
+    first = demand.modules[0][0]
+    least = max(min(allowed) for allowed in demand.modules)
+    all_modules = {one for allowed in demand.modules for one in allowed}
+    wishes = sorted({one for one in all_modules if least <= one <= first} or {least}, reverse=True)
+    if demand.area.wishes.design.name == "shelf":
+        return [wishes]
+    return [[one] for one in wishes]
+
+
+def frames_of(demand: JointNeeds, level: Level, wishes: Iterable[int]) -> Iterable[Frame]:
+    """Yields the frames on a level: of each arrangement, size of titles and module."""
+    parts = demand.title_parts
+    for kind, part, module in product(ARRANGEMENTS, parts, wishes):
+        title = max(demand.area.dots(LEAST_TITLE), round(demand.text_size * part))
+        attempt = Attempt(demand, level, kind, title, part == parts[-1], module)
+        if frame := attempt.frame():
+            yield frame
+
+
+@dataclass(frozen=True)
+class Rooms:
+    """The room of an attempt: the width of the code and what is beside it, the width of titles and
+    of prices, the least and the most height of the code with its digits, the most height of bars,
+    the height of digits.
+    """
+
+    code: int
+    beside: int
+    words: int
+    price: int
+    low: int
+    most: int
+    bars: int
+    digits: int
+
+
+@dataclass(frozen=True)
+class Heading:
+    """Title and text: the lines of titles and whether most are whole; the letters and the height of
+    texts, whether these are beside the code; the height above price and code.
+    """
+
+    lines: int
+    is_whole: bool
+    text: int
+    text_height: int
+    is_foot_text: bool
+    height: int
+
+
+@dataclass(frozen=True)
+class Line:
+    """Letters of a part of a label: their size, their lines, the height of all."""
+
+    size: int
+    lines: int
+    height: int
+
+
+@dataclass(frozen=True)
+class Attempt:
+    """One arrangement of the parts of labels, with titles of one size and one module, on one level
+    of demands.
+    """
+
+    demand: JointNeeds
+    level: Level
+    kind: str
+    title: int
+    is_smallest: bool
+    module: int
+
+    def frame(self) -> Optional[Frame]:
+        """Returns the frame, if all fits."""
+        rooms = self.rooms()
+        if not self.is_possible(rooms):
+            return None
+        head = self.head(rooms)
+        if not head.is_whole and not self.is_smallest:  # titles are cut where none is smaller
+            return None
+        details = self.details(rooms)
+        low = rooms.low
+        if self.kind == "foot":
+            low = max(low, details.height + head.text_height * head.is_foot_text)
+        price = self.price(rooms, head, details, low)
+        if price is None or details.size < self.demand.area.dots(LEAST_TEXT):
+            return None
+        made = Arrangement(self, rooms, head, details, price, low)
+        boxes = made.stacked() if self.is_stacked else made.side_by_side()
+        return self.framed(rooms, head, details, price, boxes)
+
+    @property
+    def is_stacked(self) -> bool:
+        """Whether the code is below the price."""
+        return self.kind in ("foot", "below")
+
+    @property
+    def inset(self) -> int:
+        """White at the sides of words."""
+        return self.demand.gap // 2
+
+    def rooms(self) -> Rooms:
+        """Returns the rooms for code and words."""
+        demand = self.demand
+        area = demand.area
+        part = min(self.level.bars, area.wishes.design.bars)
+        low = demand.lowest_bars(self.module, part)
+        bars = demand.highest_bars(self.module, low)
+        digits = DIGITS_ROOM * self.module if demand.bars else 0
+        square = demand.square(self.level.qr)
+        code = max(demand.bars_room(self.module), square)
+        if self.kind in ("split", "beside") and not demand.bars:
+            widest = min(area.height, demand.largest_square(), int(MOST_SIDE * area.width))
+            code = max(square, widest)
+        beside = area.width - code - demand.gap - self.inset
+        words = beside if self.kind == "beside" else area.width - 2 * self.inset
+        return Rooms(
+            code=code,
+            beside=beside,
+            words=words,
+            price=beside if self.kind in ("foot", "split") else words,
+            low=max(low + digits, square),
+            most=max(bars + digits if demand.bars else 0, demand.largest_square()),
+            bars=bars,
+            digits=digits,
+        )
+
+    def is_possible(self, rooms: Rooms) -> bool:
+        """Returns whether the arrangement suits the label and its parts."""
+        demand = self.demand
+        area = demand.area
+        if self.kind == "below":
+            fits = [module_in(area, need, self.module, area.width) for need in demand.bars]
+            return all(fits) and rooms.words > 0
+        if area.width < area.height or not demand.has_words:
+            return False
+        if self.kind == "beside":
+            return rooms.beside >= LEAST_LINE * self.title
+        return bool(demand.price) and rooms.beside >= 1
+
+    def head(self, rooms: Rooms) -> Heading:
+        """Returns the title, and the text below it where that is not beside the code."""
+        demand = self.demand
+        area = demand.area
+        most = self.level.high if area.width < SQUARE * area.height else self.level.wide
+        if self.kind == "beside" and not demand.price:
+            most += 1
+        wanted = demand.title_lines(self.title, rooms.words)
+        lines = min(wanted, most)
+        text = demand.text_size
+        if not demand.price:
+            text = max(text, round(TEXT_OF_TITLE * self.title))
+        is_foot_text = False
+        if self.kind == "foot" and demand.text:
+            small = min(text, math.floor(rooms.price / (demand.text + SLACK)))
+            is_foot_text = small >= area.dots(LEAST_TEXT)
+            text = small if is_foot_text else text
+        text_height = math.ceil(demand.lines * LINE * text)
+        height = math.ceil(lines * LINE * self.title) + (0 if is_foot_text else text_height)
+        return Heading(lines, wanted <= most, text, text_height, is_foot_text, height)
+
+    def details(self, rooms: Rooms) -> Line:
+        """Returns old price and unit price, on a line or on two."""
+        was, unit = self.demand.details
+        size = round(DETAILS_PART * self.demand.text_size)
+        if not was and not unit:
+            return Line(size, 0, 0)
+        wide = was + unit + (2 if was and unit else 0)
+        lines = 1
+        if wide * size > rooms.price:
+            lines = 2 if was and unit else 1
+            size = min(size, math.floor(rooms.price / max(was, unit)))
+        return Line(size, lines, math.ceil(lines * LINE * size))
+
+    def price(self, rooms: Rooms, head: Heading, details: Line, low: int) -> Optional[Line]:
+        """Returns the price, as large as the room allows; None where it and the code do not fit."""
+        demand = self.demand
+        area = demand.area
+        rest = rest_below(area, demand, head)
+        if (area.height if self.kind == "beside" else rest) < low or rest < 0:
+            return None
+        if not demand.price:
+            is_room = details.height + (low if self.is_stacked else 0) <= rest
+            return Line(0, 0, 0) if is_room else None
+        high = rest - low - demand.gap if self.is_stacked else rest
+        if self.kind != "foot":
+            high -= details.height
+        wide = rooms.words if self.is_stacked else rooms.price
+        high = min(high, int(HIGHEST_PRICE * area.height))
+        size = math.floor(min(wide / demand.price, high / demand.price_height) / HINTING)
+        if size < max(self.level.price * self.title, area.dots(LEAST_PRICE)):
+            return None
+        return Line(size, 1, math.ceil(HINTING * size * demand.price_height))
+
+    def framed(
+        self, rooms: Rooms, head: Heading, details: Line, price: Line, boxes: Mapping[str, Box]
+    ) -> Frame:
+        """Returns the frame of boxes. A narrower module and cut titles have to be worth it."""
+        demand = self.demand
+        bars = min(rooms.bars, boxes["code"].height - rooms.digits) if demand.bars else 0
+        score = price.size * math.sqrt(self.title)
+        if not demand.price:
+            is_below = self.kind == "below"
+            score = self.title + 0.1 * boxes["code"].height + demand.text_size * is_below
+        return Frame(
+            kind=self.kind,
+            boxes=boxes,
+            sizes={
+                "title": self.title,
+                "text": head.text,
+                "price": price.size,
+                "details": details.size,
+            },
+            module=self.module,
+            bars=bars,
+            digits=rooms.digits,
+            lines=head.lines,
+            text_lines=demand.lines,
+            details_lines=details.lines,
+            is_whole=head.is_whole,
+            score=score * self.module * (1.0 if head.is_whole else 0.5),
+        )
+
+
+def rest_below(area: Area, demand: JointNeeds, head: Heading) -> int:
+    """Returns the height below title and text."""
+    return area.height - head.height - (demand.gap if head.height else 0)
+
+
+@dataclass(frozen=True)
+class Arrangement:
+    """An attempt whose parts all have their sizes."""
+
+    attempt: Attempt
+    rooms: Rooms
+    head: Heading
+    details: Line
+    price: Line
+    low: int
+
+    @property
+    def demand(self) -> JointNeeds:
+        """What the labels need."""
+        return self.attempt.demand
+
+    def title(self, left: int, top: int) -> Box:
+        """Returns the place of title and text."""
+        return Box(left, top, self.rooms.words, self.head.height)
+
+    def stacked(self) -> dict[str, Box]:
+        """Returns places of head, price and code, one below another."""
+        inset = self.attempt.inset
+        rooms = self.rooms
+        area = self.demand.area
+        gap = self.demand.gap
+        is_foot = self.attempt.kind == "foot"
+        details = self.details.height
+        numbers = self.price.height + (0 if is_foot else details)
+        rest = rest_below(area, self.demand, self.head) - (numbers + gap if numbers else 0)
+        code = min(max(rooms.most, self.low), rest)
+        top, low = self.spread(rest - code, area.height - code, numbers > 0)
+        start = top + self.head.height + (gap if self.head.height else 0)
+        start += (low - gap - start - numbers) // 2
+        boxes = {
+            "code": Box(0, low, rooms.code if is_foot else area.width, code),
+            "title": self.title(inset, top),
+        }
+        if numbers:
+            below = start + self.price.height
+            boxes["price"] = Box(inset, start, rooms.words, self.price.height)
+            boxes["details"] = Box(inset, below, rooms.words, details)
+        if is_foot:
+            foot = Box(area.width - rooms.beside - inset, low, rooms.beside, code)
+            boxes["details"] = foot._replace(top=area.height - details, height=details)
+            if self.head.is_foot_text:
+                boxes["text"] = foot._replace(height=self.head.text_height)
+        return boxes
+
+    def spread(self, spare: int, low: int, has_numbers: bool) -> tuple[int, int]:
+        """Returns where the head and the code begin, with the white that is left between them and
+        around them; `low` is where the code would end at the lower edge.
+        """
+        if not self.head.height:
+            return 0, low - spare // (3 if has_numbers else 2)
+        if not has_numbers:
+            return spare // 3, low - spare // 3
+        return 0, low
+
+    def side_by_side(self) -> dict[str, Box]:
+        """Returns places with the code at the left of the price, or of all words."""
+        rooms = self.rooms
+        area = self.demand.area
+        rest = rest_below(area, self.demand, self.head)
+        whole = area.height if self.attempt.kind == "beside" else rest
+        code = min(whole, rooms.most)
+        numbers = self.price.height + self.details.height
+        right = area.width - self.attempt.inset
+        top = 0 if numbers else (area.height - self.head.height) // 2
+        boxes = {
+            "code": Box(0, area.height - whole + (whole - code) // 2, rooms.code, code),
+            "title": self.title(right - rooms.words, top),
+        }
+        if numbers:
+            start = area.height - rest + max(0, rest - numbers) // 2
+            price = Box(right - rooms.price, start, rooms.price, self.price.height)
+            boxes["price"] = price
+            below = start + self.price.height
+            boxes["details"] = price._replace(top=below, height=self.details.height)
+        return boxes

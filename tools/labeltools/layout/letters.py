@@ -1,0 +1,250 @@
+"""Letters by Pango: which font has them, and how large texts are, measured alike for all forms."""
+
+import re
+import unicodedata
+from dataclasses import dataclass
+from functools import lru_cache, partial
+from typing import Any, Iterable, Mapping, NamedTuple, Optional, Sequence
+
+from labeltools.common.text import Text
+from labeltools.layout.layout import Extent
+from labeltools.common.messages import ToolError
+from labeltools.common.kept import Found
+from labeltools.layout.pango import MEASURED, Pango, PangoCairo, pango_context, plain_options
+
+KEPT = 2048  # words of which the extent is kept
+MOST_NAMED = 9  # letters that a message names
+SPACED = re.compile("[^ ]+ *| +")
+# letters that stand one behind another: Latin, Greek, Cyrillic; punctuation; currencies
+SIMPLE = ((0x20, 0x2FF), (0x370, 0x482), (0x48A, 0x52F), (0x2010, 0x2027), (0x20A0, 0x20CF))
+OTHERS = re.compile("[^" + "".join(f"{chr(one)}-{chr(other)}" for one, other in SIMPLE) + "]")
+FONTS_OF_LETTERS = "apt-get install fonts-noto-core fonts-noto-cjk"
+FONTS_OF_SIGNS = "apt-get install fonts-symbola"
+
+
+@dataclass(frozen=True)
+class Fonts:
+    """The names of fonts: of titles, texts and prices, and of what is below bars."""
+
+    texts: str = "DejaVu Sans"
+    digits: str = "DejaVu Sans Mono"
+
+
+class Sign(NamedTuple):
+    """A letter or a line of them in sizes of its font: how far the next one is, the white at its
+    left and right, the top and bottom of its ink from the base line downwards.
+    """
+
+    advance: float
+    left: float
+    right: float
+    top: float
+    bottom: float
+
+
+BLANK = Sign(0.0, 0.0, 0.0, 0.0, 0.0)
+NOTHING = Extent(0.0, 0.0)
+
+
+def together(signs: Sequence[Sign], spaces: float = 0.0) -> Sign:
+    """Returns letters or words as one, with spaces between them."""
+    advance, left, right, top, bottom = signs[0]
+    for further, _, right, above, below in signs[1:]:
+        advance += further
+        if above < top:
+            top = above
+        if below > bottom:
+            bottom = below
+    return Sign(advance + spaces, left, right, top, bottom)
+
+
+def extent_of(sign: Sign) -> Extent:
+    """Returns the extent of the ink of a word; zeros where it has none."""
+    width = sign.advance - sign.left - sign.right
+    height = sign.bottom - sign.top
+    return Extent(width, height) if width > 0 and height > 0 else NOTHING
+
+
+def font_for(family: str) -> str:
+    """Returns the font that is there for a wanted one: itself, or what is taken in its place."""
+    return str(described(family).get_family() or "")
+
+
+def described(families: str) -> Any:
+    """Returns how Pango describes the font that it takes for some."""
+    context = pango_context(plain_options(), False)
+    wanted = Pango.FontDescription(f"{families}, 9")
+    found = PangoCairo.FontMap.get_default().load_font(context, wanted)
+    return found.describe() if found else Pango.FontDescription()
+
+
+def font_instead(families: str) -> str:
+    """Returns the font that is taken in the place of the first one of some; nothing where that is
+    there, if only as a face of another one, as DejaVu Sans Condensed is.
+    """
+    family = families.split(",")[0].lower()
+    found = described(families)
+    there = str(found.get_family())
+    is_face = family.startswith(f"{there.lower()} ")
+    is_plain = found.get_weight() == Pango.Weight.NORMAL
+    is_plain = is_plain and found.get_stretch() == Pango.Stretch.NORMAL
+    return "" if family == there.lower() or is_face and not is_plain else there
+
+
+def require_fonts(fonts: Fonts) -> None:
+    """Raises `ToolError` where a font is not there."""
+    for family in (fonts.texts, fonts.digits):
+        if font_for(family).lower() != family.lower():
+            hint = Text("fc-list : family lists what there is")
+            usual = Text("apt-get install fonts-dejavu-core has the usual ones")
+            raise ToolError(Text("there is no font {}", family), Text("{}, {}", hint, usual))
+
+
+class Letters:
+    """Measures texts in a font."""
+
+    def __init__(self, fonts: Fonts) -> None:
+        require_fonts(fonts)
+        self.family = fonts.texts
+        self.extent = lru_cache(KEPT)(self.new_extent)
+        self.context = pango_context(plain_options(), False)
+        self.layouts = [self.layout(fonts.texts, is_bold) for is_bold in (False, True)]
+        self.signs = tuple(Found(partial(self.sign, is_bold)) for is_bold in (False, True))
+        self.words = tuple(Found(partial(self.word, is_bold)) for is_bold in (False, True))
+        self.wrapped = self.layout(fonts.texts, False)
+        self.wrapped.set_width(1)  # so that each part of a line is a line
+        blanks = [self.extents(" ", is_bold)[1] for is_bold in (False, True)]
+        self.spaces = [blank.width for blank in blanks]
+        self.heights = [blank.height for blank in blanks]  # of lines
+
+    def layout(self, family: str, is_bold: bool) -> Any:
+        """Returns what lays texts out in the size that is measured."""
+        layout = Pango.Layout.new(self.context)
+        font = Pango.FontDescription(f"{family}, {'Bold' * is_bold}")
+        font.set_absolute_size(MEASURED * Pango.SCALE)
+        layout.set_font_description(font)
+        return layout
+
+    def new_extent(self, text: str, is_bold: bool) -> Extent:
+        """Returns the extent of a line of text; zeros for one without ink."""
+        if not text:
+            return NOTHING
+        line = self.line(text, is_bold)
+        return extent_of(line) if line else self.whole(text, is_bold)
+
+    def line(self, text: str, is_bold: bool) -> Optional[Sign]:
+        """Returns what a line of text takes, letter by letter; None where letters change beside
+        others.
+        """
+        words = self.words[is_bold]
+        if len(words) >= KEPT:
+            words.clear()
+        if " " not in text:
+            return words[text]
+        parts = text.split(" ")
+        found = [sign for sign in map(words.__getitem__, parts) if sign]
+        if len(found) < len(parts):
+            return None
+        return together(found, (len(found) - 1) * self.spaces[is_bold])
+
+    def parts(self, line: str) -> list[str]:
+        """Returns the parts of a line behind which it may be wrapped, with the spaces behind them:
+        words, or in scripts that are written without spaces what Pango says.
+        """
+        if not OTHERS.search(line):
+            return SPACED.findall(line)
+        self.wrapped.set_text(line, -1)
+        written = line.encode()
+        lines = self.wrapped.get_lines_readonly()
+        ends = [found.start_index + found.length for found in lines]
+        return [written[start:end].decode() for start, end in zip([0, *ends], ends)]
+
+    def word(self, is_bold: bool, word: str) -> Optional[Sign]:
+        """Measures a word, letter by letter; None where letters change beside others."""
+        if OTHERS.search(word):
+            return None
+        return together([*map(self.signs[is_bold].__getitem__, word)]) if word else BLANK
+
+    def sign(self, is_bold: bool, letter: str) -> Sign:
+        """Measures a letter."""
+        return self.whole_sign(letter, is_bold)
+
+    def whole(self, text: str, is_bold: bool) -> Extent:
+        """Returns the extent of a line of text as Pango lays it out."""
+        ink, _ = self.extents(text, is_bold)
+        return Extent(ink.width, ink.height) if ink.width > 0 else NOTHING
+
+    def whole_sign(self, text: str, is_bold: bool) -> Sign:
+        """Returns what a line of text takes as Pango lays it out."""
+        ink, logical = self.extents(text, is_bold)
+        right = logical.width - ink.x - ink.width
+        top = ink.y - self.layouts[is_bold].get_baseline() / (MEASURED * Pango.SCALE)
+        return Sign(logical.width, ink.x, right, top, top + ink.height)
+
+    def extents(self, text: str, is_bold: bool) -> tuple["Rectangle", "Rectangle"]:
+        """Returns the rectangles of the ink of a text and of its line."""
+        layout = self.layouts[is_bold]
+        layout.set_text(text, -1)
+        ink, logical = layout.get_extents()
+        return rectangle(ink), rectangle(logical)
+
+    def missing(self, texts: Mapping[int, Sequence[str]]) -> dict[int, Text]:
+        """Returns why some labels cannot be drawn, of which the texts are given by the numbers of
+        their lines: letters that no font has, with a reason for each script.
+        """
+        used: set[str] = set()
+        for several in texts.values():
+            used.update(*several)
+        absent = sorted(letter for letter in used if self.is_missing(letter))
+        if not absent:
+            return {}
+        reasons = reasons_of(absent)
+        found = {number: first_reason(several, reasons) for number, several in texts.items()}
+        return {number: reason for number, reason in found.items() if reason}
+
+    def is_missing(self, letter: str) -> bool:
+        """Returns whether no font has a letter."""
+        layout = self.layouts[True]
+        layout.set_text(letter, -1)
+        return bool(layout.get_unknown_glyphs_count())
+
+
+class Rectangle(NamedTuple):
+    """A rectangle in sizes of letters."""
+
+    x: float
+    y: float
+    width: float
+    height: float
+
+
+def rectangle(found: Any) -> Rectangle:
+    """Returns a rectangle of Pango in sizes of the letters that are measured."""
+    scale = MEASURED * Pango.SCALE
+    return Rectangle(found.x / scale, found.y / scale, found.width / scale, found.height / scale)
+
+
+def reasons_of(letters: Iterable[str]) -> dict[str, Text]:
+    """Returns a reason for each letter that no font has: one for each script."""
+    scripts: dict[str, list[str]] = {}
+    for letter in letters:
+        scripts.setdefault(script_of(letter), []).append(letter)
+    reasons = {}
+    for script, found in scripts.items():
+        fonts = FONTS_OF_SIGNS if script == "Signs" else FONTS_OF_LETTERS
+        reason = Text("no font has {} ({}): {}", "".join(found[:MOST_NAMED]), script, fonts)
+        reasons.update(dict.fromkeys(found, reason))
+    return reasons
+
+
+def script_of(letter: str) -> str:
+    """Returns the script of a letter; of a sign `Signs`."""
+    if unicodedata.category(letter)[0] not in "LM":
+        return "Signs"
+    return unicodedata.name(letter, "Signs").split()[0].capitalize()
+
+
+def first_reason(texts: Iterable[str], reasons: dict[str, Text]) -> Optional[Text]:
+    """Returns the reason of the first letter of some texts that no font has."""
+    letters = (letter for text in texts for letter in text if letter in reasons)
+    return next(map(reasons.__getitem__, letters), None)

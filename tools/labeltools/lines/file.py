@@ -1,0 +1,352 @@
+"""The file between label-table and label-print, both ways: lines of labels(1), and what belongs to
+each label.
+
+    #{"labels":1,"table":"articles.xlsx"}
+    #{"row":2,"title":"Pencil","text":{"Colour":"red"},"price":"0,80 €","copies":3}
+    ean13 4006381333931
+    #{"end":1,"lines":1,"left_out":[5],"left_out_count":1}
+
+A remark that begins with `#{` is one JSON object. The first of a part has the version, the last
+says that the part is whole, and each other one belongs to the next line. Lines without such remarks
+are a part too. LF ends a line, and nothing else does.
+"""
+
+import itertools
+import json
+import re
+import sys
+from dataclasses import dataclass, field
+from io import BytesIO
+from operator import methodcaller
+from typing import Any, Iterable, Iterator, NamedTuple, Sequence
+
+from labeltools import VERSION
+from labeltools.common.text import NOTHING, Text
+from labeltools.common.messages import Place, ToolError, quoted
+from labeltools.lines.symbologies import SYMBOLOGIES, check_digit
+
+MOST_COPIES = 9999
+MOST_LEFT_OUT = 20  # rows that the last remark names
+OBJECT = b"#{"
+FIRST = '#{"labels"'  # how the first remark begins
+LAST = '#{"end"'  # and the last one
+# the keys of the object before a line, and of all objects: a number, a text, a list of one of
+# these, or `NAMED`, which is a list of texts, or an object of them by their names
+NAMED = {str: str}
+FIELDS: dict[str, Any] = {
+    "row": int,
+    "title": str,
+    "text": NAMED,
+    "price": str,
+    "unit": str,
+    "was": str,
+    "copies": int,
+}
+KEYS: dict[str, Any] = {
+    **FIELDS,
+    "labels": int,
+    "table": str,
+    "end": int,
+    "lines": int,
+    "left_out": [int],
+    "left_out_count": int,
+    "empty": [str],
+}
+ONE_LINE = ("price", "unit", "was")
+# what Pango cuts a text at or takes for a line end: controls (but LF), separators of lines and
+# paragraphs; surrogates
+UNPRINTABLE = re.compile("[\x00-\x09\x0b-\x1f\x7f-\x9f\u2028\u2029\ud800-\udfff]")
+ESCAPE = re.compile(rb"\\(?:x([0-9A-Fa-f]{2})|([n\\]))")
+ESCAPED = {b"n": b"\n", b"\\": b"\\"}
+encode = json.JSONEncoder(ensure_ascii=False, separators=(",", ":")).encode
+decode = json.JSONDecoder().decode
+
+
+class Label(NamedTuple):
+    """What belongs to a line of labels(1). Texts may have several lines; what is not there is
+    empty.
+
+    `row` is that of the table, 0 where it is not known; `price` is printed as it stands, `unit` is
+    the unit price that belongs to it, and `was` the old price; `copies` is 1 where the table has no
+    such column. `names` are the columns of the texts, one for each, or none at all.
+    """
+
+    row: int = 0
+    title: str = ""
+    text: tuple[str, ...] = ()
+    price: str = ""
+    unit: str = ""
+    was: str = ""
+    copies: int = 1
+    names: tuple[str, ...] = ()
+
+
+class LineRecord(NamedTuple):
+    """A line of labels(1) with its label.
+
+    `number` is that of the line in its file, from 1; `data` has the check digit, and no escapes any
+    more; `table` is the name of its table, where that is known; `line` is the line as it stands.
+    """
+
+    number: int
+    symbology: str
+    data: bytes
+    table: str
+    label: Label
+    line: bytes
+
+    @property
+    def key(self) -> tuple[str, bytes]:
+        """The symbology and the data of its code; the bars of UPC-A are those of the EAN-13 with a
+        zero before it.
+        """
+        if self.symbology == "upca":
+            return "ean13", b"0" + self.data
+        return self.symbology, self.data
+
+    @property
+    def place(self) -> Place:
+        """What messages name: the row of the table, or else the line."""
+        if self.label.row:
+            return Place(self.table, "row", self.label.row)
+        return Place("", "line", self.number)
+
+
+@dataclass(frozen=True)
+class LinesFile:
+    """A whole file: its lines, the first rows that label-table left out, and how many it left out;
+    the columns of texts that are empty in a whole table.
+    """
+
+    records: tuple[LineRecord, ...]
+    left_out: tuple[Place, ...]
+    left_out_count: int
+    empty: frozenset[str] = frozenset()
+
+
+def lines_of(data: bytes, numbers: Iterable[int] = ()) -> Iterator[tuple[int, bytes]]:
+    """Yields the lines of a file with their numbers, as labels(1) counts them or as given."""
+    return zip(
+        numbers or itertools.count(1), map(methodcaller("removesuffix", b"\n"), BytesIO(data))
+    )
+
+
+def first_remark(table: str) -> str:
+    """Returns the first line of a file, with the name of its table, if there is one."""
+    named = {"table": table.encode(errors="replace").decode()} if table else {}
+    return f"#{encode({'labels': VERSION, **named})}\n"
+
+
+def label_lines(label: Label, line: str, has_copies: bool) -> str:
+    """Returns the lines of a label: its remark, and the line of labels(1)."""
+    found = [f'#{{"row":{label.row}']  # put together by hand, which takes a fifth of the time
+    if label.title:
+        found.append(f'"title":{encode(label.title)}')
+    if label.names:
+        found.append(f'"text":{encode(dict(zip(label.names, label.text)))}')
+    elif label.text:
+        found.append(f'"text":[{",".join(map(encode, label.text))}]')
+    if label.price:
+        found.append(f'"price":{encode(label.price)}')
+    if label.unit:
+        found.append(f'"unit":{encode(label.unit)}')
+    if label.was:
+        found.append(f'"was":{encode(label.was)}')
+    if has_copies:
+        found.append(f'"copies":{label.copies}')
+    return f"{','.join(found)}}}\n{line}\n"
+
+
+def last_remark(count: int, left_out: Sequence[int], empty: Sequence[str] = ()) -> str:
+    """Returns the last line of a file of `count` lines, of whose table these rows were left out,
+    and these columns of texts have none in the others.
+    """
+    rows = list(left_out[:MOST_LEFT_OUT])
+    end: dict[str, Any] = {"end": VERSION, "lines": count}
+    end |= {"left_out": rows, "left_out_count": len(left_out)}
+    if empty:
+        end["empty"] = empty
+    return f"#{encode(end)}\n"
+
+
+def read_lines(
+    data: bytes, name: str, has_escapes: bool = False, numbers: Iterable[int] = ()
+) -> LinesFile:
+    """Returns the lines of a file; raises `ToolError` for one that is cut off, changed or not
+    understood.
+
+    `has_escapes` is whether labels(1) is given --escapes; `numbers` are those of the lines, where
+    the first one is not 1.
+    """
+    reader = _Reader(name, has_escapes)
+    is_own = data.startswith(OBJECT)
+    for number, line in lines_of(data, numbers):
+        if is_own and line.endswith(b"\r"):
+            hint = Text("take the file as label-table wrote it")
+            raise ToolError(
+                Text(
+                    "{}: line {} ends in CR LF: a program of Windows has changed the file",
+                    name,
+                    number,
+                ),
+                hint,
+            )
+        if line.startswith(OBJECT):
+            reader.take_object(number, line)
+        elif line and not line.startswith(b"#"):
+            reader.take_line(number, line)
+    return reader.whole(is_own and not data.endswith(b"\n"))
+
+
+@dataclass
+class _Part:
+    """What is known of the part of a file that is read: a table, or lines of no table."""
+
+    table: str = ""
+    first: int = -1  # how many records were read before it; -1 for lines of no table
+
+
+@dataclass
+class _Reader:
+    """Reads a file line by line."""
+
+    name: str
+    has_escapes: bool
+    part: _Part = field(default_factory=_Part)
+    waiting: dict[str, Any] = field(default_factory=dict)
+    torn: Text = NOTHING
+    records: list[LineRecord] = field(default_factory=list)
+    left_out: list[Place] = field(default_factory=list)
+    left_out_count: int = 0
+    empty: set[str] = field(default_factory=set)
+
+    def take_object(self, number: int, line: bytes) -> None:
+        """Takes a remark that is an object."""
+        found = object_of(line, self.name, number)
+        is_open = self.part.first >= 0
+        count = len(self.records) - self.part.first if is_open else -1
+        is_early = "labels" in found and is_open
+        is_short = "end" in found and found.get("lines", -2) != count
+        if self.waiting or is_early or is_short:
+            self.torn = self.torn or Text("before line {}", number)
+        if "labels" in found:
+            self.part = _Part(found.get("table", ""), len(self.records))
+            self.waiting = {}
+        elif "end" in found:
+            self.left_out += [
+                Place(self.part.table, "row", row) for row in found.get("left_out", [])
+            ]
+            self.left_out_count += found.get("left_out_count", 0)
+            self.empty.update(found.get("empty", ()))
+            self.part = _Part()
+            self.waiting = {}
+        else:
+            self.waiting = found
+
+    def take_line(self, number: int, line: bytes) -> None:
+        """Takes a line of labels(1), to which the object before it belongs."""
+        label = label_of(self.waiting)
+        symbology, data = symbology_and_data(line, self.has_escapes)
+        self.records.append(LineRecord(number, symbology, data, self.part.table, label, line))
+        self.waiting = {}
+
+    def whole(self, is_cut: bool) -> LinesFile:
+        """Returns what was read; raises `ToolError` where something is missing."""
+        torn = self.torn
+        if self.waiting or self.part.first >= 0 or is_cut:
+            torn = torn or Text("at its end")
+        if torn:
+            hint = Text(
+                "to print it all the same, take out its lines that begin with {} and {}",
+                FIRST,
+                LAST,
+            )
+            raise ToolError(
+                Text(
+                    "{} is not whole: something is missing {}. Nothing is printed", self.name, torn
+                ),
+                hint,
+            )
+        found = tuple(self.records), tuple(self.left_out), self.left_out_count
+        return LinesFile(*found, frozenset(self.empty))
+
+
+def object_of(line: bytes, name: str, number: int) -> dict[str, Any]:
+    """Returns the object of a remark, all of which is understood; raises `ToolError`."""
+    try:
+        found: dict[str, Any] = decode(line[1:].decode("utf-8", "surrogatepass"))
+    except (ValueError, RecursionError) as error:
+        where = Text("{}: line {}", name, number)
+        raise ToolError(
+            Text("{}: the remark is no JSON object: the file is cut off or changed", where)
+        ) from error
+    wrong = [key for key, value in found.items() if key not in KEYS or not is_of(value, KEYS[key])]
+    wrong += [key for key in ONE_LINE if "\n" in str(found.get(key, ""))]
+    is_known = found.get("labels", found.get("end", VERSION)) == VERSION
+    if is_known and found and not wrong and found.get("copies", 0) <= MOST_COPIES:
+        return found
+    where = Text("{}: line {}", name, number)
+    if not is_known:
+        raise ToolError(
+            Text("{}: the file is of another version of label-table", where), Text("make it again")
+        )
+    listed = ", ".join(map(quoted, wrong)) or quoted(line.decode("utf-8", "replace"))
+    raise ToolError(Text("{}: not understood: {}", where, listed))
+
+
+def is_of(value: object, kind: Any) -> bool:
+    """Returns whether a value is a whole number from 0, a text that can be printed, or a list of
+    these.
+    """
+    if kind is NAMED:
+        texts = value if isinstance(value, list) else named_texts(value)
+        return is_of(texts, [str])
+    if isinstance(kind, list):
+        return isinstance(value, list) and all(is_of(one, kind[0]) for one in value)
+    if isinstance(value, int):
+        return type(value) is kind and value >= 0
+    return type(value) is kind and not UNPRINTABLE.search(str(value))
+
+
+def named_texts(value: object) -> object:
+    """Returns the names and the texts of an object as one list; another value as it is."""
+    return [*value, *value.values()] if isinstance(value, dict) else value
+
+
+def label_of(found: dict[str, Any]) -> Label:
+    """Returns the label of an object that is understood."""
+    if not found:
+        return Label()
+    texts = found.get("text", ())
+    named = texts if isinstance(texts, dict) else {}
+    filled = [(name, text.strip()) for name, text in named.items() if text.strip()]
+    values = named.values() if named else texts
+    return Label(
+        row=found.get("row", 0),
+        title=found.get("title", "").strip(),
+        text=tuple(text.strip() for text in values if text.strip()),
+        price=sys.intern(found.get("price", "").strip()),  # many labels have the same price
+        unit=sys.intern(found.get("unit", "").strip()),
+        was=sys.intern(found.get("was", "").strip()),
+        copies=found.get("copies", 1),
+        names=tuple(sys.intern(name) for name, _ in filled),
+    )
+
+
+def symbology_and_data(line: bytes, has_escapes: bool) -> tuple[str, bytes]:
+    """Returns the symbology of a line of labels(1), and its data with the check digit and without
+    escapes.
+    """
+    head, _, data = line.partition(b" ")
+    symbology = sys.intern(head.partition(b",")[0].decode("ascii", "replace"))
+    if has_escapes:
+        data = ESCAPE.sub(unescaped, data)
+    known = SYMBOLOGIES.get(symbology)
+    if known and known.is_number and len(data) == known.digits - 1 and data.isdigit():
+        data += check_digit(data.decode()).encode()
+    return symbology, data
+
+
+def unescaped(match: re.Match[bytes]) -> bytes:
+    """Returns the byte that an escape of labels(1) means."""
+    return bytes([int(match[1], 16)]) if match[1] else ESCAPED[match[2]]

@@ -1,0 +1,1 @@
+"""Sheets and rolls, and their cells in dots."""

@@ -1,0 +1,233 @@
+"""Sheets of labels: grids that are given, and the parts that glabels knows. Lengths are in
+millimetres.
+"""
+
+import re
+from contextlib import suppress
+from dataclasses import dataclass
+from functools import cache
+from pathlib import Path
+from typing import Iterator, Optional
+from xml.etree.ElementTree import Element, parse
+
+from labeltools.common.text import Text
+from labeltools.common.messages import BAD_ARGUMENTS, ToolError
+
+Size = tuple[float, float]
+PartName = tuple[str, str]  # the maker and the name of a part
+
+TEMPLATES = Path("/usr/share/libglabels-3.0/templates")
+# millimetres of each unit; a length without one is in points
+UNITS = {"mm": 1.0, "cm": 10.0, "in": 25.4, "pt": 25.4 / 72, "pc": 25.4 / 6, "": 25.4 / 72}
+LENGTH = re.compile(r"\s*(-?[0-9.]+(?:[eE][+-]?[0-9]+)?)\s*(mm|cm|in|pt|pc|)\s*")
+MOST_BEYOND = 1.0  # by which cells may leave their page: makers round sizes
+MOST_CELLS = 10_000  # on one page
+SIZE_WORD = re.compile(r"([0-9]{1,4}(?:\.[0-9]{1,3})?)x([0-9]{1,4}(?:\.[0-9]{1,3})?)")
+NEAR = 0.75  # by which a size that is searched for may differ
+
+
+@dataclass(frozen=True)
+class Sheet:
+    """A page, the size of a cell, and the upper left corner of each cell."""
+
+    page: Size
+    cell: Size
+    places: tuple[Size, ...]
+
+    @property
+    def is_single(self) -> bool:
+        """Whether the page is one cell, as on a roll."""
+        return self.page == self.cell
+
+    def beyond(self) -> float:
+        """Returns by how much the cells leave the page."""
+        width, height = self.cell
+        lefts = [x for x, _ in self.places]
+        tops = [y for _, y in self.places]
+        across = max(-min(lefts), max(lefts) + width - self.page[0])
+        return max(across, -min(tops), max(tops) + height - self.page[1])
+
+    def __str__(self) -> str:
+        return f"{len(self.places)} of {size_text(self.cell)} on {size_text(self.page)}"
+
+
+@dataclass(frozen=True)
+class Grid:
+    """A grid of cells as it is asked for; without a margin all cells are in the middle."""
+
+    page: Size
+    cell: Size
+    columns: int
+    rows: int
+    margin: Optional[Size] = None
+    gap: Size = (0.0, 0.0)
+
+
+def size_text(size: Size) -> Text:
+    """Returns a size in words."""
+    return Text("{:.4g} by {:.4g} mm", *size)
+
+
+def grid_sheet(grid: Grid) -> Sheet:
+    """Returns the sheet of a grid; raises `ToolError` where its cells leave the page, or where they
+    are too many.
+    """
+    if grid.columns * grid.rows > MOST_CELLS:
+        message = Text(
+            "a page of {} by {} cells: {:,} are the most", grid.columns, grid.rows, MOST_CELLS
+        )
+        raise ToolError(message, status=BAD_ARGUMENTS)
+    across = grid.cell[0] + grid.gap[0]
+    down = grid.cell[1] + grid.gap[1]
+    middle = (
+        (grid.page[0] + grid.gap[0] - grid.columns * across) / 2,
+        (grid.page[1] + grid.gap[1] - grid.rows * down) / 2,
+    )
+    left, top = grid.margin or middle
+    places = [
+        (left + column * across, top + row * down)
+        for row in range(grid.rows)
+        for column in range(grid.columns)
+    ]
+    sheet = Sheet(grid.page, grid.cell, tuple(places))
+    if sheet.beyond() > MOST_BEYOND:
+        message = Text("{}: the cells leave the page by {:.2f} mm", sheet, sheet.beyond())
+        raise ToolError(message, status=BAD_ARGUMENTS)
+    return sheet
+
+
+def stock_sheet(name: str) -> Sheet:
+    """Returns the sheet of a part by its name, such as `Avery L7160` or `l7160`; raises `ToolError`
+    where there is none, or where several makers have it.
+    """
+    found = parts_named(name)
+    if len(found) == 1:
+        return sheet_of(found[0])
+    reason = Text("no such sheet")
+    hint = Text("--list-stock WORD lists what there is")
+    if found:
+        reason = Text("several makers have it")
+        hint = Text("name one of {}", ", ".join(map(" ".join, found)))
+    raise ToolError(Text("--stock {}: {}", name, reason), hint, BAD_ARGUMENTS)
+
+
+def parts_named(name: str) -> list[PartName]:
+    """Returns the parts of a name: of its maker and part, or of the part alone, behind the names of
+    any makers.
+    """
+    wanted = plain(name)
+    if whole := [key for key in parts() if plain("".join(key)) == wanted]:
+        return whole
+    words = name.split()
+    makers = [word for word in words if plain(word) in brands()]
+    bare = plain("".join(word for word in words if word not in makers))
+    found = [key for key in parts() if plain(key[1]) in (wanted, bare)]
+    named = {plain(maker) for maker in makers}
+    return [key for key in found if plain(key[0]) in named] or found
+
+
+def list_stock(words: str) -> Iterator[str]:
+    """Yields a line for each part of rectangles whose name or sheet has these words; a word such as
+    `70x37` is the size of a cell.
+    """
+    wanted = words.lower().split()
+    makers = [word for word in wanted if plain(word) in brands()]
+    others = [word for word in wanted if word not in makers]
+    for key in parts():
+        with suppress(ToolError):
+            sheet = sheet_of(key)
+            line = f"{' '.join(key)}: {sheet}"
+            is_maker = not makers or any(has_word(key, sheet, line, one) for one in makers)
+            if is_maker and all(has_word(key, sheet, line, word) for word in others):
+                yield line
+
+
+def has_word(key: PartName, sheet: Sheet, line: str, word: str) -> bool:
+    """Returns whether a part has a word in its line, without spaces and hyphens in its name, or as
+    the size of its cell.
+    """
+    if size := SIZE_WORD.fullmatch(word):
+        near = [abs(float(size[1 + side]) - sheet.cell[side]) <= NEAR for side in (0, 1)]
+        return all(near) or word in line.lower()
+    return word in line.lower() or plain(word) in plain("".join(key))
+
+
+def plain(name: str) -> str:
+    """Returns a name without case, spaces and hyphens."""
+    return re.sub(r"[\s\-]", "", name).lower()
+
+
+@cache
+def parts() -> dict[PartName, Element]:
+    """Returns every part that glabels knows, by its maker and name; raises `ToolError` where
+    glabels is not there.
+    """
+    trees = [parse(path) for path in TEMPLATES.glob("*.xml")]
+    found = [part for tree in trees for part in tree.iterfind("{*}Template")]
+    if not found:
+        hint = Text("apt-get install glabels-data; else give --columns, --rows and --cell")
+        raise ToolError(Text("sheets by name are those of glabels, which is not here"), hint)
+    named = {(part.get("brand", ""), part.get("part", "")): part for part in found}
+    return {key: named[key] for key in sorted(named)}
+
+
+def forget() -> None:
+    """Frees the parts, which take some 16 MB, and their sheets."""
+    parts.cache_clear()
+    sheet_of.cache_clear()
+
+
+@cache
+def brands() -> frozenset[str]:
+    """Returns the plain names of all makers."""
+    return frozenset(plain(maker) for maker, _ in parts())
+
+
+@cache
+def papers() -> dict[str, Size]:
+    """Returns the sizes of paper that the parts name."""
+    sizes = parse(TEMPLATES / "paper-sizes.xml").iterfind("{*}Paper-size")
+    return {one.get("id", ""): size_of(one) for one in sizes}
+
+
+def size_of(element: Element, first: str = "width", second: str = "height") -> Size:
+    """Returns two lengths of an element; one that it does not have is 0."""
+    return length_of(element.get(first)), length_of(element.get(second))
+
+
+def length_of(text: Optional[str]) -> float:
+    """Returns a length; 0 where there is none."""
+    match = LENGTH.fullmatch(text or "0")
+    return float(match[1]) * UNITS[match[2]] if match else 0.0
+
+
+@cache
+def sheet_of(key: PartName) -> Sheet:
+    """Returns the sheet of a part; raises `ToolError` where no label can be laid out for it."""
+    part = parts()[key]
+    head = f"--stock {' '.join(key)}"
+    if same := part.get("equiv"):
+        return sheet_of((key[0], same))
+    cell = next(child for child in part if "Label-" in child.tag)
+    if not cell.tag.endswith("Label-rectangle"):
+        kind = cell.tag.rpartition("Label-")[2]
+        raise ToolError(
+            Text("{}: its labels are no rectangles ({})", head, kind), status=BAD_ARGUMENTS
+        )
+    places = sorted(places_of(cell), key=lambda at: at[::-1])
+    page = papers().get(part.get("size", "")) or size_of(part)
+    sheet = Sheet(page, size_of(cell), tuple(places))
+    if not places or not min(sheet.cell) or sheet.beyond() > MOST_BEYOND:
+        hint = Text("give --columns, --rows, --cell")
+        raise ToolError(Text("{}: glabels has it larger than its page", head), hint, BAD_ARGUMENTS)
+    return sheet
+
+
+def places_of(cell: Element) -> Iterator[Size]:
+    """Yields the upper left corners of the cells of all layouts of a part."""
+    for layout in cell.iterfind("{*}Layout"):
+        left, top = size_of(layout, "x0", "y0")
+        across, down = size_of(layout, "dx", "dy")
+        for row in range(int(layout.get("ny", "0"))):
+            for column in range(int(layout.get("nx", "0"))):
+                yield left + column * across, top + row * down

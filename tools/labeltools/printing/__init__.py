@@ -1,0 +1,1 @@
+"""Which labels go out, and by what way."""

@@ -1,0 +1,376 @@
+"""The journal of what was printed: a text file to which each label is written before it goes out.
+
+    #labels journal 1
+    2026-11-27T09:30:00Z<TAB>sending<TAB>lane 1<TAB>tcp://till-3<TAB>row 5<TAB>qr T00005
+    2026-11-27T09:30:00Z<TAB>taken<TAB>lane 1<TAB>tcp://till-3<TAB>row 5<TAB>qr T00005
+
+A code that is there goes out no more. So several lanes print one file by one journal: each takes
+the next label that none has. One that was `sending` when its lane ended may be on paper or not.
+
+A lane locks a byte far behind the end of the file for as long as it runs, so that another one
+knows which of them have ended; and one more byte while it reads and writes. A lane that gives a
+label up leaves its number with it, and no lane takes a number that a label waits with.
+
+A last line that was cut off is taken out: the label of `sending` was not sent, that of `taken` is
+in doubt. Where all fields are there an editor may have left out the end alone: the line stays, and
+is a mark only of a label that waits for it. Ends of lines may be those of Windows.
+"""
+
+import fcntl
+import os
+import re
+import stat
+import time
+from codecs import BOM_UTF8
+from contextlib import contextmanager, suppress
+from itertools import count
+from pathlib import Path
+from typing import Iterator, Mapping, NamedTuple, Optional, Sequence
+
+from labeltools.lines.file import LineRecord
+from labeltools.common.messages import ToolError
+from labeltools.common.report import few
+from labeltools.common.text import NOTHING, Text
+
+HEAD = b"#labels journal 1\n"
+UPCA = b"upca "
+SENDING = b"sending"
+TAKEN = b"taken"
+MOST_LANES = 64
+STUCK = 60.0  # seconds that a lane may wait for another one
+SHORT = 0.0005  # seconds between two looks, at first
+LONG = 0.02  # and later
+FAR = 1 << 62  # of a file: bytes that are locked and never written
+NO_JOURNAL = Text("give a file that label-print --journal has made, or a new name")
+CUT_OFF = Text("its last line was cut off, and was taken out")
+NO_END = Text("its last line had no end")
+NOT_SENT = Text("its label was not sent")
+NOT_WRITTEN = Text("see that it can be written, then give the same command again")
+NO_LOCKS = Text("put the journal on a disk that locks files")
+STRANGE = re.compile(rb"[^ -\[\]-~]| (?= *\Z)")  # what is written as escapes: blanks at the end too
+ESCAPES = {bytes([byte]): b"\\x%02X" % byte for byte in range(256)} | {b"\\": b"\\\\"}
+LINE = re.compile(
+    rb"\d{4}-\d\d-\d\dT[\d:]+Z\t(sending|taken)\tlane ([1-9][0-9]{0,8})\t([^\t]*)\t([^\t]*)\t"
+    rb"([a-z0-9]+ (?:[ -\[\]-~]|\\\\|\\x[0-9A-F]{2})*)"
+)
+ENDS = b"\r "  # what an editor may put behind a line, and what no code ends in
+
+
+class Entry(NamedTuple):
+    """The last that is known of a code, and the number of its line."""
+
+    number: int
+    event: bytes
+    lane: int
+    printer: str
+    place: str
+
+
+class Journal:
+    """An open journal, whose lines are those of a printer."""
+
+    def __init__(self, path: str, printer: str) -> None:
+        """Opens a journal, or makes it; raises `ToolError` where it is none, and `OSError`."""
+        self.path = path
+        self.printer = printer.replace("\t", " ")
+        flags = os.O_RDWR | os.O_CREAT | os.O_CLOEXEC | os.O_NONBLOCK  # it waits for no FIFO
+        self.file = os.open(path, flags, 0o644)
+        if not stat.S_ISREG(os.fstat(self.file).st_mode):
+            raise ToolError(Text("{} is no journal", path), NO_JOURNAL)
+        self.entries: dict[bytes, Entry] = {}  # of codes as they stand in the file
+        self.end = 0
+        self.lines = 0
+        self.mended = NOTHING  # what was wrong with its last line
+        self.is_lost = False  # whether another program has written it
+        self.lane = 0
+        with self.locked():
+            self.read()
+            self.lane = self.free_lane()
+        self.before = dict(self.entries)
+
+    def claim(self, record: LineRecord, again: Optional[str] = None) -> bool:
+        """Writes that the label of a line is sent, and returns whether it is for this lane: False
+        where the journal has its code. A code that was last sent to the printer `again` before this
+        lane began is sent again. Raises `ToolError` where it cannot be written.
+        """
+        code = code_of(record)
+        with self.locked():
+            self.read()
+            found = self.entries.get(code)
+            if found is not None:
+                is_old = self.before.get(code) == found
+                if found.printer != again or not is_old or self.is_alive(found):
+                    return False
+            self.write(SENDING, record)
+        try:
+            os.fdatasync(self.file)
+        except OSError as error:
+            raise self.not_written(error) from error
+        return True
+
+    def take(self, record: LineRecord) -> None:
+        """Writes that a label was taken by the printer; raises `ToolError`."""
+        with self.locked():
+            self.read()
+            self.write(TAKEN, record)
+
+    def give_up(self) -> None:
+        """Leaves the label that is sent in doubt, with the number of this lane, and takes another
+        number: other lanes see that nobody sends the label any more.
+        """
+        with self.locked():
+            fcntl.lockf(self.file, fcntl.LOCK_UN, 1, FAR + self.lane)
+            self.lane = self.free_lane()
+
+    def entry(self, record: LineRecord) -> Optional[Entry]:
+        """Returns the last that is known of the code of a line."""
+        return self.entries.get(code_of(record))
+
+    def doubtful(self) -> Mapping[bytes, Entry]:
+        """Returns what was sent by lanes that ended before it was taken, by its code. A lane may
+        have ended since the journal was read, and several may look at it: so it is read again while
+        no other one does.
+        """
+        with suppress(ToolError), self.locked():  # where it cannot be read, what is known counts
+            self.read()
+            return self.left()
+        return self.left()
+
+    def left(self) -> Mapping[bytes, Entry]:
+        """Returns what is sent, and not by a lane that goes on."""
+        return {
+            code: entry
+            for code, entry in self.entries.items()
+            if entry.event == SENDING and not self.is_alive(entry)
+        }
+
+    def is_alive(self, entry: Entry) -> bool:
+        """Returns whether the lane of an entry is sending it now."""
+        if entry.event != SENDING or entry.lane == self.lane:
+            return False
+        if not self.is_free(FAR + entry.lane):
+            return True
+        fcntl.lockf(self.file, fcntl.LOCK_UN, 1, FAR + entry.lane)
+        return False
+
+    def free_lane(self) -> int:
+        """Takes the first number that no other lane has, and no label waits with; returns it."""
+        left = {entry.lane for entry in self.entries.values() if entry.event == SENDING}
+        lanes = 0
+        for number in count(1):
+            if number not in left and self.is_free(FAR + number):
+                return number
+            lanes += number not in left
+            if lanes == MOST_LANES:
+                break
+        raise ToolError(Text("{}: {} lanes print by it already", self.path, MOST_LANES))
+
+    def is_free(self, byte: int) -> bool:
+        """Locks a byte, and returns whether it was free."""
+        try:
+            fcntl.lockf(self.file, fcntl.LOCK_EX | fcntl.LOCK_NB, 1, byte)
+        except (BlockingIOError, PermissionError):
+            return False
+        return True
+
+    @contextmanager
+    def locked(self) -> Iterator[None]:
+        """Waits until no other lane reads or writes, and keeps them from it; raises `ToolError` in
+        place of `OSError`.
+        """
+        self.wait()
+        try:
+            yield
+        except OSError as error:
+            raise self.not_written(error) from error
+        finally:
+            fcntl.lockf(self.file, fcntl.LOCK_UN, 1, FAR)
+
+    def wait(self) -> None:
+        """Waits until no other lane reads or writes; raises `ToolError` where one does not end, or
+        the file cannot be locked.
+        """
+        end = time.monotonic() + STUCK
+        pause = SHORT
+        try:
+            while not self.is_free(FAR):
+                if time.monotonic() > end:
+                    what = Text("{}: another lane keeps it for {:.0f} seconds", self.path, STUCK)
+                    raise ToolError(what, Text("is it stopped? let it go on, or end it"))
+                time.sleep(pause)
+                pause = min(2 * pause, LONG)
+        except OSError as error:
+            raise ToolError(Text("{}: {}", self.path, error.strerror), NO_LOCKS) from error
+
+    def not_written(self, error: OSError) -> ToolError:
+        """Returns what is wrong where the system does not read or write it."""
+        return ToolError(Text("{}: {}", self.path, error.strerror), NOT_WRITTEN)
+
+    def read(self) -> None:
+        """Reads what was written since the last time, and mends a last line that was cut off."""
+        size = os.fstat(self.file).st_size
+        if size < self.end or not self.is_in_place():
+            self.is_lost = True
+            what = Text("{}: another program has changed it", self.path)
+            raise ToolError(what, self.advice())
+        data = os.pread(self.file, size - self.end, self.end)
+        if not self.end and not is_journal(data):
+            if not HEAD.startswith(data):
+                raise ToolError(Text("{} is no journal", self.path), NO_JOURNAL)
+            os.ftruncate(self.file, 0)
+            self.append(HEAD)
+            sync_folder(self.path)
+            self.lines = 1
+            return
+        *whole, last = data.split(b"\n")
+        for line in whole:
+            self.lines += 1
+            self.learn(line.rstrip(ENDS))
+        self.end += len(data) - len(last)
+        if last:
+            self.mend(last.rstrip(ENDS))
+
+    def mend(self, line: bytes) -> None:
+        """Takes out a last line without its end, where fields are missing or it may be the mark of
+        a longer code. Else it is written anew, and its label is in doubt unless the line is the
+        mark of one that waits for it.
+        """
+        found = entry_in(line, self.lines + 1)
+        now, _, rest = line.partition(b"\t")
+        marked = [
+            (code, entry) for code, entry in self.left().items() if is_mark(rest, code, entry)
+        ]
+        if found is None or any(code != found[0] for code, _ in marked):
+            self.mended = Text("{}: {}", CUT_OFF, on_paper(marked) if marked else NOT_SENT)
+            os.ftruncate(self.file, self.end)
+            return
+        self.mended = NOTHING if marked else Text("{}: {}", NO_END, on_paper([found]))
+        code, entry = found
+        self.append_entry(now, code, entry._replace(event=TAKEN if marked else SENDING))
+        os.ftruncate(self.file, self.end)  # it was longer where it had blanks at its end
+
+    def is_in_place(self) -> bool:
+        """Returns whether the file has its name still: an editor may write a new one."""
+        try:
+            return os.path.samestat(os.stat(self.path), os.fstat(self.file))
+        except FileNotFoundError:
+            return False
+
+    def advice(self) -> Text:
+        """Returns what to do where another program has taken its place: what the new file has not
+        would be printed again.
+        """
+        found: set[bytes] = set()
+        with suppress(FileNotFoundError):
+            lines = Path(self.path).read_bytes().split(b"\n")
+            found = {read[0] for line in lines if (read := entry_in(line.rstrip(ENDS), 0))}
+        lost = [entry.place for code, entry in self.entries.items() if code not in found]
+        if not lost:
+            return Text("nothing more is printed: give the same command again")
+        named = few(lost, len(lost))
+        return Text("it has not {}, which the same command would print once more", named)
+
+    def printers(self) -> set[str]:
+        """Returns the printers that it has labels of."""
+        return {entry.printer for entry in self.entries.values()}
+
+    def learn(self, line: bytes) -> None:
+        """Takes a line."""
+        if line.removeprefix(BOM_UTF8).startswith(b"#") or not line:
+            return
+        found = entry_in(line, self.lines)
+        if found is None:
+            self.is_lost = True
+            what = Text("{}: line {} is no line of a journal", self.path, self.lines)
+            hint = Text("put it right; take it out only where its label is not on paper")
+            raise ToolError(what, hint)
+        code, entry = found
+        self.entries[code] = entry
+
+    def write(self, event: bytes, record: LineRecord) -> None:
+        """Writes a line."""
+        now = time.strftime("%Y-%m-%dT%H:%M:%SZ", time.gmtime()).encode()
+        entry = Entry(self.lines + 1, event, self.lane, self.printer, str(record.place))
+        self.append_entry(now, code_of(record), entry)
+
+    def append_entry(self, now: bytes, code: bytes, entry: Entry) -> None:
+        """Writes what is known of a code since a time."""
+        self.append(now + b"\t" + fields_of(code, entry) + b"\n")
+        self.lines += 1
+        self.entries[code] = entry
+
+    def append(self, line: bytes) -> None:
+        """Writes a whole line at the end, or nothing: raises `OSError`."""
+        done = 0
+        try:
+            while done < len(line):
+                done += os.pwrite(self.file, line[done:], self.end + done)
+        except OSError:
+            os.ftruncate(self.file, self.end)
+            raise
+        self.end += len(line)
+
+
+def sync_folder(path: str) -> None:
+    """Has the name of a new file on the disk: without it all that is in the file would be lost when
+    the power fails. Not every file system can do so, nor can each folder be read.
+    """
+    with suppress(OSError):
+        folder = os.open(Path(path).resolve().parent, os.O_RDONLY | os.O_CLOEXEC)
+        try:
+            os.fsync(folder)
+        finally:
+            os.close(folder)
+
+
+def is_journal(data: bytes) -> bool:
+    """Returns whether a file begins as a journal does; an editor may have changed its line ends."""
+    head = data[: len(BOM_UTF8 + HEAD) + len(ENDS)].partition(b"\n")[0]
+    return b"\n" in data and head.removeprefix(BOM_UTF8).rstrip(ENDS) == HEAD.rstrip()
+
+
+def entry_in(line: bytes, number: int) -> Optional[tuple[bytes, Entry]]:
+    """Returns the code of a line of a journal, which has this number, and what it says of it; None
+    where it is no such line.
+    """
+    found = LINE.fullmatch(line)
+    if found is None:
+        return None
+    event, lane, printer, place, code = found.groups()
+    if code.startswith(UPCA):  # as version 1.1.0 wrote it: see `LineRecord.key`
+        code = b"ean13 0" + code.removeprefix(UPCA)
+    texts = (text.decode("utf-8", "replace") for text in (printer, place))
+    return code, Entry(number, event, int(lane), *texts)
+
+
+def fields_of(code: bytes, entry: Entry) -> bytes:
+    """Returns the line of a code without its time and its end."""
+    texts = f"lane {entry.lane}\t{entry.printer}\t{entry.place}".encode("utf-8", "replace")
+    return b"\t".join((entry.event, texts, code))
+
+
+def is_mark(rest: bytes, code: bytes, entry: Entry) -> bool:
+    """Returns whether the mark of a label begins as a line does behind its time."""
+    return fields_of(code, entry._replace(event=TAKEN)).startswith(rest)
+
+
+def on_paper(found: Sequence[tuple[bytes, Entry]]) -> Text:
+    """Returns which labels may be on paper."""
+    names = [f"{entry.place} ({code.decode()})" for code, entry in found]
+    return Text("{} may be on paper", few(names, len(names)))
+
+
+def code_of(record: LineRecord) -> bytes:
+    """Returns the code of a line as it stands in a journal."""
+    symbology, data = record.key
+    return symbology.encode("utf-8", "replace") + b" " + escaped(data)
+
+
+def escaped(data: bytes) -> bytes:
+    """Returns data on one line: with the escapes of labels(1) for what is no letter of ASCII, and
+    for a blank at its end.
+
+    >>> escaped(b"a\\\\b\\nc ")
+    b'a\\\\\\\\b\\\\x0Ac\\\\x20'
+    """
+    return STRANGE.sub(lambda byte: ESCAPES[byte[0]], data)

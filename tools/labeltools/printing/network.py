@@ -1,0 +1,190 @@
+"""Prints on a printer in the network that takes bytes on a port, mostly 9100.
+
+A label counts as taken once the printer's system has acknowledged its last byte. Whether it came
+out on paper the port does not say. A connection that is broken off at its end, in place of being
+closed, says that bytes were thrown away which the system had acknowledged.
+"""
+
+import fcntl
+import re
+import select
+import socket
+import struct
+import termios
+import time
+from contextlib import suppress
+
+from labeltools.common.messages import BAD_ARGUMENTS, ToolError
+from labeltools.common.text import Text
+
+SCHEME = "tcp://"
+NAME = re.compile(r"tcp://(\[[0-9A-Fa-f:.%]+\]|[^\s/:\[\]]+)(?::([0-9]{1,5}))?/?", re.ASCII)
+PORT = 9100
+PORTS = range(1, 65536)
+CONNECT = 10.0  # seconds
+STUCK = 60.0  # seconds in which a printer takes nothing
+FAREWELL = 2.0  # seconds that a printer may take to end the connection after the last label
+FIRST = 0.005  # seconds in which it is seen that the printer ends it first
+REGRET = 0.05  # seconds in which a printer that did so may still break it off
+BREAK = 0  # no event but that a connection breaks off
+SHORT = 0.0005  # seconds between two looks, at first
+LONG = 0.02  # and later
+HEARD = 65_536  # bytes that are read at a time of what a printer says
+
+
+class Unreachable(ToolError):
+    """A printer that is not there: nothing was sent."""
+
+
+class Broken(ToolError):
+    """A printer that took a part of a label, or all of it without saying so."""
+
+
+def address_of(name: str) -> tuple[str, int]:
+    """Returns the host and the port of a printer named as tcp://HOST[:PORT]; raises `ToolError`
+    where the name is none.
+    """
+    found = NAME.fullmatch(name)
+    port = int(found[2] or PORT) if found else 0
+    host = found[1].strip("[]") if found else ""
+    with suppress(UnicodeError):
+        host.encode("idna")  # as the system asks for it
+        if port in PORTS:
+            return host, port
+    what = Text("{} is not as tcp://HOST or tcp://HOST:9100", name)
+    raise ToolError(what, status=BAD_ARGUMENTS)
+
+
+class NetworkPrinter:
+    """A printer named as tcp://HOST[:PORT]; `stuck` are seconds in which it may take nothing."""
+
+    def __init__(self, name: str, stuck: float = STUCK) -> None:
+        self.address = address_of(name)
+        self.name = name
+        self.stuck = stuck
+        self.line: socket.socket | None = None
+
+    def open(self) -> socket.socket:
+        """Returns the connection, which is made where there is none, or the printer has ended it;
+        raises `Unreachable`, and `Broken` where the printer breaks off meanwhile.
+        """
+        if self.line is not None and has_ended(self.line):
+            self.close()
+        if self.line is None:
+            try:
+                self.line = socket.create_connection(self.address, CONNECT)
+            except OSError as error:
+                reason = error.strerror or str(error)
+                hint = Text("is it on, and in the network?")
+                raise Unreachable(Text("{}: {}", self.name, reason), hint) from error
+            self.line.setblocking(False)
+        return self.line
+
+    def send(self, data: bytes) -> None:
+        """Sends a whole label and waits until it is acknowledged; raises `Unreachable` and
+        `Broken`.
+        """
+        line = self.line or self.open()
+        try:
+            self.push(line, data)
+        except OSError as error:
+            self.drop()
+            what = Text("{}: the printer broke off", self.name)
+            if isinstance(error, TimeoutError):
+                seconds = f"{self.stuck:.0f}"
+                what = Text("{}: the printer takes nothing for {} seconds", self.name, seconds)
+            raise Broken(what) from error
+
+    def push(self, line: socket.socket, data: bytes) -> None:
+        """Sends bytes until all are acknowledged, however slowly they are taken. What the printer
+        says meanwhile is read: one that nobody hears may stop taking. Raises `OSError`.
+        """
+        rest = memoryview(data)
+        before = len(rest) + 1
+        pause = SHORT
+        end = 0.0
+        while True:
+            hear(line)
+            require_whole(line)
+            with suppress(BlockingIOError):
+                rest = rest[line.send(rest) :] if rest else rest
+            left = len(rest) + waiting(line)
+            if not left:
+                break
+            if left < before:
+                end = time.monotonic() + self.stuck
+            elif time.monotonic() > end:
+                raise TimeoutError
+            before = left
+            if rest:
+                wait_for(line, select.POLLOUT, pause)
+            else:
+                time.sleep(pause)
+            pause = min(2 * pause, LONG)
+        require_whole(line)
+
+    def close(self) -> None:
+        """Ends the connection after what was sent; raises `Broken` where the printer breaks it off.
+        What the printer says is read until it ends: with something unread the system would break
+        off, and the printer might forget labels.
+        """
+        if self.line is None:
+            return
+        end = time.monotonic() + FAREWELL
+        try:
+            if wait_for(self.line, select.POLLRDHUP, FIRST):
+                wait_for(self.line, BREAK, REGRET)
+                require_whole(self.line)  # once we have ended it too, the system does not say so
+            self.line.shutdown(socket.SHUT_WR)
+            while (left := end - time.monotonic()) > 0:
+                self.line.settimeout(left)
+                if not self.line.recv(HEARD):
+                    break
+        except TimeoutError:
+            pass  # all labels are acknowledged
+        except OSError as error:
+            raise Broken(Text("{}: the printer broke off at the end", self.name)) from error
+        finally:
+            self.drop()
+
+    def drop(self) -> None:
+        """Ends the connection at once."""
+        if self.line is not None:
+            self.line.close()
+            self.line = None
+
+
+def hear(line: socket.socket) -> None:
+    """Reads what a printer says, and forgets it; raises `OSError` where it has broken off."""
+    with suppress(BlockingIOError):
+        line.recv(HEARD)
+
+
+def has_ended(line: socket.socket) -> bool:
+    """Returns whether the other side has ended a connection, as printers do that wait in vain; one
+    that it has broken off is left to `send`, which says so.
+    """
+    look = select.poll()
+    look.register(line, select.POLLRDHUP)
+    return look.poll(0) == [(line.fileno(), select.POLLRDHUP)]  # with no error beside it
+
+
+def wait_for(line: socket.socket, event: int, seconds: float) -> bool:
+    """Waits for an event of a connection, or its break, for some seconds at most; returns whether
+    there is one.
+    """
+    look = select.poll()  # it takes any number of open files, unlike select
+    look.register(line, event)
+    return bool(look.poll(seconds * 1000))
+
+
+def require_whole(line: socket.socket) -> None:
+    """Raises `OSError` where the other side has broken off."""
+    if error := line.getsockopt(socket.SOL_SOCKET, socket.SO_ERROR):
+        raise OSError(error, "broken off")
+
+
+def waiting(line: socket.socket) -> int:
+    """Returns how many bytes are not acknowledged."""
+    found = fcntl.ioctl(line.fileno(), termios.TIOCOUTQ, struct.pack("i", 0))
+    return int(struct.unpack("i", found)[0])

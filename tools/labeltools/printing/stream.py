@@ -1,0 +1,375 @@
+"""Prints each label as soon as its line has come in: for a till, a warehouse or a ticket desk,
+whose program keeps label-print running. Each line with data has one answer on standard error, in
+order: a word, the number of the line, and more.
+
+    taken 2 928 qr T00001                       its bytes: printer or standard output has it
+    refused 3 check digit is 2, should be 1     do not send it again
+    known 4 qr T00001                           it was sent before, by the journal or --unique
+    unsent 5 tcp://till-3: Connection refused   nothing went out: send it again
+    doubtful 6 tcp://till-3: ..                 a part went out: look before you send it again
+
+A line that begins with `label-print:` is a message: what is said of a design, once, and of texts
+that are shortened. A label is laid out by itself, as in a run for its line alone. An object before
+a line belongs to it, as in the file of label-table; its first and last remarks are skipped.
+"""
+
+import errno
+import os
+import select
+import signal
+import stat
+import sys
+from io import BufferedReader, RawIOBase
+from queue import Queue
+from threading import Thread
+from typing import Any, BinaryIO, Iterator, NamedTuple, NoReturn, Optional, Sequence
+
+from labeltools.common.command_line import ENDING, hold_signals, standard_output
+from labeltools.lines.engine import Engine, LABELS_FAILED, run_labels
+from labeltools.layout.letters import Letters
+from labeltools.lines.file import LineRecord, OBJECT, read_lines
+from labeltools.common.messages import Silence, ToolError, sentence, visible, write_message
+from labeltools.printing.network import Broken
+from labeltools.printing.press import Press, PrintJob
+from labeltools.printing.job import DrawnLines, Prepared, PrintOptions, prepared
+from labeltools.common.report import places_text
+from labeltools.printing.sending import OUTPUT, Sender
+from labeltools.common.text import NOTHING, Text, translated
+
+SKIPPED = (b'#{"labels"', b'#{"end"')
+LONGEST = 65_536  # bytes of a line
+MOST_AHEAD = 1000  # lines of a FIFO that wait to be printed
+LOOK = 5.0  # seconds between two looks whether a FIFO has its name still
+CUT_OFF = Text("cut off before its line end")
+TOO_LONG = Text("longer than {} bytes", LONGEST)
+TWO_OBJECTS = Text("there are two objects before it")
+LONG_OBJECT = Text("the object before it is longer than {} bytes", LONGEST)
+NO_FIFO = Text("make the FIFO anew by mkfifo, then give the same command again")
+TOOL = "label-print"  # begins what is a message and no answer
+TAKEN = "taken"
+REFUSED = "refused"
+KNOWN = "known"
+UNSENT = "unsent"
+DOUBTFUL = "doubtful"
+
+
+class Refused(Exception):
+    """Why a line has no label."""
+
+    def __init__(self, reason: Text) -> None:
+        super().__init__(reason)
+        self.reason = reason
+
+
+class Known(Exception):
+    """A line whose code was sent before."""
+
+
+class Part(NamedTuple):
+    """A line, or the object before it, with its number, and why it is refused where it is."""
+
+    number: int
+    line: bytes
+    fault: Text = NOTHING
+
+
+class Fifo(RawIOBase):
+    """A FIFO by its name, which ends where its last writer has gone, and then waits for the next
+    one: half a line, or an object without its line, is not that writer's.
+    """
+
+    def __init__(self, path: str) -> None:
+        """Opens it; raises `OSError`."""
+        self.path = path
+        self.source = os.open(path, os.O_RDONLY | os.O_NONBLOCK)
+        self.is_idle = True
+        self.poll = select.poll()  # it takes any number of open files, unlike select
+        self.poll.register(self.source, select.POLLIN)
+
+    def readable(self) -> bool:
+        """Returns that it can be read."""
+        return True
+
+    def readinto(self, buffer: Any) -> int:
+        """Waits for bytes, and reads them; returns 0 once where the last writer has gone. Raises
+        `ToolError` where another file has its name.
+        """
+        if self.is_idle:
+            self.wait_for_writer()
+        ((_, event),) = self.poll.poll()
+        # without bytes it is at its end, though another writer may have come since
+        size = os.readv(self.source, [buffer]) if event & select.POLLIN else 0
+        self.is_idle = size == 0
+        return size
+
+    def wait_for_writer(self) -> None:
+        """Waits until another program has it open. Meanwhile there is a writer of our own, or the
+        FIFO would be at its end. Raises `ToolError` where nobody can open it any more.
+        """
+        has_writer = False
+        while not has_writer:
+            try:
+                self.require_name()
+                writer = os.open(self.path, os.O_WRONLY)
+            except FileNotFoundError as error:
+                raise ToolError(Text("{}: {}", self.path, error.strerror), NO_FIFO) from error
+            has_bytes = bool(self.poll.poll(LOOK * 1000))
+            os.close(writer)
+            has_writer = has_bytes or not self.poll.poll(0)  # it is not at its end
+
+    def require_name(self) -> None:
+        """Raises `ToolError` where another file has its name, and `OSError` where none has: nobody
+        can open it any more.
+        """
+        if not os.path.samestat(os.stat(self.path), os.fstat(self.source)):
+            raise ToolError(Text("{}: another program has changed it", self.path), NO_FIFO)
+
+
+class Ahead:
+    """The lines of a FIFO, which a thread reads while labels go out: the end of a writer has to be
+    seen before the next one comes.
+    """
+
+    def __init__(self, fifo: Fifo) -> None:
+        """Begins to read."""
+        self.fifo = BufferedReader(fifo)
+        self.found: Queue[bytes | Exception] = Queue(MOST_AHEAD)
+        Thread(target=self.read, daemon=True).start()
+
+    def read(self) -> None:
+        """Reads lines, and the ends of writers, until there is an error, which `readline` raises;
+        signals are for the thread that prints.
+        """
+        signal.pthread_sigmask(signal.SIG_BLOCK, ENDING)
+        try:
+            while True:
+                self.found.put(self.fifo.readline(LONGEST))
+        except Exception as error:
+            self.found.put(error)
+
+    def readline(self, _: int) -> bytes:
+        """Returns a line, or as much of it as a line may have; nothing at the end of a writer.
+        Raises `ToolError` and `OSError`.
+        """
+        found = self.found.get()
+        if isinstance(found, Exception):
+            raise found
+        return found
+
+
+Source = BinaryIO | Ahead
+
+
+def source_of(path: Optional[str]) -> tuple[str, Source]:
+    """Returns what lines come from, with its name; raises `ToolError` and `OSError`."""
+    if path is None or path == "-":
+        if sys.stdin is None:
+            raise ToolError(Text("standard input is closed"))
+        return Text("standard input"), sys.stdin.buffer
+    if stat.S_ISFIFO(os.stat(path).st_mode):
+        return path, Ahead(Fifo(path))
+    return path, open(path, "rb")
+
+
+def next_line(source: Source) -> bytes:
+    """Returns a line, or as much of it as a line may have; nothing at the end. Raises `ToolError`
+    where it cannot be read.
+    """
+    try:
+        return source.readline(LONGEST)
+    except OSError as error:
+        raise ToolError(Text("the lines cannot be read: {}", error.strerror)) from error
+
+
+def fault_of(line: bytes, source: Source) -> Text:
+    """Returns what is wrong with a line that is not whole; the rest of a long one is read."""
+    if line.endswith(b"\n"):
+        return NOTHING
+    if len(line) < LONGEST:
+        return CUT_OFF
+    while len(rest := next_line(source)) == LONGEST and rest[-1:] != b"\n":
+        pass
+    return TOO_LONG
+
+
+def jobs(source: Source) -> Iterator[Sequence[Part]]:
+    """Yields each line with data as soon as it is there, behind the object before it where there is
+    one; of a FIFO, for ever.
+    """
+    before: list[Part] = []
+    number = 0
+    while (line := next_line(source)) or isinstance(source, Ahead):
+        if not line:
+            before = []
+            continue
+        number += 1
+        fault = fault_of(line, source)
+        data = line.removesuffix(b"\n")
+        if data.startswith(OBJECT) and fault is not CUT_OFF:
+            wrong = LONG_OBJECT if fault else TWO_OBJECTS if before else NOTHING
+            before = [] if data.startswith(SKIPPED) else [Part(number, data, wrong)]
+        elif data and (fault is CUT_OFF or not data.startswith(b"#")):
+            yield [*before, Part(number, data, fault)]
+            before = []
+
+
+class Stream:
+    """Prints lines one by one."""
+
+    def __init__(self, name: str, options: PrintOptions, job: PrintJob, sender: Sender) -> None:
+        """Takes what lines come from, and how they are printed; raises `ToolError` where none can
+        be.
+        """
+        Engine(options.words)
+        self.name = name
+        self.options = options
+        self.job = job
+        self.sender = sender
+        self.letters = Letters(job.fonts)
+        self.presses: dict[bool, Press] = {}
+        self.seen: set[tuple[str, bytes]] = set()
+        self.said: set[str] = set()
+        self.latest: Optional[Prepared] = None
+        self.status = 0
+
+    def answer(self, parts: Sequence[Part]) -> tuple[str, Text]:
+        """Prints a line, and returns the word and the text of its answer."""
+        text = parts[-1].line.decode("utf-8", "backslashreplace")
+        try:
+            return TAKEN, Text("{} {}", self.print(parts), text)
+        except Known:
+            return KNOWN, Text("{}", text)
+        except Refused as refused:
+            return REFUSED, refused.reason
+        except Broken as error:
+            return DOUBTFUL, sentence(error.what, error.hint)
+        except ToolError as error:
+            if error.status == LABELS_FAILED:
+                self.status = error.status
+            return UNSENT, sentence(error.what, error.hint)
+
+    @property
+    def is_at_end(self) -> bool:
+        """Whether no label goes out any more: a label was drawn wrongly, standard output takes
+        none, or another program has taken the place of the journal.
+        """
+        journal = self.sender.journal
+        is_lost = journal is not None and journal.is_lost
+        return bool(self.status) or self.sender.is_at_end or is_lost
+
+    def print(self, parts: Sequence[Part]) -> int:
+        """Prints a label and returns how many bytes it has; raises `Refused`, `Known`, `ToolError`
+        where nothing went out, and `Broken`.
+        """
+        self.require_reader()
+        for part in parts:
+            if part.fault:
+                raise Refused(part.fault)
+        record, found = self.laid_out(parts)
+        if self.options.is_unique and record.key in self.seen:
+            raise Known
+        size = 0
+        for item in found.labels:
+            copies = item.label.record.label.copies
+            size = self.sender.send(self.press(found), item, copies, True, True)
+            self.sender.sent.clear()
+            if not size:
+                self.raise_known(record)
+        if self.options.is_unique and self.sender.journal is None:
+            self.seen.add(record.key)
+        self.latest = found
+        return size
+
+    def notes(self) -> Iterator[Text]:
+        """Yields what is said of the label that went out last: that a text is shortened, and what
+        has not been said of its design before.
+        """
+        found, self.latest = self.latest, None
+        if found is None:
+            return
+        for _, text in found.laid_out.said:
+            if str(text) not in self.said:
+                self.said.add(str(text))
+                yield text
+        pen = self.press(found).pen
+        if any(map(pen.is_shortened, found.labels)):
+            place = found.records[0].place
+            yield Text("{}: shortened to fit, with an ellipsis", places_text([place], False))
+
+    def require_reader(self) -> None:
+        """Raises `ToolError` where labels go to standard output, and nobody reads it."""
+        if self.sender.outlet.name == OUTPUT and not has_reader(standard_output().fileno()):
+            self.sender.is_at_end = True
+            raise ToolError(Text("{}: {}", OUTPUT, os.strerror(errno.EPIPE)))
+
+    def raise_known(self, record: LineRecord) -> NoReturn:
+        """Raises `Known` for a line that the journal has, or `Broken` where its label is in doubt,
+        and nobody has printed it since.
+        """
+        if reason := self.sender.doubt(record):
+            raise Broken(reason)
+        raise Known
+
+    def laid_out(self, parts: Sequence[Part]) -> tuple[LineRecord, Prepared]:
+        """Returns a line with its label; raises `Refused`."""
+        data = b"".join(part.line + b"\n" for part in parts)
+        numbers = [part.number for part in parts]
+        try:
+            lines = read_lines(data, self.name, "--escapes" in self.options.words, numbers)
+            drawn = run_labels(data, self.options.words, Silence(), numbers)
+            found = DrawnLines(lines, drawn)
+            done = prepared(self.options, self.job, found, Silence(), self.letters, False)
+        except ToolError as error:
+            if error.status == LABELS_FAILED:
+                raise
+            raise Refused(sentence(error.what, error.hint)) from error
+        if done.left_out:
+            raise Refused(done.left_out[0].reason)
+        if not done.labels:
+            raise Refused(Text("none is printed: it has 0 copies"))
+        return lines.records[0], done
+
+    def press(self, found: Prepared) -> Press:
+        """Returns what draws labels of an area; it is kept, with its fonts."""
+        is_turned = found.laid_out.area.is_turned
+        if is_turned not in self.presses:
+            self.presses[is_turned] = found.press(Silence())
+        return self.presses[is_turned]
+
+
+def has_reader(file: int) -> bool:
+    """Returns whether what is written may be read: False where the other end of a pipe, of a
+    connection or of a terminal has gone.
+    """
+    look = select.poll()
+    look.register(file, 0)  # errors and ends are always looked for
+    return not look.poll(0)
+
+
+def run(options: PrintOptions, job: PrintJob, path: Optional[str], sender: Sender) -> int:
+    """Prints the lines of a source and answers each; returns 1 where one is not printed. It ends
+    where nobody takes its labels, or reads its answers, any more: a line without an answer would be
+    sent again, and its label be there twice. So a signal, too, waits for the answer, and it is
+    looked before each label whether standard error is read.
+    """
+    if sys.__stderr__ is None:
+        return 1
+    status = 0
+    name, source = source_of(path)
+    stream = Stream(name, options, job, sender)
+    for parts in jobs(source):
+        if not has_reader(sys.stderr.fileno()):
+            return 1
+        with hold_signals():
+            word, text = stream.answer(parts)
+            status = status if word == TAKEN else 1
+            said = visible(translated(text))
+            try:
+                for note in stream.notes():
+                    write_message(TOOL, note)
+                print(word, parts[-1].number, said, file=sys.stderr, flush=True)
+            except OSError:
+                return 1
+        if stream.is_at_end:
+            return stream.status or 1
+    return status

@@ -1,0 +1,356 @@
+"""What a cell is, and what a column takes of it.
+
+A cell has a kind, a value, the runs of its letters, and a text that is shown. A column takes cells
+of some kinds alone, and the four have to agree: a price is no date, though its format shows 3.12; a
+number is the one of its text; letters that are raised are other signs, and those that are struck
+through are none. Here all of it is judged, of whatever kind the file is: what cannot be sure leaves
+its row out.
+"""
+
+import re
+import unicodedata
+from dataclasses import dataclass
+from decimal import Decimal
+from enum import Enum, auto
+from itertools import pairwise
+from typing import NamedTuple, Sequence, Union
+
+from labeltools.common.messages import RowError, named, quoted
+from labeltools.common.text import NOTHING, Text
+
+LONGEST_CELL = 131068
+LONGEST_ERROR = 30  # letters of what a program writes in place of a text
+FORMULA_OF_TEXT = re.compile('="((?:[^"]|"")*)"')
+ERROR = re.compile(r"#(?:##+|N/A|N/D|NV|Н/Д|GETTING_DATA|[^\s#]{1,15} ?[!?])|Err:[0-9]{3}")
+# LibreOffice's name of an error in its languages, before the number of the error
+ERROR_WORDS = (
+    "err|error|erreur|erro|errore|fehler|fout|feil|fejl|fel|virhe|hiba|chyba|błąd|greška|napaka"
+    "|eroare|viga|klaida|kļūda|hata|ошибка|помилка|грешка|σφάλμα|エラー|错误|錯誤|오류"
+)
+PROGRAM_ERROR = re.compile(rf"(?:{ERROR_WORDS})\.? ?: ?5[0-9]{{2}}", re.IGNORECASE)
+SPECIAL_STARTS = "=#E"  # of formulas, and of the names of errors
+ODD_STARTS = f"{SPECIAL_STARTS} \t\n\r\v\f"  # of cells that are looked at closely
+# what a program writes where it has no text, maybe in brackets; `True` may be a title
+NO_TEXTS = frozenset(r"nan nat null none undefined na n/a #n/a \n".split())
+NAMES = ("Na", "na")  # which may be words; `NA` is of R and pandas
+LONGEST_NO_TEXT = max(map(len, NO_TEXTS)) + 2
+BRACKETS = "()[]<>{}"
+# what nobody sees, or reorders letters, by the class and name of a character in Unicode
+UNSEEN_CODE = re.compile("C[cf]|Z[lps]|.*(?:SELECTOR|FILLER|JOINER|INHERENT|PATTERN BLANK)")
+UNSEEN_TEXT = re.compile("Cc|Z[lp]|Cf .*(?:EMBEDDING|OVERRIDE|ISOLATE|DIRECTIONAL)")
+UNSEEN_PRICE = re.compile("C[cf]|Z[lp]")
+IS_ROUNDED_DATA = re.compile("[0-9](?:[.,][0-9]+)?[Ee][+][0-9]{2,}")
+ROUNDED = Text("the spreadsheet has rounded the number")
+ROUNDED_HINT = Text("format the column as text, enter it again")
+STRUCK = Text("has letters that are struck through")
+UNSEEN = Text("has letters that nobody sees")
+WITHOUT = Text("enter it again without them")
+SIZES = Text("has digits of two sizes side by side, as for cents without a decimal sign")
+SAME_SIZE = 0.9  # of two sizes of letters: a smaller share is another size
+RAISED = Text("is a number that is raised or lowered")
+
+
+class Kind(Enum):
+    """What a cell is by its type, whatever its format shows."""
+
+    TEXT = auto()
+    NUMBER = auto()
+    MOMENT = auto()  # a date or a time
+    TRUTH = auto()  # TRUE or FALSE
+
+
+class Use(NamedTuple):
+    """What a column is for: the kinds of cells that it takes, and what is said of a date or a time
+    where it takes none.
+    """
+
+    kinds: tuple[Kind, ...]
+    of_moment: Text = NOTHING
+
+
+NUMBERS = (Kind.TEXT, Kind.NUMBER)
+IS_NO_CODE = Text("is a date or a time, which is no code")
+DIGITS = Use(NUMBERS, IS_NO_CODE)  # a code with a check digit
+DATA = Use(NUMBERS, IS_NO_CODE)  # a code of any letters
+PRINTED = Use((*NUMBERS, Kind.MOMENT))  # a title or a text
+PRICE = Use(NUMBERS, Text("is a date or a time, which is no price"))
+COPIES = Use(NUMBERS, Text("is a date or a time, which is no number of copies"))
+MARK = Use(tuple(Kind))  # by which rows are chosen
+IS_TRUTH = Text("has neither a text nor a number, but TRUE, FALSE or the like")
+AS_TEXT = Text("enter it again as text")
+
+
+class Special:
+    """A cell of a spreadsheet that is more than a text.
+
+    `value` is what the file has, which messages quote. Each method raises `RowError` where the cell
+    has nothing of the kind.
+    """
+
+    value: str
+
+    @property
+    def kind(self) -> Kind:
+        """What it is by its type."""
+        return Kind.TEXT
+
+    def number(self) -> Decimal | None:
+        """Returns the number that it has, whatever its format shows; None where it has none."""
+        return None
+
+    def agree(self) -> None:
+        """Raises `RowError` where its value and its text do not agree."""
+
+    def shown(self) -> str:
+        """Returns the text that the spreadsheet shows."""
+        raise NotImplementedError
+
+    def printed(self) -> str:
+        """Returns the text that the spreadsheet shows, for a label: it may be kept as an
+        example.
+        """
+        return self.shown()
+
+    def digits(self) -> str:
+        """Returns the digits of a number with a check digit, however they are shown."""
+        return self.shown()
+
+    def data(self) -> str:
+        """Returns the data of a code of any letters: what is shown, where that is what was typed
+        too.
+        """
+        return self.shown()
+
+
+@dataclass(frozen=True)
+class Fault(Special):
+    """A cell that no label can show, and why."""
+
+    what: Text
+    hint: Text = NOTHING
+    value: str = ""
+
+    @property
+    def kind(self) -> Kind:
+        """Raises `RowError`."""
+        raise RowError(self.what, self.hint)
+
+    def shown(self) -> str:
+        """Raises `RowError`."""
+        raise RowError(self.what, self.hint)
+
+
+@dataclass(frozen=True)
+class Truth(Special):
+    """A truth value, which chooses rows, but which no label can show; `value` is its text."""
+
+    value: str
+
+    @property
+    def kind(self) -> Kind:
+        """What it is by its type."""
+        return Kind.TRUTH
+
+    def shown(self) -> str:
+        """Returns its text."""
+        return self.value
+
+
+# what a row has: a text as it is, or a cell that knows more; an empty cell is an empty text
+Cell = Union[str, Special]
+
+
+class Mark(Enum):
+    """What a form of letters does to what they mean: raised digits are other signs, and letters
+    that are struck through, or white where nothing is behind them, are none.
+    """
+
+    NONE = ""
+    RAISED = "⁰¹²³⁴⁵⁶⁷⁸⁹"
+    LOWERED = "₀₁₂₃₄₅₆₇₈₉"
+    STRUCK = "-"
+    WHITE = " "
+
+    @property
+    def moves(self) -> bool:
+        """Whether letters are above or below the others."""
+        return self in (Mark.RAISED, Mark.LOWERED)
+
+
+class Form(NamedTuple):
+    """How letters look, in so far as that changes what they mean; the size is in points, 0 where
+    it is not known; `is_filled` is whether their cell has a colour.
+    """
+
+    mark: Mark = Mark.NONE
+    size: float = 0
+    is_filled: bool = False
+
+    def within(self, cell: "Form") -> "Form":
+        """Returns the form of letters in a cell, whose size they have where they have none."""
+        is_seen = self.mark is Mark.WHITE and cell.is_filled
+        return Form(Mark.NONE if is_seen else self.mark, self.size or cell.size, cell.is_filled)
+
+
+PLAIN = Form()
+Runs = Sequence[tuple[str, Form]]  # letters of a cell, each with their form
+
+
+def text_of_runs(runs: Runs, around: Mark = Mark.NONE) -> str | Fault:
+    """Returns the text of runs: digits that are raised or lowered are such digits. There is none
+    where some letters are none, but for the mark of the whole cell, and where a number goes on in
+    letters of another size.
+
+    >>> text_of_runs([("7", PLAIN), ("99", Form(Mark.RAISED))])
+    '7⁹⁹'
+    >>> text_of_runs([("9", Form(Mark.STRUCK)), ("7,99", PLAIN)]).value
+    '97,99'
+    >>> text_of_runs([("7", Form(size=12)), ("99", Form(size=8))]).what
+    'has digits of two sizes side by side, as for cents without a decimal sign'
+    """
+    if len(runs) == 1 and runs[0][1].mark is around is Mark.NONE:
+        return runs[0][0]  # most cells, at once
+    found = [(moved(text, form.mark), form) for text, form in runs if text]
+    text = "".join(text for text, _ in found)
+    marks = {form.mark for part, form in found if part.strip()}
+    if Mark.STRUCK in marks:
+        return Fault(STRUCK, WITHOUT, text)
+    if Mark.WHITE in marks and around is not Mark.WHITE:
+        return Fault(UNSEEN, WITHOUT, text)
+    for (one, form), (other, after) in pairwise(found):
+        is_number = one[-1].isdecimal() and other[0].isdecimal()
+        if is_number and min(form.size, after.size) < SAME_SIZE * max(form.size, after.size):
+            return Fault(SIZES, AS_TEXT, text)
+    return text
+
+
+def moved(text: str, mark: Mark) -> str:
+    """Returns a text with the signs of digits that are raised or lowered."""
+    if not mark.moves:
+        return text
+    return text.translate(str.maketrans("0123456789", mark.value))
+
+
+def formed(cell: Cell, form: Form) -> Cell:
+    """Returns a cell all of whose letters have a form."""
+    if form.mark is Mark.STRUCK and cell:
+        return Fault(STRUCK, WITHOUT, cell if isinstance(cell, str) else cell.value)
+    if not form.mark.moves or isinstance(cell, (Fault, Truth)):
+        return cell
+    return moved(cell, form.mark) if isinstance(cell, str) else Fault(RAISED, AS_TEXT, cell.value)
+
+
+def taken(cell: Cell, use: Use) -> str:
+    """Returns what a column takes of a cell; raises `RowError` where it takes none of its kind, or
+    its kind, value and text do not agree.
+    """
+    if not isinstance(cell, str):
+        text = taken_of(cell, use)
+    elif cell[:1] not in ODD_STARTS and cell.isascii() and len(cell) <= LONGEST_CELL:
+        text = cell  # most cells, at once
+    else:
+        text = plain_text(cell)
+    if use is PRICE and text[:1].isdigit() and "+" not in text:
+        return text  # most prices, at once
+    if use is PRINTED or use is PRICE:
+        refuse_no_value(text)
+    return text
+
+
+def taken_of(cell: Special, use: Use) -> str:
+    """Returns what a column takes of a cell that is more than a text; raises `RowError`."""
+    kind = cell.kind
+    if kind not in use.kinds:
+        raise RowError(IS_TRUTH if kind is Kind.TRUTH else use.of_moment, AS_TEXT)
+    cell.agree()
+    if use is PRICE and (cell.number() or 0) < 0:
+        raise RowError(Text("is below zero, though its number format may not show it"))
+    if use is DIGITS:
+        return cell.digits()
+    if use is DATA:
+        return cell.data()
+    if use is COPIES and kind is Kind.NUMBER:
+        return cell.value
+    return cell.shown() if use is MARK else cell.printed()
+
+
+def seen(cell: Cell) -> str:
+    """Returns a cell as messages and names have it; nothing where it has no text."""
+    if isinstance(cell, str):
+        return cell
+    try:
+        return cell.shown()
+    except RowError:
+        return cell.value
+
+
+def refuse_no_value(text: str) -> None:
+    """Raises `RowError` for what a program writes in place of a text or a number."""
+    bare = text.strip()
+    length = len(bare)
+    if length > LONGEST_ERROR or length > LONGEST_NO_TEXT and ":" not in bare and "+" not in bare:
+        return  # all longer errors have one of these
+    if "+" in bare and IS_ROUNDED_DATA.fullmatch(bare):
+        raise RowError(Text("has {}: {}", quoted(text), ROUNDED), ROUNDED_HINT)
+    if not bare[:1].isdigit() and is_error(bare):
+        raise RowError(Text("has {}, which a program writes where it has no value", quoted(text)))
+
+
+def is_error(text: str) -> bool:
+    """Returns whether a text is what a program writes where it has none.
+
+    >>> [is_error(text) for text in ("nan", "Fehler:502", "Name", "LOT:502", "(null)", "NA", "Na")]
+    [True, True, False, False, True, True, False]
+    """
+    if ":" in text:
+        return PROGRAM_ERROR.fullmatch(text) is not None
+    if len(text) > LONGEST_NO_TEXT or text in NAMES:
+        return False
+    return text.strip(BRACKETS).casefold() in NO_TEXTS
+
+
+def no_value(text: str) -> RowError:
+    """Returns the error of an error's name."""
+    return RowError(
+        Text("has {}, which the spreadsheet writes where it has no value to show", quoted(text))
+    )
+
+
+def plain_text(cell: str) -> str:
+    """Returns a cell that is a text; raises `RowError` for what a spreadsheet writes in place of a
+    value.
+    """
+    start = cell.lstrip()[:1]
+    if start in SPECIAL_STARTS and start:
+        refuse_special(cell)
+        if formula := FORMULA_OF_TEXT.fullmatch(cell.strip()):
+            return formula[1].replace('""', '"')
+    if "\ufffd" in cell:
+        what = Text("has {}, with the sign of a lost letter (U+FFFD)", quoted(cell))
+        raise RowError(what, Text("export the table again"))
+    if len(cell) > LONGEST_CELL:
+        raise RowError(
+            Text("has {}, and at most {} characters of a cell are read", quoted(cell), LONGEST_CELL)
+        )
+    return cell
+
+
+def refuse_special(cell: str) -> None:
+    """Raises `RowError` for a formula that is no text, and for the name of an error."""
+    bare = cell.strip()
+    if bare.startswith("=") and not FORMULA_OF_TEXT.fullmatch(bare):
+        raise RowError(Text("has {}, a formula", quoted(cell)), Text("export its value"))
+    if ERROR.fullmatch(bare):
+        raise no_value(cell)
+
+
+def refuse_unseen(bare: str, text: str, unseen: re.Pattern[str]) -> None:
+    """Raises `RowError` where a text has a character that nobody sees, but for plain spaces."""
+    if bare.isascii() and bare.isprintable():
+        return
+    for character in bare.replace(" ", ""):
+        name = f"{unicodedata.category(character)} {unicodedata.name(character, '')}"
+        if unseen.match(name):
+            raise RowError(
+                Text("has {} in the cell {}, which nobody sees", named(character), quoted(text))
+            )

@@ -1,0 +1,324 @@
+"""Reads a table of text: CSV, in whatever encoding and with whatever delimiter."""
+
+import csv
+import re
+from collections.abc import Container, Iterator, Sequence
+from dataclasses import dataclass
+from itertools import count, islice
+from typing import NamedTuple
+
+from labeltools.sheets.encoding import decoded
+from labeltools.sheets.options import CsvOptions
+from labeltools.common.text import Text
+from labeltools.common.messages import BAD_ARGUMENTS, RowError, Talk, ToolError, named, quoted
+from labeltools.common.names import name_of, row_of_names
+from labeltools.sheets.rows import Row
+
+LARGEST_FILE = 40 << 20  # bytes
+LONGEST_LINE = 1 << 20  # letters
+MOST_LINE_ENDS = 1_200_000  # a spreadsheet has at most 1,048,576 rows
+ROWS_LOOKED_AT = 1000  # for the delimiter
+NAMES_LOOKED_AT = 50  # for the row of names
+ONE_COLUMN = "\x1f"  # a delimiter that no table has
+DELIMITERS = {"tab": "\t", "none": ONE_COLUMN}
+# the first line in which some exports name the delimiter for Excel; no spreadsheet shows it as a
+# row
+SEPARATOR_LINE = re.compile(r'"?sep=([^"\r\n])"?[;,\t]*(?:\r\n|\r|\n|\Z)', re.IGNORECASE)
+LINE = re.compile(r"[^\r\n]*(?:\r\n|\r|\n)|[^\r\n]+")
+FIGURES = re.compile(r"\s*[0-9][0-9 .,'’-]*")  # a code or a price
+UNCLOSED = Text("a quote is not closed")
+AFTER_QUOTE = Text("text after a closing quote")
+AFTER_QUOTE_HINT = Text('write a quote in a quoted cell twice ("")')
+ALL_BELOW = Text("this row and all below it are left out")
+
+
+class Record(NamedTuple):
+    """A row of CSV by its number; `problem` is why its cells cannot be read."""
+
+    number: int
+    cells: list[str]
+    problem: RowError | None = None
+
+    def is_blank(self) -> bool:
+        """Returns whether the row has nothing in it."""
+        return not self.problem and not any(map(str.strip, self.cells))
+
+
+class Fitness(NamedTuple):
+    """How well a delimiter fits: it cuts the row of names, the names are there then, so many rows
+    are as wide.
+    """
+
+    is_cut: bool
+    are_there: bool
+    rows: int
+
+
+@dataclass(frozen=True)
+class Shape:
+    """The width of a table, in cells: `row` is the row of names, `names` are its cells to the last
+    name, `width` all its cells, and `rest` the empty ones that every row below has at its end
+    beside them. Places of `asked` need no name.
+    """
+
+    row: int
+    names: int
+    width: int
+    rest: int = 0
+    asked: Container[int] = ()
+
+    def problem(self, cells: Sequence[str]) -> RowError | None:
+        """Returns why cells of a row that is not blank may have moved.
+
+        >>> shape = Shape(row=1, names=2, width=3, rest=1)
+        >>> shape.problem(["1", "a", "", ""])
+        >>> print(shape.problem(["1", "a", "", "", ""]))
+        the row has 5 cells and row 1 has 3: a cell that contains the delimiter has to be in quotes
+        >>> print(shape.problem(["1"]))
+        the row has 1 of 2 cells: is it cut off?
+        >>> print(shape.problem(["1", "a", "b"]))
+        has "b" in column 3, which has no name: have cells moved?
+        """
+        if len(cells) < self.names:
+            what = Text("the row has {} of {} cells", len(cells), self.names)
+            return RowError(what, Text("is it cut off?"))
+        is_filled = any(cell.strip() for cell in cells[self.width :])
+        if len(cells) > self.width + self.rest or is_filled:
+            return RowError(
+                Text("the row has {} cells and row {} has {}", len(cells), self.row, self.width),
+                Text("a cell that contains the delimiter has to be in quotes"),
+            )
+        for place in range(self.names, len(cells)):
+            if cells[place].strip() and place not in self.asked:
+                what = Text(
+                    "has {} in column {}, which has no name", quoted(cells[place]), place + 1
+                )
+                return RowError(what, Text("have cells moved?"))
+        return None
+
+
+@dataclass
+class CsvTable:
+    """A table of CSV. `begin` is where the text begins, behind a mark and a line that names the
+    delimiter.
+    """
+
+    text: str
+    begin: int
+    delimiter: str
+    options: CsvOptions
+
+    def records(self) -> Iterator[Record]:
+        """Yields the rows of the text."""
+        return parsed(self.text, self.begin, self.delimiter)
+
+    def rows(self) -> Iterator[Row]:
+        """Yields the rows from the row of names on; one whose cells may have moved has a
+        problem.
+        """
+        head = first_row(self.records(), self.options.file.header_row)
+        if head is None or head.problem:
+            yield from () if head is None else (Row(*head),)
+            return
+        shape = self.shape(head)
+        for row in self.records():
+            if row.number >= head.number:
+                is_read = row.number == head.number or row.problem or row.is_blank()
+                problem = row.problem if is_read else shape.problem(row.cells)
+                yield Row(row.number, row.cells, problem)
+
+    def shape(self, head: Record) -> Shape:
+        """Returns the shape of the table: some exports end each row but the names by a
+        delimiter.
+        """
+        named = max((at for at, name in enumerate(head.cells, 1) if name.strip()), default=0)
+        width = len(head.cells)
+        below = (row for row in self.records() if row.number > head.number and not row.is_blank())
+        beside = [len(row.cells) - width for row in below if len(row.cells) >= named]
+        rest = beside[0] if len(beside) > 1 and len(set(beside)) == 1 else 0
+        asked = {int(one) - 1 for one in self.options.asked if one.isdecimal()}
+        has_names = self.options.file.has_header is not False
+        return Shape(head.number, named, width, max(rest, 0), asked if has_names else range(width))
+
+
+def csv_table(data: bytes, name: str, options: CsvOptions, talk: Talk) -> CsvTable:
+    """Returns a table of text; raises `ToolError` where its encoding or its delimiter is not
+    sure.
+    """
+    if len(data) > LARGEST_FILE:
+        raise ToolError(
+            Text("{} has more than {} MB", name, LARGEST_FILE >> 20),
+            Text("make several tables of it"),
+        )
+    text = decoded(data, name, options.file.encoding, talk)
+    if text.count("\n") + text.count("\r") - text.count("\r\n") > MOST_LINE_ENDS:
+        raise ToolError(
+            Text("{} has more than {} line ends", name, MOST_LINE_ENDS), Text("is it a table?")
+        )
+    if max(map(len, LINE.findall(text)), default=0) > LONGEST_LINE:
+        raise ToolError(Text("{} has a line of more than 1 MB", name), Text("is it a table?"))
+    begin = 1 if text.startswith("\ufeff") else 0
+    given = DELIMITERS.get(options.file.delimiter or "", options.file.delimiter)
+    separator = SEPARATOR_LINE.match(text, begin)
+    if separator:
+        begin = separator.end()
+        given = given or separator[1]
+    return CsvTable(text, begin, delimiter_of(text, begin, given, options), options)
+
+
+def first_row(rows: Iterator[Record], number: int | None) -> Record | None:
+    """Returns the row of this number, or the first one that is not blank."""
+    for row in rows:
+        is_wanted = row.number == number if number else not row.is_blank()
+        if is_wanted:
+            return row
+    return None
+
+
+def delimiter_of(text: str, begin: int, given: str | None, options: CsvOptions) -> str:
+    """Returns the delimiter: the one that was given, or else the one that row 1 has and that is
+    surely no data.
+    """
+    marks = [mark for mark in ("\t", ";", ",", given) if mark]
+    fits = {mark: fitness(text, begin, mark, options) for mark in marks}
+    best = max(fits, key=lambda mark: fits[mark])
+    is_cut = fits[best].is_cut
+    if given:
+        if is_cut and given != ONE_COLUMN and not fits[given].is_cut:
+            what = Text("row 1 has no {} between cells, but {}", named(given), named(best))
+            raise ToolError(what, Text("leave --delimiter away"), BAD_ARGUMENTS)
+        return given
+    if not is_cut and (later := delimiter_of_names(text, begin, options)):
+        return later
+    if is_cut and is_sure(text, begin, best, options):
+        return best
+    if is_cut or options.is_free:
+        refuse_delimiter(text, begin, [best] if is_cut else marks)
+    return ONE_COLUMN
+
+
+def is_sure(text: str, begin: int, mark: str, options: CsvOptions) -> bool:
+    """Returns whether a mark that row 1 has is a delimiter, and not a part of the data of its only
+    column.
+    """
+    if not options.is_free or mark == "\t" or set(options.asked) != {"1"}:
+        return True
+    return text[begin : begin + 100].lstrip("\r\n").startswith('"')
+
+
+def refuse_delimiter(text: str, begin: int, marks: Sequence[str]) -> None:
+    """Raises `ToolError` where a row has a mark that may be data or between cells."""
+    for mark in marks:
+        for row in parsed(text, begin, mark):
+            if len(row.cells) > 1:
+                option = "tab" if mark == "\t" else f"'{mark}'"
+                hint = Text(
+                    "give --delimiter {} if it is between cells, --delimiter none if it is data",
+                    option,
+                )
+                raise ToolError(Text("row {} has {}", row.number, named(mark)), hint, BAD_ARGUMENTS)
+
+
+def delimiter_of_names(text: str, begin: int, options: CsvOptions) -> str:
+    """Returns the delimiter by which a row below has all the names that were asked for; empty for
+    none.
+    """
+    if options.file.has_header is False:
+        return ""
+    for mark in ("\t", ";", ","):
+        rows = islice(parsed(text, begin, mark), NAMES_LOOKED_AT)
+        found = row_of_names(((row.number, row.cells) for row in rows), options.asked)
+        if found > 1:
+            return mark
+    return ""
+
+
+def fitness(text: str, begin: int, mark: str, options: CsvOptions) -> Fitness:
+    """Returns how well a delimiter fits the row of names and the rows below."""
+    header_row = options.file.header_row or 0
+    rows = list(islice(parsed(text, begin, mark), header_row + ROWS_LOOKED_AT))
+    filled_rows = [row.cells for row in rows if row.cells and row.number >= header_row]
+    if not filled_rows:
+        return Fitness(False, False, 0)
+    names = list(map(name_of, filled_rows[0]))
+    asked = options.asked
+    are_there = all(name_of(column) in names or column.isdecimal() for column in asked)
+    return Fitness(
+        len(names) > 1, are_there, sum(len(cells) == len(names) for cells in filled_rows)
+    )
+
+
+def parsed(text: str, begin: int, delimiter: str) -> Iterator[Record]:
+    """Yields the rows with the numbers that a spreadsheet shows; after a quote that does not match,
+    the last one.
+    """
+    csv.field_size_limit(LONGEST_LINE)
+    lines = (line[0] for line in LINE.finditer(text, begin))
+    reader = csv.reader(lines, delimiter=delimiter, strict=True)
+    again = LINE.finditer(text, begin)  # for the lines of faulty rows, `passed` of which are behind
+    passed = 0
+    for number in count(1):
+        first = reader.line_num
+        try:
+            cells = next(reader)
+            if reader.line_num - first > 1 and is_of_rows(cells, delimiter):
+                yield Record(number, [], RowError(UNCLOSED))
+            else:
+                yield Record(number, cells)
+        except StopIteration:
+            return
+        except csv.Error as error:
+            taken = [line[0] for line in islice(again, first - passed, reader.line_num - passed)]
+            passed = reader.line_num
+            row, is_last = faulty(number, taken, delimiter, str(error))
+            yield row
+            if is_last:
+                return
+
+
+def is_of_rows(cells: Sequence[str], delimiter: str) -> bool:
+    """Returns whether the last line of a cell makes a row with what is behind it, with figures
+    where this one has them: then quotes of two rows have met by chance.
+
+    >>> is_of_rows(["40063", "Tea;1,20\\n40064;Salt", "0,90"], ";")
+    True
+    >>> is_of_rows(["40063", "Tea; green\\nnew; 40 bags", "0,90"], ";")
+    False
+    """
+    for place, cell in enumerate(cells):
+        first, *_, last = re.split("[\r\n]+", cell) * 2
+        rows = [*cells[:place], *first.split(delimiter)], [
+            *last.split(delimiter),
+            *cells[place + 1 :],
+        ]
+        figures = [[FIGURES.fullmatch(text) is not None for text in row] for row in rows]
+        if first != cell and any(figures[0]) and figures[0] == figures[1]:
+            return len(figures[0]) == len(cells)
+    return False
+
+
+def faulty(number: int, lines: Sequence[str], delimiter: str, error: str) -> tuple[Record, bool]:
+    """Returns the row of lines that are not right CSV, and whether what is below it cannot be read.
+
+    White space between a closing quote and a delimiter is taken away.
+    """
+    record = "".join(lines)
+    closing = re.sub(rf'"[ \t]+(?={re.escape(delimiter)}|[\r\n]|\Z)', '"', record)
+    if closing != record and "expected after" in error:
+        try:
+            rows = list(csv.reader(LINE.findall(closing), delimiter=delimiter, strict=True))
+        except csv.Error:
+            rows = []
+        if len(rows) == 1:
+            return Record(number, rows[0]), False
+    is_one_line = len(lines) == 1
+    is_last = not is_one_line or lines[-1].count('"') % 2 == 1
+
+    def with_below(text: Text) -> Text:
+        return Text("{}; {}", text, ALL_BELOW) if is_last else text
+
+    if is_one_line and "expected after" in error:
+        problem = RowError(AFTER_QUOTE, with_below(AFTER_QUOTE_HINT))
+    else:
+        problem = RowError(with_below(UNCLOSED))
+    return Record(number, [], problem), is_last

@@ -1,0 +1,223 @@
+"""The encoding of a table of text: the one that it surely has, or else those that may read it, by
+how they read a word.
+"""
+
+import codecs
+import re
+import unicodedata
+from collections.abc import Iterable, Mapping, Sequence
+from contextlib import suppress
+from itertools import islice
+
+from labeltools.common.messages import BAD_ARGUMENTS, Talk, ToolError, quoted
+from labeltools.common.text import Text, joined
+
+# the marks in front of a text; that of UTF-32 before the one of UTF-16, which is its beginning
+UNICODE = ("utf-8", "utf-32-le", "utf-32-be", "utf-16-le", "utf-16-be")
+MARKS = {"\ufeff".encode(codec): codec for codec in UNICODE}
+# the encodings of old files that are tried: of Windows, of DOS and its tills, of Unix and of Macs
+CANDIDATES = (
+    *("cp1252", "iso8859-15", "cp1250", "iso8859-2", "cp1254", "cp1257", "cp1251", "cp1253"),
+    *("cp850", "cp852", "cp437", "cp866", "mac_roman", "koi8-r", "cp1255", "cp1256", "cp874"),
+    *("cp932", "euc_jp", "gb18030", "big5", "cp949"),
+)
+# the first bytes of the letters that are written often, of encodings with two bytes a letter
+OFTEN = {
+    "cp932": range(0x81, 0x98),
+    "euc_jp": range(0xA1, 0xD0),
+    "gb18030": range(0xA1, 0xD8),
+    "big5": range(0xA1, 0xC7),
+    "cp949": range(0xA1, 0xC9),
+}
+MOST_READINGS = 4
+MOST_LINES = 1000  # that are tried
+MOST_WORDS = 500
+LONGEST_WORD = 40
+TOLERANCE = 0.25  # a reading with a larger part of odd words than the best one is not shown
+OTHER_LINE = re.compile(rb"[^\n]*[\x80-\xff][^\n]*\n?")
+OTHER_WORD = re.compile(r'[^\s;,|"]*[^\x00-\x7f\s][^\s;,|"]*')
+CURRENCY = "€£¥₤₺"
+IN_WORDS = "’‘´`‐–・ー〜"  # signs that words have between letters
+SIGNS = f"{CURRENCY}{IN_WORDS}°²³½¼¾®™©§«»„“”‚—…·×µºª№¡¿¢"  # that tables have beside words
+JAPANESE = ("HIRAGANA", "KATAKANA", "KATAKANA-HIRAGANA", "HALFWIDTH", "FULLWIDTH", "CJK")
+NO_SCRIPTS = ("MODIFIER", "MICRO", "FEMININE", "MASCULINE", "COMBINING")
+# what words have that were read by the wrong one of two encodings of Windows
+SUSPICIOUS = re.compile(r"[^\W\d_]+[¡-©«-±´¶-¸»-¿×÷]+[^\W\d_]\w*|\w*[À-ÿ]{3,}\w*")
+
+
+def decoded(data: bytes, name: str, encoding: str | None, talk: Talk) -> str:
+    """Returns the text of a table, with its mark; raises `ToolError` with what to do."""
+    known = known_encoding(data)
+    try:
+        codec = codecs.lookup(encoding or known or "utf-8").name
+        text = data.decode(codec)
+    except LookupError:
+        raise unknown_encoding(encoding or "") from None
+    except UnicodeError as error:
+        if not isinstance(error, UnicodeDecodeError):
+            raise unknown_encoding(encoding or "") from None
+        refuse_other(known, codec, encoding, name)
+        raise wrong_encoding(data, name, codec, error.start) from None
+    refuse_other(known, codec, encoding, name)
+    unread = re.search("[\0\x80-\x9f]" if codec == "iso8859-1" else "\0", text)
+    if unread:
+        start = len(text[: unread.start()].encode(codec, "replace"))
+        raise wrong_encoding(data, name, codec, start)
+    if encoding and not known:
+        say_suspicious(text, codec, talk)
+    return text
+
+
+def known_encoding(data: bytes) -> str:
+    """Returns the encoding that a table surely has: by its mark, or as it is UTF-8 with other
+    letters than ASCII.
+    """
+    for mark, codec in MARKS.items():
+        if data.startswith(mark):
+            return codec
+    if data.isascii() or b"\0" in data:
+        return ""
+    try:
+        data.decode("utf-8")
+    except UnicodeDecodeError:
+        return ""
+    return "utf-8"
+
+
+def refuse_other(known: str, codec: str, encoding: str | None, name: str) -> None:
+    """Raises `ToolError` where another encoding was given than the one that is known."""
+    if known and known not in codec and codec not in known:
+        raise ToolError(
+            Text("{} is {}", name, known.upper()),
+            Text("leave --encoding {} away", encoding),
+            BAD_ARGUMENTS,
+        )
+
+
+def unknown_encoding(encoding: str) -> ToolError:
+    """Returns the error of an encoding that is none."""
+    return ToolError(
+        Text("--encoding {} is unknown", quoted(encoding)),
+        Text("give one as cp1252"),
+        BAD_ARGUMENTS,
+    )
+
+
+def wrong_encoding(data: bytes, name: str, codec: str, start: int) -> ToolError:
+    """Returns the error of a table in another encoding, with how others would read a word of it."""
+    line = data.count(b"\n", 0, start) + 1
+    what = Text("{} is not {}, as line {} shows", name, codec.upper(), line)
+    if data.startswith(tuple(MARKS)):
+        return ToolError(what, Text("it is cut off or damaged, save it again"))
+    if b"\0" in data:
+        return ToolError(what, Text("save it as UTF-8, or give --encoding utf-16-le or utf-16-be"))
+    found = readings(data, codec)
+    if not found:
+        return ToolError(what, Text("save it as UTF-8"))
+    hint = Text(
+        "save it as UTF-8, or give the --encoding that reads it right: {}", readings_text(found)
+    )
+    offers = [(word, ["--encoding", other]) for other, word in found.items()]
+    return ToolError(what, hint, offers=offers)
+
+
+def readings(data: bytes, without: str) -> dict[str, str]:
+    """Returns how encodings, but for one, read a word of a text; those that read all of it alike
+    are one, those with the fewest odd words are first.
+
+    >>> readings("Zażółć gęś".encode("cp1250"), "utf-8")
+    {'cp1250': 'Zażółć'}
+    >>> readings("Мыло".encode("cp1251"), "utf-8")["cp1251"]
+    'Мыло'
+    >>> readings("Käse Füller".encode("cp850"), "utf-8")
+    {'cp850': 'Käse'}
+    """
+    sample = b"".join(OTHER_LINE.findall(data)[:MOST_LINES])
+    words: dict[str, list[str]] = {}
+    for codec in CANDIDATES:
+        found = OTHER_WORD.findall(text_by(sample, codec))[:MOST_WORDS]
+        if codec != without and found and found not in words.values():
+            words[codec] = found
+    odd = {codec: sum(is_odd(one, codec) for one in own) / len(own) for codec, own in words.items()}
+    best = min(odd.values(), default=0.0) + TOLERANCE
+    good = (codec for codec in sorted(odd, key=odd.__getitem__) if odd[codec] <= best)
+    shown = list(islice((codec for codec in good if text_by(data, codec)), MOST_READINGS))
+    return {codec: word_of(words[codec], [words[one] for one in shown]) for codec in shown}
+
+
+def text_by(data: bytes, codec: str) -> str:
+    """Returns a text as an encoding reads it; empty where it does not, or nobody sees a letter of
+    it.
+    """
+    with suppress(UnicodeDecodeError):
+        text = data.decode(codec)
+        return text if re.sub(r"[\t\r\n\xa0]", "", text).isprintable() else ""
+    return ""
+
+
+def word_of(words: Sequence[str], others: Iterable[Sequence[str]]) -> str:
+    """Returns the first word of a reading, and the first by which it is another one than a reading
+    with the same first word.
+
+    >>> word_of(["Käse", "¤"], [["Käse", "¤"], ["Käse", "€"]])
+    'Käse ¤'
+    """
+    found = [words[0]]
+    for other in others:
+        pairs = (one for one, their in zip(words, other) if one != their)
+        if other[0] == words[0] and (word := next(pairs, words[0])) not in found:
+            found.append(word)
+    return " ".join(word[:LONGEST_WORD] for word in found)
+
+
+def is_odd(word: str, codec: str) -> bool:
+    """Returns whether nobody writes a word: it has letters of two scripts, a capital behind a small
+    letter, a sign between letters or one that is rare, or letters that are.
+
+    >>> [is_odd(one, "cp1252") for one in ("Käse", "2,99€", "F³ller", "KŠse", "¤", "Ñûð")]
+    [False, False, True, True, True, True]
+    """
+    letters = [sign for sign in word if sign.isalpha()]
+    others = [sign for sign in letters if not sign.isascii()]
+    scripts = {unicodedata.name(letter, "?").split()[0] for letter in letters} - set(NO_SCRIPTS)
+    if scripts & set(JAPANESE):
+        has_small = any(letter.islower() for letter in letters)
+        scripts -= {*JAPANESE} if has_small else {*JAPANESE, "LATIN"}
+        scripts |= {"CJK"}
+    is_foreign = "LATIN" in scripts and len(letters) == len(others) > 2
+    if len(scripts) > 1 or is_foreign or any(is_rare(sign, codec) for sign in others):
+        return True
+    for before, sign, behind in zip(f" {word}", word, f"{word[1:]} "):
+        if sign.isascii():
+            continue
+        if sign.isupper() and before.isalpha() and (before.islower() or behind.islower()):
+            return True
+        is_between = before.isalpha() and behind.isalpha() and sign not in IN_WORDS
+        if not sign.isalpha() and (is_between or sign not in SIGNS):
+            return True
+    return False
+
+
+def is_rare(letter: str, codec: str) -> bool:
+    """Returns whether a letter is one of those that texts in an encoding seldom have."""
+    encoded = letter.encode(codec, "replace")
+    return len(encoded) > 1 and encoded[0] not in OFTEN.get(codec, range(256))
+
+
+def readings_text(readings: Mapping[str, str]) -> Text:
+    """Returns how encodings read a word."""
+    return joined(", ", (Text("{} reads {}", one, quoted(word)) for one, word in readings.items()))
+
+
+def say_suspicious(text: str, codec: str, talk: Talk) -> None:
+    """Says a word that looks as if it was read by the wrong encoding."""
+    if codec not in ("cp1252", "iso8859-1", "cp1250"):
+        return
+    if found := SUSPICIOUS.search(text):
+        others = readings(found[0].encode(codec), codec)
+        read = readings_text(others)
+        if read:
+            talk.say(
+                Text("the table is read as {}, with {}", codec.upper(), quoted(found[0])),
+                Text("is that right? {}", read),
+            )

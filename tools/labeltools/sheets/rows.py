@@ -1,0 +1,80 @@
+"""Rows of a table, of whatever kind its file is."""
+
+from enum import Enum, auto
+from typing import Iterator, Mapping, NamedTuple, Protocol, Sequence
+
+from labeltools.sheets.cells import Cell, Fault, seen
+from labeltools.common.messages import RowError
+from labeltools.common.text import Text
+
+
+class Merge(NamedTuple):
+    """Merged cells: the row, from 1, and the place, from 0, of the first cell and of the last
+    one.
+    """
+
+    row: int
+    place: int
+    last_row: int
+    last_place: int
+
+
+class Doubt(Enum):
+    """Why a cell may not be meant, though it is read."""
+
+    CONDITION = auto()  # that strikes its letters through, or hides them
+    UNSEEN = auto()  # its letters have the colour of the cell
+
+
+class Row(NamedTuple):
+    """A row with the number that a spreadsheet shows.
+
+    `problem` leaves the row out. `merges` are the merged cells that cross the row, `links` the
+    addresses that cells lead to and `doubts` what is doubtful of them, by their places. A hidden
+    row that is blank may be there `repeat` times, from `number` on.
+    """
+
+    number: int
+    cells: Sequence[Cell]
+    problem: RowError | None = None
+    is_hidden: bool = False
+    merges: Sequence[Merge] = ()
+    links: Mapping[int, str] | None = None
+    repeat: int = 1
+    doubts: Mapping[int, Doubt] | None = None
+
+    def is_blank(self) -> bool:
+        """Returns whether the row has nothing in it."""
+        if self.problem:
+            return False
+        for cell in self.cells:
+            if not isinstance(cell, str) or cell.strip():
+                return False
+        return True
+
+    def cell(self, place: int) -> Cell:
+        """Returns the cell at a place; those at the end of the row may be missing."""
+        for row, first, last_row, last in self.merges:
+            is_inside = row <= self.number <= last_row and first <= place <= last
+            if is_inside and (row, first) != (self.number, place):
+                return Fault(
+                    Text("is merged with row {}", row), Text("take the merged cells apart")
+                )
+        return self.cells[place] if place < len(self.cells) else ""
+
+    def link(self, place: int) -> str:
+        """Returns the address that a cell leads to, if it has one."""
+        return self.links.get(place, "") if self.links else ""
+
+    def seen(self, place: int) -> str:
+        """Returns a cell as messages and names have it; nothing where it has no text."""
+        return seen(self.cell(place))
+
+
+class Table(Protocol):
+    """A table of whatever kind."""
+
+    def rows(self) -> Iterator[Row]:
+        """Yields its rows from the top; empty ones may be missing. May raise `ToolError` in the
+        middle.
+        """

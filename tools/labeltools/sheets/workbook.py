@@ -1,0 +1,376 @@
+"""The file of a workbook, a zip with parts of XML, read piece by piece.
+
+A file may be hostile: a document type, and a part, a row or a nesting that no spreadsheet writes,
+are refused before they take memory.
+"""
+
+import re
+import struct
+import zlib
+from collections.abc import Container, Iterable, Iterator, Mapping
+from contextlib import contextmanager
+from decimal import Decimal
+from functools import lru_cache, partial, reduce
+from io import BytesIO
+from itertools import chain, pairwise
+from typing import NamedTuple
+from xml.parsers.expat import ExpatError, ParserCreate
+from zipfile import ZIP_DEFLATED, ZIP_STORED, BadZipFile, ZipFile
+
+from labeltools.common.text import Text, counted
+from labeltools.common.messages import BAD_ARGUMENTS, ToolError, quoted
+from labeltools.sheets.cells import Cell
+from labeltools.sheets.rows import Merge, Row
+
+MOST_ROWS = 1048576
+MOST_COLUMNS = 16384
+MOST_MERGES = 256  # of those that cross one row
+LARGEST_PART = 1 << 28  # bytes
+LARGEST_ROW = 1 << 20  # bytes, or letters
+LARGEST_TEXTS = 1 << 27  # letters of all shared strings
+PIECE = 1 << 16
+DEEPEST = 100
+MOST_PARTS = 1 << 14  # of the zip
+MOST_OTHERS = 1 << 20  # elements one after another that are no part of a row
+MOST_NAMES = 4096
+LARGEST_EXPONENT = 307  # of a number
+MOST_DIGITS = 10  # of a count
+EACH = 16  # what a repeated row costs beside its letters
+DAMAGE = (
+    ExpatError,
+    BadZipFile,
+    zlib.error,
+    struct.error,
+    EOFError,
+    LookupError,
+    RuntimeError,
+    ValueError,
+    ArithmeticError,
+)
+REFERENCE = re.compile("([A-Z]{1,3})([0-9]{1,7})")
+SAVE_AGAIN = Text("open it in the spreadsheet and save it again")
+TOO_LARGE = Text("has a row or another element of more than 1 MB, or elements {} deep", DEEPEST)
+TRUE = ("1", "true")
+NOT_SAVED = Text("has a formula without a saved value")
+NOT_SAVED_HINT = Text("open the table in the spreadsheet and save it")
+TYPED = Text("enter it again as text")
+# an element that begins: its name and attributes; one that ends: its name and None; and the text
+# between this and what was before; names have no namespaces
+Event = tuple[str, Mapping[str, str] | None, str]
+
+
+class Sheet(NamedTuple):
+    """A sheet: its name, whether it can be seen, and its rows, but maybe without the empty ones."""
+
+    name: str
+    is_visible: bool
+    rows: Iterator[Row]
+
+
+@contextmanager
+def named_errors(name: str) -> Iterator[None]:
+    """Puts the name of a file before what is wrong with it."""
+    try:
+        yield
+    except ToolError as error:
+        what = Text("{} {}", name, error.what)
+        raise ToolError(what, error.hint, error.status, error.offers) from None
+    except DAMAGE as error:
+        what = Text("{} is damaged, or neither .xlsx nor .ods ({})", name, reason(error))
+        raise ToolError(what, SAVE_AGAIN) from None
+
+
+def reason(error: Exception) -> str:
+    """Returns what an error of Python's library says, in short."""
+    text = str(error.args[0]) if error.args and isinstance(error.args[0], str) else ""
+    return text.split("\n")[0][:80] or type(error).__name__
+
+
+def opened(data: bytes) -> ZipFile:
+    """Returns the zip of a workbook; raises `ToolError`, or an error of `DAMAGE`."""
+    archive = ZipFile(BytesIO(data))
+    names = archive.namelist()
+    if len(names) > MOST_PARTS or len(set(names)) < len(names):
+        raise ValueError("one part twice, or too many parts")
+    for part in archive.infolist():
+        if part.file_size > LARGEST_PART:
+            raise ToolError(
+                Text("has a part of more than 256 MB, {}", quoted(part.filename)), SAVE_AGAIN
+            )
+        is_manifest = part.filename == "META-INF/manifest.xml"
+        is_locked = part.flag_bits & 1 or part.compress_type not in (ZIP_STORED, ZIP_DEFLATED)
+        if is_locked or is_manifest and has_word(archive, part.filename, b"encryption-data"):
+            raise ToolError(
+                Text("has a password, or is packed as no spreadsheet is"),
+                Text("save it again without one"),
+            )
+    return archive
+
+
+def is_ods(archive: ZipFile) -> bool:
+    """Returns whether a workbook is .ods, as its first part says."""
+    return "mimetype" in archive.namelist() and has_word(
+        archive, "mimetype", b"opendocument.spreadsheet"
+    )
+
+
+def chosen(sheets: Iterable[Sheet], wanted: str | None) -> Iterator[Row]:
+    """Yields the rows of the sheet that is wanted, else of the only one that is visible and has
+    data.
+
+    Raises `ToolError`, maybe behind them, where that is not sure.
+    """
+    names: list[str] = []
+    found: list[str] = []
+    for sheet in sheets:
+        names.append(sheet.name)
+        is_meant = sheet.is_visible if wanted is None else sheet.name == wanted
+        for row in sheet.rows if is_meant else ():
+            if sheet.name not in found and not row.is_blank():
+                found.append(sheet.name)
+            if len(found) < 2:
+                yield row
+            elif sheet.name in found:
+                break
+    if not names:
+        raise LookupError("no sheet in it")
+    if len(found) != 1:
+        count = counted("{} visible sheet", "{} visible sheets", len(found))
+        what = count if wanted is None else Text("no sheet {}", quoted(wanted))
+        listed = ", ".join(map(quoted, found or names))
+        hint = Text("give --sheet with one of {}", listed)
+        offers = [(one, ["--sheet", one]) for one in found or names]
+        raise ToolError(Text("has {} with data", what), hint, BAD_ARGUMENTS, offers)
+
+
+def pieces(archive: ZipFile, part: str) -> Iterator[bytes]:
+    """Yields a part, piece by piece."""
+    with archive.open(part) as stream:
+        yield from iter(partial(stream.read, PIECE), b"")
+
+
+def has_word(archive: ZipFile, part: str, word: bytes) -> bool:
+    """Returns whether a part has a word, which may be cut in two between pieces, and have zero
+    bytes (UTF-16).
+    """
+    for before, piece in pairwise(chain([b""], pieces(archive, part))):
+        if word in (before[-40:] + piece).replace(b"\0", b""):
+            return True
+    return False
+
+
+class LocalNames(dict[str, str]):
+    """The names of elements and attributes without their prefixes."""
+
+    def __missing__(self, name: str) -> str:
+        if len(self) >= MOST_NAMES:  # a hostile file has ever new ones
+            self.clear()
+        local = "xmlns" if name.startswith("xmlns:") else name.rpartition(":")[2]
+        self[name] = local
+        return local
+
+
+LOCAL = LocalNames()
+
+
+class Parser:
+    """Finds what begins and ends in a part, `found`, and forgets it in time: `inside` is the depth
+    of an element of `rows` that is open, 0 where none is, which may have `LARGEST_ROW` bytes.
+    Nothing is found in elements of `passed`.
+    """
+
+    def __init__(self, rows: Container[str], passed: Container[str]) -> None:
+        self.rows = rows
+        self.passed = passed
+        self.found: list[Event] = []
+        self.texts: list[str] = []
+        self.depth = self.inside = self.passing = self.size = self.others = 0
+        self.parser = ParserCreate()
+        self.parser.buffer_text = True
+        self.parser.StartDoctypeDeclHandler = refuse_document_type
+        self.look()
+
+    def feed(self, piece: bytes) -> list[Event]:
+        """Takes a piece, or the end, which is empty; returns what is found in it."""
+        self.found = []
+        self.size += len(piece)
+        self.parser.Parse(piece, not piece)
+        if self.size > LARGEST_ROW or self.others > MOST_OTHERS:
+            raise ToolError(TOO_LARGE, SAVE_AGAIN)
+        return self.found
+
+    def look(self) -> None:
+        """Looks at what comes."""
+        self.parser.StartElementHandler = self.begin
+        self.parser.EndElementHandler = self.end
+        self.parser.CharacterDataHandler = self.texts.append
+
+    def begin(self, name: str, attributes: dict[str, str]) -> None:
+        """Takes an element that begins."""
+        self.deepen()
+        local = LOCAL[name]
+        if not self.inside and local in self.rows:
+            self.inside = self.depth
+            self.others = 0
+        if attributes:
+            attributes = {LOCAL[one]: value for one, value in attributes.items()}
+        self.found.append((local, attributes, self.text()))
+        if local in self.passed:
+            self.passing = self.depth
+            self.parser.StartElementHandler = self.deepen
+            self.parser.EndElementHandler = self.end_passed
+            self.parser.CharacterDataHandler = None
+
+    def deepen(self, *_: object) -> None:
+        """Counts an element that begins."""
+        self.depth += 1
+        if self.depth > DEEPEST:
+            raise ToolError(TOO_LARGE, SAVE_AGAIN)
+
+    def end_passed(self, name: str) -> None:
+        """Takes the end of an element that is passed, or in it."""
+        self.size = 0
+        if self.depth == self.passing:
+            self.look()
+            self.end(name)
+        else:
+            self.depth -= 1
+
+    def end(self, name: str) -> None:
+        """Takes the end of an element."""
+        self.found.append((LOCAL[name], None, self.text()))
+        if self.inside == self.depth:
+            self.inside = 0
+        if not self.inside:
+            self.size = 0
+            self.others += 1
+        self.depth -= 1
+
+    def text(self) -> str:
+        """Returns the text since the event before."""
+        if not self.texts:
+            return ""
+        text = "".join(self.texts)
+        self.texts.clear()
+        return text
+
+
+def refuse_document_type(*_: object) -> None:
+    """Raises `ToolError`: the entities of a document type may become any size."""
+    raise ToolError(Text("has a document type (DOCTYPE), which no spreadsheet writes"), SAVE_AGAIN)
+
+
+def events(
+    archive: ZipFile, part: str, rows: Container[str] = (), passed: Container[str] = ()
+) -> Iterator[Event]:
+    """Yields what begins and ends in a part; of the elements `passed` nothing that is in them."""
+    if part:  # else the file has no such part
+        parser = Parser(rows, passed)
+        for piece in chain(pieces(archive, part), [b""]):
+            yield from parser.feed(piece)
+
+
+def elements(
+    archive: ZipFile, part: str, passed: Container[str] = ()
+) -> Iterator[tuple[str, Mapping[str, str]]]:
+    """Yields the paths of the elements of a part below the outermost one, with their attributes."""
+    path: list[str] = []
+    for name, attributes, _ in events(archive, part, passed=passed):
+        if attributes is None:
+            path.pop()
+        else:
+            path.append(name)
+            yield "/".join(path[1:]), attributes
+
+
+def rows_from(row: Row, repeat: int) -> Iterator[Row]:
+    """Yields a row as often as it is there; raises `ToolError` beyond what a sheet has."""
+    is_beyond = row.number + repeat - 1 > MOST_ROWS or len(row.cells) > MOST_COLUMNS
+    if is_beyond or len(row.merges) > MOST_MERGES:
+        raise ToolError(
+            Text(
+                "has more than {} rows, {} columns or {} merges across a row",
+                MOST_ROWS,
+                MOST_COLUMNS,
+                MOST_MERGES,
+            )
+        )
+    letters = sum(len(cell) for cell in row.cells if isinstance(cell, str))
+    is_repeated = repeat > 1 and not row.is_hidden
+    if letters > LARGEST_ROW or is_repeated and (letters + EACH) * repeat > LARGEST_ROW:
+        raise ToolError(TOO_LARGE, SAVE_AGAIN)
+    if repeat > 1 and row.is_hidden and row.is_blank():  # there may be a million
+        yield row._replace(repeat=repeat)
+        return
+    yield row
+    for number in range(row.number + 1, row.number + repeat):
+        yield row._replace(number=number)
+
+
+def merges_at(merges: list[Merge], number: int) -> list[Merge]:
+    """Returns the merged cells that reach a row or one below it."""
+    return [merge for merge in merges if merge.last_row >= number]
+
+
+def filled(cells: list[Cell], place: int) -> list[Cell]:
+    """Returns a row with empty cells up to a place."""
+    if place > len(cells):
+        cells += [""] * (min(place, MOST_COLUMNS) - len(cells))
+    return cells
+
+
+def exact_of(value: str) -> Decimal:
+    """Returns a number of a file; raises ValueError or ArithmeticError for one that no spreadsheet
+    writes.
+    """
+    try:
+        exact = Decimal(value)
+    except ArithmeticError:
+        raise ValueError(f"number {value:.30}") from None
+    if not exact.is_finite() or exact.adjusted() > LARGEST_EXPONENT:
+        raise ValueError(f"number {value:.30}")
+    return exact
+
+
+def repeats(attributes: Mapping[str, str], name: str) -> int:
+    """Returns an attribute that counts from 1, and is 1 where it is not there; raises
+    ValueError.
+    """
+    value = attributes.get(name)
+    return 1 if value is None else whole(value, 1)
+
+
+def whole(value: str, least: int = 0) -> int:
+    """Returns a count or an index of a file; raises ValueError for one below the least, which
+    Python would take.
+    """
+    if not (
+        value.isascii() and value.isdigit() and len(value) <= MOST_DIGITS and int(value) >= least
+    ):
+        raise ValueError(f"number {value:.30}")
+    return int(value)
+
+
+def corners_of(reference: str) -> list[tuple[int, int]]:
+    """Returns the rows, from 1, and the places, from 0, of a range of cells.
+
+    >>> corners_of("A2:B3"), corners_of("C1")
+    ([(2, 0), (3, 1)], [(1, 2)])
+    """
+    return [(int(row), place_of(letters)) for letters, row in REFERENCE.findall(reference)]
+
+
+@lru_cache(maxsize=MOST_COLUMNS)
+def place_of(letters: str) -> int:
+    """Returns the place of a column, from 0.
+
+    >>> place_of("A"), place_of("AB")
+    (0, 27)
+    """
+    return reduce(lambda place, letter: place * 26 + ord(letter) - 64, letters[:4], 0) - 1
+
+
+def areas_of(references: str) -> list[Merge]:
+    """Returns the areas of some references, as `A2:B3 C1`."""
+    corners = (corners_of(one) for one in references.split())
+    return [Merge(*found[0], *found[-1]) for found in corners if found]

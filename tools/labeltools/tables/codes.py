@@ -1,0 +1,248 @@
+"""What a code is: it is taken only where it is sure."""
+
+import re
+from dataclasses import dataclass
+from functools import cached_property
+from typing import NamedTuple, Sequence
+
+from labeltools.common.text import NOTHING, Text, counted, joined
+from labeltools.sheets.cells import IS_ROUNDED_DATA, PROGRAM_ERROR, ROUNDED, ROUNDED_HINT
+from labeltools.common.messages import RowError, named, quoted
+from labeltools.tables.money import NO_VALUES
+from labeltools.lines.symbologies import (
+    CODE128,
+    EAN13,
+    NUMBERS,
+    QR,
+    SYMBOLOGIES,
+    UPCA,
+    check_digit,
+    is_right,
+)
+
+AUTO = "auto"
+FREE = (CODE128.name, QR.name)
+NAMES = (AUTO, *(one.name for one in NUMBERS.values()), *FREE)
+LENGTHS = {one.name: length for length, one in NUMBERS.items()}
+MOST_ZEROS = 3  # that --fill-zeros puts back
+# a number with decimals, or in groups: those of an ISBN, and those that are printed below bars
+WITH_SIGNS = re.compile(
+    r"\d+[.,]0+|97[89](?:[- ]?\d){10}|\d \d{6} \d{6}|\d{4} \d{4}|\d \d{5} \d{5} \d"
+)
+ISBN_10 = re.compile("(?:[0-9][- ]?){8,9}[0-9Xx]")
+# 4,00635E+12 shows at most six digits; as 4006350000000 it has six zeros before the check digit
+LOOKS_ROUNDED = re.compile("[0-9]*0{6}[0-9]|(?=.{11})0*[0-9]{1,6}0+")
+IS_ROUNDED = re.compile("[0-9]+(?:[.,][0-9]+)?[Ee][+]?[0-9]+")
+# the digits of an add-on, which is printed beside the bars of a magazine or a book
+ADD_ONS = {15: (13, 2), 17: (12, 5), 18: (13, 5)}
+KEYS = sorted({key for one in SYMBOLOGIES.values() for key in one.settings})
+SETTING = re.compile(rf"(?s)(?:{'|'.join(KEYS)})=\S*(?: .*)?")
+# what would be drawn though nobody means it
+DRAWN = (
+    (
+        SETTING,
+        Text("a setting in front"),
+        Text("take it away; settings of all lines are given by --settings"),
+    ),
+    (re.compile(r"(?s)\s.*|.*\s"), Text("a space before or after the data"), Text("take it away")),
+    (
+        re.compile("(?s)\".*\"|'.*'|[“„].*[“”]|«.*»|».*«"),
+        Text("quotes round the data"),
+        Text("take them away"),
+    ),
+    (re.compile(r"(?s)\*.+\*"), Text("the asterisks of a font"), Text("take them away")),
+    (
+        re.compile("(?s)'.*"),
+        Text("an apostrophe in front, a spreadsheet's sign of text"),
+        Text("take it away"),
+    ),
+)
+# what GS1's texts in brackets begin with: an SSCC, or a GTIN
+IN_BRACKETS = re.compile(r"\((?:00\)(?=[0-9]{18})|0[12]\)(?=[0-9]{14}))([0-9]+).*", re.DOTALL)
+NO_CHECK_DIGITS = Text("if the column has no check digits, give --without-check-digit")
+
+
+@dataclass(frozen=True)
+class CodeRules:
+    """How codes are read: the symbology, or `auto`, and what to do about digits that are
+    missing.
+    """
+
+    symbology: str = AUTO
+    fill_zeros: bool = False
+    without_check_digit: bool = False
+    allow_zeros: bool = False
+
+    @cached_property
+    def is_free(self) -> bool:
+        """Whether a code is any text."""
+        return self.symbology in FREE
+
+
+class Code(NamedTuple):
+    """A code: its symbology, the data of its line, and all of its digits."""
+
+    symbology: str
+    data: str
+    whole: str
+
+    @property
+    def article(self) -> str:
+        """What two codes of one article have in common: a GTIN of 14 digits."""
+        return self.data if self.symbology in FREE else self.whole.zfill(14)
+
+
+def code_of(cell: str, rules: CodeRules) -> Code:
+    """Returns the code of a cell that is not empty; raises `RowError` for what is not surely that
+    code.
+    """
+    if rules.is_free:
+        check_data(cell)
+        return Code(rules.symbology, cell, cell)
+    missing = rules.without_check_digit
+    digits = digits_in(cell.strip().removeprefix("'"), not missing)
+    if len(digits) == 14 and digits[0] == "0" and is_right(digits) and not missing:
+        has_two = rules.symbology == UPCA.name and digits[1] == "0"
+        digits = digits[2:] if has_two else digits[1:]
+    symbology = rules.symbology if rules.symbology != AUTO else symbology_of(digits, rules)
+    filled = filled_up(digits, symbology, rules)
+    if not missing and not is_right(filled):
+        raise wrong_check_digit(filled, len(digits), rules)
+    if LOOKS_ROUNDED.fullmatch(filled + "0" * missing) and not rules.allow_zeros:
+        hint = Text("enter it again as text, or give --allow-zeros")
+        raise RowError(Text("{} looks rounded by the spreadsheet", filled), hint)
+    return Code(symbology, filled, filled + check_digit(filled) if missing else filled)
+
+
+def check_data(cell: str) -> None:
+    """Raises `RowError` for what would be drawn as data though nobody means it."""
+    if IS_ROUNDED_DATA.fullmatch(cell):
+        raise RowError(Text("{}: {}", quoted(cell), ROUNDED), ROUNDED_HINT)
+    if cell.strip().casefold() in NO_VALUES or PROGRAM_ERROR.fullmatch(cell.strip()):
+        raise RowError(Text("{} is what a program writes where it has no value", quoted(cell)))
+    for pattern, what, hint in DRAWN:
+        if pattern.fullmatch(cell):
+            raise RowError(Text("{} has {}, which would be drawn", quoted(cell), what), hint)
+
+
+def is_in_brackets(data: str) -> bool:
+    """Returns whether data is GS1's, as people read it.
+
+    >>> is_in_brackets("(01)04006381333931(10)ABC"), is_in_brackets("(01)04006381333932")
+    (True, False)
+    """
+    found = IN_BRACKETS.fullmatch(data)
+    return found is not None and is_right(found[1])
+
+
+def digits_in(cell: str, has_check_digit: bool) -> str:
+    """Returns the digits of a number, without other signs where its check digit confirms them;
+    raises `RowError`.
+    """
+    if len(cell) > 10 and cell.isascii() and cell.isdigit() and cell.strip("0"):  # most codes
+        return cell
+    digits = cell
+    if has_check_digit and WITH_SIGNS.fullmatch(cell):
+        digits = re.sub("[.,]0+|[- ]", "", cell)
+    if IS_ROUNDED.fullmatch(digits):
+        raise RowError(Text("{}: {}", quoted(digits), ROUNDED), ROUNDED_HINT)
+    if re.fullmatch("0+", digits):
+        raise RowError(Text("{} is zeros alone, which is no article's number", quoted(digits)))
+    check_isbn(digits)
+    if other := re.search("[^0-9]", digits):
+        place = Text("character {} is {}", other.start() + 1, named(other.group()))
+        raise RowError(Text("{} is not digits alone", quoted(digits)), place)
+    return digits
+
+
+def check_isbn(digits: str) -> None:
+    """Raises `RowError` for an ISBN of ten digits, with its EAN-13.
+
+    ISO 2108: weights 10 to 1, X is 10; 11 divides the sum.
+    """
+    if not ISBN_10.fullmatch(digits):
+        return
+    ten = re.sub("[- ]", "", digits).upper().zfill(10)
+    values = ["0123456789X".index(digit) for digit in ten]
+    total = sum(weight * value for weight, value in zip(range(10, 0, -1), values))
+    if total % 11 == 0:
+        nine = "978" + ten[:9]
+        raise RowError(
+            Text("{} is an ISBN of ten digits", digits),
+            Text("its EAN-13 is {}{}", nine, check_digit(nine)),
+        )
+
+
+def symbology_of(digits: str, rules: CodeRules) -> str:
+    """Returns the symbology of a number by its digits, if there is one; raises `RowError` where two
+    may be meant.
+    """
+    missing = rules.without_check_digit
+    count = len(digits) + missing
+    is_short = rules.fill_zeros and count == 7 and is_right(digits)
+    if digits[0] == "0" and count == 8 or is_short:
+        hint = Text("an EAN-8 is --symbology ean8")
+        raise RowError(Text("{} may be a UPC-E, which labels does not draw", digits), hint)
+    if missing and count in NUMBERS and is_right(digits):
+        hint = Text("if not, give --symbology {}", NUMBERS[count].name)
+        raise RowError(Text("{} may have its check digit", digits), hint)
+    if count > 8 and digits[0] == "0" and len(digits.lstrip("0")) + missing <= 8:
+        hint = Text("write its 8 digits, or give --symbology")
+        raise RowError(Text("{} may be an EAN-8 with zeros in front", digits), hint)
+    if rules.fill_zeros and EAN13.digits - MOST_ZEROS <= count <= EAN13.digits:
+        return EAN13.name
+    return NUMBERS[count].name if count in NUMBERS else ""
+
+
+def filled_up(digits: str, symbology: str, rules: CodeRules) -> str:
+    """Returns the digits of a number, with the zeros that it has lost; raises `RowError` for
+    another length.
+    """
+    length = LENGTHS.get(symbology, 0) - rules.without_check_digit
+    filled = digits
+    if rules.fill_zeros and len(digits) >= length - MOST_ZEROS:
+        filled = digits.zfill(length)
+    if len(filled) != length:
+        raise wrong_length(digits, [symbology] if symbology else list(LENGTHS), rules)
+    return filled
+
+
+def wrong_length(digits: str, asked: Sequence[str], rules: CodeRules) -> RowError:
+    """Returns the error of a number with other digits than its symbology has, and what to do where
+    that is seen.
+    """
+    count = len(digits)
+    missing = rules.without_check_digit
+    lengths = joined(", ", (Text("{} has {}", one, LENGTHS[one] - missing) for one in asked))
+    what = counted("{1} has {0} digit, {2}", "{1} has {0} digits, {2}", count, digits[:20], lengths)
+    if missing:
+        return RowError(what, Text("give --without-check-digit only where no number has one"))
+    length, rest = ADD_ONS.get(count, (0, 0))
+    if length and is_right(digits[:length]):
+        return RowError(
+            what,
+            Text("if its last {} digits are an add-on, write the first {} alone", rest, length),
+        )
+    if count == 14:
+        return RowError(what, Text("a GTIN-14 is drawn as ITF-14, which labels does not draw"))
+    if count < EAN13.digits and is_right(digits):
+        if rules.symbology == AUTO:
+            return RowError(what, Text("give --fill-zeros where zeros in front are lost"))
+        return RowError(
+            what, Text("give --symbology auto, or --fill-zeros where zeros in front are lost")
+        )
+    if count > EAN13.digits:
+        return RowError(what, Text("a code of more digits is --symbology code128"))
+    if count == EAN13.digits:
+        return RowError(what, Text("give --symbology auto"))
+    return RowError(what, NO_CHECK_DIGITS)
+
+
+def wrong_check_digit(filled: str, count: int, rules: CodeRules) -> RowError:
+    """Returns the error of a number whose check digit is wrong; `count` are the digits that it has
+    in the table.
+    """
+    right = check_digit(filled[:-1])
+    what = Text("{}: the check digit is {}, should be {}", filled, filled[-1], right)
+    may_miss = rules.symbology == AUTO and count == 12
+    return RowError(what, NO_CHECK_DIGITS if may_miss else NOTHING)

@@ -1,0 +1,240 @@
+"""Which column is what, and what is in the cells of each kind of column."""
+
+import re
+from dataclasses import dataclass, replace
+from decimal import Decimal
+from itertools import islice
+from typing import Iterable, Sequence
+
+from labeltools.common.text import Text
+from labeltools.sheets.cells import COPIES, DATA, DIGITS, Kind, MARK, PRICE, PRINTED, taken
+from labeltools.sheets.cells import UNSEEN_CODE, UNSEEN_PRICE, UNSEEN_TEXT, refuse_unseen
+from labeltools.lines.file import MOST_COPIES
+from labeltools.common.messages import BAD_ARGUMENTS, RowError, ToolError, quoted
+from labeltools.common.names import NUMBER, name_of, row_of_names
+from labeltools.sheets.rows import Row
+from labeltools.lines.symbologies import SYMBOLOGIES
+from labeltools.tables.options import Columns, TableOptions
+
+ROWS_LOOKED_AT = 50  # for the row of names
+LISTED = 40  # columns that a message lists
+COUNT = re.compile("0*[0-9]{1,4}(?:[.,]00?)?")
+# what may be in the name of a column of codes though it has digits
+NAME_WITH_DIGITS = re.compile("(?:EAN|GTIN|UPC|ISBN|Code|QR)[- ]?[0-9]{1,3}", re.IGNORECASE)
+MARKS = "\u200e\u200f\u061c"  # of the direction, which spreadsheets put around currencies
+
+
+@dataclass(frozen=True)
+class Column:
+    """A column that was asked for: its place, from 0, how messages call it, and the name of its
+    texts in a design: its own where that is sure, else its number.
+    """
+
+    place: int
+    title: Text
+    name: str
+
+    def error(self, problem: RowError) -> RowError:
+        """Returns the error of a cell, with the column in front."""
+        return RowError(Text("{} {}", self.title, problem.what), problem.hint, self.place)
+
+    def code(self, row: Row, is_free: bool) -> str:
+        """Returns the text of a code, which is not empty; raises `RowError`."""
+        try:
+            text = taken(row.cell(self.place), DATA if is_free else DIGITS)
+            if not text.strip():
+                raise RowError(Text("is empty"))
+            refuse_unseen(text.strip(), text, UNSEEN_CODE)
+            return text
+        except RowError as problem:
+            raise self.error(problem) from None
+
+    def text(self, row: Row) -> str:
+        """Returns a title or a text, with LF between its lines; raises `RowError`."""
+        try:
+            text = taken(row.cell(self.place), PRINTED)
+            if text.isprintable():
+                return text.strip()
+            lines = [" ".join(line.split("\t")).strip() for line in re.split("\r\n?|\n", text)]
+            refuse_unseen("".join(lines), text, UNSEEN_TEXT)
+            return "\n".join(line for line in lines if line)
+        except RowError as problem:
+            raise self.error(problem) from None
+
+    def price(self, row: Row) -> str:
+        """Returns the text of a price; raises `RowError`."""
+        try:
+            text = taken(row.cell(self.place), PRICE).strip()
+            if not text.isprintable():
+                bare = text.translate(dict.fromkeys(map(ord, MARKS), None)).replace("\t", " ")
+                refuse_unseen(bare, text, UNSEEN_PRICE)
+            return text.replace("\t", " ")
+        except RowError as problem:
+            raise self.error(problem) from None
+
+    def copies(self, row: Row) -> int:
+        """Returns a number of copies; raises `RowError`."""
+        try:
+            text = taken(row.cell(self.place), COPIES).strip()
+            if not COUNT.fullmatch(text):
+                what = Text(
+                    "is {}: copies are a whole number from 0 to {}", quoted(text), MOST_COPIES
+                )
+                raise RowError(what)
+            return int(re.split("[.,]", text)[0])
+        except RowError as problem:
+            raise self.error(problem) from None
+
+    def mark(self, row: Row) -> str:
+        """Returns a text on one line, as it is compared; raises `RowError`."""
+        try:
+            return name_of(taken(row.cell(self.place), MARK))
+        except RowError as problem:
+            raise self.error(problem) from None
+
+    def has(self, row: Row, value: str) -> bool:
+        """Returns whether a cell has a value, in letters of either case; numbers are compared as
+        numbers. Raises `RowError`.
+        """
+        if self.mark(row).casefold() == value.casefold():
+            return True
+        cell = row.cell(self.place)
+        if isinstance(cell, str) or cell.kind is not Kind.NUMBER or not NUMBER.fullmatch(value):
+            return False
+        return Decimal(value.replace(",", ".")) == cell.number()
+
+
+@dataclass(frozen=True)
+class Head:
+    """The row of names, or the first row of a table without names, which then has none."""
+
+    row: Row
+    names: tuple[str, ...]
+
+
+def symbology_in(column: Column, row: Row, default: str) -> str:
+    """Returns the symbology that a cell names, as `EAN-13` or `qr`; the default for an empty one;
+    raises `RowError`.
+    """
+    text = column.mark(row)
+    if not text:
+        return default
+    plain = re.sub("[^a-z0-9]", "", text.casefold())
+    known = {
+        re.sub("[^a-z0-9]", "", one.title.casefold()): name for name, one in SYMBOLOGIES.items()
+    }
+    known.update({name: name for name in SYMBOLOGIES})
+    known.update(
+        {"gtin13": "ean13", "gtin8": "ean8", "upc": "upca", "gtin12": "upca", "auto": "auto"}
+    )
+    if plain not in known:
+        listed = ", ".join(one.title for one in SYMBOLOGIES.values())
+        raise column.error(
+            RowError(
+                Text("has {}, which is no symbology", quoted(text)), Text("it is one of {}", listed)
+            )
+        )
+    return known[plain]
+
+
+def columns_of(head: Head, rows: Iterable[Row], options: TableOptions) -> Columns[Column]:
+    """Returns the columns that were asked for; raises `ToolError` where one is not sure.
+
+    Where the names are in one of the next `rows`, the message says in which one.
+    """
+    asked = options.columns
+    try:
+        found = asked.map(lambda one: column_of(one, head))
+        check_code(found.code, head, options)
+        return replace(found, where=tuple((one, name_of(value)) for one, value in found.where))
+    except ToolError as error:
+        texts = ((row.number, texts_of(row)) for row in islice(rows, ROWS_LOOKED_AT))
+        later = row_of_names(texts, asked.asked) if options.file.has_header is not False else 0
+        if later:
+            raise ToolError(
+                error.what, Text("the names are in row {}: give --header-row {}", later, later), 2
+            ) from None
+        raise
+
+
+def texts_of(row: Row) -> list[str]:
+    """Returns the texts of a row."""
+    return [row.seen(place) for place in range(len(row.cells))]
+
+
+def column_of(argument: str, head: Head) -> Column:
+    """Returns the column of a name or number; raises `ToolError` where that is not sure."""
+    wanted = name_of(argument)
+    places = [place for place, name in enumerate(head.names) if name and name == wanted]
+    by_name = bool(places)
+    if not places:
+        places = [place for place in range(width_of(head.row)) if str(place + 1) == argument]
+    if len(places) != 1:
+        raise not_one(argument, head, len(places))
+    place = places[0]
+    name = head.names[place] if place < len(head.names) else ""
+    if by_name:
+        refuse_wide_name(place, name, head.row)
+    number = place + 1
+    title = Text("column {} ({})", number, quoted(name)) if name else Text("column {}", number)
+    return Column(place, title, column_word(head.names, place) if name else str(number))
+
+
+def column_word(names: Sequence[str], place: int) -> str:
+    """Returns the name of a column where it is sure, else its number.
+
+    >>> column_word(["EAN", "", "7"], 0), column_word(["EAN", "", "7"], 2)
+    ('EAN', '3')
+    """
+    name = names[place]
+    is_sure = name and not name.isdecimal() and names.count(name) == 1
+    return name if is_sure else str(place + 1)
+
+
+def width_of(row: Row) -> int:
+    """Returns how many columns a row has, those of merged cells included."""
+    merged = [merge.last_place + 1 for merge in row.merges if merge.row <= row.number]
+    return max(len(row.cells), *merged) if merged else len(row.cells)
+
+
+def not_one(argument: str, head: Head, count: int) -> ToolError:
+    """Returns the error of a column that is not there, or there several times."""
+    names = head.names or texts_of(head.row)
+    listed = [f"{number} {quoted(name)}" for number, name in enumerate(names, 1)]
+    more = [".."] if len(listed) > LISTED else []
+    has = ", ".join(listed[:LISTED] + more)
+    row = head.row.number
+    what = Text("no column {}; row {} has {}", quoted(argument), row, has)
+    if count:
+        what = Text("several columns {}; row {} has {}", quoted(argument), row, has)
+    return ToolError(what, Text("give the number of one"), BAD_ARGUMENTS)
+
+
+def refuse_wide_name(place: int, name: str, row: Row) -> None:
+    """Raises `ToolError` for a name that is merged over several columns."""
+    for merge in row.merges:
+        if merge.row == row.number and merge.place == place < merge.last_place:
+            what = Text(
+                "the name {} is over the columns {} to {}",
+                quoted(name),
+                place + 1,
+                merge.last_place + 1,
+            )
+            raise ToolError(what, Text("give the number of one"), BAD_ARGUMENTS)
+
+
+def check_code(column: Column, head: Head, options: TableOptions) -> None:
+    """Raises `ToolError` where the first row may be an article, and nothing says it."""
+    is_said = options.file.has_header is not None or options.file.header_row is not None
+    cell = head.row.seen(column.place)
+    may_be_code = re.search("[0-9]", NAME_WITH_DIGITS.sub("", cell)) is not None
+    may_be_code = may_be_code or options.codes.is_free and cell != ""
+    if options.columns.code.isdecimal() and may_be_code and not is_said:
+        what = Text("row {} has {} in column {}", head.row.number, quoted(cell), column.place + 1)
+        hint = Text("give --no-header if that is a code, --header if it is a name")
+        raise ToolError(what, hint, BAD_ARGUMENTS)
+
+
+def names_of(row: Row) -> tuple[str, ...]:
+    """Returns the names of columns that a row has."""
+    return tuple(map(name_of, texts_of(row)))

@@ -1,0 +1,404 @@
+"""What becomes of a row of a table: its code, its texts, and its prices as they are read."""
+
+import re
+from dataclasses import dataclass, field
+from decimal import Decimal
+from typing import Iterator, NamedTuple, Sequence
+from unicodedata import category
+
+from labeltools.common.text import Text, counted
+from labeltools.sheets.cells import Cell, Kind
+from labeltools.tables.codes import Code, CodeRules, code_of
+from labeltools.tables.columns import Column, symbology_in
+from labeltools.tables.leftovers import has_left, twice_encoded
+from labeltools.common.messages import RowError, Talk, quoted
+from labeltools.tables.money import MOST_DECIMALS, Money, NotMoney, currency_of, parse
+from labeltools.tables.money import parse_unit_price, plain, text_price
+from labeltools.tables.prices import ARITHMETIC, MOST_LOST, nearest
+from labeltools.common.names import is_repeated, looks_like, name_of
+from labeltools.tables.once import Once
+from labeltools.sheets.rows import Doubt, Row
+from labeltools.tables.options import Columns, TableOptions
+
+DATE = re.compile(r"(?<![0-9.,])[0-9]{1,4}[./-][0-9]{1,2}(?:[./-](?:[0-9]{2,4})?)?(?![0-9,])")
+MARK = re.compile("[0-9][./-]")  # a text without one is like no date
+OWN_TABLE = Text("make a table of its own of it")
+ZERO_HINT = Text("it is a zero, which its number format shows so")
+LONGEST_SIGN = 3  # letters of a text that is no more than a sign
+HALF = Decimal("0.5")
+KIND_OF_CODES = re.compile(
+    r"(?:EAN|GTIN|UPC|ISBN|JAN)(?:[- ]?(?:[0-9]{1,2}|code|A|E))?", re.IGNORECASE
+)
+HAS_DIGIT = re.compile("[0-9]")
+SHOWN_DECIMALS = 6  # of the number of a cell, in a message
+PROGRAM_DECIMALS = 17  # of a number that a program has calculated
+
+
+class Price(NamedTuple):
+    """A price of a row: the text of its cell, what it means, and the currency of the row.
+
+    `money` is None for free text; `currency` is None where the table has no such column.
+    """
+
+    column: Column
+    text: str
+    money: Money | None
+    currency: str | None
+
+
+class Draft(NamedTuple):
+    """A row with a right code, before its prices are written; those that it does not have are
+    None.
+    """
+
+    row: int
+    code: Code
+    title: str
+    text: tuple[str, ...]
+    names: tuple[str, ...]  # of the columns of the texts
+    copies: int
+    price: Price | None
+    unit: Price | None
+    was: Price | None
+
+    @property
+    def prices(self) -> tuple[Price | None, ...]:
+        """The price, the price of a unit, and the old price."""
+        return self.price, self.unit, self.was
+
+
+@dataclass
+class Noticed:
+    """Looks at what is odd in rows, and may be right: it is said once. Dates, and texts like dates,
+    are kept by the places of their columns: they are odd together.
+    """
+
+    once: Once
+    dates: dict[int, int] = field(default_factory=dict)
+    like_dates: dict[int, tuple[int, str]] = field(default_factory=dict)
+
+    def text(self, column: Column, row: Row, text: str) -> None:
+        """Looks at a title or text; raises `RowError` for one that was encoded twice."""
+        if (before := twice_encoded(text)) != text:
+            what = Text("has {}, which was encoded twice, for {}", quoted(text), quoted(before))
+            raise column.error(RowError(what, Text("export the table again")))
+        if len(text) <= LONGEST_SIGN and is_sign(text):
+            said = Text("row {} has {} as text, in {}", row.number, quoted(text), column.title)
+            self.once.see(("sign", column), said, Text("does it stand for an empty cell?"))
+        if has_left(text):
+            said = Text("row {} has {}, as programs write it", row.number, quoted(text))
+            self.once.see("left", said, Text("it is printed as it is"))
+        cell = row.cells[column.place]
+        kind = Kind.TEXT if isinstance(cell, str) else cell.kind
+        if kind is Kind.MOMENT:
+            self.dates.setdefault(column.place, row.number)
+        elif kind is Kind.TEXT and MARK.search(text) and DATE.search(text):
+            self.like_dates.setdefault(column.place, (row.number, text))
+
+    def say_of_dates(self, talk: Talk) -> None:
+        """Says which texts are like the dates of their column."""
+        for place, date in self.dates.items():
+            if place in self.like_dates:
+                row, text = self.like_dates[place]
+                said = Text(
+                    "row {} has the text {} where row {} has a date", row, quoted(text), date
+                )
+                talk.say(said, Text("are its day and month in the same order?"))
+
+    def doubtful(self, columns: Sequence[Column], row: Row) -> None:
+        """Looks at the cells of columns that may not be meant."""
+        for column in columns:
+            doubt = (row.doubts or {}).get(column.place)
+            if doubt is None:
+                continue
+            said = Text(
+                "{} has a condition from row {} on that shows cells as something else",
+                column.title,
+                row.number,
+            )
+            if doubt is Doubt.UNSEEN:
+                said = Text(
+                    "{} has letters from row {} on that nobody sees, in the colour of the cell",
+                    column.title,
+                    row.number,
+                )
+            hint = Text("are these rows to be printed? --where chooses rows")
+            self.once.see((doubt, column), said, hint)
+
+    def value(self, column: Column, row: Row, wanted: str) -> None:
+        """Looks at a value that is not the one that rows are chosen by."""
+        value = column.mark(row)
+        if not value or not looks_like(value, wanted):
+            return
+        self.once.see(
+            (column, wanted),
+            lambda rows: counted(
+                "row {1} has {2} in {3}, which looks like {4}, and is not printed ({0} row)",
+                "row {1} has {2} in {3}, which looks like {4}, and is not printed ({0} rows)",
+                rows,
+                row.number,
+                quoted(value),
+                column.title,
+                quoted(wanted),
+            ),
+        )
+
+    def shown(self, price: Price, row: int, number: Decimal) -> None:
+        """Looks at a price that is the number of a cell; raises `RowError` where it is shown as
+        another one. Rounded to two decimals or more it is the same price. What is no rounding, as
+        digits that its format adds, is another one.
+        """
+        money = price.money
+        if money is None or money.currency == "cent":
+            return
+        lost = abs(money.value - number)
+        if lost <= ARITHMETIC:  # most prices, at once
+            return
+        value = format(round(number, SHOWN_DECIMALS).normalize(), "f")
+        if lost > min(abs(number) * MOST_LOST, HALF.scaleb(-money.decimals) + ARITHMETIC):
+            what = Text("is shown as {}, and its value is {}", quoted(price.text), value)
+            raise price.column.error(
+                RowError(what, Text("give it a number format of two decimals"))
+            )
+        if money.decimals < 2:
+            self.once.see(
+                ("rounded", price.column),
+                lambda rows: counted(
+                    "row {1} shows the price {2}, and its value is {3} ({0} price)",
+                    "row {1} shows the price {2}, and its value is {3} ({0} prices)",
+                    rows,
+                    row,
+                    price.text,
+                    value,
+                ),
+            )
+
+    def prices(self, row: int, price: Price | None, was: Price | None) -> None:
+        """Looks at an old price."""
+        if not (price and was and price.money and was.money):
+            return
+        is_same = (price.money.unit, price.money.count) == (was.money.unit, was.money.count)
+        if is_same and was.money.value <= price.money.value:
+            said = Text(
+                "row {} has the old price {}, which is not above the price {}",
+                row,
+                was.text,
+                price.text,
+            )
+            self.once.see("low", said)
+
+
+@dataclass
+class RowReader:
+    """Reads rows that are not blank."""
+
+    options: TableOptions
+    columns: Columns[Column]
+    names: tuple[str, ...]
+    once: Once
+    other_names: int = 0  # the row that names other columns, or the same in other places
+
+    def __post_init__(self) -> None:
+        self.noticed = Noticed(self.once)
+        place = self.columns.code.place
+        self.code_name = self.names[place] if place < len(self.names) else ""
+
+    def draft(self, row: Row) -> Draft | None:
+        """Returns what becomes of a row, None where it is not marked; raises `RowError`."""
+        if row.problem:
+            raise row.problem
+        place = self.columns.code.place
+        cell = row.cells[place] if place < len(row.cells) else ""
+        is_number = isinstance(cell, str) and cell.isdigit() and cell != self.code_name
+        if not is_number or self.other_names:  # most rows have one
+            self.refuse_names(row)
+        if not self.is_marked(row):
+            return None
+        columns = self.columns
+        code = self.code(row)
+        title = "\n".join(self.texts(columns.title, row, code).values())
+        texts = self.texts(columns.text, row, code)
+        text = tuple(texts.values())
+        currency = self.currency(row)
+        copies = columns.copies.copies(row) if columns.copies else 1
+        price = self.price(columns.price, row, currency)
+        unit = self.price(columns.unit_price, row, currency) if columns.unit_price else None
+        was = self.price(columns.old_price, row, currency) if columns.old_price else None
+        if was:
+            self.noticed.prices(row.number, price, was)
+        if row.doubts:
+            self.noticed.doubtful(columns.shown, row)
+        return Draft(row.number, code, title, text, tuple(texts), copies, price, unit, was)
+
+    def refuse_names(self, row: Row) -> None:
+        """Raises `RowError` for a row that has the names of the columns again, and for one that
+        names others, with all rows below it: these are another table.
+        """
+        if self.other_names:
+            what = Text("the row is below row {}, which names other columns", self.other_names)
+            raise RowError(what, OWN_TABLE)
+        if self.is_names(row):
+            raise RowError(Text("the row has the names of the columns again"))
+        if self.names_others(row):
+            self.other_names = row.number
+            raise RowError(Text("the row names other columns than the first one"), OWN_TABLE)
+
+    def names_others(self, row: Row) -> bool:
+        """Returns whether half of the cells of a row are names of columns, and one that is asked
+        for is in another place, or has another name in its place. A row whose code is the name of
+        a kind of codes names others, too, where no other cell has digits.
+        """
+        texts = list(map(name_of, bare_texts(row)))
+        place = self.columns.code.place
+        code, *others = (*texts[place : place + 1], *texts[:place], *texts[place + 1 :])
+        if self.names and KIND_OF_CODES.fullmatch(code) and code != self.code_name:
+            return any(others) and not any(map(HAS_DIGIT.search, others))
+        named = sum(text in self.names for text in texts if text)
+        if not self.names or named < 2 or 2 * named < sum(map(bool, texts)):
+            return False
+        for column in self.columns.asked:
+            name = self.names[column.place] if column.place < len(self.names) else ""
+            text = texts[column.place] if column.place < len(texts) else ""
+            if text != name and (text or name in texts):
+                return True
+        return False
+
+    def is_names(self, row: Row) -> bool:
+        """Returns whether a row is the row of names again; its code is the name of the column
+        then.
+        """
+        place = self.columns.code.place
+        cell = row.cells[place] if place < len(row.cells) else None
+        if not isinstance(cell, str) or not self.names or name_of(cell) != self.code_name:
+            return False
+        return is_repeated(bare_texts(row), self.names)
+
+    def is_marked(self, row: Row) -> bool:
+        """Returns whether a row has the values that were asked for; raises `RowError`."""
+        for column, value in self.columns.where:
+            if not column.has(row, value):
+                self.noticed.value(column, row, value)
+                return False
+        return True
+
+    def code(self, row: Row) -> Code:
+        """Returns the code of a row; raises `RowError`."""
+        rules = self.rules(row)
+        column = self.columns.code
+        text = column.code(row, rules.is_free)
+        if rules.is_free and (link := row.link(column.place)):
+            text = self.linked(row, text, link)
+        try:
+            return code_of(text, rules)
+        except RowError as problem:
+            raise RowError(problem.what, problem.hint, column.place) from None
+
+    def linked(self, row: Row, text: str, link: str) -> str:
+        """Returns the address that a cell leads to, where that was asked for, or else its text."""
+        if self.options.links:
+            return link
+        if link != text:
+            said = Text("the code of row {} is a text that leads to an address", row.number)
+            self.once.see("link", said, Text("give --links to draw the address"))
+        return text
+
+    def rules(self, row: Row) -> CodeRules:
+        """Returns how the code of a row is read: its symbology may be in a column; raises
+        `RowError`.
+        """
+        rules = self.options.codes
+        if self.columns.symbology is None:
+            return rules
+        symbology = symbology_in(self.columns.symbology, row, rules.symbology)
+        is_number = not CodeRules(symbology).is_free
+        return CodeRules(
+            symbology=symbology,
+            fill_zeros=rules.fill_zeros and is_number,
+            without_check_digit=rules.without_check_digit and is_number,
+            allow_zeros=rules.allow_zeros,
+        )
+
+    def texts(self, columns: Sequence[Column], row: Row, code: Code) -> dict[str, str]:
+        """Returns the texts of columns that are not empty, by their names; that of the codes gives
+        the code, with all its digits.
+        """
+        found = {}
+        for column in columns:
+            is_code = column.place == self.columns.code.place
+            if is_code:
+                found[column.name] = code.whole
+            elif text := column.text(row):
+                self.noticed.text(column, row, text)
+                found[column.name] = text
+        return found
+
+    def currency(self, row: Row) -> str | None:
+        """Returns the currency of a row, None where the table has no column of them; raises
+        `RowError`.
+        """
+        column = self.columns.currency
+        if column is None:
+            return None
+        found = column.mark(row)
+        if any(letter.isdigit() for letter in found):
+            raise column.error(RowError(Text("has {}, which is no currency", quoted(found))))
+        is_known = currency_of(plain(found), self.options.prices.currency_name) is not None
+        if found and not is_known:
+            said = Text("row {} has the currency {}, which is not known", row.number, quoted(found))
+            self.once.see("currency", said, Text("if it is right, name it by --currency-name"))
+        return found
+
+    def price(self, column: Column | None, row: Row, currency: str | None) -> Price | None:
+        """Returns the price of a column, None where there is none; raises `RowError`."""
+        if column is None:
+            return None
+        text = column.price(row)
+        if not text:
+            return None
+        try:
+            is_unit = column is self.columns.unit_price
+            money = self.money(text, is_unit, currency or self.options.prices.currency_name)
+        except NotMoney as problem:
+            what = Text("has {}, which is no price: it {}", quoted(text), problem.what)
+            hint = ZERO_HINT if is_zero(row.cell(column.place)) else problem.hint
+            raise column.error(RowError(what, hint)) from None
+        cell = row.cells[column.place]
+        number = None if isinstance(cell, str) else cell.number()
+        if money is None or number is None:
+            return Price(column, text, money, currency)
+        found = Price(column, text, nearest(money, number), currency)
+        self.noticed.shown(found, row.number, number)
+        return found
+
+    def money(self, text: str, is_unit: bool, currency: str) -> Money | None:
+        """Returns the price of a text, None for free text; raises `NotMoney`."""
+        rules = self.options.prices
+        if rules.is_text:
+            text_price(text)
+            return None
+        most = PROGRAM_DECIMALS if rules.pattern else MOST_DECIMALS
+        return parse_unit_price(text, currency, most) if is_unit else parse(text, currency, most)
+
+
+def is_sign(text: str) -> bool:
+    """Returns whether a text is 0 or punctuation alone. An arrow and the like are pictures.
+
+    >>> is_sign("-"), is_sign("..."), is_sign("▼"), is_sign("7")
+    (True, True, False, False)
+    """
+    return text == "0" or not any(one.isalnum() or is_picture(one) for one in text)
+
+
+def is_picture(letter: str) -> bool:
+    """Returns whether a letter is a symbol that is not in ASCII."""
+    return not letter.isascii() and category(letter).startswith("S")
+
+
+def is_zero(cell: Cell) -> bool:
+    """Returns whether a cell is a zero, which its number format may show as a dash."""
+    return not isinstance(cell, str) and cell.value != "" and not cell.value.strip("0.")
+
+
+def bare_texts(row: Row) -> Iterator[str]:
+    """Yields the cells of a row as they were typed."""
+    return (cell if isinstance(cell, str) else cell.value for cell in row.cells)

@@ -1,0 +1,195 @@
+"""Writes what was read of rows as lines: prices as a pattern says, and only what is new, where that
+was asked for.
+"""
+
+from dataclasses import dataclass, field
+from typing import Mapping, NamedTuple
+
+from labeltools.common.text import Text, counted
+from labeltools.tables.drafts import Draft, Price
+from labeltools.lines.file import Label, LinesFile, first_remark, label_lines, last_remark
+from labeltools.common.messages import Place, RowError, Talk, ToolError, quoted
+from labeltools.tables.money import NotMoney
+from labeltools.tables.once import Once
+from labeltools.tables.prices import PriceColumn, settled, with_currency
+from labeltools.tables.summary import Totals
+from labeltools.tables.options import TableOptions
+
+LARGEST_OUTPUT = 1 << 27  # bytes
+
+
+class Content(NamedTuple):
+    """What a label shows beside its code."""
+
+    title: str
+    text: tuple[str, ...]
+    price: str
+    unit: str
+    was: str
+
+
+Older = Mapping[tuple[str, str], set[Content]]
+
+
+@dataclass
+class LineWriter:
+    """Writes drafts as lines, and remembers what is said at the end; `texts` are the names of the
+    columns of texts.
+
+    A pattern of prices needs the whole column: drafts then wait for `finish`.
+    """
+
+    options: TableOptions
+    talk: Talk
+    once: Once
+    has_copies: bool
+    older: Older | None = None
+    texts: tuple[str, ...] = ()
+    output: bytearray = field(default_factory=bytearray)
+    waiting: list[Draft] = field(default_factory=list)
+    columns: tuple[PriceColumn, ...] = ()
+    totals: Totals = field(default_factory=Totals)
+    taken: int = 0
+    count: int = 0
+    unchanged: int = 0
+    left_out: list[int] = field(default_factory=list)
+    filled: set[str] = field(default_factory=set)  # columns of texts
+    codes: dict[int, str] = field(default_factory=dict)
+    empty: dict[str, list[int]] = field(default_factory=lambda: {"title": [], "price": []})
+    seen: dict[str, tuple[int, int]] = field(default_factory=dict)
+
+    def __post_init__(self) -> None:
+        self.columns = tuple(PriceColumn(self.options.file.decimal) for _ in range(3))
+        self.output += first_remark(self.options.table).encode()
+
+    def take(self, draft: Draft) -> None:
+        """Takes a draft."""
+        self.taken += 1
+        for price, column in zip(draft.prices, self.columns):
+            if price and price.money:
+                column.add(draft.row, price.money)
+        if self.options.prices.pattern:
+            self.waiting.append(draft)
+        else:
+            self.add(draft)
+
+    def finish(self) -> bytes:
+        """Writes the drafts that wait, and the end; returns the whole file."""
+        for draft in self.waiting:
+            self.add(draft)
+        self.waiting = []
+        self.left_out.sort()
+        self.totals.left_out = len(self.left_out)
+        empty = [name for name in self.texts if name not in self.filled]
+        self.output += last_remark(self.count, self.left_out, empty).encode()
+        return bytes(self.output)
+
+    def add(self, draft: Draft) -> None:
+        """Writes a draft, or leaves it out."""
+        try:
+            prices = [self.written(draft.row, *both) for both in zip(draft.prices, self.columns)]
+        except RowError as problem:
+            self.leave_out(draft.row, text_at(draft, problem.place), problem)
+            return
+        content = Content(draft.title, draft.text, *prices)
+        self.compare(draft, content)
+        key = (draft.code.symbology, draft.code.whole)
+        if self.older is not None and content in self.older.get(key, ()):
+            self.unchanged += 1
+            return
+        self.write(draft, content)
+
+    def leave_out(self, row: int, cell: str, problem: RowError) -> None:
+        """Leaves out a row."""
+        self.talk.note(Place("", "row", row), cell, problem.what, problem.hint)
+        self.left_out.append(row)
+
+    def written(self, row: int, price: Price | None, column: PriceColumn) -> str:
+        """Returns a price as it is printed; raises `RowError`."""
+        if price is None:
+            return ""
+        if price.money is None:
+            return price.text
+        pattern = self.options.prices.pattern
+        try:
+            if pattern is None:
+                return with_currency(price.money, price.text, price.currency)
+            money = settled(price.money, column, pattern)
+            text = pattern.write(money, price.currency or "")
+            if pattern.changes(money.value):
+                self.see_rounded(row, price.text, text)
+            return text
+        except NotMoney as problem:
+            what = Text(
+                "has {}, which cannot be printed so: it {}", quoted(price.text), problem.what
+            )
+            raise price.column.error(RowError(what, problem.hint)) from None
+
+    def see_rounded(self, row: int, price: str, written: str) -> None:
+        """Sees a price that is rounded."""
+        self.once.see(
+            "written",
+            lambda rows: counted(
+                "row {1} has {2}, which is rounded to {3} ({0} price)",
+                "row {1} has {2}, which is rounded to {3} ({0} prices)",
+                rows,
+                row,
+                price,
+                written,
+            ),
+        )
+
+    def compare(self, draft: Draft, content: Content) -> None:
+        """Says once of each article that it is there twice with other texts or prices."""
+        article = draft.code.article
+        mark = hash(content) or 1
+        first, before = self.seen.setdefault(article, (draft.row, mark))
+        if before not in (mark, 0):
+            self.seen[article] = first, 0
+            self.talk.say(
+                Text(
+                    "rows {} and {} have the same code, {}, and another title, text or price",
+                    first,
+                    draft.row,
+                    draft.code.data,
+                )
+            )
+
+    def write(self, draft: Draft, content: Content) -> None:
+        """Writes the lines of a label, and counts what the summary needs."""
+        settings = f",{self.options.settings}" if self.options.settings else ""
+        line = f"{draft.code.symbology}{settings} {draft.code.data}"
+        label = Label(draft.row, *content, draft.copies, draft.names)
+        self.output += label_lines(label, line, self.has_copies).encode()
+        if len(self.output) > LARGEST_OUTPUT:
+            raise ToolError(
+                Text("the table has more than 128 MB of texts"), Text("make several tables of it")
+            )
+        self.count += 1
+        self.filled.update(draft.names)
+        self.totals.add(draft.code.symbology, draft.copies)
+        if draft.price and draft.price.money:
+            self.totals.add_price(draft.price.money.value, content.price)
+        if self.options.codes.is_free:
+            self.codes[draft.row] = draft.code.data
+        if not content.title:
+            self.empty["title"].append(draft.row)
+        if not content.price:
+            self.empty["price"].append(draft.row)
+
+
+def text_at(draft: Draft, place: int | None) -> str:
+    """Returns the text of the price at a place."""
+    texts = (price.text for price in draft.prices if price and price.column.place == place)
+    return next(texts, "")
+
+
+def contents_of(lines: LinesFile) -> Older:
+    """Returns the labels of an older file by their symbologies and codes."""
+    found: dict[tuple[str, str], set[Content]] = {}
+    for record in lines.records:
+        label = record.label
+        key = (record.symbology, record.data.decode("utf-8", "replace"))
+        content = Content(label.title, label.text, label.price, label.unit, label.was)
+        found.setdefault(key, set()).add(content)
+    return found

@@ -1,0 +1,653 @@
+"""A price is a price: one number whose separators are understood, and what shops write around it.
+
+`parse` is a grammar of what a price is. It has no list of what a price is not: an error word of any
+language, `nan`, a lone sign, a date, a code and a size are none because no rule makes them one.
+"""
+
+import re
+import unicodedata
+from dataclasses import dataclass, replace
+from decimal import Decimal
+from functools import lru_cache
+
+from labeltools.common.text import NOTHING, Text
+from labeltools.common.messages import RowError
+
+MOST_LETTERS = 60
+NO_CURRENCY = "¤"  # ISO 8859-15 has its € where other encodings have this sign
+MOST_BARE_DIGITS = 8  # of a price; a price that has so many ends in a zero
+MOST_WHOLE_DIGITS = 12
+MOST_DECIMALS = 6  # of a price that is printed as it stands
+OTHER_WORDS = Text("has other words than a price tag has")
+OTHER_WORDS_HINT = Text("give --price-text if it is right")
+SEPARATORS = Text("has a number whose separators are not understood")
+SEVERAL = Text("has several numbers")
+# signs that are one for the grammar; NFKC would make 399 of a price with raised decimals
+SPACES = (
+    "\u00a0\u1680\u2000\u2001\u2002\u2003\u2004\u2005\u2006\u2007\u2008\u2009\u200a\u202f"
+    "\u205f\u3000\t"
+)
+UNSEEN = "\u200e\u200f\u061c"  # marks of the direction: spreadsheets put them around currencies
+LOOKS = {
+    **dict.fromkeys(SPACES, " "),
+    **dict.fromkeys(UNSEEN, ""),
+    **dict.fromkeys("’‘´`ʼ＇", "'"),
+    **dict.fromkeys("−‒–—―－ー", "-"),
+    **dict.fromkeys("＊⁎∗", "*"),
+    **dict.fromkeys(".．·", "."),
+    **dict.fromkeys("٫،，⹁", ","),
+    "٬": "'",
+    "：": ":",
+    "／": "/",
+    "￥": "¥",
+    "￡": "£",
+    "￠": "¢",
+    "＄": "$",
+    "￦": "₩",
+    "（": "(",
+    "）": ")",
+}
+# names of a currency beside each sign that Unicode calls one: its code, where several mean the same
+NAMES_OF = {
+    "EUR": "€ Euro Euros euro euros euroa evro eur",
+    "GBP": "£ GBP£",
+    "USD": "US$ USD$ U$S U$D dollars",
+    "CHF": "Fr. Fr SFr. SFr sFr. sFr",
+    "PLN": "zł zl złotych",
+    "CZK": "Kč Kc Kčs",
+    "HUF": "Ft Ft. forint",
+    "RON": "lei leu Lei",
+    "BGN": "лв лв. lv lv.",
+    "RUB": "₽ руб руб. р р. rub. RUR",
+    "UAH": "₴ грн грн.",
+    "BYN": "Br",
+    "RSD": "din din. дин дин. РСД",
+    "MKD": "ден ден. den",
+    "BAM": "KM КМ",
+    "HRK": "kn",
+    "TRY": "₺ TL",
+    "BRL": "R$",
+    "CAD": "C$ CA$ CDN$",
+    "AUD": "A$ AU$",
+    "NZD": "NZ$",
+    "HKD": "HK$",
+    "TWD": "NT$ 元整",
+    "SGD": "S$",
+    "MXN": "MX$ Mex$",
+    "DOP": "RD$",
+    "CNY": "元 RMB 人民币 人民幣 块",
+    "JPY": "円 圓 日圓 日元",
+    "KRW": "₩ 원",
+    "INR": "₹ Rs Rs. Re Re. रु रु. रू",
+    "PKR": "₨",
+    "IDR": "Rp Rp.",
+    "MYR": "RM",
+    "PHP": "₱ Php",
+    "VND": "₫ đ Đ VNĐ đồng",
+    "THB": "฿ บาท",
+    "ZAR": "R",
+    "KES": "KSh Ksh KSh.",
+    "TZS": "TSh",
+    "UGX": "USh",
+    "NGN": "₦",
+    "GHS": "GH₵",
+    "EGP": "E£ LE L.E. ج.م ج.م.",
+    "SAR": "ر.س ر.س. ريال SR",
+    "AED": "د.إ د.إ. درهم Dhs Dhs. Dh Dh.",
+    "KWD": "د.ك د.ك. KD",
+    "MAD": "د.م. DH DHs",
+    "TND": "د.ت د.ت. DT",
+    "XOF": "FCFA CFA",
+    "DZD": "DA دج د.ج د.ج.",
+    "BHD": "د.ب د.ب.",
+    "IQD": "د.ع د.ع.",
+    "JOD": "د.أ د.أ.",
+    "LBP": "ل.ل ل.ل.",
+    "LYD": "د.ل د.ل.",
+    "OMR": "ر.ع ر.ع.",
+    "QAR": "ر.ق ر.ق.",
+    "YER": "ر.ي ر.ي.",
+    "SDG": "ج.س ج.س.",
+    "SYP": "ل.س ل.س.",
+    "NPR": "नेरू",
+    "LKR": "රු රු.",
+    "IRR": "﷼ ریال",
+    "IRT": "تومان",
+    "ILS": '₪ NIS ש"ח ש״ח',
+    "PEN": "S/ S/.",
+    "BOB": "Bs Bs.",
+    "GTQ": "Q",
+    "HNL": "L",
+    "PYG": "₲ Gs Gs.",
+    "UYU": "$U",
+    "CRC": "₡",
+    "PAB": "B/.",
+    "KZT": "₸ тг тг. тенге",
+    "UZS": "сум so'm",
+    "AZN": "₼ ман. ман",
+    "AMD": "֏ др.",
+    "GEL": "₾ лари",
+    "crown": "kr kr. Kr Kr. :-",  # five countries have one
+}
+CENTS = frozenset("¢ c ct ct. Ct Ct. Cent Cents cent cents cts p".split())
+CODES = frozenset(
+    """AED AFN ALL AMD ANG AOA ARS AUD AWG AZN BAM BBD BDT BGN BHD BIF BMD BND BOB BRL BSD BTN BWP
+    BYN BZD CAD CDF CHF CLP CNY COP CRC CUP CVE CZK DJF DKK DOP DZD EGP ERN ETB EUR FJD FKP GBP GEL
+    GHS GIP GMD GNF GTQ GYD HKD HNL HRK HTG HUF IDR ILS INR IQD IRR ISK JMD JOD JPY KES KGS KHR KMF
+    KRW KWD KYD KZT LAK LBP LKR LRD LSL LYD MAD MDL MGA MKD MMK MNT MOP MRU MUR MVR MWK MXN MYR MZN
+    NAD NGN NIO NOK NPR NZD OMR PAB PEN PGK PHP PKR PLN PYG QAR RON RSD RUB RWF SAR SBD SCR SDG SEK
+    SGD SHP SLE SLL SOS SRD SSP STN SVC SYP SZL THB TJS TMT TND TOP TRY TTD TWD TZS UAH UGX USD UYU
+    UZS VES VND VUV WST XAF XCD XOF XPF YER ZAR ZMW""".split()
+)
+WITHOUT_DECIMALS = frozenset(
+    "JPY ¥ KRW VND IDR CLP COP HUF ISK PYG IRR IRT CRC UZS KZT TZS UGX XOF XAF".split()
+)
+WITH_THREE_DECIMALS = frozenset("BHD IQD JOD KWD LYD OMR TND".split())
+# those that may have capitals or not; `km`, `ft`, `cup`, `pen`, `L` behind a number are no currency
+FOLDED = {
+    **{name.casefold(): name for name in "EUR USD GBP CHF PLN CZK SEK NOK DKK HUF RON RUB".split()},
+    "zł": "PLN",
+    "kč": "CZK",
+    "euro": "EUR",
+    "kr": "crown",
+    "kr.": "crown",
+    "lei": "RON",
+    "руб.": "RUB",
+    "руб": "RUB",
+    "грн": "UAH",
+    "fr.": "CHF",
+    "rs.": "INR",
+}
+ONLY_IN_FRONT = frozenset("LQR")
+BY_NAME = {
+    **{name: code for code, names in NAMES_OF.items() for name in names.split()},
+    **{code: code for code in CODES},
+}
+# signs and codes that may be of one currency, as in `$10.00 CAD`, `kr 5 NOK`, `Rs. 5 PKR`
+FAMILIES = {
+    "$": "USD CAD AUD NZD HKD SGD MXN TWD ARS CLP COP UYU",
+    "crown": "NOK SEK DKK ISK CZK",
+    "INR": "PKR LKR NPR",
+    "¥": "JPY CNY",
+    "£": "GBP EGP",
+    "GBP": "EGP",
+    "RON": "MDL",
+    "R": "ZAR",
+}
+PAIRS = {(sign, code) for sign, codes in FAMILIES.items() for code in codes.split()}
+# words that a price tag has in front of its number or behind it; every other word is free text
+FRONT_WORDS = """ab nur je jetzt nun VK UVP statt ca. from only now was RRP MSRP SRP each NEW dès
+    desde solo sólo por partir de da à a partir od do tylko jen už pouze vanaf nu nur slechts voor
+    fra kun från nu endast bara alkaen vain от за цена only csak mar már de la doar apó από μόνο
+    samo že tik nuo tikai no alates 税込 税抜 税別 (税込) (税抜) (税別) 本体 定価 単価 特価 約 现价
+    原价 售价 仅 只要"""
+BEHIND_WORDS = """inkl. inkl incl. incl inc. inc exkl. exkl excl. excl ex zzgl. zzgl plus + MwSt.
+    MwSt MWST USt. USt VAT GST HST PST TVA IVA TTC HT BTW moms VSK DPH PDV KDV ΦΠΑ НДС ПДВ brutto
+    netto net gross Pfand c/IVA s/IVA inkl.MwSt. each ea. ea je only tax 税込 税抜 税別 (税込)
+    (税抜) (税別) (inkl. exkl. MwSt.) (TTC) (HT) から より 起 от od UVP"""
+FRONT = frozenset(map(str.casefold, FRONT_WORDS.split()))
+BEHIND = frozenset(map(str.casefold, BEHIND_WORDS.split()))
+UNITS = frozenset(
+    """kg g 100g l lt ltr liter ml cl m cm m² m2 m³ stk stück st pc pcs pce ea lb lbs oz dz doz kpl
+    db szt ks шт кг л 個 斤 kilo kus""".split()
+)
+COUNTS = "(?:für|for|pour|por|per|za|voor|för|pelo|az|la|за|x)"
+UNIT = r"(?:[0-9]{1,4}(?:[.,][0-9]{1,3})? ?)?[^\W\d_]{1,14}[.²³]?"
+PER = rf"(?: ?/ ?| (?:je|pro|per|par|por|al|le|la|the|a|za|na|på|pr\.|от|за|à|/|の) ){UNIT}"
+# most prices, at once
+COMMON = re.compile(
+    "(0|[1-9][0-9]{0,5}|[1-9][0-9]{0,2}([.,'])[0-9]{3})([.,])([0-9]{2})(?:[ \u00a0]?(€))?"
+)
+PIECES = r"(?:Stk\.?|Stück|pcs|x|st\.?|шт\.?)"
+MANY = re.compile(rf"([1-9][0-9]?) ?{PIECES}? ?{COUNTS} (.*)", re.IGNORECASE)
+TAIL = "|".join(map(re.escape, BEHIND_WORDS.split()))
+PER_UNIT = re.compile(rf"(?<=[^/])({PER})(?P<more>(?: (?:{TAIL}))*)\Z")
+NUMBER = re.compile(
+    r"""(?P<dash>-)?(?P<bare>[.,])(?P<small>[0-9]{2})(?![0-9])  # `-,80`, `.99`
+      | (?P<whole>[0-9]{1,3}(?:(?P<group>[.,' ])[0-9]{3}(?:(?P=group)[0-9]{3})*(?![0-9]))  # 1'234
+            | [0-9]{1,2}(?:,[0-9]{2})+,[0-9]{3}(?![0-9])  # lakhs
+            | [0-9]+)
+        # `4.–`, `12,--`, `12,=`, `40/-`
+        (?: (?P<point>[.,:])(?P<decimals>[0-9]+) | (?P<none>[.,:][ ]?(?:--?|=)|/-) )?
+    """,
+    re.VERBOSE,
+)
+YEAR = re.compile("(?:19|20)(?!00)[0-9]{2}")  # four decimals of which two are zeros are a program's
+FOOTNOTE = re.compile(r"(?<=[0-9€$£.,a-zA-Zł\-])(?: ?\*{1,3}| ?[¹²³⁴⁵]\)?)\Z")
+ACCOUNTANTS = re.compile(r"\A\((?=.*[0-9]\)\Z)(.*)\)\Z")  # (5.00)
+SIGN_AS_POINT = re.compile(r"\A([0-9]{1,4}) ?([€$£]) ?([0-9]{2})\Z")  # 3€50
+APOSTROPHE_AS_POINT = re.compile(r"\A([0-9]{1,4})'([0-9]{2})(?= ?€)")  # 12'50 €
+TAXED = re.compile(r"(\W?税[込抜別]\W?|本体)?(\D*?)(\W?税[込抜別]\W?)?")
+# what a unit price names first: `1 kg = 7,96 €`, `100 g: 1,20 €`
+BASIS = re.compile(
+    r"(?P<basis>\(?(?:(?:Grundpreis|GP)\s*:?\s*)?(?:[0-9]{1,4}\s*[^\W\d_]{1,12}\.?\s*[=:]\s*)?)"
+    r"(?P<price>.*?)(?P<end>\)?)"
+)
+# what programs, not people, write where they have no value; spreadsheets' errors by their form
+NO_VALUES = frozenset("nan nat null none nil undefined true false <na> n/a na inf -inf".split())
+ERROR = re.compile(
+    r"#.*|\w+\.? ?: ?[0-9]{3}|[0-9]+(?:[.,][0-9]+)?[Ee][+-]?[0-9]+"
+    r"|.*[.…]{2,}\Z|.*&#?\w+;.*|.*<.*>.*"
+)
+
+
+class NotMoney(RowError):
+    """Why a cell is no price, or cannot be printed as one."""
+
+
+@dataclass(frozen=True, slots=True)
+class Money:
+    """A price as it is written, and what it means.
+
+    `value` has the separators as they are read, cents as hundredths; `currency` is its code, or its
+    sign where several have it; `unit` is as `/kg`; `words` are those around it; `count` is 2 for `2
+    für 5 €`. `is_open` is whether one separator has three digits behind it, as 1.234: thousands or
+    decimals. `basis` and `end` are what a unit price has around it, as `1 kg = `.
+    """
+
+    text: str
+    value: Decimal
+    point: str = ""
+    group: str = ""
+    decimals: int = 0
+    currency: str = ""
+    unit: str = ""
+    words: str = ""
+    count: int = 1
+    is_open: bool = False
+    basis: str = ""
+    end: str = ""
+
+
+@dataclass(frozen=True)
+class Amount:
+    """The number of a price: its digits, and the signs between them."""
+
+    whole: str
+    decimals: str
+    point: str
+    group: str
+    is_open: bool
+    is_bare: bool  # it has no sign but digits
+
+
+@dataclass(frozen=True)
+class Around:
+    """What a price has around its number."""
+
+    currencies: frozenset[str]
+    words: tuple[str, ...]
+
+
+def plain(text: str) -> str:
+    """Returns a text with one sign for each that looks like it, and ASCII digits.
+
+    >>> plain("\\u200f٣٫٩٩ ر.س"), plain("￥１，０８０"), plain("3⁹⁹")
+    ('3,99 ر.س', '¥1,080', '3⁹⁹')
+    """
+    signs = (LOOKS.get(sign, sign) for sign in unicodedata.normalize("NFC", text))
+    digits = (str(unicodedata.decimal(sign, sign)) if len(sign) == 1 else sign for sign in signs)
+    return re.sub(" +", " ", "".join(digits)).strip()
+
+
+def currency_of(text: str, own: str = "") -> str | None:
+    """Returns the code of a currency, or a sign that several have; None for what is none.
+
+    >>> currency_of("€"), currency_of("Fr."), currency_of("kr"), currency_of("kg"), currency_of("p")
+    ('EUR', 'CHF', 'crown', None, 'cent')
+    """
+    if own and text == own:
+        return BY_NAME.get(own, own)
+    if text in BY_NAME:
+        return BY_NAME[text]
+    if text in CENTS:
+        return "cent"
+    if len(text) == 1 and unicodedata.category(text) == "Sc" and text != NO_CURRENCY:
+        return text
+    return FOLDED.get(text.casefold())
+
+
+def is_pair(one: str, other: str) -> bool:
+    """Returns whether a sign and a code may be of the same currency.
+
+    >>> is_pair("$", "CAD"), is_pair("EUR", "CHF")
+    (True, False)
+    """
+    return (one, other) in PAIRS or (other, one) in PAIRS
+
+
+def scripts_of(text: str) -> set[int]:
+    """Returns the zeros of the kinds of digits in a text: Latin, Arabic, Devanagari .."""
+    digits = [sign for sign in text if unicodedata.category(sign) == "Nd"]
+    return {ord(sign) - unicodedata.decimal(sign) for sign in digits}
+
+
+@lru_cache(maxsize=4096)
+def parse(text: str, own: str = "", most_decimals: int = MOST_DECIMALS) -> Money:
+    """Returns the price of a cell; raises `NotMoney` with the reason.
+
+    `own` is a currency that the table names, where it is none of those that are known. Where a
+    price is written anew, as many decimals as a program's number has are taken: 17.
+
+    >>> [str(parse(cell).value) for cell in ("CHF 4.–", "1'234.50", "₹ 12,34,567.50", "298円")]
+    ['4', '1234.50', '1234567.50', '298']
+    >>> [str(parse(cell).value) for cell in ("-,80", "99¢", "Rs. 40/-", "12'50 €", "3€50")]
+    ['0.80', '0.99', '40', '12.50', '3.50']
+    >>> parse("3 €/kg").unit, parse("2 für 5 €").count, parse("RF 1.250", own="RF").currency
+    ('/kg', 2, 'RF')
+    >>> for cell in ("nan", "€", "1E3", "01.02.2026", "007", "-30 %", "3 – 5 €", "5,00-"):
+    ...     try:
+    ...         print(parse(cell))
+    ...     except NotMoney as error:
+    ...         print(error.what)
+    has no number
+    has no number
+    has several numbers
+    has a number whose separators are not understood
+    begins with zeros, as a code does
+    is a percentage
+    has several numbers
+    is below zero
+    """
+    common = COMMON.fullmatch(text)
+    if common and common[2] != common[3]:
+        whole, group, point, decimals, euro = common.groups(default="")
+        value = Decimal(f"{whole.replace(group, '')}.{decimals}")
+        return Money(text, value, point, group, 2, "EUR" if euro else "")
+    bare = with_usual_points(plain_price(text))
+    count, bare = count_in(bare)
+    unit, bare = unit_in(bare)
+    price = number_in(bare, plain(own), most_decimals)
+    if (unit or count > 1) and not is_priced(price, bare, unit):
+        raise NotMoney(OTHER_WORDS, OTHER_WORDS_HINT)  # 1.0/AV, 10 x 20
+    return replace(price, text=text.strip(), count=count, unit=unit)
+
+
+def parse_unit_price(text: str, own: str = "", most_decimals: int = MOST_DECIMALS) -> Money:
+    """Returns the price of a unit, which may be named before it; raises `NotMoney`.
+
+    >>> parse_unit_price("(1 kg = 7,96 €)").basis, parse_unit_price("7,96 €/kg").unit
+    ('(1 kg = ', '/kg')
+    """
+    found = BASIS.fullmatch(text.strip())
+    if not found or not found["basis"]:
+        return parse(text, own, most_decimals)
+    price = parse(found["price"], own, most_decimals)
+    return replace(price, text=text.strip(), basis=found["basis"], end=found["end"])
+
+
+def text_price(text: str) -> str:
+    """Returns the text of a price in a column of free text; raises `NotMoney` for what no shop
+    writes.
+
+    >>> text_price("auf Anfrage"), text_price("3 zum Preis von 2")
+    ('auf Anfrage', '3 zum Preis von 2')
+    >>> for cell in ("#VALEUR !", "Erreur :502", "NaN", "€", "1E+05", "Loading...", "&euro;3.00"):
+    ...     try:
+    ...         print(text_price(cell))
+    ...     except NotMoney as error:
+    ...         print(error.what)
+    is what a program writes where it has no value
+    is what a program writes where it has no value
+    is what a program writes where it has no value
+    has neither a letter nor a digit
+    is what a program writes where it has no value
+    is what a program writes where it has no value
+    is what a program writes where it has no value
+    """
+    bare = plain(text)
+    if not any(sign.isalnum() for sign in bare):
+        raise NotMoney(Text("has neither a letter nor a digit"))
+    if bare.casefold() in NO_VALUES or ERROR.fullmatch(bare):
+        raise NotMoney(Text("is what a program writes where it has no value"))
+    return text.strip()
+
+
+def plain_price(text: str) -> str:
+    """Returns a cell made plain; raises `NotMoney` where it has no number, or is a percentage or
+    long.
+    """
+    bare = plain(text)
+    if len(bare) > MOST_LETTERS or "\n" in bare or "\r" in bare:
+        raise NotMoney(Text("has several lines or more than 60 letters"))
+    if not re.search("[0-9]", bare):
+        has_word = re.search(r"[^\W\d_]{2}", bare) is not None
+        raise NotMoney(Text("has no number"), OTHER_WORDS_HINT if has_word else NOTHING)
+    if re.search("[%‰٪]", bare):
+        raise NotMoney(Text("is a percentage"))
+    if len(scripts_of(text)) > 1 and not re.search("[０-９]", text):
+        raise NotMoney(Text("has digits of two scripts"))
+    return bare
+
+
+def with_usual_points(bare: str) -> str:
+    """Returns a plain price without a footnote's sign, and with the usual signs for other
+    customs.
+    """
+    bare = FOOTNOTE.sub("", bare)
+    bare = ACCOUNTANTS.sub(r"-\1", bare)
+    bare = SIGN_AS_POINT.sub(r"\1,\3 \2", bare)
+    return APOSTROPHE_AS_POINT.sub(r"\1,\2", bare)
+
+
+def count_in(bare: str) -> tuple[int, str]:
+    """Returns how many things a price is for, and the price: `2 für 5 €`."""
+    many = MANY.fullmatch(bare)
+    if many and re.search("[0-9]", many[2]):
+        return int(many[1]), many[2]
+    return 1, bare
+
+
+def unit_in(bare: str) -> tuple[str, str]:
+    """Returns the unit behind a price, as `/kg`, and the price without it."""
+    per = PER_UNIT.search(bare)
+    if not per:
+        return "", bare
+    unit = per[1].strip()
+    rest = bare[: per.start()] + per["more"]
+    is_unit = re.search("[0-9]", rest) and currency_of(unit) is None
+    if not is_unit or re.search(r"/ ?-\Z", bare):
+        return "", bare
+    return unit, rest
+
+
+def is_priced(price: Money, bare: str, unit: str) -> bool:
+    """Returns whether a number with a unit or a count is a price: by its currency, its decimals, or
+    the unit.
+    """
+    if price.currency:
+        return True
+    if unit and unit.lstrip("/ 0123456789.,").rstrip(".").casefold() not in UNITS:
+        return False
+    has_decimals = bool(price.point) or price.value != int(price.value)
+    return has_decimals or bare.endswith((":-", ",-", ".-"))
+
+
+def number_in(bare: str, own: str, most_decimals: int) -> Money:
+    """Returns the price of a plain text: one number, its sign, at most one currency on each side,
+    words.
+    """
+    begin = begin_of(bare)
+    found = NUMBER.match(bare, begin)
+    if not found:
+        raise NotMoney(SEPARATORS)
+    before = bare[:begin]
+    behind = bare[found.end() :]
+    check_behind(behind)
+    amount = amount_of(found)
+    check_letters(before, amount, own)
+    is_below, before, behind = without_sign(before.strip(), behind, bool(found["none"]))
+    around = around_of(before, behind, own)
+    is_plain_number = amount.is_bare and not found["none"]
+    if (
+        around.words
+        and not around.currencies
+        and (is_plain_number or amount.group and not amount.point)
+    ):
+        raise NotMoney(OTHER_WORDS, OTHER_WORDS_HINT)  # ab 5
+    check_amount(amount, bool(around.currencies), is_plain_number, most_decimals)
+    if behind.startswith("+"):
+        raise NotMoney(OTHER_WORDS, OTHER_WORDS_HINT)  # 1.9+
+    if is_below:
+        raise NotMoney(Text("is below zero"))
+    return money_of(amount, around)
+
+
+def begin_of(bare: str) -> int:
+    """Returns where the number begins: at its first digit, or the point or dash before it, as in
+    `-,80`.
+    """
+    start = re.search("[0-9]", bare)
+    first = start.start() if start else 0
+    begin = first
+    while begin and bare[begin - 1] in ".,":  # `.99`, but not the point of `Rs.99` and `kr.99`
+        previous = bare[begin - 2] if begin > 1 else " "
+        if previous not in " -" and unicodedata.category(previous) != "Sc":
+            break
+        begin -= 1
+    if begin != first and begin and bare[begin - 1] == "-":
+        begin -= 1
+    return begin
+
+
+def check_behind(behind: str) -> None:
+    """Raises `NotMoney` where another number, or a sign of this one, follows a number."""
+    if not re.search("[0-9]", behind):
+        if re.match(r"[.,:/'](?!-)\Z", behind):
+            raise NotMoney(SEPARATORS)
+        return
+    is_second = re.match(" ?[-/]", behind)
+    if not is_second and re.match(r"[.,:']?[0-9]|[.,:'](?!-)[^ ]*[0-9]", behind):
+        raise NotMoney(SEPARATORS)
+    raise NotMoney(SEVERAL)
+
+
+def check_letters(before: str, amount: Amount, own: str) -> None:
+    """Raises `NotMoney` for letters right before digits, as codes have them: A100, R6, PHP8."""
+    name = before.rpartition(" ")[2]
+    if not re.search(r"[A-Za-z]\Z", before) or name == own:
+        return
+    if amount.is_bare and name.isalpha() or currency_of(name) is None:
+        hint = Text("if they are a currency, name it by --currency-name")
+        raise NotMoney(Text("has letters before its digits, as a code does"), hint)
+
+
+def without_sign(before: str, behind: str, has_dash: bool) -> tuple[bool, str, str]:
+    """Returns whether a number is below zero, and what is before and behind it without its sign."""
+    sign = ""
+    if behind.startswith("-") and not has_dash:  # SAP: `5,00-`
+        sign = "-"
+        behind = behind[1:]
+    if before and before[-1] in "-+":
+        sign = before[-1]
+        before = before[:-1].strip()
+    if before and before[0] in "-+":
+        sign = before[0]
+        before = before[1:].strip()
+    return sign == "-", before, behind.strip()
+
+
+def around_of(before: str, behind: str, own: str) -> Around:
+    """Returns the currencies and words around a number."""
+    is_bottle = behind in ONLY_IN_FRONT - {own}
+    if is_bottle or currency_of(before) == "cent":
+        raise NotMoney(OTHER_WORDS, OTHER_WORDS_HINT)  # 5 L, p0
+    currencies: set[str] = set()
+    words: list[str] = []
+    for side, known in ((before, FRONT), (behind, BEHIND)):
+        if side:
+            take_apart(side, known, own, currencies, words)
+    return Around(frozenset(currencies), tuple(words))
+
+
+def take_apart(
+    side: str, known: frozenset[str], own: str, currencies: set[str], words: list[str]
+) -> None:
+    """Takes the currency and the words from what is on one side of a number."""
+    found = currency_of(side, own)
+    if found is not None:
+        is_other = any(found != one and not is_pair(found, one) for one in currencies)
+        if is_other and found != "cent" and found not in currencies:
+            raise NotMoney(Text("has two currencies"))
+        currencies.add(found)
+        return
+    for word in side.split(" "):
+        code = currency_in(word, own)
+        if code is not None and not any(one != code for one in currencies):
+            currencies.add(code)
+        elif word.casefold() in known or not word:
+            words.append(word)
+        else:
+            raise NotMoney(OTHER_WORDS, OTHER_WORDS_HINT)
+
+
+def currency_in(word: str, own: str) -> str | None:
+    """Returns the currency of a word, which may have a Japanese note on taxes beside it."""
+    code = currency_of(word, own)
+    if code is None:
+        taxed = TAXED.fullmatch(word)
+        if taxed and taxed[2] != word:
+            return currency_of(taxed[2])
+    return code
+
+
+def amount_of(found: re.Match[str]) -> Amount:
+    """Returns the number that was found; raises `NotMoney` where one sign has two meanings."""
+    if found["small"]:
+        return Amount("0", found["small"], found["bare"], "", False, False)
+    whole = re.sub("[^0-9]", "", found["whole"])
+    decimals = found["decimals"] or ""
+    point = found["point"] or ""
+    group = found["group"] or ("," if "," in found["whole"] else "")
+    if group and group == point:
+        raise NotMoney(SEPARATORS)
+    has_one = group in (".", ",") and found["whole"].count(group) == 1
+    if has_one and whole[0] == "0" and not point:  # 0.125 has decimals
+        return Amount("0", whole[1:], group, "", False, False)
+    is_open = has_one and not point and not found["none"] and whole[0] != "0"
+    is_bare = not (point or found["none"] or group)
+    return Amount(whole, decimals, point, group, is_open, is_bare)
+
+
+def check_amount(amount: Amount, has_currency: bool, is_plain: bool, most_decimals: int) -> None:
+    """Raises `NotMoney` for a number that is no price's."""
+    whole = amount.whole
+    if amount.point == ":" and not has_currency:
+        raise NotMoney(Text("may be a time"))
+    if len(whole) > 1 and whole[0] == "0":
+        raise NotMoney(Text("begins with zeros, as a code does"))
+    is_round = len(whole) < MOST_BARE_DIGITS or len(whole) == MOST_BARE_DIGITS and whole[-1] == "0"
+    if is_plain and not has_currency and not is_round:
+        raise NotMoney(
+            Text("is {} digits without a separator or a currency", len(whole)),
+            Text("is it a code?"),
+        )
+    is_month = (
+        amount.point == "." and int(whole) in range(1, 13) and YEAR.fullmatch(amount.decimals)
+    )
+    if is_month and not has_currency and most_decimals == MOST_DECIMALS:
+        raise NotMoney(Text("may be a month and its year"))
+    if len(amount.decimals) > most_decimals or len(whole) > MOST_WHOLE_DIGITS:
+        raise NotMoney(Text("has too many digits"), Text("give --price-as"))
+
+
+def money_of(amount: Amount, around: Around) -> Money:
+    """Returns a price by its number and what is around it."""
+    value = Decimal(f"{amount.whole}.{amount.decimals}" if amount.decimals else amount.whole)
+    names = around.currencies - {"cent"}
+    currency = ""
+    if names:
+        currency = min(names, key=lambda name: (len(name) != 3, name))
+    elif around.currencies:
+        currency = "cent"
+        value = value / 100
+    return Money(
+        text="",
+        value=value,
+        point=amount.point,
+        group=amount.group,
+        decimals=len(amount.decimals),
+        currency=currency,
+        words=" ".join(around.words),
+        is_open=amount.is_open and currency not in WITHOUT_DECIMALS,
+    )

@@ -1,0 +1,424 @@
+"""What the prices of a column say together, and how they are written anew."""
+
+import re
+from collections import Counter
+from dataclasses import dataclass, field, replace
+from decimal import ROUND_HALF_UP, Decimal
+from typing import Iterator, Mapping, NamedTuple
+
+from labeltools.common.text import NOTHING, Text
+from labeltools.tables.money import LOOKS, Money, NotMoney, PER_UNIT, SPACES, WITH_THREE_DECIMALS
+from labeltools.tables.money import currency_of, is_pair, plain
+from labeltools.tables.summary import rows_text
+
+OF_CENTS = re.compile(
+    r"\b(?:cents?|ct|cts|pence|centimes?|centimos?|céntimos?|centavos?|centesimi|grosze|öre|øre"
+    r"|haléřů?|minor)\b",
+    re.IGNORECASE,
+)
+OF_MANY = re.compile(
+    r"\b(?:tausend|tsd|thousands?|teur|t€|keur|k€)(?!\w)"
+    r"|(?:/|\b(?:per|pro|je|par|por|for|für|pour|in)) *\(?(?:100|1[., ]?000)\b"
+    r"(?! *(?:g|gr?|kg|mg|m|cm|mm|l|ml|cl)\b)|\b1[., ]?000 *(?:eur|usd|chf|gbp|[€$£])",
+    re.IGNORECASE,
+)
+ARITHMETIC = Decimal("1e-9")  # what a program's arithmetic may leave
+MOST_LOST = Decimal("0.01")  # of a price that is rounded
+USUAL_DECIMALS = 3  # at most: fuel has three
+THOUSANDS_OR_DECIMALS = Text("may have thousands or decimals")
+SIGN_OF = {"crown": "kr", "EUR": "€", "GBP": "£"}
+ONE_SIGN = {"JPY": "¥", "CNY": "¥"}
+SAME = {("¥", "JPY"), ("¥", "CNY"), ("$", "USD")}
+PATTERN = re.compile(
+    r"""(?P<front>[^0-9#]*?)
+        (?:\#(?P<hash>[.,' ])\#\#)?0
+        (?:(?P<group>[.,' ])000)?
+        (?:(?P<point>[.,])(?P<decimals>0{1,4}|--?|[–—]))?
+        (?P<end>[^0-9#.,'][^0-9#]*)?""",
+    re.VERBOSE,
+)
+
+
+class Said(NamedTuple):
+    """What is said once of a column, and what to do about it."""
+
+    text: Text
+    hint: Text = NOTHING
+
+
+class Seen(NamedTuple):
+    """Where something was seen: the first row and its text, and in how many rows."""
+
+    row: int
+    text: str
+    rows: int = 1
+
+
+@dataclass
+class PriceColumn:
+    """What the cells of a price column say together.
+
+    `decimal` is the decimal sign where it is known before. `points` and `kinds` are what was seen:
+    each decimal sign, prices that may have thousands or decimals, those with one decimal
+    or more than three, and zeros.
+    """
+
+    decimal: str | None = None
+    points: dict[str, Seen] = field(default_factory=dict)
+    kinds: dict[str, Seen] = field(default_factory=dict)
+    groups: set[str] = field(default_factory=set)
+    lengths: Counter[int] = field(default_factory=Counter)
+    currencies: set[str] = field(default_factory=set)
+    has_thousands: bool = False
+    has_cents: bool = False
+
+    def add(self, row: int, price: Money) -> None:
+        """Takes the price of a row."""
+        if price.is_open:
+            see(self.kinds, "open", row, price.text)
+        else:
+            self.lengths[price.decimals] += 1
+            if price.point in (".", ","):
+                see(self.points, price.point, row, price.text)
+            if price.group:
+                self.groups.add(price.group)
+        if price.decimals == 1:
+            see(self.kinds, "short", row, price.text)
+        elif price.decimals > USUAL_DECIMALS and not price.unit:
+            see(self.kinds, "long", row, price.text)
+        if not price.value:
+            see(self.kinds, "zero", row, price.text)
+        if price.currency not in ("", "cent"):
+            self.currencies.add(ONE_SIGN.get(price.currency, price.currency))
+        self.has_cents = self.has_cents or price.currency == "cent"
+        self.has_thousands = self.has_thousands or price.value >= 1000 and not price.group
+
+    @property
+    def point(self) -> str:
+        """The decimal sign that its sure cells have; empty where there is none or two."""
+        if self.decimal:
+            return self.decimal
+        if not self.points and len(self.groups) == 1 and self.groups <= {".", ","}:
+            return "," if "." in self.groups else "."
+        return next(iter(self.points)) if len(self.points) == 1 else ""
+
+    @property
+    def decimals(self) -> int:
+        """How many decimals most cells have."""
+        return self.lengths.most_common(1)[0][0] if self.lengths else 0
+
+    @property
+    def are_bare(self) -> bool:
+        """Whether its cells have whole numbers alone, without a currency or a sign of cents."""
+        return set(self.lengths) == {0} and not self.currencies and not self.has_cents
+
+    def says(self) -> Iterator[Said]:
+        """Yields what is said once of prices that are printed as they are."""
+        if len(self.points) > 1:
+            first, second = list(self.points.values())[:2]
+            yield Said(
+                Text(
+                    "row {} has {} and row {} has {}: two decimal signs",
+                    first.row,
+                    first.text,
+                    second.row,
+                    second.text,
+                )
+            )
+        if "open" in self.kinds and not self.point:
+            row, text, rows = self.kinds["open"]
+            where = Text("{} in row {}", text, row)
+            if rows > 1:
+                where = Text("{} in row {} and {} more", text, row, rows - 1)
+            hint = Text("it is printed as it is")
+            yield Said(Text("{} {}", where, THOUSANDS_OR_DECIMALS), hint)
+        if "short" in self.kinds:
+            row, text, rows = self.kinds["short"]
+            hint = Text("give --price-as '0.00', or another pattern, to print two")
+            yield Said(Text("row {} has {}, one decimal ({})", row, text, rows_text(rows)), hint)
+        if "long" in self.kinds:
+            row, text, rows = self.kinds["long"]
+            hint = Text("give --price-as '0.00', or another pattern, to print two")
+            said = Text("row {} has {}, more than three decimals ({})", row, text, rows_text(rows))
+            yield Said(said, hint)
+        yield from self.says_of_values()
+
+    def says_of_values(self) -> Iterator[Said]:
+        """Yields what is said once, also of prices that are written anew."""
+        if "zero" in self.kinds:
+            row, text, rows = self.kinds["zero"]
+            yield Said(Text("row {} has the price {} ({})", row, text, rows_text(rows)))
+        if len(self.currencies) > 1:
+            listed = ", ".join(sorted(self.currencies))
+            yield Said(Text("the prices have several currencies: {}", listed))
+
+
+def is_of_cents(name: str) -> bool:
+    """Returns whether the name of a column says that its numbers are hundredths.
+
+    >>> [is_of_cents(name) for name in ("price_cents", "PriceCents", "Preis (ct)", "Center", "CT1")]
+    [True, True, True, False, False]
+    """
+    words = re.sub(r"(?<=[a-z])(?=[A-Z])|_", " ", name)
+    return OF_CENTS.search(words) is not None
+
+
+def is_of_many(name: str) -> bool:
+    """Returns whether the name of a column says that its prices are those of many articles.
+
+    >>> [is_of_many(name) for name in ("Preis/100", "Preis (TEUR)", "Preis / 100 g", "VK 2026")]
+    [True, True, False, False]
+    """
+    return OF_MANY.search(name) is not None
+
+
+def see(found: dict[str, Seen], kind: str, row: int, text: str) -> None:
+    """Counts what was seen in a row."""
+    before = found.get(kind)
+    found[kind] = Seen(before.row, before.text, before.rows + 1) if before else Seen(row, text)
+
+
+def column_of(prices: Mapping[int, Money], decimal: str | None = None) -> PriceColumn:
+    """Returns what prices say together, by their rows; `decimal` is a sign that is known.
+
+    >>> from labeltools.tables.money import parse
+    >>> column_of({2: parse("1.234"), 3: parse("0,80")}).point
+    ','
+    >>> [said.text for said in column_of({2: parse("1.234"), 3: parse("5.678")}).says()]
+    ['1.234 in row 2 and 1 more may have thousands or decimals']
+    >>> [said.text for said in column_of({2: parse("1,50"), 3: parse("1.50")}).says()]
+    ['row 2 has 1,50 and row 3 has 1.50: two decimal signs']
+    """
+    column = PriceColumn(decimal)
+    for row, price in prices.items():
+        column.add(row, price)
+    return column
+
+
+def settled(price: Money, column: PriceColumn, pattern: "PricePattern | None" = None) -> Money:
+    """Returns an open price as its column reads it, or else as a pattern does that has the three
+    decimals of its currency; raises `NotMoney` where neither says it.
+
+    >>> from labeltools.tables.money import parse
+    >>> prices = {2: parse("1.234"), 3: parse("0,80")}
+    >>> settled(prices[2], column_of(prices)).value
+    Decimal('1234')
+    >>> prices = {2: parse("1.005"), 3: parse("0.80")}
+    >>> settled(prices[2], column_of(prices))  # doctest: +ELLIPSIS
+    Traceback (most recent call last):
+    labeltools.tables.money.NotMoney: has three digits behind ., which is the decimal ...
+    >>> settled(prices[2], column_of({**prices, 4: parse("1234.50")})).value
+    Decimal('1.005')
+    >>> prices = {2: parse("KD 1.250")}
+    >>> settled(prices[2], column_of(prices), PricePattern.of("KD 0.000")).value
+    Decimal('1.25')
+    """
+    if not price.is_open:
+        return price
+    if not column.point and pattern and pattern.has_decimals_of(price):
+        return with_three_decimals(price)
+    if not column.point:
+        raise NotMoney(THOUSANDS_OR_DECIMALS, Text("give --decimal , or --decimal ."))
+    if column.point != price.group:
+        return replace(price, is_open=False)
+    is_known = column.decimals == 3 or column.has_thousands or price.currency in WITH_THREE_DECIMALS
+    if not is_known:
+        raise NotMoney(
+            Text("has three digits behind {}, which is the decimal sign of its column", price.group)
+        )
+    return with_three_decimals(price)
+
+
+def nearest(price: Money, number: Decimal) -> Money:
+    """Returns an open price as it is read that is nearest to the number of its cell.
+
+    >>> from labeltools.tables.money import parse
+    >>> [str(nearest(parse("1.234"), Decimal(one)).value) for one in ("1234", "1.2341")]
+    ['1234', '1.234']
+    """
+    if not price.is_open:
+        return price
+    readings = replace(price, is_open=False), with_three_decimals(price)
+    return min(readings, key=lambda one: abs(one.value - number))
+
+
+def with_three_decimals(price: Money) -> Money:
+    """Returns an open price whose sign is the decimal one."""
+    value = price.value / 1000
+    return replace(price, value=value, point=price.group, group="", decimals=3, is_open=False)
+
+
+@dataclass(frozen=True)
+class PricePattern:
+    """How prices are printed: `0,00 €`, `CHF 0'000.00`, `0.000,00 ¤`, `0,–`; ¤ is the currency of
+    the row.
+    """
+
+    front: str
+    group: str
+    point: str
+    decimals: int
+    dash: str
+    end: str
+
+    @classmethod
+    def of(cls, text: str) -> "PricePattern":
+        """Returns a pattern; raises ValueError. A sign with three zeros behind it and no other is
+        one of thousands, but for a currency with three decimals.
+
+        >>> PricePattern.of("0.000,00 €")
+        PricePattern(front='', group='.', point=',', decimals=2, dash='', end=' €')
+        >>> PricePattern.of("KD 0.000")
+        PricePattern(front='KD ', group='', point='.', decimals=3, dash='', end='')
+        >>> PricePattern.of("¥0,000").group, PricePattern.of("0,–").dash
+        (',', '–')
+        """
+        found = PATTERN.fullmatch(text.translate(dict.fromkeys(map(ord, SPACES[:-1]), " ")))
+        if not found or (found["group"] or found["hash"]) == found["point"] is not None:
+            raise ValueError(Text("{!r} is no pattern as '0,00 €'", text))
+        front = text[: len(found["front"])]
+        end = text[len(text) - len(found["end"] or "") :]
+        check_currencies(text, front, end)
+        behind = found["decimals"] or ""
+        dash = "" if "0" in behind else behind
+        group = found["group"] or found["hash"] or ""
+        if group == " ":  # it may be a narrow one
+            inside = text[len(front) : len(text) - len(end)]
+            group = next(sign for sign in inside if LOOKS.get(sign, sign) == " ")
+        named = currency_of(plain(front.strip() or end.strip()))
+        if found["point"] is None and group and named in WITH_THREE_DECIMALS:
+            return cls(front, "", group, 3, "", end)
+        return cls(front, group, found["point"] or "", behind.count("0"), dash, end)
+
+    @property
+    def currency(self) -> str:
+        """The currency of the pattern as it is written, which may be ¤ or empty."""
+        return self.front.strip() + self.end.strip()
+
+    def has_decimals_of(self, price: Money) -> bool:
+        """Returns whether the sign of an open price is the decimal one of this pattern, and its
+        currency has three decimals, as the dinar.
+        """
+        has_three = price.currency in WITH_THREE_DECIMALS
+        return has_three and self.decimals == 3 and self.point == price.group
+
+    def write(self, price: Money, currency: str = "") -> str:
+        """Returns a price as it is printed; raises `NotMoney` where it would be another price.
+
+        `currency` is that of the row, where it has one in a column of its own.
+
+        >>> from labeltools.tables.money import parse
+        >>> write = PricePattern.of("0.000,00 €").write
+        >>> write(parse("7.5")), write(parse("1,234.565")), write(parse("99 ct"))
+        ('7,50 €', '1.234,57 €', '0,99 €')
+        >>> PricePattern.of("0,– ¤").write(parse("4.00"), "CHF")
+        '4,– CHF'
+        >>> PricePattern.of("¤ 0,00").write(parse("3 kr."))
+        'kr 3,00'
+        >>> write(parse("8.330000000000002 €", most_decimals=17))
+        '8,33 €'
+        >>> write(parse("$3"))
+        Traceback (most recent call last):
+        labeltools.tables.money.NotMoney: has $, and the pattern of prices has EUR
+        >>> PricePattern.of("0 €").write(parse("4,99"))
+        Traceback (most recent call last):
+        labeltools.tables.money.NotMoney: has decimals, and the pattern of prices has none
+        """
+        if price.is_open:
+            raise NotMoney(THOUSANDS_OR_DECIMALS, Text("give --decimal , or --decimal ."))
+        if price.words or price.count != 1:
+            raise NotMoney(Text("has words, which the pattern of prices would lose"))
+        self.check_currency(price, currency)
+        shown = self.rounded(price.value)
+        if self.decimals < 2 and shown != price.value:
+            raise NotMoney(Text("has decimals, and the pattern of prices has none"))
+        if not shown and price.value:
+            raise NotMoney(Text("would be printed as zero"))
+        if abs(shown - price.value) > price.value * MOST_LOST:
+            raise NotMoney(Text("would be rounded by more than 1 %"))
+        own = currency or SIGN_OF.get(price.currency, price.currency)
+        number = (self.front + self.number(shown) + self.end).replace("¤", own)
+        unit = f" {price.unit}".replace(" /", "/") if price.unit else ""
+        return f"{price.basis}{number}{unit}{price.end}"
+
+    def rounded(self, value: Decimal) -> Decimal:
+        """Returns a value with the decimals of the pattern."""
+        return value.quantize(Decimal(1).scaleb(-self.decimals), ROUND_HALF_UP)
+
+    def changes(self, value: Decimal) -> bool:
+        """Returns whether rounding makes another amount of a value, and not only takes away what a
+        program's arithmetic has left.
+
+        >>> changes = PricePattern.of("0.00").changes
+        >>> changes(Decimal("1.859")), changes(Decimal("8.330000000000002"))
+        (True, False)
+        """
+        return abs(self.rounded(value) - value) > ARITHMETIC
+
+    def number(self, shown: Decimal) -> str:
+        """Returns a rounded number with the signs of the pattern."""
+        whole, _, decimals = f"{shown:,f}".partition(".")
+        behind = self.point + (self.dash or decimals) if self.point else ""
+        return whole.replace(",", self.group) + behind
+
+    def check_currency(self, price: Money, currency: str) -> None:
+        """Raises `NotMoney` where a price has another currency than the pattern, or none where it
+        wants one.
+        """
+        own = self.currency
+        found = currency_of_row(price, currency) or price.currency
+        wanted = currency_of(plain(own)) if own not in ("", "¤") else ""
+        has_one = found not in ("", "cent")
+        if has_one and wanted and not is_same(found, wanted):
+            raise NotMoney(Text("has {}, and the pattern of prices has {}", found, wanted))
+        if "¤" in own and not has_one:
+            raise NotMoney(Text("has no currency, and the pattern of prices wants one"))
+        if not own and found:
+            raise NotMoney(Text("has {}, and the pattern of prices has no currency", found))
+
+
+def currency_of_row(price: Money, currency: str) -> str:
+    """Returns the code of the currency of a row, which may be empty; raises `NotMoney` where the
+    price has another one.
+    """
+    row = currency_of(plain(currency), plain(currency)) or "" if currency else ""
+    if currency and price.currency not in ("", "cent") and not is_same(price.currency, row):
+        raise NotMoney(Text("has {}, and its row has {}", price.currency, currency))
+    return row
+
+
+def with_currency(price: Money, text: str, currency: str | None) -> str:
+    """Returns the text of a price with the currency of its row, which stands before the unit;
+    `currency` is None where the table has no column of them. Raises `NotMoney` where there is none
+    or another one.
+
+    >>> from labeltools.tables.money import parse_unit_price
+    >>> with_currency(parse_unit_price("(1 l = 4,98)"), "(1 l = 4,98)", "€")
+    '(1 l = 4,98 €)'
+    """
+    if currency is None:
+        return text
+    currency_of_row(price, currency)
+    if price.currency:
+        return text
+    if not currency:
+        raise NotMoney(Text("has no currency, and its row has none"))
+    bare = text.rstrip().removesuffix(price.end)
+    unit = PER_UNIT.search(bare) if price.unit else None
+    if unit is None:
+        return f"{bare} {currency}{price.end}"
+    return f"{bare[: unit.start()]} {currency}{bare[unit.start() :]}{price.end}"
+
+
+def check_currencies(text: str, front: str, end: str) -> None:
+    """Raises ValueError where a pattern has what is no currency, or two."""
+    for one in (front.strip(), end.strip()):
+        if one not in ("", "¤") and currency_of(plain(one)) is None:
+            raise ValueError(Text("{!r} in {!r} is no currency", one, text))
+    if front.strip() and end.strip():
+        raise ValueError(Text("{!r} has two currencies", text))
+
+
+def is_same(one: str, other: str) -> bool:
+    """Returns whether two currencies may be one."""
+    return one == other or (one, other) in SAME or (other, one) in SAME or is_pair(one, other)

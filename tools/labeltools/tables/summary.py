@@ -1,0 +1,74 @@
+"""What the keeper sees at the end: how many labels of what, the lowest and the highest price and
+count.
+"""
+
+from collections import Counter
+from dataclasses import dataclass, field
+from decimal import Decimal
+
+from labeltools.common.text import Text, counted, joined
+from labeltools.lines.symbologies import SYMBOLOGIES
+
+
+@dataclass
+class Totals:
+    """What a summary is made of: what was counted of the labels so far."""
+
+    symbologies: Counter[str] = field(default_factory=Counter)
+    labels: int = 0
+    copies: set[int] = field(default_factory=set)
+    lowest: tuple[Decimal, str] | None = None
+    highest: tuple[Decimal, str] | None = None
+    prices: int = 0
+    left_out: int = 0
+
+    def add(self, symbology: str, copies: int) -> None:
+        """Counts a row."""
+        self.symbologies[symbology] += 1
+        self.labels += copies
+        self.copies.add(copies)
+
+    def add_price(self, value: Decimal, text: str) -> None:
+        """Counts a price by its value, and as it is printed."""
+        self.prices += 1
+        if self.lowest is None or value < self.lowest[0]:
+            self.lowest = (value, text)
+        if self.highest is None or value > self.highest[0]:
+            self.highest = (value, text)
+
+
+def summary(totals: Totals) -> Text:
+    """Returns the summary, on one line.
+
+    >>> totals = Totals(left_out=1)
+    >>> totals.add("ean13", 1)
+    >>> totals.add("ean13", 3)
+    >>> totals.add_price(Decimal("0.8"), "0,80 €")
+    >>> totals.add_price(Decimal(12), "12,00 €")
+    >>> summary(totals)
+    '4 labels of 2 rows: 2 EAN-13; prices 0,80 € to 12,00 €; copies 1 to 3; 1 row left out'
+    """
+    rows = totals.symbologies.total()
+    found = totals.symbologies.most_common()
+    counts = ", ".join(f"{count} {SYMBOLOGIES[name].title}" for name, count in found)
+    labels = counted("{} label of {}", "{} labels of {}", totals.labels, rows_text(rows))
+    parts: list[Text] = [Text("{}: {}", labels, counts or Text("none"))]
+    if totals.lowest and totals.highest:
+        parts.append(said_of_prices(totals.lowest[1], totals.highest[1], totals.prices, rows))
+    if totals.copies - {1}:
+        parts.append(Text("copies {} to {}", min(totals.copies), max(totals.copies)))
+    if totals.left_out:
+        parts.append(counted("{} row left out", "{} rows left out", totals.left_out))
+    return joined("; ", parts)
+
+
+def said_of_prices(lowest: str, highest: str, count: int, rows: int) -> Text:
+    """Returns the lowest and the highest price, and in how many rows there are prices."""
+    one = lowest == highest
+    text = Text("price {}", lowest) if one else Text("prices {} to {}", lowest, highest)
+    return text if count == rows else Text("{} in {}", text, rows_text(count))
+
+
+def rows_text(count: int) -> Text:
+    """Returns a number of rows."""
+    return counted("{} row", "{} rows", count)

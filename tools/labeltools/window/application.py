@@ -1,0 +1,91 @@
+"""The program label-window: one for a desktop, with a window for each table."""
+
+import sys
+from collections.abc import Callable, Sequence
+from pathlib import Path
+from typing import Any
+
+from labeltools.common.command_line import Parser
+from labeltools.common.messages import ToolError
+from labeltools.common.text import Text
+from labeltools.window.gtk import GLib, Gio, Gtk
+from labeltools.window.window import Window
+
+ID = "org.labels.Window"
+KEYS = {
+    "win.open": "<Primary>o",
+    "win.save": "<Primary>s",
+    "win.print": "<Primary>p",
+    "win.command": "<Primary>d",
+    "app.help": "F1",
+    "app.quit": "<Primary>q",
+}
+# the page about the window: beside the sources, and where it is installed
+TOP = Path(__file__).resolve().parents[3]
+PAGES = (TOP / "docs/WINDOW.md", TOP / "doc/labels/docs/WINDOW.md")
+
+
+class Application(Gtk.Application):
+    """A program whose second start opens its table in the one that runs."""
+
+    def __init__(self) -> None:
+        super().__init__(application_id=ID, flags=Gio.ApplicationFlags.HANDLES_OPEN)
+
+    def do_startup(self) -> None:
+        """Adds what the keys do."""
+        Gtk.Application.do_startup(self)
+        self.add("help", self.help)
+        self.add("quit", self.end)
+        for action, keys in KEYS.items():
+            self.set_accels_for_action(action, [keys])
+
+    def add(self, name: str, called: Callable[[], object]) -> None:
+        """Adds an action."""
+        action = Gio.SimpleAction.new(name, None)
+        action.connect("activate", lambda _action, _parameter: called())
+        self.add_action(action)
+
+    def do_activate(self) -> None:
+        """Shows a window without a table."""
+        self.new_window()
+
+    def do_open(self, files: Sequence[Any], *_hint: Any) -> None:
+        """Opens each table in a window."""
+        for file in files:
+            self.new_window().open(Path(file.get_path() or file.get_uri()))
+
+    def new_window(self) -> Any:
+        """Returns a new window, which is shown."""
+        window = Window(application=self)
+        window.present()
+        return window
+
+    def help(self) -> None:
+        """Opens the page about the window."""
+        page = next((page for page in PAGES if page.exists()), None)
+        window = self.get_active_window()
+        try:
+            uri = page.as_uri() if page else "man:label-window"
+            Gtk.show_uri_on_window(window, uri, Gtk.get_current_event_time())
+        except GLib.Error as error:
+            window.show_problem(ToolError(Text("{}: {}", page or "man:label-window", error)))
+
+    def end(self) -> None:
+        """Closes all windows, which ends the program."""
+        for window in self.get_windows():
+            window.destroy()
+
+
+def run() -> int:
+    """Runs label-window and returns its status."""
+    about = "Prints labels from a table by a window over label-table and label-print."
+    parser = Parser("label-window", None, about, allow_abbrev=False)
+    parser.add_argument("table", metavar="TABLE", nargs="?", help="a table to open")
+    table = parser.parse_args().table
+    if not Gtk.init_check()[0]:
+        raise ToolError(
+            Text("there is no screen"), Text("on a terminal type label-table and label-print")
+        )
+    GLib.set_prgname(ID)
+    words = [] if table is None else ["--", table]
+    return int(Application().run([sys.argv[0], *words]))

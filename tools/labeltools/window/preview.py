@@ -1,0 +1,89 @@
+"""Shows pages and labels on a screen, by the code that prints them. Lengths are in millimetres."""
+
+import math
+from dataclasses import replace
+from typing import Any
+
+import cairo
+
+from labeltools.drawing.forms import Form
+from labeltools.drawing.dots import drawn_surface
+from labeltools.layout.letters import Letters
+from labeltools.common.messages import Silence
+from labeltools.drawing.pen import Page
+from labeltools.printing.press import Press, once
+from labeltools.printing.job import Prepared
+
+USED = (0.90, 0.91, 0.92)
+EDGE = (0.80, 0.83, 0.87)
+
+
+class Preview:
+    """Draws pages in a form, or each label alone as it is in the first cell of a page. It belongs
+    to the thread that made it.
+    """
+
+    def __init__(self, labels: Prepared, form: Form, is_single: bool = False) -> None:
+        job = replace(labels.job, form=form)
+        self.prints = labels.prints
+        self.sheet = job.plan.sheet
+        self.size = self.sheet.page
+        self.corner = (0.0, 0.0)
+        if is_single:
+            job = replace(job, plan=replace(job.plan, places=job.plan.places[:1]), first=1)
+            self.prints = once(labels.labels)
+            self.size = self.sheet.cell
+            self.corner = self.sheet.places[0]
+        self.count = max(1, job.pages_of(len(self.prints)))  # of pages
+        self.press = Press(job, labels.laid_out, Letters(job.fonts), Silence())
+
+    def cell_at(self, x: float, y: float) -> int:
+        """Returns the number of the cell at a place of a page, from 1; 0 for none."""
+        width, height = self.sheet.cell
+        for number, (left, top) in enumerate(self.sheet.places, 1):
+            if 0 <= x - left < width and 0 <= y - top < height:
+                return number
+        return 0
+
+    def page_of(self, row: str) -> int:
+        """Returns the number of the page, from 1, that has the label of a row; 0 for none."""
+        before = 0
+        for item, copies in zip(self.prints.items, self.prints.copies):
+            if str(item.label.record.place.number) == row:
+                return self.press.job.pages_of(before + 1)
+            before += copies
+        return 0
+
+    def draw(self, canvas: Any, number: int) -> None:
+        """Draws a page, from 1 on, on a canvas whose unit is a millimetre; used cells are grey."""
+        job = self.press.job
+        canvas.set_source_rgb(1, 1, 1)
+        canvas.paint()
+        canvas.translate(-self.corner[0], -self.corner[1])
+        canvas.set_line_width(canvas.device_to_user_distance(1, 1)[0])
+        for cell, place in enumerate(self.sheet.places, 1):
+            canvas.rectangle(*place, *self.sheet.cell)
+            if number == 1 and cell < job.first:
+                canvas.set_source_rgb(*USED)
+                canvas.fill_preserve()
+            canvas.set_source_rgb(*EDGE)
+            canvas.stroke()
+        canvas.set_source_rgb(0, 0, 0)
+        canvas.scale(job.plan.dot, job.plan.dot)
+        page = self.press.page(number - 1, self.prints)
+        if job.form.is_drawn:
+            self.press.draw(canvas, page)
+        else:
+            self.draw_dots(canvas, page)
+
+    def draw_dots(self, canvas: Any, page: Page) -> None:
+        """Draws the dots that are seen, on a canvas whose unit is a dot."""
+        left, top, right, bottom = (math.floor(side) for side in canvas.clip_extents())
+        size = right - left + 1, bottom - top + 1
+        seen = [(item, (x - left, y - top)) for item, (x, y) in page]
+        surface = drawn_surface(size, self.press.pen, seen, self.press.turn)
+        pattern = cairo.SurfacePattern(surface)
+        if canvas.user_to_device_distance(1, 1)[0] >= 2:
+            pattern.set_filter(cairo.Filter.NEAREST)
+        canvas.translate(left, top)
+        canvas.mask(pattern)

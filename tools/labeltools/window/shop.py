@@ -1,0 +1,246 @@
+"""What is behind the window of the shop: choices as the words of the commands, the labels that come
+of them, and what was chosen the last time.
+"""
+
+import hashlib
+import json
+import os
+import shlex
+import time
+from collections.abc import Mapping, Sequence, Set
+from contextlib import suppress
+from pathlib import Path
+from typing import Any
+
+from labeltools.commands import label_print as print_command, label_table as table_command
+from labeltools.common.text import NOTHING, Text
+from labeltools.common.command_line import read_input, words_of
+from labeltools.lines.engine import option_words
+from labeltools.tables.guess import guess_of
+from labeltools.lines.file import LineRecord, first_remark, label_lines, last_remark, read_lines
+from labeltools.common.messages import Cancelled, Place, ToolError, quoted
+from labeltools.printing.press import once
+from labeltools.printing.job import Prepared, labels_of, planned
+from labeltools.common.report import LeftOut
+from labeltools.tables.table import Lines, lines_of_table
+
+CONFIG = os.environ.get("XDG_CONFIG_HOME") or Path.home() / ".config"
+MEMORY = Path(CONFIG, "labels", "window.json")
+COLUMNS = ("code", "title", "text", "text-2", "price", "unit-price", "old-price", "copies")
+PAPER = ("sheet", "roll", "stock", "width", "height", "design", "to", "dpi", "address")
+FILES = "files.json"  # the words by which files were read
+MOST_FILES = 200
+Choices = Mapping[str, Any]  # by the names of the options
+
+
+class Talk:
+    """The talk of work beside the window: what it is told is kept, and it ends where nobody wants
+    it any more.
+    """
+
+    def __init__(self) -> None:
+        self.notes: list[LeftOut] = []
+        self.done = 0  # of the work
+        self.total = 0  # of it, where that is known
+        self.is_stopped = False
+
+    def note(self, place: Place | None, cell: str, reason: Text, hint: Text) -> None:
+        """Keeps why a row is left out."""
+        self.notes.append(LeftOut(place, cell, reason, hint))
+
+    def say(self, text: Text, hint: Text = NOTHING) -> None:
+        """Keeps something about the whole."""
+        self.note(None, "", text, hint)
+
+    def go_on(self, done: int, total: int) -> None:
+        """Keeps how far the work is; raises `Cancelled` where it is stopped."""
+        if self.is_stopped:
+            raise Cancelled(Text("stopped"))
+        self.done = done
+        self.total = total
+
+
+class Table:
+    """A table that is open, and what was made of it last: its lines, by the words of label-table;
+    the line that prints it in a shell, what there is to say, and how many rows are left out.
+    """
+
+    words: Sequence[str] = ()
+    lines: Lines
+    rows: Set[int]  # of the labels that can be printed
+    said: Sequence[LeftOut]
+    command: str
+    notes: Sequence[LeftOut]
+    left_out: int
+
+    def __init__(self, path: Path, text: str | None, header: int | None, talk: Talk) -> None:
+        """Reads a table by further words of label-table, None for those that are kept; its names
+        are in the row `header` (0: in none) where that is known. Raises `ToolError` and `OSError`.
+        """
+        _, self.data = read_input(str(path))
+        self.path = path
+        before = words_of_files().get(path.name, "") if text is None else ""
+        try:
+            self.read(before or text or "", header, talk)
+        except ToolError:
+            if not before:
+                raise
+            self.read("", header, talk)  # it has another encoding now, or other sheets
+        kept = self.kept.get("for-table", "")
+        if text is None and kept and kept != self.text and isinstance(kept, str):
+            with suppress(ToolError):
+                self.read(kept, header, talk)
+        self.paper = {name: value for name, value in last().items() if name in PAPER}
+
+    def read(self, text: str, header: int | None, talk: Talk) -> None:
+        """Guesses the columns of the table as words read it, and finds what is kept for these."""
+        head = words_of({"header-row": header, "no-header": header == 0})
+        arguments = table_command.understood(["--code", "1", *head, *option_words(text)])
+        options = table_command.options_of(arguments)
+        self.guess = guess_of(self.data, self.path.name, options, talk)
+        self.text = text
+        self.key = "\n".join(self.guess.names) if any(self.guess.names) else ""
+        self.kept = remembered().get(self.key, {}) if self.key else {}
+
+    def labels(self, choices: Choices, talk: Talk) -> Prepared:
+        """Returns the labels that are chosen; raises `ToolError` and `OSError`."""
+        for kind, places in self.guess.doubts.items():
+            if choices[kind] is None:
+                named = ", ".join(quoted(self.guess.names[at] or str(at + 1)) for at in places)
+                hint = Text("choose its column")
+                if kind == "price":
+                    raise ToolError(Text("the price may be in one of {}", named), hint)
+                raise ToolError(Text("the code may be in one of {}", named), hint)
+        to_print = print_words(choices)
+        options = print_command.options_of(print_command.command_line().parse_args(to_print))
+        job = planned(options)
+        since = {"new-since": str(self.printed) if choices["new-only"] else ""}
+        words = [*words_of(since), *table_words(choices)]
+        if words != self.words:  # other paper needs no other lines
+            self.lines = self.lines_by(words, talk)
+            self.said = tuple(talk.notes)
+            self.words = words
+        found = labels_of(options, job, self.path.name, self.lines.output, talk)
+        rows = set(self.lines.left_out)
+        more = [one for one in found.left_out if one.place and one.place.number not in rows]
+        remarks = [LeftOut(remark.first, "", remark.text) for remark in found.remarks]
+        self.notes = [*self.said, *more, *remarks]
+        self.left_out = len(rows) + len(more)
+        self.rows = {item.label.record.label.row for item in found.labels}
+        commands = ["label-table", *words, "--", str(self.path)], ["label-print", *to_print]
+        self.command = " | ".join(map(shlex.join, commands)) + f" > labels.{job.form.name}"
+        return found
+
+    def lines_by(self, words: Sequence[str], talk: Talk) -> Lines:
+        """Returns the lines of the table by the words of label-table."""
+        rules = table_command.options_of(table_command.understood([*words, "--", str(self.path)]))
+        return lines_of_table(self.data, self.path.name, rules, talk)
+
+    @property
+    def printed(self) -> Path:
+        """The lines that went out the last time, of a table with the same names."""
+        mark = hashlib.sha256(self.key.encode()).hexdigest()[:16]
+        return MEMORY.with_name(f"{mark}.lines")
+
+    def printed_on(self) -> str:
+        """Returns the day on which labels of such a table went out; empty where none did."""
+        if self.key and self.printed.exists():
+            return time.strftime("%x", time.localtime(self.printed.stat().st_mtime))
+        return ""
+
+    def keep_printed(self) -> None:
+        """Keeps the lines of the labels that went out, for the next `--new-since`, and those that
+        went out before, but for the same codes.
+        """
+        if not self.key:
+            return
+        new = read_lines(self.lines.output, self.path.name).records
+        new = tuple(record for record in new if record.label.row in self.rows)
+        codes = {(record.symbology, record.data) for record in new}
+        before = self.printed_records()
+        old = (record for record in before if (record.symbology, record.data) not in codes)
+        with suppress(OSError):
+            self.printed.parent.mkdir(parents=True, exist_ok=True)
+            self.printed.write_bytes(file_of([*old, *new]))
+
+    def printed_records(self) -> tuple[LineRecord, ...]:
+        """Returns the lines that went out before; none where they cannot be read."""
+        with suppress(OSError, ToolError):
+            return read_lines(self.printed.read_bytes(), self.printed.name).records
+        return ()
+
+    def keep(self, choices: Choices) -> None:
+        """Keeps choices by which labels went out; those of columns only where columns have names,
+        since two tables without names have nothing in common. The words by which the file was read
+        are kept for its name, too: without its sheet or encoding it would not open.
+        """
+        remember(self.key, choices)
+        others = {name: words for name, words in words_of_files().items() if name != self.path.name}
+        kept = {**others, self.path.name: choices["for-table"]} if choices["for-table"] else others
+        write(MEMORY.with_name(FILES), dict(list(kept.items())[-MOST_FILES:]))
+
+
+def file_of(records: Sequence[LineRecord]) -> bytes:
+    """Returns a file of lines."""
+    lines = (label_lines(one.label, one.line.decode(), True) for one in records)
+    return "".join([first_remark(""), *lines, last_remark(len(records), ())]).encode()
+
+
+def table_words(choices: Choices) -> list[str]:
+    """Returns the words of label-table, but for the file; raises `ToolError`."""
+    options = {name: choices[name] for name in (*COLUMNS, "symbology", "header-row")}
+    options["no-header"] = not choices["header-row"]
+    second = words_of({"text": options.pop("text-2")})
+    return [*words_of(options), *second, *option_words(choices["for-table"])]
+
+
+def print_words(choices: Choices) -> list[str]:
+    """Returns the words of label-print; raises `ToolError`."""
+    options = {name: choices[name] for name in ("stock", "first", "design", "to", "dpi")}
+    if choices["roll"]:
+        options["paper"] = f"{choices['width']:g}x{choices['height']:g}"
+        del options["stock"], options["first"]
+    return [*words_of(options), *option_words(choices["for-print"])]
+
+
+def compare(labels: Prepared, talk: Talk) -> None:
+    """Draws each label once as it is printed, and compares it with its line; raises `ToolError`
+    where it is another one.
+    """
+    for drawn in labels.press(talk).documents(once(labels.labels)):
+        drawn.close()
+
+
+def words_of_files() -> dict[str, str]:
+    """Returns the words by which tables were read, by the names of their files."""
+    with suppress(OSError, ValueError, AttributeError):
+        found = json.loads(MEMORY.with_name(FILES).read_text(encoding="utf-8")).items()
+        return {name: words for name, words in found if isinstance(words, str)}
+    return {}
+
+
+def remembered() -> dict[str, Choices]:
+    """Returns what was chosen, by the names of columns; nothing where that is not understood."""
+    with suppress(OSError, ValueError, AttributeError):
+        found = json.loads(MEMORY.read_text(encoding="utf-8")).items()
+        return {names: kept for names, kept in found if isinstance(kept, dict)}
+    return {}
+
+
+def last() -> Choices:
+    """Returns what was chosen the last time, for whatever table."""
+    return next(reversed(remembered().values()), {})
+
+
+def remember(names: str, choices: Choices) -> None:
+    """Keeps what was chosen."""
+    others = {other: kept for other, kept in remembered().items() if other != names}
+    kept = {**others, names: choices}  # the last one at the end
+    write(MEMORY, kept)
+
+
+def write(path: Path, kept: Mapping[str, Any]) -> None:
+    """Writes what is kept; a folder that takes no file is no reason to stop."""
+    with suppress(OSError):
+        path.parent.mkdir(parents=True, exist_ok=True)
+        path.write_text(json.dumps(kept, indent=1), encoding="utf-8")

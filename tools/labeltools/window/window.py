@@ -1,0 +1,708 @@
+"""The window of the shop, by GTK 3: a table, what its columns are for, the pages as they are
+printed, the rows that are left out, and the ways out. Its widgets are those of window.ui.
+"""
+
+import math
+import shlex
+from collections.abc import Callable, Sequence
+from concurrent.futures import Future, ThreadPoolExecutor
+from contextlib import suppress
+from functools import lru_cache, partial
+from pathlib import Path
+from typing import Any
+
+from labeltools.common.text import Text, counted, translated
+from labeltools.paper.area import ARTICLE, MILLIMETRES
+from labeltools.drawing.forms import PBM, SVG
+from labeltools.drawing.pdf import POINTS
+from labeltools.common.messages import Offers, ToolError, of_system
+from labeltools.window import setups
+from labeltools.window.gtk import GLib, Gdk, Gio, Gtk, Pango
+from labeltools.window.menu import Menu, add_recent
+from labeltools.designs.design import is_file
+from labeltools.window.preview import Preview
+from labeltools.printing.network import SCHEME, address_of
+from labeltools.commands.label_print import check_count, print_on, send_to
+from labeltools.printing.job import Prepared
+from labeltools.printing.cups import media_of, queue_of, queues
+from labeltools.window.shop import COLUMNS, Choices, Table, Talk, compare
+from labeltools.paper.stock import list_stock
+from labeltools.common.words import _
+
+FILE = Path(__file__).with_name("window.ui")
+# the controls by the names of options, and the property of each that has what is chosen
+CONTROLS = {
+    **dict.fromkeys((*COLUMNS, "symbology", "design", "to", "dpi"), "active-id"),
+    **dict.fromkeys(("stock", "for-table", "for-print", "address"), "text"),
+    **dict.fromkeys(("header-row", "first", "width", "height"), "value"),
+    **dict.fromkeys(("sheet", "roll", "new-only"), "active"),
+}
+A_FILE = "file"  # the choice of a design of one's own
+OF_DRIVER = "cups-"  # what the names of choices begin with that a driver understands
+MANY = 1000  # labels above it are asked for before they are printed
+MOST_NOTES = 2000
+DOT = 2  # pixels of a dot, where dots are looked at
+SCREEN = 96 / MILLIMETRES  # pixels of a millimetre of a monitor that does not say its size
+PATIENCE = 500  # milliseconds after which work is shown, and how far it is from then on
+USUAL_DPI = {"zpl": "203", "escpos": "203"}  # of the printers of these languages
+LETTERS = 14  # that a choice shows at least
+LEAST_WRAP = 150  # pixels in which reasons are wrapped
+WRAP_MARGIN = 20  # pixels of the list beside the reasons
+
+
+def child(name: str = "") -> Any:
+    """Returns a widget of window.ui, by its id, or else by the name of the attribute."""
+    return Gtk.Template.Child(name or None)
+
+
+class Choice(Gtk.ComboBox):
+    """A choice from a list whose rows have a text, and an id behind it."""
+
+    __gtype_name__ = "LabelsChoice"
+
+    def __init__(self, **properties: Any) -> None:
+        super().__init__(**properties)
+        letters = Gtk.CellRendererText(ellipsize=Pango.EllipsizeMode.END, width_chars=LETTERS)
+        self.pack_start(letters, True)
+        self.add_attribute(letters, "text", 0)
+        self.set_id_column(1)
+
+
+@Gtk.Template(filename=str(FILE))
+class Window(Gtk.ApplicationWindow):
+    """A window for one table. Work is done in a thread of its own, since pens belong to one; new
+    work ends the old one, whose result is dropped.
+    """
+
+    __gtype_name__ = "LabelsWindow"
+    # the choices of the table
+    code, symbology, title, text, text_2, more = (child() for _ in range(6))
+    price, unit_price, old_price, copies, header_row, new_only = (child() for _ in range(6))
+    # those of the labels
+    sheet, stock, first, roll, width, height, design = (child() for _ in range(7))
+    to, dpi, for_table, for_print = (child() for _ in range(4))
+    # their lists
+    columns, sheets, designs, resolutions, notes, completion = (child() for _ in range(6))
+    # what is shown
+    head, stack, result, guessed, below = (child() for _ in range(5))
+    paper, desk, view, number, of, count, left_out, left_out_list = (child() for _ in range(8))
+    why, reason, line, command = (child() for _ in range(4))
+    # what is said
+    info, problem, offers, done, said, working, progress = (child() for _ in range(7))
+    # dialogs and menus
+    opener, design_opener, saver, many, naming, setup_name = (child() for _ in range(6))
+    network, address, menu_button = (child() for _ in range(3))
+    open_button, save_button, print_button = map(child, ("open", "save", "print"))
+
+    labels: Prepared  # that were made last
+    shown: Preview
+
+    def __init__(self, **properties: Any) -> None:
+        super().__init__(**properties)
+        self.init_template()
+        if lacking(self):
+            raise LookupError(f"window.ui has no widgets {', '.join(lacking(self))}")
+        self.actions = {
+            name: self.add_window_action(name, called)
+            for name, called in (
+                ("open", self.ask_table),
+                ("save", self.ask_file),
+                ("print", self.ask_printer),
+                ("command", self.show_command),
+                ("keep-setup", self.ask_setup),
+            )
+        }
+        self.menu = Menu(self)
+        self.menu_button.set_menu_model(self.menu.model)
+        self.menu_button.connect("toggled", lambda _button: self.menu.fill())
+        self.thread = ThreadPoolExecutor(1)
+        self.talk = Talk()
+        self.path: Path | None = None  # None too while controls are filled
+        self.chosen: tuple[Path | None, Sequence[str], Choices] = None, (), {}  # for which names
+        self.words = ""  # by which the table is read
+        self.last_design = ARTICLE.name
+        self.table: Table | None = None
+        self.has_labels = False  # that are chosen
+        self.printing: Any = None  # the job that is being sent: without this GTK would drop it
+        self.doubt: Text | None = None  # about its printer
+        self.let_out(False)
+        self.offer_sheets()
+        self.drag_dest_set(Gtk.DestDefaults.ALL, [], Gdk.DragAction.COPY)
+        self.drag_dest_add_uri_targets()
+
+    def add_window_action(self, name: str, called: Callable[[], object]) -> Any:
+        """Returns a new action of the window."""
+        action = Gio.SimpleAction.new(name, None)
+        action.connect("activate", lambda _action, _parameter: called())
+        self.add_action(action)
+        return action
+
+    def let_out(self, is_ready: bool) -> None:
+        """Lets labels go out, or not."""
+        for name in ("save", "print", "command"):
+            self.actions[name].set_enabled(is_ready)
+
+    def control(self, name: str) -> Any:
+        """Returns the control of an option by its name."""
+        return getattr(self, name.replace("-", "_"))
+
+    def offer_sheets(self) -> None:
+        """Offers the sheets that label-print lists for what is typed."""
+        with suppress(ToolError):  # glabels, which has the sheets, is not there
+            for line in list_stock(""):
+                self.sheets.append([line.partition(": ")[0], line])
+        listed = lru_cache(1)(lambda typed: set(list_stock(typed)))
+        self.completion.set_match_func(
+            lambda _self, typed, row: self.sheets[row][1] in listed(typed)
+        )
+
+    def start(self, work: Callable[[Talk], Any], then: Callable[[Any], object]) -> None:
+        """Does work, and then something with what came of it; nothing goes out until then."""
+        self.on_stop()
+        self.talk = Talk()
+        self.info.hide()
+        self.done.hide()
+        self.let_out(False)
+        future = self.thread.submit(work, self.talk)
+        future.add_done_callback(partial(GLib.idle_add, self.end_work, self.talk, then))
+        GLib.timeout_add(PATIENCE, self.show_progress, self.talk)
+
+    def end_work(self, talk: Talk, then: Callable[[Any], object], future: "Future[Any]") -> None:
+        """Shows what came of work, but of what nobody wants any more."""
+        if talk.is_stopped:
+            return
+        self.on_stop()
+        try:
+            with suppress(SystemExit):  # --help was typed
+                then(future.result())
+        except (ToolError, OSError) as error:
+            self.show_problem(of_system(error) if isinstance(error, OSError) else error)
+
+    def show_progress(self, talk: Talk) -> bool:
+        """Shows how far work is; returns whether it goes on."""
+        if not talk.is_stopped:
+            self.working.show()
+            self.progress.set_fraction(talk.done / talk.total if talk.total else 0.0)
+            self.progress.set_text(progress_text(talk))
+        return not talk.is_stopped
+
+    def show_problem(self, problem: ToolError) -> None:
+        """Says why something cannot be done, and offers what helps."""
+        self.problem.set_text(said(problem.what, problem.hint))
+        self.offer(problem.offers)
+        self.info.show()
+
+    def offer(self, offers: Offers) -> None:
+        """Offers choices that help, a button for each."""
+        for old in self.offers.get_children():
+            old.destroy()
+        for shown, words in offers:
+            button = Gtk.Button(label=shown, visible=True)
+            button.connect("clicked", self.on_offer, shlex.join(words))
+            self.offers.add(button)
+
+    def on_offer(self, _button: Any, words: str) -> None:
+        """Reads the table by the choice."""
+        self.for_table.set_text(words)
+
+    @Gtk.Template.Callback()
+    def on_stop(self, _window: Any = None) -> None:
+        """Ends work, and lets labels go out where there are some."""
+        self.talk.is_stopped = True
+        self.working.hide()
+        self.let_out(self.has_labels)
+
+    @Gtk.Template.Callback()
+    def on_stop_button(self, _button: Any) -> None:
+        """Ends work; where a table was being read, another one can be opened."""
+        self.on_stop()
+        if self.table is None:
+            self.path = None
+            self.head.set_subtitle("")
+            self.stack.set_visible_child_name("empty")
+        self.said.set_text(_("Stopped: nothing went out"))
+        self.done.show()
+
+    def open(self, path: Path, header: int | None = None, is_again: bool = False) -> None:
+        """Reads a table, guesses its columns or takes those of the last time, and makes labels."""
+        if not is_again:
+            self.chosen = None, (), {}
+        text = self.for_table.get_text() if path == self.path else None
+        self.words = text or ""
+        self.take({"for-table": self.words})
+        self.path = path
+        self.table = None
+        self.has_labels = False
+        self.columns.clear()
+        self.take({"symbology": None})  # a table that cannot be read has none
+        self.guessed.hide()
+        self.new_only.hide()
+        self.result.hide()
+        self.head.set_subtitle(path.name)
+        self.stack.set_visible_child_name("work")
+        self.start(partial(Table, path, text, header), self.fill)
+
+    def fill(self, table: Table) -> None:
+        """Fills the choices of columns for a table."""
+        self.path = None
+        guess = table.guess
+        self.columns.append([_("none"), ""])
+        for number, (name, example) in enumerate(zip(guess.names, guess.examples), 1):
+            name = name or _("column {number}").format(number=number)
+            shown = f"{name}  \u2013  {example}" if example else name
+            self.columns.append([shown, str(number)])
+        columns = {option: str(place + 1) for option, place in guess.columns.items()}
+        self.take({**dict.fromkeys(COLUMNS, ""), "code": "1", **columns})
+        self.take(dict.fromkeys(guess.doubts))  # only the keeper knows
+        # a table that is read again, by other words, keeps what is chosen
+        is_same = (table.path, guess.names) == self.chosen[:2]
+        others = {**table.paper, "for-print": "", **table.kept, "first": 1}
+        self.take({"symbology": guess.symbology, **(self.chosen[2] if is_same else others)})
+        self.text_2.set_visible(self.choices()["text-2"])
+        self.words = table.text
+        self.take({"for-table": self.words})
+        self.take({"header-row": guess.header})
+        self.guessed.set_visible(not table.kept)
+        since = table.printed_on()
+        text = _("Only what is _new or changed since {date}").format(date=since)
+        self.new_only.set_label(text)
+        self.new_only.set_visible(since)
+        if not since:
+            self.take({"new-only": False})
+        self.path = table.path
+        self.table = table
+        add_recent(table.path)
+        self.make()
+
+    def take(self, choices: Choices) -> None:
+        """Takes choices, but for what somebody has written into the file of them."""
+        for name, value in choices.items():
+            with suppress(KeyError, TypeError, ValueError):
+                kind = CONTROLS[name]
+                if name == "design":
+                    self.offer_design(value)
+                if name == "dpi":
+                    self.offer_resolution(value)
+                self.control(name).set_property(kind, value)
+
+    def choices(self) -> Choices:
+        """Returns what is chosen."""
+        return {name: self.control(name).get_property(kind) for name, kind in CONTROLS.items()}
+
+    @Gtk.Template.Callback()
+    def make(self, _control: Any = None) -> None:
+        """Makes the labels that are chosen."""
+        if self.table is not None:
+            self.has_labels = False
+            self.chosen = self.table.path, self.table.guess.names, self.choices()
+            work = partial(self.table.labels, self.choices())
+            self.start(work, partial(self.show_labels, self.table))
+
+    @Gtk.Template.Callback()
+    def on_more(self, _button: Any) -> None:
+        """Asks for a second text, or for none any more."""
+        is_asked = not self.text_2.get_visible()
+        self.text_2.set_visible(is_asked)
+        if not is_asked:
+            self.take({"text-2": ""})
+
+    @Gtk.Template.Callback()
+    def on_printer(self, printer: Any) -> None:
+        """Makes the labels for another kind of printer, with the dots that it usually has."""
+        if self.path is not None:
+            path, self.path = self.path, None
+            self.take({"dpi": USUAL_DPI.get(printer.get_active_id(), "600")})
+            self.path = path
+            self.make()
+
+    def offer_resolution(self, dpi: str) -> None:
+        """Offers the dots an inch of a printer."""
+        known = [int(row[1]) for row in self.resolutions]
+        if int(dpi) not in known:
+            place = sum(other < int(dpi) for other in known)
+            self.resolutions.insert(place, [f"{dpi} dpi", dpi])
+
+    def offer_design(self, name: str) -> None:
+        """Offers a design of a file, before the choice of another one."""
+        known = [row[1] for row in self.designs]
+        if name not in known and is_file(name):
+            self.designs.insert(len(known) - 1, [Path(name).name, name])
+
+    @Gtk.Template.Callback()
+    def on_design(self, design: Any) -> None:
+        """Makes the labels in another design; asks for its file where that is chosen."""
+        name = design.get_active_id()
+        if name == A_FILE:
+            is_found = self.design_opener.run() == Gtk.ResponseType.ACCEPT
+            self.take(
+                {"design": self.design_opener.get_filename() if is_found else self.last_design}
+            )
+        elif name:
+            self.last_design = name
+            self.make()
+
+    @Gtk.Template.Callback()
+    def on_sheet(self, entry: Any) -> None:
+        """Makes the labels once a sheet is named as it is listed; else they are made when the name
+        is left, or Enter is typed.
+        """
+        if not entry.has_focus() or is_sheet(entry.get_text()):
+            self.make()
+
+    @Gtk.Template.Callback()
+    def on_left(self, _entry: Any, _event: Any) -> bool:
+        """Makes the labels for the sheet whose name was typed, where that has changed."""
+        if self.chosen[2] and self.chosen[2] != self.choices():
+            self.make()
+        return False
+
+    @Gtk.Template.Callback()
+    def on_list_size(self, _list: Any, area: Any) -> None:
+        """Wraps the reasons at the right edge of the list."""
+        width = max(LEAST_WRAP, area.width - self.why.get_x_offset() - WRAP_MARGIN)
+        if width != self.reason.get_property("wrap-width"):
+            self.reason.set_property("wrap-width", width)
+            GLib.idle_add(self.why.queue_resize)
+
+    def show_labels(self, table: Table, labels: Prepared) -> None:
+        """Shows the labels that were made, and what there is to say about them."""
+        self.labels = labels
+        self.command.set_text(table.command)
+        self.count.set_text(translated(table.lines.summary))
+        self.notes.clear()
+        for note in table.notes[:MOST_NOTES]:
+            row = str(note.place.number) if note.place else ""
+            self.notes.append([row, note.data, said(note.reason, note.hint)])
+        text = translated(counted("{} row is left out", "{} rows are left out", table.left_out))
+        self.left_out.set_text(text if table.left_out else _("Please look at this"))
+        self.below.set_visible(table.notes)
+        self.show_view()
+        self.result.show()
+        check_count(labels.job, labels.prints, False)
+        self.has_labels = True
+        self.on_stop()
+
+    @Gtk.Template.Callback()
+    def redraw(self, _number: Any) -> None:
+        """Draws the view again."""
+        self.paper.queue_draw()
+
+    @Gtk.Template.Callback()
+    def show_view(self, _control: Any = None) -> None:
+        """Shows the page or the label, and how many there are."""
+        kind = self.view.get_active_id()
+        form = SVG if self.labels.job.form.is_drawn and kind != "dots" else PBM
+        self.shown = Preview(self.labels, form, kind != "page")
+        self.number.set_range(1, self.shown.count)
+        self.of.set_text(_("of {all}").format(all=self.shown.count))
+        dots = DOT / self.labels.job.plan.dot
+        scale = {"dots": dots, "true": self.true_scale()}.get(kind, 0.0)
+        width, height = self.shown.size
+        paper = self.paper
+        paper.set_size_request(math.ceil(width * scale), math.ceil(height * scale))
+        paper.set_halign(Gtk.Align.CENTER if scale else Gtk.Align.FILL)
+        self.desk.set_property("ratio", width / height)
+        paper.queue_draw()
+
+    def true_scale(self) -> float:
+        """Returns the pixels of a millimetre of the monitor, as far as it says its size."""
+        monitor = self.get_display().get_monitor_at_window(self.get_window())
+        width = monitor.get_width_mm()
+        return float(monitor.get_geometry().width / width if width else SCREEN)
+
+    @Gtk.Template.Callback()
+    def on_draw(self, paper: Any, canvas: Any) -> None:
+        """Draws the view."""
+        scale = paper.get_allocated_width() / self.shown.size[0]
+        canvas.scale(scale, scale)
+        self.shown.draw(canvas, self.number.get_value_as_int())
+
+    @Gtk.Template.Callback()
+    def on_click(self, paper: Any, event: Any) -> None:
+        """Begins at the cell of the first page that was clicked: those before it are used."""
+        scale = paper.get_allocated_width() / self.shown.size[0]
+        cell = self.shown.cell_at(event.x / scale, event.y / scale)
+        is_first = self.number.get_value_as_int() == 1
+        if cell and is_first and self.view.get_active_id() == "page":
+            self.first.set_value(cell)
+
+    @Gtk.Template.Callback()
+    def on_note(self, selection: Any) -> None:
+        """Shows the label of the row that was chosen, where there is one."""
+        model, row = selection.get_selected()
+        page = self.shown.page_of(model[row][0]) if row else 0
+        if page:
+            self.number.set_value(page)
+
+    def ask_table(self) -> None:
+        """Asks for a table."""
+        if self.opener.run() == Gtk.ResponseType.ACCEPT:
+            self.open(Path(self.opener.get_filename()))
+
+    @Gtk.Template.Callback()
+    def on_drop(self, _widget: Any, *event: Any) -> None:
+        """Opens a table that was dropped."""
+        for uri in event[3].get_uris()[:1]:
+            self.open(Path(Gio.File.new_for_uri(uri).get_path() or uri))
+
+    @Gtk.Template.Callback()
+    def reopen(self, control: Any) -> None:
+        """Reads the table by other words, such as its encoding, or with names in another row."""
+        if self.path is not None:
+            is_header = control is self.header_row
+            if not is_header and control.get_text() == self.words:
+                return
+            header = control.get_value_as_int() if is_header else None
+            self.open(self.path, header, is_again=True)
+
+    def is_meant(self) -> bool:
+        """Returns whether labels are meant, which is asked for where they are many."""
+        if len(self.labels.prints) <= MANY:
+            return True
+        answer = self.many.run()
+        self.many.hide()
+        return bool(answer == Gtk.ResponseType.OK)
+
+    def ask_file(self) -> None:
+        """Asks for a file, and writes it."""
+        chooser = self.saver
+        path = self.table.path if self.table else Path()
+        chooser.set_current_folder(str(path.absolute().parent))
+        chooser.set_current_name(f"{path.stem}-labels.{self.labels.job.form.name}")
+        if self.is_meant() and chooser.run() == Gtk.ResponseType.ACCEPT:
+            self.save(Path(chooser.get_filename()))
+
+    def save(self, path: Path) -> None:
+        """Writes what label-print writes: each label is compared before."""
+        labels = self.labels
+        self.keep()
+        done = _("{file} is written").format(file=path.name)
+
+        def work(talk: Talk) -> None:
+            labels.press(talk).save(labels.prints, path)
+
+        self.start(work, lambda _none: self.say(done))
+
+    def say(self, text: str) -> None:
+        """Says that labels went out, and keeps which."""
+        self.keep_printed()
+        self.said.set_text(text)
+        self.done.show()
+
+    def print(self, _none: None) -> None:
+        """Prints by the dialog of the desktop."""
+        self.printing = self.operation()
+        self.printing.run(Gtk.PrintOperationAction.PRINT_DIALOG, self)
+
+    def print_at(self, settings: Any) -> None:
+        """Prints as a dialog was answered."""
+        self.printing = self.operation()
+        self.printing.set_print_settings(settings)
+        self.printing.run(Gtk.PrintOperationAction.PRINT, self)
+
+    def cancel(self, operation: Any) -> None:
+        """Ends a job before anything of it is sent."""
+        self.printing = None
+        operation.cancel()
+
+    def on_sent(self, operation: Any) -> None:
+        """Says what was sent where, or that nothing was. GTK says "done" where pages are drawn, and
+        not sent yet.
+        """
+        status = operation.get_status()
+        settings = operation.get_print_settings()
+        file = settings.get("output-uri")
+        name = Path(file).name if file else settings.get_printer()
+        if status == Gtk.PrintStatus.FINISHED_ABORTED and operation is self.printing:
+            self.show_problem(ToolError(Text("nothing was sent to {}", name)))
+        elif status == Gtk.PrintStatus.FINISHED:
+            count = len(self.labels.prints)
+            text = counted("{} label sent to {}", "{} labels sent to {}", count, name)
+            self.say("\n".join(map(translated, filter(None, (text, self.doubt)))))
+
+    def keep_printed(self) -> None:
+        """Keeps which labels went out."""
+        if self.table is not None:
+            self.table.keep_printed()
+
+    def keep(self) -> None:
+        """Keeps what is chosen for the next table like this: labels go out by it."""
+        if self.table is not None:
+            self.table.keep(self.choices())
+
+    def ask_printer(self) -> None:
+        """Prints: by the dialog of the desktop, or for ZPL and ESC/POS the file at a queue."""
+        labels = self.labels
+        if not self.is_meant():
+            return
+        self.keep()
+        if labels.job.form.is_roll:
+            self.start(lambda _talk: queues(), self.ask_queue)
+        else:
+            self.start(partial(compare, labels), self.print)
+
+    def ask_queue(self, names: list[str]) -> None:
+        """Asks for a queue for the file of a printer's own language."""
+        menu = Gtk.Menu()
+        for name in names:
+            item = Gtk.MenuItem(label=name, visible=True)
+            item.connect("activate", self.send, name)
+            menu.append(item)
+        item = Gtk.MenuItem(label=_("A printer in the network…"), visible=True)
+        item.connect("activate", self.ask_address)
+        menu.append(item)
+        south = Gdk.Gravity.SOUTH_WEST
+        menu.popup_at_widget(self.print_button, south, Gdk.Gravity.NORTH_WEST, None)
+
+    def send(self, _item: Any, queue: str) -> None:
+        """Sends what label-print writes to a queue: each label is compared before."""
+        labels = self.labels
+
+        def work(talk: Talk) -> Text:
+            press = labels.press(talk)
+            if queue.startswith(SCHEME):
+                return send_to(press, labels.prints, queue)
+            return print_on(press, labels.prints, queue_of(queue))
+
+        self.start(work, lambda text: self.say(translated(text)))
+
+    def ask_address(self, item: Any) -> None:
+        """Asks where a printer is in the network, and sends to it."""
+        answer = self.network.run()
+        self.network.hide()
+        if answer == Gtk.ResponseType.OK:
+            name = SCHEME + self.address.get_text().strip().removeprefix(SCHEME)
+            try:
+                address_of(name)
+            except ToolError as error:
+                self.show_problem(error)
+            else:
+                self.keep()
+                self.send(item, name)
+
+    def operation(self) -> Any:
+        """Returns what prints each page in its own size: no scaling, no margins of the printer."""
+        pages = Preview(self.labels, self.labels.job.form)
+        dpi = self.labels.job.plan.dpi
+
+        def draw(_operation: Any, context: Any, number: int) -> None:
+            canvas = context.get_cairo_context()
+            canvas.scale(POINTS / dpi, POINTS / dpi)
+            pages.press.draw(canvas, pages.press.page(number, pages.prints))
+
+        points = [side * POINTS / MILLIMETRES for side in pages.size]
+        setup = Gtk.PageSetup()
+        setup.set_paper_size(Gtk.PaperSize.new_from_ppd(media_of(pages.size), _("Labels"), *points))
+        settings = Gtk.PrintSettings()
+        settings.set("cups-print-scaling", "none")
+        operation = Gtk.PrintOperation(
+            default_page_setup=setup,
+            print_settings=settings,
+            use_full_page=True,
+            unit=Gtk.Unit.POINTS,
+            n_pages=pages.count,
+            job_name=self.head.get_subtitle(),
+            allow_async=True,
+            show_progress=True,
+        )
+        operation.connect("begin-print", self.check_printer)
+        operation.connect("draw-page", draw)
+        operation.connect("status-changed", self.on_sent)
+        return operation
+
+    def check_printer(self, operation: Any, _context: Any) -> None:
+        """Tells the printer that was chosen which dots the labels have. Where it has other ones,
+        nothing is printed: the labels are made with these. A file has any.
+        """
+        settings = operation.get_print_settings()
+        name = settings.get_printer()
+        self.doubt = None
+        if not name or settings.get("output-uri"):
+            return
+        try:
+            queue = queue_of(name, chosen_in(settings))
+        except ToolError as error:
+            self.cancel(operation)
+            self.show_problem(error)
+            return
+        self.doubt = queue.doubt
+        job = self.labels.job
+        dpi = queue.dpi_for(not job.plan.sheet.is_single) or job.plan.dpi
+        if dpi % job.plan.dpi:
+            self.cancel(operation)
+            self.make_for(name, dpi)
+        elif resolution := queue.options(job).get("Resolution"):
+            self.cancel(operation)  # what the dialog told the printer cannot be changed here
+            settings = settings.copy()
+            settings.set(f"{OF_DRIVER}Resolution", resolution)
+            GLib.idle_add(self.print_at, settings)
+
+    def make_for(self, printer: str, dpi: int) -> None:
+        """Makes the labels with the dots of a printer, to be looked at before they are printed."""
+        self.take({"dpi": str(dpi)})
+        what = Text("{} prints at {} dpi: the labels are drawn for it now", printer, dpi)
+        problem = ToolError(what, Text("look at them, and print again"))
+        if self.table is not None:
+            work = partial(self.table.labels, self.choices())
+            self.start(work, partial(self.show_for_printer, self.table, problem))
+
+    def show_for_printer(self, table: Table, problem: ToolError, labels: Prepared) -> None:
+        """Shows the labels that were made for a printer, and says so."""
+        self.show_labels(table, labels)
+        self.show_problem(problem)
+
+    def show_command(self) -> None:
+        """Shows the line that does the same in a shell."""
+        self.line.popup()
+
+    def ask_setup(self) -> None:
+        """Asks for a name for the paper and the printer, and keeps them by it."""
+        answer = self.naming.run()
+        self.naming.hide()
+        name = self.setup_name.get_text().strip()
+        if answer == Gtk.ResponseType.OK and name:
+            setups.keep(name, self.choices())
+
+    def use_setup(self, name: str) -> None:
+        """Takes the paper and the printer of a setup."""
+        path, self.path = self.path, None
+        self.take(setups.kept().get(name, {}))
+        self.path = path
+        self.make()
+
+
+def said(what: Text, hint: Text) -> str:
+    """Returns a reason, and below it what to do."""
+    return "\n".join(translated(text) for text in (what, hint) if text)
+
+
+def chosen_in(settings: Any) -> dict[str, str]:
+    """Returns what was chosen of the driver in the dialog of the desktop, by its names."""
+    found: dict[str, str] = {}
+    settings.foreach(lambda name, value: found.setdefault(name, value))
+    return {
+        name.removeprefix(OF_DRIVER): value
+        for name, value in found.items()
+        if name.startswith(OF_DRIVER)
+    }
+
+
+def lacking(window: Any) -> list[str]:
+    """Returns the names of the widgets that a window names and window.ui does not have."""
+    names = (name for name, one in vars(Window).items() if isinstance(one, Gtk.Template.Child))
+    return [name for name in names if getattr(window, name) is None]
+
+
+def progress_text(talk: Talk) -> str:
+    """Returns how much of the work is done; empty where that is not known."""
+    if not talk.total:
+        return ""
+    done, total = (f"{number:n}" for number in (talk.done, talk.total))
+    return _("{done} of {all}").format(done=done, all=total)
+
+
+def is_sheet(name: str) -> bool:
+    """Returns whether a name is one of the sheets that are listed, or empty."""
+    with suppress(ToolError):
+        return any(line.partition(": ")[0] == name for line in list_stock(name))
+    return False
