@@ -7,6 +7,7 @@ its size, and turned as it is asked for. This holds for each symbol of a label: 
 user's own may have several.
 """
 
+from functools import cache
 from operator import mul
 from typing import Any, Iterator, NamedTuple, Optional, Sequence
 
@@ -256,14 +257,20 @@ def bands_of(symbol: Any, high: int) -> list[Band]:
         blank = "0" * len(whole)
         return [Band(row, whole, 1) for row in (*[blank] * above, *rows, *[blank] * below)]
     bars = Band(rows[0], whole, high)
-    spans = GUARDS.get(symbol.symbology)
-    if not spans:
+    if symbol.symbology not in GUARDS:
         return [bars]
-    looked = ["0"] * len(whole)
-    for first, end in spans:
+    looked = looked_at(symbol.symbology, left, len(whole))
+    dark = f"{int(rows[0], 2) & int(looked, 2):0{len(whole)}b}"
+    return [bars, Band(dark, looked, LONGER)]
+
+
+@cache
+def looked_at(symbology: str, left: int, wide: int) -> str:
+    """Returns which modules below the bars are looked at: those of longer guards."""
+    looked = ["0"] * wide
+    for first, end in GUARDS[symbology]:
         looked[left + first : left + end] = "1" * (end - first)
-    dark = "".join(min(pair) for pair in zip(rows[0], looked))
-    return [bars, Band(dark, "".join(looked), LONGER)]
+    return "".join(looked)
 
 
 def check_dots(wanted: Wanted, rows: Sequence[bytes], width: int, dot: float) -> None:
