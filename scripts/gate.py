@@ -11,11 +11,14 @@ and writes their lines.
 quick: what needs no program and no proof, some 45 seconds of a processor. all: that, every proof from nothing (but of
 crates that an earlier `rt ci` proved on this machine), the wrong bodies, the program as users get it, and built: what
 needs that program and the library. Of a step that fails all is printed that it wrote, of another one its last line,
-and of each how long it took. What others need ends the run where it fails. The last line is `N passed, M failed`.
+and of each how long it took. A step that takes too long is ended, with all that it started. What others need ends the
+run where it fails. The last line is `N passed, M failed`.
 """
 
+import contextlib
 import os
 import re
+import signal
 import subprocess
 import sys
 import time
@@ -49,25 +52,38 @@ ALL = (*QUICK, PROOFS, *AFTER_PROOFS, PLAIN, *BUILT)
 # The run ends after each of these where a step has failed, or it has itself.
 NEEDED = {QUICK[-1]: True, PROOFS: False, PLAIN: False}
 COUNTS = "scripts/counts.txt"
+# Seconds that a step may take, on a busy machine too.
+LONGEST = 7200.0
 # What differs from run to run: how long `rt ci` took.
 VARIES = re.compile(r" \([^)]*\)$")
 
 
 def run(step: str) -> tuple[int, str]:
-    """The status of a step, and all that it wrote. What `rt ci` writes is shown as it comes, and kept."""
-    if step != PROOFS:
-        return sources.run([sources.PYTHON, *f"scripts/{step}".split()])
-    os.makedirs(f"{sources.TOP}/out", exist_ok=True)
-    with open(f"{sources.TOP}/out/rt-ci.txt", "w+", encoding="utf-8") as said:
-        with subprocess.Popen(
-            step.split(), cwd=sources.TOP, stdin=subprocess.DEVNULL, stdout=subprocess.PIPE, stderr=subprocess.STDOUT
-        ) as process:
-            for line in process.stdout or ():
-                text = line.decode("utf-8", "replace")
-                said.write(text)
-                print(text, end="", flush=True)
+    """The status of a step, and all that it wrote, which out/step.txt has meanwhile, and out/rt-ci.txt of `rt ci`.
+    What it started and left there is ended too."""
+    command = step.split() if step == PROOFS else [sources.PYTHON, *f"scripts/{step}".split()]
+    path = f"{sources.TOP}/out/{'rt-ci' if step == PROOFS else 'step'}.txt"
+    sources.write(path, "")
+    with open(path, "r+", encoding="utf-8", errors="replace") as said, subprocess.Popen(
+        command,
+        cwd=sources.TOP,
+        env={**os.environ, "PYTHONDONTWRITEBYTECODE": "1"},
+        stdin=subprocess.DEVNULL,
+        stdout=said,
+        stderr=said,
+        start_new_session=True,
+    ) as process:
+        fault = ""
+        try:
+            process.wait(LONGEST)
+        except subprocess.TimeoutExpired:
+            fault = f"it took longer than {LONGEST:.0f} seconds, and was ended\n"
+        finally:
+            with contextlib.suppress(ProcessLookupError):
+                os.killpg(process.pid, signal.SIGKILL)
+        process.wait()
         said.seek(0)
-        return process.returncode, said.read()
+        return process.returncode, said.read() + fault
 
 
 def processor_seconds() -> float:

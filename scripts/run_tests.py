@@ -4,18 +4,22 @@
 A test passes where it ran to its end and nothing was wrong. Any other one failed: one that is skipped, one that passes
 though it is expected to fail, each test of a class or a file that cannot be read or set up. With --quick a test of
 the tools that draws, or takes seconds, is left out: the gate runs it after the proofs. A folder without tests is a
-failure. In each run tests are shown that end in each way, of which just the right one may pass. The last line is `N
-passed, M failed`, with `, L left out` after it where some were; the status is 1 where some failed.
+failure. A test that takes too long is ended and failed, and so is what is read or set up for tests. In each run tests
+are shown that end in each way, of which just the right one may pass. The last line is `N passed, M failed`, with
+`, L left out` after it where some were; the status is 1 where some failed.
 """
 
 import compileall
+import faulthandler
 import io
 import os
 import py_compile
+import signal
 import sys
+import time
 import unittest
 from dataclasses import dataclass
-from typing import Any, Iterator, TextIO
+from typing import Any, Iterator, NoReturn, TextIO
 
 import sources
 
@@ -24,6 +28,24 @@ import sources
 IMPORTED = {"tools/tests": "tools/labeltools"}
 # Why a test of the tools is left out before the proofs.
 LEFT_OUT = ("is not built: run ", "takes seconds: ")
+# Seconds that a test may take, on a busy machine too, and what is read or set up before it.
+LONGEST = 900.0
+
+
+class TookTooLong(BaseException):
+    """It ends what waits for ever."""
+
+
+def too_long(*_: object) -> NoReturn:
+    raise TookTooLong
+
+
+def give_time(seconds: float = LONGEST) -> None:
+    """Gives what begins now its time. Then an error ends it, and every 5 seconds what it waits for at its end. Where
+    no error reaches it, as in code of C, the run ends a minute later, and names the line."""
+    signal.signal(signal.SIGALRM, too_long)
+    signal.setitimer(signal.ITIMER_REAL, seconds, 5)
+    faulthandler.dump_traceback_later(seconds + 60, exit=True, file=sys.__stderr__)
 
 
 class Result(unittest.TextTestResult):
@@ -32,6 +54,14 @@ class Result(unittest.TextTestResult):
     def __init__(self, *given: Any) -> None:
         super().__init__(*given)
         self.passed: list[str] = []
+
+    def startTest(self, test: unittest.TestCase) -> None:
+        give_time()
+        super().startTest(test)
+
+    def stopTest(self, test: unittest.TestCase) -> None:
+        super().stopTest(test)
+        give_time()
 
     def addSuccess(self, test: unittest.TestCase) -> None:
         super().addSuccess(test)
@@ -86,6 +116,10 @@ class Shown(unittest.TestCase):
     def broken(self) -> None:
         raise ValueError
 
+    def endless(self) -> None:
+        give_time(0.01)
+        time.sleep(LONGEST)
+
     def skipped(self) -> None:
         self.skipTest("takes second thoughts")
 
@@ -102,7 +136,7 @@ def sees_wrong_tests() -> bool:
     """Whether of the tests that are shown just the right one passes, with --quick too."""
     names = [name for name, member in vars(Shown).items() if callable(member) and not name.startswith("__")]
     found = [judged(unittest.TestSuite(map(Shown, names)), is_quick, io.StringIO()) for is_quick in (False, True)]
-    return len(names) == 7 and found == [Counts(1, 6, 0)] * 2
+    return len(names) == 8 and found == [Counts(1, 7, 0)] * 2
 
 
 def main() -> int:
@@ -114,6 +148,7 @@ def main() -> int:
         sys.exit(f"there is no folder {given.folder}")
     os.chdir(sources.TOP)
     os.environ.update({"NO_SKIP": "", "QUICK": "1", "LABELS": "/not/built"} if given.quick else {"NO_SKIP": "1"})
+    give_time()
     tests = unittest.TestLoader().discover(given.folder)
     if not sees_wrong_tests():
         print("a test that did not pass is counted as one that did", file=sys.stderr)

@@ -25,7 +25,7 @@ class One(unittest.TestCase):
         pass
 """
 # Of these one passes, and with --quick two are left out.
-WAYS = """import unittest
+WAYS = """import run_tests, subprocess, unittest
 class One(unittest.TestCase):
     def test_right(self):
         pass
@@ -35,6 +35,9 @@ class One(unittest.TestCase):
     def test_part(self):
         with self.subTest():
             self.fail()
+    def test_endless(self):
+        with subprocess.Popen(["sleep", "60"]) as process:
+            run_tests.give_time(0.1)
 class Two(unittest.TestCase):
     @classmethod
     def setUpClass(cls):
@@ -181,7 +184,7 @@ class TakenAway(InCopy):
         self.move("lib/tests", "lib/tests-away")
         self.addCleanup(shutil.rmtree, self.path("lib/tests"))
         write(self.path("lib/tests/test_one.py"), WAYS)
-        for words, last in (("", "1 passed, 5 failed"), ("--quick", "1 passed, 3 failed, 2 left out")):
+        for words, last in (("", "1 passed, 6 failed"), ("--quick", "1 passed, 4 failed, 2 left out")):
             found = self.judged("run_tests.py", "lib/tests", *words.split())
             self.assertEqual((found[0], found[1].split("\n")[-2]), (1, last), found[1])
 
@@ -367,6 +370,15 @@ class Gate(InFolder):
             with self.subTest(changed=changed, lines=lines):
                 found = run_command([PYTHON, self.path("scripts/gate.py"), "all"], PATH=path)
                 self.assertEqual((found[0], said.format(**how) in found[1]), (status, True), found[1])
+
+    def test_a_step_that_hangs(self) -> None:
+        """It is ended, with what it started."""
+        gate = module("gate")
+        text = "import os, time\nos.fork()\nprint('begun', flush=True)\ntime.sleep(9999)\n"
+        write(self.path("scripts/hangs.py"), text)
+        with mock.patch.object(gate, "LONGEST", 3.0), mock.patch.object(gate.sources, "TOP", self.folder):
+            status, said = gate.run("hangs.py")
+        self.assertEqual((status, said.split("\n")[-2]), (-9, "it took longer than 3 seconds, and was ended"))
 
     def test_start(self) -> None:
         for words, variables, changed, status, said in STARTS:

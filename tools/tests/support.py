@@ -13,6 +13,7 @@ import json
 import os
 import resource
 import shutil
+import signal
 import subprocess
 import sys
 import tempfile
@@ -33,6 +34,11 @@ MODULES = {
     "label-table": "labeltools.commands.label_table"
 }  # of the tools that run in this process
 os.environ["LC_ALL"] = "C.UTF-8"  # of these too: their dates are those of the locale
+
+# Under nohup, or `&` of a script, programs that a test starts would ignore them too, and never end.
+for ending in (signal.SIGHUP, signal.SIGINT, signal.SIGTERM):
+    if signal.getsignal(ending) == signal.SIG_IGN:
+        signal.signal(ending, lambda *_: None)
 
 if str(OURS) not in sys.path:
     sys.path.insert(0, str(OURS))
