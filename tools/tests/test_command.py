@@ -26,7 +26,7 @@ from labeltools.common.command_line import Parser, main_of, standard_output
 from labeltools.common.messages import ToolError
 def function():
     about = "A tool for this test."
-    arguments = Parser(prog="small-tool", description=about, allow_abbrev=False).parse_args()
+    arguments = Parser("small-tool", "small-tool [OPTIONS]", about).parse_args()
     {body}
 main_of("small-tool", function)
 """
@@ -62,7 +62,8 @@ main_of("small-tool", function)
         for argument in ("--wrong", "--hel"):
             status, out, message = self.small_tool("pass", argument)
             self.assertEqual((status, out), (2, b""))
-            self.assertIn("usage: small-tool", message)
+            wrong = f"small-tool: error: unrecognized arguments: {argument}"
+            self.assertEqual(message, f"{wrong}; try small-tool --help\n")
 
     def test_a_full_disk(self) -> None:
         full = (1, b"", "small-tool: standard output: No space left on device\n")

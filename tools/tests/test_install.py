@@ -110,12 +110,15 @@ class Install(InFolder):
 
 class Versions(InFolder):
     def test_one_version(self) -> None:
-        """The help text, the changelog, the manual, the header and the crates name the same."""
+        """Programs, changelog, manual, header and crates name the same."""
         version = command_of(str(support.labels_program()), "--help").split("\n")[0]
         version = version.removeprefix("labels ")
         self.assertEqual(re.findall(r"^## (\d\S+) \(", text("CHANGELOG.md"), re.M)[:1], [version])
         self.assertIn(f'"labels {version}"', text("man/labels.1").split("\n")[0])
         self.assertIn(f'#define LABELS_VERSION "{version}"', text("lib/labels.h"))
+        for tool in ("label-table", "label-print"):
+            said = support.run(tool, "--version").stdout
+            self.assertEqual(said.decode(), f"{tool} {version}\n")
         for path in (support.TOP / "crates").glob("*/src/*.rt"):
             found = re.findall(r"\blabels (\d+\.\d+\.\d+)", path.read_text(encoding="utf-8"))
             self.assertEqual({*found} - {version}, set(), path)

@@ -125,11 +125,14 @@ class TableTest(unittest.TestCase):
         self.check(f"code;name\n{table}", ["--code", "code", *arguments], lines, problems, status)
 
     def check_usage(self, arguments: Sequence[str], text: str) -> None:
-        """Bad arguments: usage, the reason, status 2, and nothing is written."""
+        """Bad arguments: the reason, how to get help, status 2, and nothing is written."""
         done = support.run_here("label-table", *arguments, input=b"code\n")
         self.assertEqual((done.returncode, done.stdout), (2, b""), arguments)
-        self.assertEqual(support.messages(done)[0].split(" [")[0], "usage: label-table", arguments)
-        self.assertEqual(support.messages(done)[-1], f"label-table: error: {text}", arguments)
+        (message,) = support.messages(done)
+        found = message.removesuffix("; try label-table --help").removesuffix(
+            ": try label-table --help"
+        )
+        self.assertEqual(found, f"label-table: error: {text}", arguments)
 
 
 class Encodings(TableTest):
@@ -1164,11 +1167,8 @@ class Arguments(TableTest):
     def test_bad_arguments(self) -> None:
         done = support.run("label-table", input=b"code\n")
         self.assertEqual((done.returncode, done.stdout), (2, b""))
-        self.assertEqual(support.messages(done)[0].split(" [")[0], "usage: label-table")
-        self.assertEqual(
-            support.messages(done)[-1],
-            "label-table: error: the following arguments are required: --code",
-        )
+        wrong = "label-table: error: the following arguments are required: --code"
+        self.assertEqual(support.messages(done), [f"{wrong}; try label-table --help"])
         self.check_usage(["--code"], "argument --code: expected one argument")
         self.check_usage(["--code", "1", "--x"], "unrecognized arguments: --x")
         self.check_usage(["--code", "1", "--fill"], "unrecognized arguments: --fill")

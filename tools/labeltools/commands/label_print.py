@@ -1,6 +1,4 @@
-"""Prints the lines of label-table, or of labels(1), for sheets, printers and screens. Lengths are
-in millimetres.
-"""
+"""The command label-print: its arguments, and where labels go."""
 
 import argparse
 import fcntl
@@ -54,6 +52,17 @@ from labeltools.printing.sending import OUTPUT, Outlet, Sender, StandardOutput, 
 from labeltools.paper.stock import forget, list_stock
 
 TOOL = "label-print"
+USAGE = """label-print --stock NAME [OPTIONS] [LINES]
+       label-print --paper WxH [OPTIONS] [LINES]
+       label-print --columns N --rows N --cell WxH [OPTIONS] [LINES]
+       label-print --list-stock WORD"""
+ABOUT = """Prints the lines of label-table, or of labels(1), on sheets of labels, on label
+printers and on receipt printers. Lengths are in millimetres."""
+EXAMPLES = """examples:
+  label-print --stock 'Avery L7160' articles.lines > sheet.pdf
+  label-print --paper 60x40 --dpi 203 --to zpl --print tcp://HOST articles.lines
+
+man label-print has all details."""
 MOST_NAME = 100  # letters of the data in the name of a file
 MOST_LABELS = 1_000_000  # of one run, with copies
 # seconds after which progress is shown, and between two times that it is
@@ -154,7 +163,7 @@ def printer_of(argument: str) -> str:
 
 def command_line() -> Parser:
     """Returns the arguments; their names are those of `PrintOptions`."""
-    parser = Parser(TOOL, None, __doc__, allow_abbrev=False)
+    parser = Parser(TOOL, USAGE, ABOUT, EXAMPLES)
     add_sheet_options(parser)
     add_size_options(parser)
     add_choice_options(parser)
@@ -162,14 +171,17 @@ def command_line() -> Parser:
     add = parser.add_argument
     lines = "the file of label-table, or lines (standard input)"
     add("lines", metavar="LINES", nargs="?", help=lines)
+    summary = "report what was written and how to print it (always on a terminal)"
+    add("--summary", action="store_true", help=summary)
     return parser
 
 
-def add_sheet_options(parser: argparse.ArgumentParser) -> None:
+def add_sheet_options(parser: Parser) -> None:
     """Adds the options of the paper."""
+    group = parser.add_argument_group("the paper")
     count = reads("3", 1, int)
     size = reads("63x38", 0.0001)
-    one = parser.add_mutually_exclusive_group().add_argument
+    one = group.add_mutually_exclusive_group().add_argument
     stock = "the sheet of labels by its name, such as 'Avery L7160' or l7160"
     one("--stock", metavar="NAME", help=stock)
     one("--list-stock", metavar="WORD", help="list the sheets that have these words or this size")
@@ -177,7 +189,7 @@ def add_sheet_options(parser: argparse.ArgumentParser) -> None:
     one("--paper", metavar="WxH", type=size, help=paper)
     cell = "a grid, with --columns and --rows: the size of a cell"
     one("--cell", metavar="WxH", type=size, help=cell)
-    add = parser.add_argument
+    add = group.add_argument
     add("--columns", metavar="N", type=count, help="cells side by side")
     add("--rows", metavar="N", type=count, help="cells below one another")
     page = "the size of the page (210x297)"
@@ -193,14 +205,15 @@ def add_sheet_options(parser: argparse.ArgumentParser) -> None:
     add("--shift", metavar="X,Y", type=move, default=PrintOptions.shift, help=shift)
 
 
-def add_size_options(parser: argparse.ArgumentParser) -> None:
+def add_size_options(parser: Parser) -> None:
     """Adds the options of how labels look."""
-    add = parser.add_argument
+    group = parser.add_argument_group("how labels look")
+    add = group.add_argument
     length = reads("38.1", 0.0001)
     design = "article: bars for a till (the default); shelf: a large price; or a page of SVG"
     add("--design", metavar="NAME", type=design_of, default=PrintOptions.design, help=design)
-    turn = parser.add_mutually_exclusive_group().add_argument
-    turned = "turn labels to the right (they are where more of them fit so)"
+    turn = group.add_mutually_exclusive_group().add_argument
+    turned = "turn labels to the right (they are if more of them fit so)"
     turn("--turn", action="store_const", const=True, help=turned)
     turn("--no-turn", action="store_const", const=False, dest="turn", help="never turn labels")
     module = "the narrowest bar, or a square of QR (what fits best)"
@@ -214,13 +227,14 @@ def add_size_options(parser: argparse.ArgumentParser) -> None:
     add("--digits", metavar="NAME", default=PrintOptions.digits, help=digits)
 
 
-def add_choice_options(parser: argparse.ArgumentParser) -> None:
+def add_choice_options(parser: Parser) -> None:
     """Adds the options of which labels are printed, and from which lines."""
-    add = parser.add_argument
+    group = parser.add_argument_group("what is printed")
+    add = group.add_argument
     first = "begin at this cell of the first page (1)"
     count = reads("3", 1, int)
     add("--first", metavar="N", type=count, default=PrintOptions.first, help=first)
-    only = "print these rows of the table alone, such as 2,7-9 or 7- for all from 7 on"
+    only = "print only these rows of the table, such as 2,7-9, or 7- for all from 7 on"
     add("--only", metavar="ROWS", type=rows, dest="rows_only", help=only)
     code = (
         "print the label with this code, or those of @FILE, a code on each line; with --only those "
@@ -235,26 +249,25 @@ def add_choice_options(parser: argparse.ArgumentParser) -> None:
         dest="codes",
         help=code,
     )
-    unique = "leave out a line whose code was there before, as on tickets and serial numbers"
+    unique = "skip a line whose code was there before, as on tickets and serial numbers"
     add("--unique", action="store_true", dest="is_unique", help=unique)
     options = "options of labels, such as '--level H'"
     add("--labels", metavar="WORDS", type=option_words, dest="words", default=(), help=options)
 
 
-def add_output_options(parser: argparse.ArgumentParser) -> None:
+def add_output_options(parser: Parser) -> None:
     """Adds the options of where labels go, and in which form."""
-    add = parser.add_argument
+    group = parser.add_argument_group("where labels go")
+    add = group.add_argument
     count = reads("3", 1, int)
     add("--to", metavar="FORM", choices=tuple(FORMS), help=f"{', '.join(FORMS)} (pdf)")
     dpi = f"dots an inch of the printer (pdf and svg: {DRAWING_DPI})"
     add("--dpi", metavar="N", type=count, help=dpi)
-    out = parser.add_mutually_exclusive_group().add_argument
+    out = group.add_mutually_exclusive_group().add_argument
     out("--each", metavar="NAME", help="a file for each label: %%d is its number, %%s its data")
-    queue = "print on this queue of CUPS, or on tcp://HOST, in place of standard output"
+    queue = "print on this queue of CUPS, or on tcp://HOST, instead of standard output"
     out("--print", metavar="QUEUE", type=printer_of, dest="queue", help=queue)
-    journal = (
-        "write each label into this file before it goes out; one that is there goes out no more"
-    )
+    journal = "write each label into this file before it is sent; what is there is not sent again"
     add("--journal", metavar="FILE", type=filled, help=journal)
     again = "with --only or --only-code: print what the journal has of this printer once more"
     add("--again", metavar="PRINTER", type=outlet_of, help=again)
@@ -264,8 +277,6 @@ def add_output_options(parser: argparse.ArgumentParser) -> None:
     add("--dots", metavar="N", type=count, default=PrintOptions.dots, help=dots)
     cut = "escpos: do not cut after each label"
     add("--no-cut", action="store_false", dest="is_cut", help=cut)
-    summary = "say what was written and how it is printed (on a terminal always)"
-    add("--summary", action="store_true", help=summary)
 
 
 def paths_of(items: Iterable[LaidOut], name: str) -> list[Path]:

@@ -6,7 +6,7 @@ import re
 import shlex
 import sys
 from pathlib import Path
-from typing import Any, Callable, Sequence, TypeVar
+from typing import Any, Callable, Mapping, Sequence, TypeVar
 
 from labeltools.sheets.options import FileOptions
 from labeltools.common.text import NOTHING, Text, joined
@@ -26,9 +26,15 @@ from labeltools.tables.table import Lines, lines_of_table
 from labeltools.tables.options import ColumnOptions, PriceRules, TableOptions
 
 TOOL = "label-table"
-ABOUT = """Writes the lines of labels(1), and what belongs to each label, from a table: CSV, .xlsx
-or .ods. A row that cannot become the right line is left out, with a message and status 1. A COLUMN
-is its name, or its number from 1."""
+USAGE = "label-table --code COLUMN [OPTIONS] [TABLE]"
+ABOUT = """Writes the lines of labels(1), and what belongs to each label, from a table:
+CSV, .xlsx or .ods. A row that cannot become the right line is skipped, with a
+message and status 1. A COLUMN is its name, or its number from 1."""
+EXAMPLES = """examples:
+  label-table --code EAN --title Name --price Price articles.xlsx > articles.lines
+  label-table --code Place --symbology code128 racks.csv > racks.lines
+
+label-print prints these files; man label-table has all details."""
 SETTINGS = re.compile("[a-z-]+=[A-Za-z0-9]+(?:,[a-z-]+=[A-Za-z0-9]+)*")
 DELIMITER = re.compile('[^"\r\n\0 \x80-\U0010ffff]|tab|none')
 MOST_ALIKE = 50  # messages about rows that differ in their cells alone
@@ -63,12 +69,15 @@ class TableTalk(CommandTalk):
 
 def command_line() -> Parser:
     """Returns the parser of the arguments."""
-    parser = Parser(TOOL, None, ABOUT, allow_abbrev=False)
+    parser = Parser(TOOL, USAGE, ABOUT, EXAMPLES)
     parser.add_argument("table", metavar="TABLE", nargs="?", help=OF_TABLE)
-    for name, metavar, text, more in OPTIONS:
-        kind: dict[str, Any] = {"metavar": metavar} if metavar else {"action": "store_true"}
-        parser.add_argument(f"--{name}", help=text, **{**kind, **more})
-    header = parser.add_mutually_exclusive_group().add_argument
+    parser.add_argument("--summary", action="store_true", help=OF_SUMMARY)
+    groups = {title: parser.add_argument_group(title) for title in OPTIONS}
+    for title, options in OPTIONS.items():
+        for name, metavar, text, more in options:
+            kind: dict[str, Any] = {"metavar": metavar} if metavar else {"action": "store_true"}
+            groups[title].add_argument(f"--{name}", help=text, **{**kind, **more})
+    header = groups[OF_FILE].add_mutually_exclusive_group().add_argument
     said: dict[str, Any] = {"dest": "has_header", "default": None}
     header("--header", action="store_true", help="row 1 has the names of the columns", **said)
     text = "row 1 is an article, and no names of columns"
@@ -112,42 +121,54 @@ def row_number(text: str) -> int:
     return int(text)
 
 
-OF_TABLE = "the table; standard input where there is none, or -"
+OF_TABLE = "the table; standard input if it is not given, or is -"
+OF_SUMMARY = "report at the end how many labels there are, and which prices"
+OF_FILE = "the file"
 SEVERAL: dict[str, Any] = {"action": "append", "default": []}
 CODE_NAMES: dict[str, Any] = {"choices": NAMES, "default": AUTO}
-# the options: their names, what they take, if anything, their help, and what argparse needs more
-OPTIONS: Sequence[tuple[str, str, str, dict[str, Any]]] = (
-    ("code", "COLUMN", "the column of the codes; without it one is proposed", {}),
-    ("title", "COLUMN", "a column for the title; may be repeated", SEVERAL),
-    ("text", "COLUMN", "a column for the text below; may be repeated", SEVERAL),
-    ("price", "COLUMN", "the column of the price", {}),
-    ("unit-price", "COLUMN", "the column of the price of a unit, such as 7,96 €/kg", {}),
-    ("old-price", "COLUMN", "the column of the price before a reduction", {}),
-    ("currency", "COLUMN", "the column of the currency of the prices", {}),
-    ("copies", "COLUMN", "the column of the number of labels, 0 to 9999", {}),
-    (
-        *("where", "COLUMN=VALUE", "print only rows that have this value; may be repeated"),
-        {"type": condition, **SEVERAL},
+# the options, in groups: their names, what they take, if anything, their help, and what argparse
+# needs more
+OPTIONS: Mapping[str, Sequence[tuple[str, str, str, dict[str, Any]]]] = {
+    "columns": (
+        ("code", "COLUMN", "the column of the codes; without it one is proposed", {}),
+        ("title", "COLUMN", "a column for the title; may be repeated", SEVERAL),
+        ("text", "COLUMN", "a column for the text below; may be repeated", SEVERAL),
+        ("price", "COLUMN", "the column of the price", {}),
+        ("unit-price", "COLUMN", "the column of the price of a unit, such as 7,96 €/kg", {}),
+        ("old-price", "COLUMN", "the column of the price before a reduction", {}),
+        ("currency", "COLUMN", "the column of the currency of the prices", {}),
+        ("copies", "COLUMN", "the column of the number of labels, 0 to 9999", {}),
     ),
-    ("new-since", "LINES", "print what is new, or has changed, since these lines were written", {}),
-    ("symbology", "NAME", f"{', '.join(NAMES)} [default: auto]", CODE_NAMES),
-    ("symbology-column", "COLUMN", "the column of the symbologies", {}),
-    ("settings", "TEXT", "for each line, as height=30 or level=Q,mask=2", {}),
-    ("fill-zeros", "", "put back up to three zeros that were lost in front of the digits", {}),
-    ("without-check-digit", "", "the numbers have no check digit; labels adds it", {}),
-    ("allow-zeros", "", "take numbers that end in many zeros, which look rounded", {}),
-    ("links", "", "draw the address that the cell of a code leads to", {}),
-    ("price-as", "PATTERN", "write prices anew, such as '0,00 €' or '¤ 0.00'", {"type": pattern}),
-    ("price-text", "", "prices may be any text, such as 'on request'", {}),
-    ("currency-name", "NAME", "a currency that label-table does not know", {"default": ""}),
-    ("sheet", "NAME", "the sheet of .xlsx or .ods [default: the visible one that has data]", {}),
-    ("hidden", "", "print hidden rows too", {}),
-    ("decimal", "SIGN", "of numbers in .xlsx [default: the locale's]", {"choices": (",", ".")}),
-    ("date-as", "PATTERN", "write dates anew, such as dd.mm.yyyy", {"type": date_pattern}),
-    ("delimiter", "C", "between cells of CSV; tab; none for one column", {}),
-    ("encoding", "NAME", "of CSV [default: UTF-8, or by its mark]", {}),
-    ("summary", "", "say at the end how many labels of what there are", {}),
-)
+    "rows": (
+        (
+            *("where", "COLUMN=VALUE", "print only rows that have this value; may be repeated"),
+            {"type": condition, **SEVERAL},
+        ),
+        ("new-since", "LINES", "print only what is new or has changed since these lines", {}),
+        ("hidden", "", "print hidden rows too", {}),
+    ),
+    "codes": (
+        ("symbology", "NAME", f"{', '.join(NAMES)} [default: auto]", CODE_NAMES),
+        ("symbology-column", "COLUMN", "the column of the symbologies", {}),
+        ("settings", "TEXT", "for each line, such as height=30 or level=Q,mask=2", {}),
+        ("fill-zeros", "", "put back up to three zeros that were lost before the digits", {}),
+        ("without-check-digit", "", "the numbers have no check digit; labels adds it", {}),
+        ("allow-zeros", "", "take numbers that end in many zeros, which look rounded", {}),
+        ("links", "", "draw the address that the cell of a code leads to", {}),
+    ),
+    "prices and dates": (
+        ("price-as", "FORMAT", "write prices so, such as '0,00 €' or '¤ 0.00'", {"type": pattern}),
+        ("price-text", "", "prices may be any text, such as 'on request'", {}),
+        ("currency-name", "NAME", "a currency that label-table does not know", {"default": ""}),
+        ("decimal", "SIGN", "of numbers in .xlsx [default: the locale's]", {"choices": (",", ".")}),
+        ("date-as", "FORMAT", "write dates so, such as dd.mm.yyyy", {"type": date_pattern}),
+    ),
+    OF_FILE: (
+        ("sheet", "NAME", "the sheet of .xlsx or .ods [default: the visible one with data]", {}),
+        ("delimiter", "C", "between cells of CSV; tab; none for one column", {}),
+        ("encoding", "NAME", "of CSV [default: UTF-8, or by its mark]", {}),
+    ),
+}
 
 
 def options_of(arguments: argparse.Namespace) -> TableOptions:
@@ -209,7 +230,7 @@ def check(parser: Parser, arguments: argparse.Namespace) -> None:
     """Raises `BadArguments` for arguments that are wrong, or do not go together."""
     if arguments.code is None:
         what = Text("the following arguments are required: --code")
-        raise BadArguments(what, parser.format_usage(), proposed(arguments))
+        raise BadArguments(what, proposed(arguments))
     settings = arguments.settings
     if settings is not None and not SETTINGS.fullmatch(settings):
         parser.error(Text("--settings {} is not as height=30 or level=Q,mask=2", quoted(settings)))

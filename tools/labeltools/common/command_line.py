@@ -6,11 +6,12 @@ import argparse
 import os
 import signal
 import sys
-from contextlib import contextmanager, suppress
+from contextlib import contextmanager
 from io import RawIOBase, TextIOWrapper
 from pathlib import Path
 from typing import Any, BinaryIO, Callable, Iterator, Mapping, NoReturn, Optional
 
+from labeltools import RELEASE
 from labeltools.common.text import NOTHING, Text, translated
 from labeltools.common.messages import (
     BadArguments,
@@ -22,6 +23,7 @@ from labeltools.common.messages import (
 )
 
 STANDARD_ERROR = 2
+AsWritten = argparse.RawDescriptionHelpFormatter  # what stands around the options
 ENDING = (signal.SIGHUP, signal.SIGINT, signal.SIGTERM)
 HELD: list[list[int]] = []  # the signals that came while they are held back, where they are
 
@@ -43,14 +45,20 @@ OF_ARGPARSE = (
 
 
 class Parser(argparse.ArgumentParser):
-    """A parser whose bad arguments are an error like others: `main_of` writes it, a window shows
-    it.
+    """A parser of a tool, whose help ends with examples. Bad arguments are an error like others:
+    `main_of` writes it, a window shows it.
     """
+
+    def __init__(self, tool: str, usage: str, about: str, examples: str = "") -> None:
+        super().__init__(
+            tool, usage, about, examples, formatter_class=AsWritten, allow_abbrev=False
+        )
+        version = f"{tool} {RELEASE}"
+        self.add_argument("--version", action="version", help="print the version", version=version)
 
     def error(self, message: str) -> NoReturn:
         """Raises `BadArguments`; a message of argparse is in the language of the user already."""
-        what = message if isinstance(message, Text) else Text("{}", message)
-        raise BadArguments(what, self.format_usage())
+        raise BadArguments(message if isinstance(message, Text) else Text("{}", message))
 
 
 def wrong_argument(what: Text) -> argparse.ArgumentTypeError:
@@ -148,9 +156,9 @@ def status_of(tool: str, function: Callable[[], Optional[int]]) -> int:
             sys.stdout.flush()
         return status
     except BadArguments as error:
-        with suppress(OSError):
-            sys.stderr.write(error.usage)
-        write_message(tool, Text("error: {}", error.args[0]))
+        help_words = f"{tool} --help"
+        what = sentence(error.what, error.hint or Text("try {}", help_words))
+        write_message(tool, Text("error: {}", what))
         return error.status
     except ToolError as error:
         write_message(tool, error.args[0])

@@ -44,11 +44,10 @@ class ToolError(Exception):
 
 
 class BadArguments(ToolError):
-    """Words that a tool does not understand, with its usage."""
+    """Words that a tool does not understand."""
 
-    def __init__(self, what: Text, usage: str, hint: Text = NOTHING) -> None:
+    def __init__(self, what: Text, hint: Text = NOTHING) -> None:
         super().__init__(what, hint, BAD_ARGUMENTS)
-        self.usage = usage
 
 
 class Cancelled(ToolError):
