@@ -91,9 +91,12 @@ install: all install-library
 	set -e; for tool in $(COMPLETED); do \
 	    $(call link,labels,$(DATADIR)/bash-completion/completions/$$tool); \
 	    $(call link,labels.fish,$(DATADIR)/fish/vendor_completions.d/$$tool.fish); done
+	@[ -n '$(DESTDIR)' ] || echo 'For programs that use the library: export LD_LIBRARY_PATH=$(LIBDIR) \
+	    PKG_CONFIG_PATH=$(LIBDIR)/pkgconfig PYTHONPATH=$(PYTHONDIR)' | tr -s ' \t'
 
 install-library: library
 	$(call library,install DESTDIR=$(DESTDIR) PREFIX=$(PREFIX) LIBDIR=$(LIBDIR) PYTHONDIR=$(PYTHONDIR))
+	install -D -m 644 -t $(DESTDIR)$(DATADIR)/doc/liblabels-dev/examples $(wildcard lib/examples/*)
 
 # Removes what this version installs, and the folders that only it used.
 uninstall: all

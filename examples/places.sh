@@ -1,6 +1,6 @@
 #!/bin/sh
 # Writes a table of the places of a rack, of aisles, bays and levels, each with a check letter: the sum of its
-# characters, each times its place, modulo 23. Two neighbours that are exchanged give another letter.
+# characters, each times its place, modulo 23. Two neighbouring digits that are exchanged give another letter.
 for aisle in A B C; do
     for bay in $(seq -w 1 12); do
         for level in 1 2 3 4; do echo "$aisle-$bay-$level"; done

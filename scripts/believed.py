@@ -2,10 +2,10 @@
 """What has to be believed of the contracts that users rely on, in lines and by name.
 
 The contracts are the clauses of the program's own call, `shows` and `runs`, each alone and both
-together, and those of the functions that the C library exports. --check compares the numbers in
+together, and those of the functions that the C library exports. --check compares the number in
 README.md and the table in docs/PROOF.md with what the files give, and the names of std in
 docs/DEFINITIONS.md with those that the program's call leans on: status 1 where they differ. --write
-makes the numbers and the table anew. Each number counts definitions without blank lines and
+writes the number and the table. Each number counts definitions without blank lines and
 comments, the contract itself with the types, traits and views that it speaks by, and a line for
 each name of std and of the kit's clap. What stands behind clap's names is counted apart.
 
@@ -48,12 +48,8 @@ PROOF = os.path.join("docs", "PROOF.md")
 PAGE = os.path.join("docs", "DEFINITIONS.md")
 OF_STD = "## Names of std"
 BEGIN, END = "<!-- believed: begin -->", "<!-- believed: end -->"
-# The numbers of README, by what stands after each.
-NUMBERS = {
-    "shows": re.compile(r"[\d,]+(?=\s+lines\s+of\s+\[definitions\])"),
-    "more": re.compile(r"[\d,]+(?=\s+more\s+say\s+which\s+picture)"),
-    "clap": re.compile(r"[\d,]+(?=\s+lines\s+of\s+`clap`)"),
-}
+# The number of README, by what stands after it.
+NUMBER = re.compile(r"[\d,]+(?=\s+lines\s+of\s+\[definitions\])")
 AXIOMS = re.compile(r"[\d,]+(?=\s+contracts\s+of\s+C\s+functions)")
 ASSUMED = re.compile(r"^logic=proved .*\baxioms=(\d+)", re.M)
 # The names of a `Why: `, before its first colon.
@@ -106,12 +102,12 @@ def all_bases(repository: Repository) -> dict[str, Base]:
 
 @dataclass(frozen=True)
 class Counts:
-    """The lines of the table of PROOF, what has to be read and how much of it, and the numbers of
-    README by their names.
+    """The lines of the table of PROOF, what has to be read and how much of it, and the number of
+    README.
     """
 
     rows: list[tuple[str, Lines]]
-    of_readme: dict[str, int]
+    of_readme: int
 
 
 def unsaid_lines(repository: Repository) -> int:
@@ -137,8 +133,7 @@ def counts_of(repository: Repository, found: dict[str, Base]) -> Counts:
         ("apart: what stands behind the names of `clap`", Lines(behind, 0, 0)),
         (f"apart: `main` and `{UNSAID}`, which have no clause", Lines(0, unsaid, 0)),
     ]
-    more = lines["program"].all - lines["shows"].all
-    return Counts(rows, {"shows": lines["shows"].all, "more": more, "clap": behind})
+    return Counts(rows, lines["shows"].all)
 
 
 def table(counts: Counts) -> Iterator[str]:
@@ -159,13 +154,11 @@ def with_table(proof: str, counts: Counts) -> str:
     return "\n".join([before + BEGIN, "", *table(counts), "", END + after])
 
 
-def with_numbers(readme: str, counts: Counts) -> str:
-    """Returns README with its numbers made anew. Stops where it has none of a kind."""
-    for name, pattern in NUMBERS.items():
-        if len(pattern.findall(readme)) != 1:
-            sys.exit(f"{README} has to have one number where {pattern.pattern} is looked for")
-        readme = pattern.sub(f"{counts.of_readme[name]:,}", readme)
-    return readme
+def with_number(readme: str, counts: Counts) -> str:
+    """Returns README with the right number. Stops if it has none, or several."""
+    if len(NUMBER.findall(readme)) != 1:
+        sys.exit(f"{README} has to have one number where {NUMBER.pattern} is looked for")
+    return NUMBER.sub(f"{counts.of_readme:,}", readme)
 
 
 def faults_of_names(page: str, base: Base) -> list[str]:
@@ -189,7 +182,7 @@ def compared(top: str, counts: Counts, base: Base, writes: bool) -> int:
     the status; `base` is that of the program's call.
     """
     wrong = faults_of_names(sources.read(os.path.join(top, PAGE)), base)
-    for name, anew in ((README, with_numbers), (PROOF, with_table)):
+    for name, anew in ((README, with_number), (PROOF, with_table)):
         path = os.path.join(top, name)
         was = sources.read(path)
         text = anew(was, counts)

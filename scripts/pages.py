@@ -38,7 +38,7 @@ import sources
 # The pages whose commands run_recipes.py runs.
 README = "README.md"
 RUN = (README, "docs/INPUT.md", "docs/PRINTING.md", "docs/RECIPES.md")
-QUOTED = {"rust", "python"}
+QUOTED = {"rust", "python", "c"}
 COMMANDS = {"sh", "sh kit", "console"}
 LANGUAGES = {"text", *COMMANDS, *QUOTED}
 # What a command of a session is behind.
@@ -67,9 +67,9 @@ OF_COMMAND = "crates/labels/src/main.rt"
 NOT_CHECKED = "Not checked:"
 # What pages say, with the step whose line in scripts/counts.txt has the number, and how it is found there.
 IN_PAGES = (
-    ("README.md", r"read all ([\d,]+) labels back", "compare_symbols.py", r"(\d+) read back"),
-    ("README.md", r"drew the same ([\d,]+) symbols", "compare_symbols.py", r"(\d+) of \1 as zint"),
-    ("README.md", r"each of ([\d,]+)\s+simulated out-of-memory", "refuse_each_growth.py", r"^(\d+) growths"),
+    ("docs/PROOF.md", r"read all ([\d,]+) labels\s+back", "compare_symbols.py", r"(\d+) read back"),
+    ("docs/PROOF.md", r"drew the same ([\d,]+) symbols", "compare_symbols.py", r"(\d+) of \1 as zint"),
+    ("docs/PROOF.md", r"each of ([\d,]+)\s+simulated\s+out-of-memory", "refuse_each_growth.py", r"^(\d+) growths"),
     (
         "docs/BENCHMARKS.md",
         r"read all ([\d,]+) symbols of five programs",

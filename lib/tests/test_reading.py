@@ -106,7 +106,7 @@ for error, said, symbology, image, scale in (
     (ValueError, "as many digits 0 and 1", "qr", b"P1\\n2 2\\n0112\\n", None),
     (ValueError, "has to have 2 bytes of them, not 3", "qr", b"P4\\n2 2\\n123", None),
     (TypeError, "not str", "qr", "P1 1 1 0", None),
-    (TypeError, "not NoneType", "qr", None, None),
+    (TypeError, "not the name 'x.png'", "x.png", None, None),
 ):
     try:
         liblabels.read(symbology, image, scale)

@@ -352,6 +352,9 @@ def draw(
 
     >>> draw("qr", "HELLO")[:9]
     b'P1\\n29 29\\n'
+    >>> draw("ean13", 4006381333931)
+    Traceback (most recent call last):
+    TypeError: data has to be str or bytes, not int
     """
     options = _binding.options_of(format, scale, height, level, min_version, mask, False)
     number = _binding.index_of(SYMBOLOGIES, "symbology", symbology)

@@ -182,6 +182,8 @@ def encoded(data: Data) -> bytes:
     """
     if isinstance(data, str):
         return str.encode(data)
+    if not isinstance(data, (bytes, bytearray, memoryview)):
+        raise TypeError(f"data has to be str or bytes, not {type(data).__name__}")
     return data if type(data) is bytes else bytes(memoryview(data))
 
 

@@ -202,6 +202,8 @@ def read(symbology: object, image: object = None, scale: int | None = None) -> R
     """
     if not isinstance(symbology, str):
         return _found(symbology)
+    if image is None:
+        raise TypeError(f"a picture has to be an array, an image or bytes of PBM, not the name {symbology!r}")
     _binding.index_of(SYMBOLOGIES, "symbology", symbology)
     wanted = None if scale is None else _binding.within("scale", scale, 1, _MOST)
     found = _found(image)
