@@ -53,6 +53,12 @@ def svg_in_base64() -> str:
     return base64.b64encode(f"<svg {designs.SPACE} width='5' height='5'/>".encode()).decode()
 
 
+def beside(dots: Any) -> Any:
+    """Which dots are white and beside a black one."""
+    moved = (numpy.roll(dots, one, axis) for one in (1, -1) for axis in (0, 1))
+    return (sum(moved) > 0) & (dots == 0)
+
+
 NOT_WHITE = "is not white in the place code"
 # what is drawn on a page of 60 by 40 mm, and what it is refused with
 REFUSED = (
@@ -363,7 +369,7 @@ class Names(OwnPages):
     def test_what_has_no_place_does_not_count(self) -> None:
         """Neither letters that no font has, nor a text that is longer than any paper takes."""
         place = f'<rect id="Seat" {WIDE}/>{CODE}'
-        for text in ("\ue123", "x" * 2000):
+        for text in ("\U000f1234", "x" * 2000):
             found = self.found(place, [("code128 A", {"text": {"Seat": "1", "Other": text}})])
             self.assertEqual(len(found.labels), 1)
             self.assertEqual(self.said(found)[0], " has no place for Other: not on the labels")
@@ -569,12 +575,30 @@ class Drawings(OwnPages):
     BAND = '<path d="M0 0H60V14H0Z" fill="{}"/>' + TITLE.format(WIDE)
 
     def test_letters_are_white_on_dark(self) -> None:
-        dark, light, grey = (
+        dark, light, tinted = (
             dots_of(self.found(self.BAND.format(fill)))[:100, :479]
-            for fill in ("black", "none", "#909090")  # which is white in dots
+            for fill in ("black", "none", "#909090")
         )
         self.assertTrue(numpy.array_equal(dark, 1 - light))
-        self.assertTrue(numpy.array_equal(grey, light))
+        self.assertTrue((tinted >= light).all())
+        self.assertLess(tinted[beside(light)].mean(), 0.05)  # in the tint 0.44
+
+    def test_tints_are_dithered_and_what_is_dark_stays_sharp(self) -> None:
+        """Each takes as many dots as it is dark, but for white beside what is black."""
+        around = '<path d="M0 0H60V19H0Z" fill="{}"/>'
+        black = '<path transform="scale(.125261)" fill="#222" d="M40 40H160V120H40Z M400 9V90H401V9Z"/>'
+        sharp = dots_of(self.found(black + CODE, [("code128 A", {})]))
+        for colour, dark in (
+            ("orange", 1 - (0.3 + 0.59 * 165 / 255)),
+            ("yellow", 1 - (0.3 + 0.59)),
+            ("lightgreen", 1 - (0.3 * 144 + 0.59 * 238 + 0.11 * 144) / 255),
+            ("#808080", 127 / 255),
+            ("#fbfbfb", 0),
+        ):
+            dots = dots_of(self.found(around.format(colour) + black + CODE, [("code128 A", {})]))
+            self.assertAlmostEqual(dots[2:140, 170:230].mean(), dark, delta=0.01, msg=colour)
+            self.assertTrue((dots >= sharp).all())
+            self.assertFalse(dots[:150][beside(sharp[:150])].any(), colour)
 
     def test_letters_have_the_colour_of_their_place_where_it_is_read(self) -> None:
         for fill, behind, colour in (

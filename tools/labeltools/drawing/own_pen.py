@@ -1,27 +1,21 @@
 """Draws labels in a design of a user's own. Lengths are in dots."""
 
-import re
 from functools import cache
 from math import ceil
-from typing import Any, Iterable, Iterator, Optional
+from typing import Any, Iterator, Optional
 
 import cairo
 
 from labeltools.paper.area import Dots, MILLIMETRES
-from labeltools.lines.engine import bytes_a_row
 from labeltools.layout.fitting import Style
 from labeltools.drawing.pdf import POINTS
 from labeltools.layout.layout import LaidOut
 from labeltools.layout.letters import Fonts, Letters
 from labeltools.designs.design import BLACK, OwnDesign, lightness
 from labeltools.designs.layout import OwnLayout
-from labeltools.drawing.pen import Medium, Page, Pen, Placed, padded
+from labeltools.designs.places import Place
+from labeltools.drawing.pen import Medium, Page, Pen, Placed
 
-DARKEST = 128  # the lightness from which on a dot is white
-FAINT = 191  # the lightness up to which a dot may be of a line that is thinner
-CLEAR = bytes((*range(DARKEST), *range(FAINT + 1, 256)))
-THIN = re.compile(b"(?<=[\xc0-\xff])[\x80-\xbf]{1,2}(?=[\xc0-\xff])")  # between light dots
-DARK = b"1" * 128 + b"0" * 128  # how dark a dot is that is darker than half of black
 UPRIGHT = cairo.Matrix()
 
 
@@ -35,6 +29,7 @@ class OwnPen(Pen):
         # and loses no gradients, but what librsvg makes pictures of has as few dots
         is_in_points = medium.is_pdf and not design.page.has("filter", "mask")
         self.unit = medium.dpi / POINTS if is_in_points else 1.0
+        self.tinted: set[Place] = set()  # places that have dots of a tint behind them
         self.recorded = cache(self.new_recorded)
         self.dots = cache(self.new_dots)
         self.colours = cache(lambda absent: design.colours(design.seen(absent)))
@@ -56,26 +51,16 @@ class OwnPen(Pen):
         """Returns the drawing without some parts in black dots, on a page of a size if that is
         given; None where there is no ink.
         """
+        from labeltools.drawing.own_dots import Drawing  # Pillow takes 40 ms, also of built-in ones
+
         dot = MILLIMETRES / self.medium.dpi
         wide, high = (max(1, int(side / dot)) for side in self.design.label)
         scale = wide / self.design.label[0]
         light = lightness(lambda canvas: self.design.draw(canvas, scale, absent), wide, high)
-        spared = (
-            [
-                side * scale
-                for side in (one.left, one.top, one.left + one.width, one.top + one.height)
-            ]
-            for one in self.design.places
-            if one.is_symbol
-        )
-        rows = [dark_row(row) for row in with_thin_lines(light, wide, spared)]
-        width, height = size or (wide, high)
-        surface = cairo.ImageSurface(cairo.FORMAT_A1, width, height)
-        stride = surface.get_stride()
-        packed = padded(b"".join(rows[:height]), len(rows[0]), stride)
-        surface.get_data()[: len(packed)] = packed
-        surface.mark_dirty()
-        return surface if any(packed) else None
+        ends = {place: ends_of(place, scale) for place in self.design.places}
+        drawing = Drawing(light, (wide, high), [ends[place] for place in ends if place.is_symbol])
+        self.tinted.update(place for place in ends if drawing.is_tinted(ends[place]))
+        return drawing.surface(size or (wide, high)) if drawing.has_ink else None
 
     def draw_below(self, canvas: Any, page: Page, is_turned: bool) -> None:
         """Draws what is alike on the labels of a page."""
@@ -117,7 +102,10 @@ class OwnPen(Pen):
         for place, text, box, _, _, style, wide, high in layout.texts:
             colour = colours.get(place, place.colour)
             fitted = self.fitter.found(text, style, wide, high)
-            yield Placed(fitted, style, box, place.quarters, None if colour == BLACK else colour)
+            is_black = colour == BLACK
+            is_edged = is_black and place in self.tinted
+            shown = None if is_black else colour
+            yield Placed(fitted, style, box, place.quarters, shown, is_edged)
 
     def lines_of(self, item: LaidOut) -> Iterator[tuple[str, Style, int, int]]:
         """Yields the texts of a label that may be cut, with their room."""
@@ -125,45 +113,14 @@ class OwnPen(Pen):
             yield text, style, wide, high
 
 
-def with_thin_lines(light: bytes, wide: int, spared: Iterable[list[float]]) -> list[bytes]:
-    """Returns the rows of a drawing with black dots where a line is thinner than a dot: it may be
-    darker than half of black nowhere. What is spared is left as it is, of which the left, upper,
-    right and lower ends are given.
-    """
-    rows = [light[start : start + wide] for start in range(0, len(light), wide)]
-    found = [bytearray(row) for row in rows]
-    columns = [light[start::wide] for start in range(wide)]
-    across = ((down, right) for right, down in thin_dots(columns))
-    for down, right in (*thin_dots(rows), *across):
-        found[down][right] = 0
-    for ends in spared:
-        left, top, right, bottom = (ceil(end) for end in ends)
-        for row, as_drawn in zip(found[top:bottom], rows[top:bottom]):
-            row[left:right] = as_drawn[left:right]
-    return [bytes(row) for row in found]
-
-
-def thin_dots(rows: list[bytes]) -> Iterator[Dots]:
-    """Yields the row and the place of each dot of a line down that is thinner than a dot: one or
-    two of a row are faint, and a faint one and none that is dark is above or below.
-    """
-    faded = [
-        number for number, row in enumerate(rows[:-1]) if number and row.translate(None, CLEAR)
-    ]
-    for number in faded:
-        for run in THIN.finditer(rows[number]):
-            place = run.start() + run[0].index(min(run[0]))
-            near = slice(place - 1, place + 2)
-            if DARKEST <= min(*rows[number - 1][near], *rows[number + 1][near]) <= FAINT:
-                yield number, place
+def ends_of(place: Place, scale: float) -> tuple[int, int, int, int]:
+    """Returns the left, upper, right and lower ends of a place, in so many dots a millimetre."""
+    ends = (place.left, place.top, place.left + place.width, place.top + place.height)
+    left, top, right, bottom = (ceil(end * scale) for end in ends)
+    return left, top, right, bottom
 
 
 def own_layout(item: LaidOut) -> OwnLayout:
     """Returns the layout of a label in a design."""
     assert isinstance(item.layout, OwnLayout)
     return item.layout
-
-
-def dark_row(row: bytes) -> bytes:
-    """Returns a row of dots, of which the dark ones are 1."""
-    return (int(row.translate(DARK), 2) << -len(row) % 8).to_bytes(bytes_a_row(len(row)), "big")

@@ -40,13 +40,14 @@ DIGITS_SIZE = 10.4
 LARGE = 1000  # dots: the size in which digits are measured
 DIGITS = "0123456789"
 BETWEEN = "   "  # old price and unit price on one line
+EDGE = 4.0  # dots: white around letters on a tint, of which letters cover half
 WITHOUT_END = 1 << 20  # dots: the height of a text of which all lines are wanted
 Page = Sequence[tuple[LaidOut, Dots]]  # labels, with the upper left corners of their areas
 
 
 class Placed(NamedTuple):
     """A text that is fitted into a box: its style; the box, turned to the right by some quarters;
-    its colour where that is not black.
+    its colour where that is not black; whether its letters have a white edge.
     """
 
     text: Fitted
@@ -54,6 +55,7 @@ class Placed(NamedTuple):
     box: Box
     quarters: int = 0
     colour: Optional[Colour] = None
+    is_edged: bool = False
 
 
 # glyphs of many labels that are drawn together, by their faces and sizes: a call of Cairo takes as
@@ -255,11 +257,13 @@ class Pen:
         """Draws a text of a label whose area begins at a place; in dots it is black, or takes black
         dots away.
         """
-        text, style, box, quarters, colour = placed
-        if not quarters and colour is None:
+        text, style, box, quarters, colour, is_edged = placed
+        if not quarters and colour is None and not is_edged:
             self.show(canvas, text, style, place[0] + box.left, place[1] + box.top)
             return
         with self.turned(canvas, box, quarters, place):
+            if is_edged:
+                edge_letters(canvas, text)
             if colour and not self.medium.is_dots:
                 canvas.set_source_rgb(*colour)
             elif colour and is_light(colour):
@@ -370,6 +374,17 @@ class Pen:
 
 
 show_layout = PangoCairo.show_layout
+
+
+def edge_letters(canvas: Any, text: Fitted) -> None:
+    """Takes black dots away around the letters of a text in a box."""
+    canvas.save()
+    canvas.move_to(text.x, text.y)
+    PangoCairo.layout_path(canvas, text.layout)
+    canvas.set_line_width(EDGE)
+    canvas.set_operator(cairo.Operator.DEST_OUT)
+    canvas.stroke()
+    canvas.restore()
 
 
 def options_of(medium: Medium) -> cairo.FontOptions:

@@ -1,0 +1,84 @@
+"""The drawing of a design in black dots: what is darker than half of black is black, with sharp
+edges; lines thinner than a dot are kept; tints, which are lighter, are dithered.
+"""
+
+import re
+from typing import Iterable, Iterator
+
+import cairo
+from PIL import Image, ImageChops, ImageFilter
+
+from labeltools.paper.area import Dots
+
+DARKEST = 128  # the lightness from which on a dot is white
+FAINT = 191  # the lightness up to which a dot may be of a line that is thinner
+CLEAR = bytes((*range(DARKEST), *range(FAINT + 1, 256)))
+THIN = re.compile(b"(?<=[\xc0-\xff])[\x80-\xbf]{1,2}(?=[\xc0-\xff])")  # between light dots
+FAINTEST = 250  # the lightness from which on a tint is as white
+HALVES = bytes(DARKEST) + b"\xff" * (256 - DARKEST)
+TINTS = bytes(range(FAINTEST)) + b"\xff" * (256 - FAINTEST)
+Ends = tuple[int, int, int, int]  # left, upper, right and lower ends of what is spared
+
+
+class Drawing:
+    """The dots of a drawing, of which the lightness of each one is given, a byte from 0 for black.
+    In what is spared lines stay as thin as they are.
+    """
+
+    def __init__(self, light: bytes, size: Dots, spared: Iterable[Ends]) -> None:
+        rows = with_thin_lines(light, size[0], spared)
+        picture = Image.frombytes("L", size, b"".join(rows))
+        dark = picture.point(HALVES)
+        near = dark.filter(ImageFilter.MinFilter(3))  # beside dark dots, whose edges stay sharp
+        tint = Image.composite(picture.point(TINTS), Image.new("L", size, 255), near)
+        self.tint = tint.convert("1")
+        self.picture = ImageChops.logical_and(dark.convert("1"), self.tint)
+
+    @property
+    def has_ink(self) -> bool:
+        """Whether it has a black dot."""
+        return bool(self.picture.getextrema()[0] == 0)
+
+    def is_tinted(self, ends: Ends) -> bool:
+        """Returns whether it has dots of tints there."""
+        return bool(self.tint.crop(ends).getextrema()[0] == 0)
+
+    def surface(self, size: Dots) -> cairo.ImageSurface:
+        """Returns it at the left upper corner of a page."""
+        page = Image.new("1", size, 1)
+        page.paste(self.picture)
+        surface = cairo.ImageSurface(cairo.FORMAT_A1, *size)
+        surface.get_data()[:] = page.tobytes("raw", "1;IR", surface.get_stride())
+        surface.mark_dirty()
+        return surface
+
+
+def with_thin_lines(light: bytes, wide: int, spared: Iterable[Ends]) -> list[bytes]:
+    """Returns the rows of a drawing with black dots where a line is thinner than a dot: it may be
+    darker than half of black nowhere. What is spared is left as it is.
+    """
+    rows = [light[start : start + wide] for start in range(0, len(light), wide)]
+    found = [bytearray(row) for row in rows]
+    columns = [light[start::wide] for start in range(wide)]
+    across = ((down, right) for right, down in thin_dots(columns))
+    for down, right in (*thin_dots(rows), *across):
+        found[down][right] = 0
+    for left, top, right, bottom in spared:
+        for row, as_drawn in zip(found[top:bottom], rows[top:bottom]):
+            row[left:right] = as_drawn[left:right]
+    return [bytes(row) for row in found]
+
+
+def thin_dots(rows: list[bytes]) -> Iterator[Dots]:
+    """Yields the row and the place of each dot of a line down that is thinner than a dot: one or
+    two of a row are faint, and a faint one and none that is dark is above or below.
+    """
+    faded = [
+        number for number, row in enumerate(rows[:-1]) if number and row.translate(None, CLEAR)
+    ]
+    for number in faded:
+        for run in THIN.finditer(rows[number]):
+            place = run.start() + run[0].index(min(run[0]))
+            near = slice(place - 1, place + 2)
+            if DARKEST <= min(*rows[number - 1][near], *rows[number + 1][near]) <= FAINT:
+                yield number, place
