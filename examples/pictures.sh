@@ -17,7 +17,6 @@ mv one/1.png thermal.png
 tools/tests/layouts.py .
 mv rack/1.png design-rack.png
 mv pallet/1.png design-pallet.png
-mv named/1.png design-named.png
 mv own/1.png design-shelf.png
 label-print --design designs/ticket-210x148.svg --to png --dpi 203 --only 2 seats.lines > design-ticket.png
 cat > jar.lines <<'LINES'

@@ -23,7 +23,7 @@ VALUES: Dict[str, Optional[str]] = {
     "label-table --new-since": None,
     "label-print --dpi": "203 300 600",
     "label-print --design": "article shelf",
-    "label-print --to": "pdf svg png pbm zpl escpos design",
+    "label-print --to": "pdf svg png pbm zpl escpos",
     "label-print --each": None,
     "label-print --journal": None,
 }

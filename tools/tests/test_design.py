@@ -586,7 +586,9 @@ class Drawings(OwnPages):
     def test_tints_are_dithered_and_what_is_dark_stays_sharp(self) -> None:
         """Each takes as many dots as it is dark, but for white beside what is black."""
         around = '<path d="M0 0H60V19H0Z" fill="{}"/>'
-        black = '<path transform="scale(.125261)" fill="#222" d="M40 40H160V120H40Z M400 9V90H401V9Z"/>'
+        black = (
+            '<path transform="scale(.125261)" fill="#222" d="M40 40H160V120H40Z M400 9V90H401V9Z"/>'
+        )
         sharp = dots_of(self.found(black + CODE, [("code128 A", {})]))
         for colour, dark in (
             ("orange", 1 - (0.3 + 0.59 * 165 / 255)),
@@ -864,55 +866,6 @@ class Papers(OwnPages):
             self.assertEqual(len(documents), 2 if "cell" not in paper and form != "pdf" else 1)
             for document in documents:
                 document.close()
-
-
-class Frames(OwnPages):
-    """Built-in designs that are written as SVG."""
-
-    def test_the_command(self) -> None:
-        paper = ("--paper", "60x40", "--dpi", "203", "--to", "design")
-        done = support.printed(*paper, input=b"ean13 400638133393\n")
-        self.assertEqual((done.returncode, done.stderr), (0, b""))
-        self.path.write_bytes(done.stdout)
-        again = support.printed(
-            *paper[2:4], "--to", "zpl", "--design", self.path, input=b"ean8 7351353\n"
-        )
-        self.assertEqual((again.returncode, again.stderr), (0, b""))
-        for words in (("--design", str(self.path)), ("--each", "folder/%d.svg"), ("--print", "x")):
-            refused = support.printed(*paper, *words, input=b"ean8 7351353\n")
-            self.assertEqual((refused.returncode, refused.stdout), (2, b""), words)
-            self.assertIn(b"--to design writes the places of a built-in design", refused.stderr)
-        nothing = support.printed(*paper, input=b"ean8 1\n")
-        self.assertEqual((nothing.returncode, nothing.stdout), (1, b""))
-
-    def test_the_same_label_is_printed(self) -> None:
-        from labeltools.designs.frame import svg_of
-
-        fields = {"title": "Bleistift, weich", "price": "12,80 €", "unit": "1 kg = 5,98 €"}
-        for line in ("ean13 400638133393", "code128 ABC-1", "qr hello"):
-            for size, is_turned in (
-                ((60.0, 40.0), False),
-                ((50.0, 25.0), False),
-                ((25.0, 70.0), None),
-            ):
-                built = designs.prepared(Path("article"), [(line, fields)], paper=size)
-                self.path.write_text(svg_of(built.laid_out, built.job.plan), encoding="utf-8")
-                own = designs.prepared(self.path, [(line, fields)], paper=size)
-                self.assertEqual(reasons_of(own), [])
-                self.assertEqual(len(built.labels), 1)
-                one, other = built.labels[0].layout, own.labels[0].layout
-                self.assertEqual(other.module, one.module)
-                assert isinstance(other, OwnLayout)
-                sizes = {text.place.part: text.size for text in other.texts}
-                for part in ("title", "price"):
-                    self.assertAlmostEqual(sizes[part], one.frame.sizes[part], delta=1)
-                (symbol,) = other.symbols
-                bars = symbol.boxes["bars"]
-                place = built.job.plan.places[0]
-                if is_turned is not None:
-                    left = symbol.box.left + bars.left - place[0]
-                    top = symbol.box.top + bars.top - place[1]
-                    self.assertEqual((left, top), one.boxes["bars"][:2])
 
 
 if __name__ == "__main__":

@@ -10,7 +10,6 @@ import sys
 import time
 from contextlib import suppress
 from dataclasses import replace
-from io import BytesIO
 from pathlib import Path
 from typing import Any, Callable, Iterable, Optional, Sequence
 
@@ -27,14 +26,13 @@ from labeltools.common.command_line import (
 )
 from labeltools.lines.engine import option_words
 from labeltools.common.files import save, send
-from labeltools.drawing.forms import DESIGN, FORMS
+from labeltools.drawing.forms import FORMS
 from labeltools.printing.journal import Journal
 from labeltools.layout.layout import LaidOut
 from labeltools.lines.file import LineRecord
 from labeltools.common.messages import BAD_ARGUMENTS, ToolError, sentence, write_message
 from labeltools.printing.network import NetworkPrinter, SCHEME, address_of
 from labeltools.designs.design import is_file
-from labeltools.designs.frame import svg_of
 from labeltools.printing.press import Press, PrintJob, Prints, once
 from labeltools.printing.job import (
     DRAWING_DPI,
@@ -326,13 +324,6 @@ def write(
             send(file, output)
 
 
-def write_design(found: Prepared) -> None:
-    """Writes the places of labels to standard output as a design of SVG."""
-    output = standard_output().fileno()
-    with BytesIO(svg_of(found.laid_out, found.job.plan).encode()) as file, hold_signals():
-        send(file, output)
-
-
 def write_files(press: Press, items: Iterable[LaidOut], paths: Iterable[Path]) -> None:
     """Writes each label into its file."""
     at = press.job.plan.places[0]
@@ -407,10 +398,6 @@ def check_arguments(arguments: argparse.Namespace, job: PrintJob) -> None:
     form = job.form
     queue: str = arguments.queue or ""
     is_network = queue.startswith(SCHEME)
-    if form == DESIGN and (job.design or queue or arguments.each):
-        what = Text("--to design writes the places of a built-in design to standard output")
-        hint = Text("leave out --design FILE.svg, --each and --print")
-        raise ToolError(what, hint, BAD_ARGUMENTS)
     wants = "--journal" if arguments.journal else "--stream" if arguments.is_stream else ""
     if (is_network or wants) and not form.is_roll:
         what = Text("{} needs labels one by one", wants or queue)
@@ -517,9 +504,6 @@ def run() -> int:
     talk = PrintTalk()
     found = found_labels(options, job, arguments.lines, talk)
     say(found)
-    if job.form == DESIGN and found.labels:
-        write_design(found)
-        return 1 if found.left_out else 0
     return give_out(arguments, found, queue, talk)
 
 

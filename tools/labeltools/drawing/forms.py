@@ -21,5 +21,4 @@ PNG = Form("png", is_one_page=True)
 PBM = Form("pbm")
 ZPL = Form("zpl", is_roll=True)
 ESCPOS = Form("escpos", is_roll=True)
-DESIGN = Form("design", is_drawn=True)  # no labels: the places where they would be
-FORMS = {form.name: form for form in (PDF, SVG, PNG, PBM, ZPL, ESCPOS, DESIGN)}
+FORMS = {form.name: form for form in (PDF, SVG, PNG, PBM, ZPL, ESCPOS)}
