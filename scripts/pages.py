@@ -13,7 +13,7 @@
   `command` it is one of the `main` in crates/labels/src/main.rt.
 - README.md has at most MOST_OF_README lines, and it and docs/*.md have at most MOST_BY_HAND lines by hand. All lines
   count, blank ones too, but what scripts make or compare name by name: tables of MADE, and what is between marks.
-
+- Pages, manuals and messages together have at most MOST_ODD of the words of ODD, which natural English has not.
 - A number of a page that a step of the gate counts is the one in scripts/counts.txt.
 
 The last line is `N pages, L links, B blocks, K names, F faults`. A fault is a line before it, and makes the status 1.
@@ -80,6 +80,15 @@ IN_PAGES = (
     ("docs/PROOF.md", r"one at a time: ([\d,]+)\s+changes", "believed_rows.py", r"^(\d+) changes"),
 )
 MARKDOWN = MarkdownIt().enable("table")
+# What is written as in a translation: "where" for if (a place has one of the words after it), "alone" for only, "is
+# said" for is reported; and where that is looked for: pages and manuals, but for code, and messages of the tools.
+ODD = re.compile(
+    r"(?<!-)\b(?:where(?! (?:to|it is|it begins|they are)\b)|alone|(?:is|are) said|of one's own|anew|behind the)\b",
+    re.I,
+)
+MOST_ODD = 240
+PROSE = (README, "CONTRIBUTING.md", "docs/*.md", "designs/*.md", "man/*", "tools/po/de.po")
+CODE_IN_PROSE = re.compile(r"```.*?```|`[^`\n]*`", re.DOTALL)
 
 
 @dataclass(frozen=True)
@@ -212,6 +221,31 @@ def faults_of_length(pages: Mapping[str, str]) -> Iterator[str]:
             yield f"{what}: {count} lines, and at most {most} are wanted"
 
 
+def prose_of(path: str, text: str) -> str:
+    """What a page or a manual says, without code, or the English texts of a file of messages; lines stay in place."""
+    if path.endswith(".po"):
+        return re.sub("^(?!msgid).*", "", text, flags=re.MULTILINE)
+    return CODE_IN_PROSE.sub(lambda found: "\n" * found[0].count("\n"), text)
+
+
+def odd_words(path: str, text: str) -> Iterator[str]:
+    """The words of ODD in a file, each with its line."""
+    for number, line in enumerate(prose_of(path, text).split("\n"), 1):
+        yield from (f"{path}:{number}: {found[0]}: {line.strip()}" for found in ODD.finditer(line))
+
+
+def prose() -> dict[str, str]:
+    """The text of each file of PROSE, by its path."""
+    return {path: sources.read(path) for pattern in PROSE for path in sorted(glob.glob(pattern))}
+
+
+def faults_of_words(files: Mapping[str, str]) -> Iterator[str]:
+    """The words of ODD in some files, if there are too many."""
+    found = [odd for path, text in files.items() for odd in odd_words(path, text)]
+    if len(found) > MOST_ODD:
+        yield from (*found, f"{len(found)} odd words, and at most {MOST_ODD} are wanted")
+
+
 def names_in(text: str) -> Iterator[tuple[int, str]]:
     """The names between backticks in a page's prose and tables, each with the number of its line."""
     for token in parsed(text):
@@ -281,7 +315,7 @@ def main() -> int:
     sources.parser_of(__doc__, has_top=False).parse_args()
     os.chdir(sources.TOP)
     pages = texts()
-    faults = [*faults_of_length(pages), *faults_of_counts(pages)]
+    faults = [*faults_of_length(pages), *faults_of_words(prose()), *faults_of_counts(pages)]
     count = links = 0
     names = sum(len([*names_in(pages[page])]) for page in NAMING)
     for page, text in pages.items():

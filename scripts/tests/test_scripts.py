@@ -547,6 +547,21 @@ class Judges(unittest.TestCase):
         for path, count in (("README.md", 7), ("docs/A.md", 7), ("CONTRIBUTING.md", 0), ("crates/a/README.md", 0)):
             self.assertEqual((path, pages.lines_by_hand({path: text})), (path, count))
 
+    def test_odd_words(self) -> None:
+        right = "Look where it is, by `where` or --where.\n```sh\nwhere alone\n```\n"
+        wrong = "Where a row has no code,\nit alone is said anew behind the names of one's own.\n"
+        odd = ["Where", "alone", "is said", "anew", "behind the", "of one's own"]
+        for path, text, found in (
+            ("a.md", right, []),
+            ("a.md", right + wrong, odd),
+            ("a.1", wrong, odd),
+            ("a.po", 'msgid "he alone"\nmsgstr "where"\n', ["alone"]),
+        ):
+            self.assertEqual([one.split(": ")[1] for one in pages.odd_words(path, text)], found)
+        most = "alone " * pages.MOST_ODD
+        self.assertEqual([*pages.faults_of_words({"a.md": most})], [])
+        self.assertNotEqual([*pages.faults_of_words({"a.md": most, "b.md": "anew"})], [])
+
     def test_recipes(self) -> None:
         self.assertEqual(unreported(run_recipes.wrong_cases()), 0)
         for where, name, bent, count in (
