@@ -21,9 +21,11 @@ BROKEN = struct.pack("ii", 1, 0)  # a connection that is closed so is reset
 
 class Printer:
     """A printer in the network. After `cut` labels it breaks off once; the connection of the
-    number `torn` it breaks off within the first label; after `stuck` labels it reads no more;
-    `slow` are the seconds that it takes for each piece; `says` is what it sends. `rude` breaks each
-    connection off at its end, and `hangs_up` before it reads anything.
+    number `torn` it breaks off within the first label; after `stuck` labels it waits to be told
+    before it goes on, one that `waits` before it reads anything, and one that `lingers` before it
+    ends a connection; `slow` are the seconds that it takes for each piece; `says` is what it
+    sends. `rude` breaks each connection off at its end, `hangs_up` before it reads anything; one
+    that `ends` ends it after a label.
     """
 
     def __init__(
@@ -36,6 +38,9 @@ class Printer:
         port: int = 0,
         rude: bool = False,
         hangs_up: bool = False,
+        waits: bool = False,
+        lingers: bool = False,
+        ends: bool = False,
     ) -> None:
         self.server = socket.create_server(("127.0.0.1", port))
         # of each connection from its beginning, so that the system takes little by itself
@@ -49,6 +54,14 @@ class Printer:
         self.says = says
         self.rude = rude
         self.hangs_up = hangs_up
+        self.waits = waits
+        self.lingers = lingers
+        self.ends = ends
+        self.connections = 0
+        self.ended = 0
+        self.pieces = 0
+        self.at_end = threading.Event()
+        self.told = threading.Event()
         self.labels: List[bytes] = []
         self.file = ""
 
@@ -67,30 +80,43 @@ class Printer:
             threading.Thread(target=self.read, args=(line,), daemon=True).start()
 
     def read(self, line: socket.socket) -> None:
+        """Reads labels until the connection ends."""
+        self.connections += 1
+        with line:
+            self.read_labels(line)
+        self.ended += 1
+
+    def read_labels(self, line: socket.socket) -> None:
         """Reads labels; a part of one is no label."""
         buffer = b""
-        with line:
-            self.torn -= 1
-            if self.hangs_up:
-                line.recv(1, socket.MSG_PEEK)  # it is there, and unread
-                return
-            if self.torn == 0:
-                line.recv(100)
+        self.torn -= 1
+        if self.hangs_up:
+            line.recv(1, socket.MSG_PEEK)  # it is there, and unread
+            return
+        if self.torn == 0:
+            line.recv(100)
+            line.setsockopt(socket.SOL_SOCKET, socket.SO_LINGER, BROKEN)
+            return
+        if self.waits:
+            self.told.wait()
+        while data := self.received(line):
+            buffer += data
+            found = LABEL.findall(buffer)
+            self.keep(found)
+            buffer = buffer[sum(map(len, found)) :]
+            if self.stuck and len(self.labels) >= self.stuck:
+                self.told.wait()
+            if self.cut and len(self.labels) >= self.cut:
+                self.cut = 0
                 line.setsockopt(socket.SOL_SOCKET, socket.SO_LINGER, BROKEN)
                 return
-            while data := self.received(line):
-                buffer += data
-                found = LABEL.findall(buffer)
-                self.keep(found)
-                buffer = buffer[sum(map(len, found)) :]
-                if self.stuck and len(self.labels) >= self.stuck:
-                    time.sleep(60)
-                if self.cut and len(self.labels) >= self.cut:
-                    self.cut = 0
-                    line.setsockopt(socket.SOL_SOCKET, socket.SO_LINGER, BROKEN)
-                    return
-            if self.rude:
-                line.setsockopt(socket.SOL_SOCKET, socket.SO_LINGER, BROKEN)
+            if self.ends and found:
+                return
+        if self.rude:
+            line.setsockopt(socket.SOL_SOCKET, socket.SO_LINGER, BROKEN)
+        if self.lingers:
+            self.at_end.set()
+            self.told.wait()
 
     def keep(self, labels: List[bytes]) -> None:
         """Keeps labels, in a file where one is named."""
@@ -105,6 +131,7 @@ class Printer:
             if self.says:
                 line.sendall(self.says)
             time.sleep(self.slow)
+            self.pieces += 1
             return line.recv(2048)
         except OSError:
             return b""
@@ -115,9 +142,8 @@ class Printer:
         self.server.close()
 
     def wait(self, count: int) -> None:
-        """Waits until so many labels have come, some seconds at most."""
-        end = time.monotonic() + 20
-        while len(self.labels) < count and time.monotonic() < end:
+        """Waits until so many labels have come."""
+        while len(self.labels) < count:
             time.sleep(0.01)
 
 

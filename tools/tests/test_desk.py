@@ -4,9 +4,7 @@ fails there.
 
 import functools
 import os
-import resource
-import subprocess
-import tempfile
+import threading
 import unittest
 from pathlib import Path
 from typing import Optional
@@ -14,17 +12,16 @@ from unittest import mock
 
 import designs
 import support
-from labeltools.printing.journal import Journal, code_of, escaped
+from desk import NULL, PIPE, ROLL, TICKETS, Desk, labels_in, printed
+from labeltools.printing.journal import Journal, escaped
 from labeltools.lines.file import read_lines
 from labeltools.common.messages import Silence, ToolError
 from labeltools.printing.network import NetworkPrinter
 from labeltools.printing.job import PrintOptions, labels_of, planned
 from labeltools.printing.selection import selection_of
 from labeltools.printing.sending import Sender
-from printers import LABEL, Printer
+from printers import Printer
 
-ROLL = ("--paper", "60x40", "--dpi", "203", "--to", "zpl")
-TICKETS = b"".join(b"qr T%05d\n" % number for number in range(1, 31))
 SHORT = functools.partial(NetworkPrinter, stuck=0.5)
 
 
@@ -32,56 +29,7 @@ def setUpModule() -> None:
     support.labels_program()
 
 
-def printed(*words: str, input: bytes = TICKETS) -> "support.Finished[bytes]":
-    """Runs label-print on a roll."""
-    return support.printed(*ROLL, *words, input=input)
-
-
-def labels_in(done: "support.Finished[bytes]") -> list[bytes]:
-    """The labels on standard output."""
-    return LABEL.findall(done.stdout)
-
-
-class Folder(unittest.TestCase):
-    """Tests with a folder and the name of a journal in it."""
-
-    def setUp(self) -> None:
-        folder = tempfile.TemporaryDirectory()
-        self.addCleanup(folder.cleanup)
-        self.folder = folder.name
-        self.path = f"{self.folder}/journal"
-        self.records = read_lines(TICKETS, "lines").records
-
-    def events(self) -> list[str]:
-        """The events of the journal."""
-        lines = Path(self.path).read_text().splitlines()[1:]
-        return [line.split("\t")[1] for line in lines]
-
-    def said(self, done: "support.Finished[bytes]", status: int, pattern: str) -> None:
-        """Compares a status and a message."""
-        text = done.stderr.decode()
-        self.assertEqual(done.returncode, status, text)
-        self.assertRegex(text, pattern)
-
-    def is_doubtful(self, journal: Journal, number: int) -> bool:
-        """Whether the label of a line of TICKETS, from 0, is in doubt."""
-        return code_of(self.records[number]) in journal.doubtful()
-
-    def answers(self, input: bytes, *words: str) -> list[str]:
-        """The answers to lines."""
-        done = printed("--stream", *words, input=input)
-        self.assertEqual(done.stderr.count(b"\n"), len(done.stderr.splitlines()))
-        return done.stderr.decode().splitlines()
-
-    def answer(self, stream: "subprocess.Popen[bytes]", line: bytes) -> str:
-        """The answer to a line."""
-        assert stream.stdin and stream.stderr
-        stream.stdin.write(line)
-        stream.stdin.flush()
-        return stream.stderr.readline().decode()
-
-
-class Chosen(Folder):
+class Chosen(Desk):
     """--only, --only-code and --unique; the library; a line that is cut off."""
 
     def rows(self, rows: Optional[str], *codes: str) -> list[int]:
@@ -147,7 +95,7 @@ class Chosen(Folder):
         self.said(printed("--labels", "--level X"), 2, "bad words")
 
 
-class Network(Folder):
+class Network(Desk):
     """--print tcp://HOST."""
 
     def test_each_label_arrives(self) -> None:
@@ -197,7 +145,7 @@ class Network(Folder):
             self.said(done, 2, "needs labels one by one: give --to zpl or escpos")
 
 
-class Journals(Folder):
+class Journals(Desk):
     """--journal and --again."""
 
     def test_a_code_goes_out_once(self) -> None:
@@ -254,44 +202,31 @@ class Journals(Folder):
 
     def test_two_lanes(self) -> None:
         """A lock is of a process: the other lane is one."""
-        script = (
-            "import sys\n"
-            "from labeltools.printing.journal import Journal\n"
+        code = (
             "from labeltools.lines.file import read_lines\n"
-            "journal = Journal(sys.argv[1], 'tcp://b'); print(journal.lane)\n"
+            "ours = journal.Journal(sys.argv[1], 'tcp://b'); print(ours.lane)\n"
             "records = read_lines(b'qr T00001\\nqr T00002\\n', '').records\n"
-            "print([journal.claim(record) for record in records], flush=True); sys.stdin.read()\n"
+            "print([ours.claim(record) for record in records], flush=True); sys.stdin.read()\n"
         )
         ours = Journal(self.path, "tcp://a")
         self.assertTrue(ours.claim(self.records[0]))
-        words = ["/usr/bin/python3", "-c", script, self.path]
-        pipe = subprocess.PIPE
-        with subprocess.Popen(words, stdin=pipe, stdout=pipe, cwd=support.TOOLS) as other:
-            assert other.stdout is not None
-            self.assertEqual(other.stdout.readline(), b"2\n")
-            self.assertEqual(other.stdout.readline(), b"[False, True]\n")
-            self.assertFalse(ours.claim(self.records[1]))
-            self.assertFalse(self.is_doubtful(ours, 1))
-            other.kill()
-            other.wait()
-            self.assertTrue(self.is_doubtful(ours, 1))
+        other = self.other(code, self.path)
+        assert other.stdout is not None
+        self.assertEqual(other.stdout.readline(), b"2\n")
+        self.assertEqual(other.stdout.readline(), b"[False, True]\n")
+        self.assertFalse(ours.claim(self.records[1]))
+        self.assertFalse(self.is_doubtful(ours, 1))
+        other.kill()
+        other.wait()
+        self.assertTrue(self.is_doubtful(ours, 1))
 
     def test_a_lane_that_is_killed_while_another_one_waits(self) -> None:
-        script = (
-            "import sys\n"
-            "from labeltools.printing.journal import Journal\n"
-            "with Journal(sys.argv[1], 'tcp://b').locked():\n"
-            "    print('locked', flush=True); sys.stdin.read()\n"
-        )
         ours = Journal(self.path, "tcp://a")
-        words = ["/usr/bin/python3", "-c", script, self.path]
-        pipe = subprocess.PIPE
-        with subprocess.Popen(words, stdin=pipe, stdout=pipe, cwd=support.TOOLS) as other:
-            assert other.stdout is not None
-            other.stdout.readline()
-            killer = subprocess.Popen(["sh", "-c", f"sleep 0.3; kill -9 {other.pid}"])
-            self.assertTrue(ours.claim(self.records[0]))
-            killer.wait()
+        other = self.holding()
+        late = threading.Timer(0.3, other.kill)
+        late.start()
+        self.assertTrue(ours.claim(self.records[0]))
+        late.join()
 
     def test_lines_that_are_cut_off(self) -> None:
         journal = Journal(self.path, "tcp://a")
@@ -416,15 +351,10 @@ class Journals(Folder):
     def test_two_commands_at_once(self) -> None:
         """Each label goes to one of two printers."""
         lanes = Printer().start(), Printer().start()
-        script = [str(support.TOOLS / "label-print"), *ROLL, "--journal", self.path, "--print"]
         lines = Path(self.folder, "lines")
         lines.write_bytes(TICKETS)
-        env = support.environment()
-        quiet = subprocess.DEVNULL
-        runs = [
-            subprocess.Popen([*script, lane.name, str(lines)], env=env, stderr=quiet)
-            for lane in lanes
-        ]
+        words = ("--journal", self.path, str(lines), "--print")
+        runs = [self.begin(*words, lane.name, stderr=NULL) for lane in lanes]
         self.assertEqual([run.wait(support.SECONDS) for run in runs], [0, 0])
         labels = [*lanes[0].labels, *lanes[1].labels]
         self.assertEqual(sorted(labels), sorted(labels_in(printed())))
@@ -437,20 +367,8 @@ class Journals(Folder):
             self.assertTrue(text.isascii() and text.isprintable() and text.rstrip() == text)
 
 
-class FullDisks(Folder):
+class FullDisks(Desk):
     """A journal that takes no more bytes than a limit."""
-
-    def limited(self, size: int) -> "support.Finished[bytes]":
-        """Runs label-print whose files have so many bytes at most."""
-        words = [str(support.TOOLS / "label-print"), *ROLL, "--journal", self.path]
-        limit = functools.partial(resource.setrlimit, resource.RLIMIT_FSIZE, (size, size))
-        return subprocess.run(
-            words,
-            input=TICKETS,
-            capture_output=True,
-            env=support.environment(),
-            preexec_fn=limit,
-        )
 
     def test_each_size(self) -> None:
         """The disk is full in the first line, before a label, at its mark, or within a line; with
@@ -469,7 +387,7 @@ class FullDisks(Folder):
         for size in sizes:
             with self.subTest(size=size):
                 os.unlink(self.path)
-                done = self.limited(size)
+                done = self.run_alone("--journal", self.path, code=f"limit({size})")
                 self.said(done, 1, "journal: File too large")
                 went = labels_in(done)
                 rest = printed("--journal", self.path)
@@ -481,17 +399,8 @@ class FullDisks(Folder):
                 self.assertEqual(is_doubtful, size == len(head + first))
 
 
-class Streams(Folder):
+class Streams(Desk):
     """--stream."""
-
-    def start(self, *words: str) -> "subprocess.Popen[bytes]":
-        """Starts a stream."""
-        pipe = subprocess.PIPE
-        command = [str(support.TOOLS / "label-print"), *ROLL, "--stream", *words]
-        env = support.environment()
-        stream = subprocess.Popen(command, stdin=pipe, stdout=pipe, stderr=pipe, env=env)
-        self.addCleanup(ended, stream)
-        return stream
 
     def test_answers_and_bytes(self) -> None:
         lines = [
@@ -499,7 +408,7 @@ class Streams(Folder):
             b'#{"row":7,"title":"Heft"}\nean13 400638133393\n',
             b"ean13 4006381333932\n",
         ]
-        stream = self.start("--unique")
+        stream = self.start("--unique", stdout=PIPE)
         assert stream.stdin and stream.stdout and stream.stderr
         for line, word in zip([*lines, b"qr A\n"], ("taken", "taken", "refused", "known")):
             stream.stdin.write(line)
@@ -577,23 +486,20 @@ class Streams(Folder):
         """A supervisor may hand on a pipe that it does not wait for itself."""
         source, target = os.pipe()
         os.set_blocking(source, False)
-        pipe = subprocess.PIPE
-        command = [str(support.TOOLS / "label-print"), *ROLL, "--stream"]
-        env = support.environment()
-        with subprocess.Popen(command, stdin=source, stdout=pipe, stderr=pipe, env=env) as stream:
-            assert stream.stdout and stream.stderr
-            for code in (b"A", b"B"):
-                os.write(target, b"qr " + code + b"\n")
-                answer = stream.stderr.readline().split()
-                self.assertEqual(answer[3:], [b"qr", code])
-                stream.stdout.read(int(answer[2]))
-            os.close(target)
-            self.assertEqual(stream.stderr.read(), b"")
+        stream = self.begin("--stream", stdin=source, stdout=PIPE)
         os.close(source)
-        self.assertEqual(stream.returncode, 0)
+        assert stream.stdout and stream.stderr
+        for code in (b"A", b"B"):
+            os.write(target, b"qr " + code + b"\n")
+            answer = stream.stderr.readline().split()
+            self.assertEqual(answer[3:], [b"qr", code])
+            stream.stdout.read(int(answer[2]))
+        os.close(target)
+        self.assertEqual(stream.stderr.read(), b"")
+        self.assertEqual(stream.wait(), 0)
 
     def test_nobody_reads_the_labels(self) -> None:
-        stream = self.start()
+        stream = self.start(stdout=PIPE)
         assert stream.stdin and stream.stdout and stream.stderr
         stream.stdout.close()
         stream.stdin.write(b"qr A\nqr B\n")
@@ -603,7 +509,7 @@ class Streams(Folder):
 
     def test_nobody_reads_the_answers(self) -> None:
         """It ends before a label: a line without an answer would be sent again."""
-        stream = self.start()
+        stream = self.start(stdout=PIPE)
         assert stream.stdin and stream.stdout and stream.stderr
         stream.stderr.close()
         stream.stdin.write(TICKETS)
@@ -612,12 +518,11 @@ class Streams(Folder):
         self.assertEqual(stream.wait(), 1)
 
     def test_a_fifo_is_kept_open(self) -> None:
-        fifo = f"{self.folder}/till"
-        os.mkfifo(fifo)
-        stream = self.start(fifo)
+        fifo = self.fifo()
+        stream = self.start(fifo, stdout=PIPE)
         assert stream.stderr and stream.stdout
         for code in ("A", "B"):
-            Path(fifo).write_bytes(f"qr {code}\n".encode())  # a writer that comes and goes
+            self.written(stream, fifo, f"qr {code}\n".encode())
             answer = stream.stderr.readline().split()
             self.assertEqual(answer[3:], [b"qr", code.encode()])
             stream.stdout.read(int(answer[2]))
@@ -625,7 +530,7 @@ class Streams(Folder):
 
     @support.slow
     def test_memory_and_descriptors_are_level(self) -> None:
-        stream = self.start()
+        stream = self.start(stdout=PIPE)
         assert stream.stdin and stream.stdout and stream.stderr
         status = Path(f"/proc/{stream.pid}/status")
         found = []
@@ -645,21 +550,13 @@ class Streams(Folder):
         self.assertLess(sum(spent[100:]) / len(spent[100:]), 0.02)
 
 
-def ended(stream: "subprocess.Popen[bytes]") -> None:
-    """Waits for the end of a stream, and closes its pipes."""
-    for pipe in (stream.stdin, stream.stdout, stream.stderr):
-        if pipe is not None:
-            pipe.close()
-    stream.wait(support.SECONDS)
-
-
 def processor_time(process: int) -> float:
     """The processor time of a process in seconds."""
     fields = Path(f"/proc/{process}/stat").read_text().rpartition(")")[2].split()
     return (int(fields[11]) + int(fields[12])) / os.sysconf("SC_CLK_TCK")
 
 
-class Receipts(Folder):
+class Receipts(Desk):
     """ESC/POS without white at the right."""
 
     def test_half_the_bytes(self) -> None:

@@ -4,11 +4,9 @@ an editor has changed, lanes that end, streams that are ended or that nobody rea
 
 import errno
 import fcntl
-import functools
 import os
 import random
 import re
-import resource
 import signal
 import socket
 import subprocess
@@ -16,17 +14,16 @@ import threading
 import time
 import unittest
 from pathlib import Path
-from typing import Optional
 from unittest import mock
 
 import support
+from desk import PIPE, ROLL, TICKETS, Desk, labels_in, printed
 from labeltools.printing import journal as journals
 from labeltools.printing.journal import Journal
 from labeltools.common.messages import ToolError
 from labeltools.printing.network import NetworkPrinter, Unreachable
 from labeltools.common.text import Text
 from printers import BROKEN, LABEL, Printer
-from test_desk import ROLL, TICKETS, Folder, ended, labels_in, printed
 
 SEED = 20
 ENDINGS = (signal.SIGTERM, signal.SIGINT, signal.SIGHUP)
@@ -36,7 +33,7 @@ def setUpModule() -> None:
     support.labels_program()
 
 
-class Printers(Folder):
+class Printers(Desk):
     """Printers that hang up, that talk, and those that have no name."""
 
     def test_what_is_broken_off_at_the_end(self) -> None:
@@ -65,13 +62,23 @@ class Printers(Folder):
         self.assertEqual(len(set(printer.labels)), 30)
 
     def test_a_label_that_takes_longer_than_a_printer_may_rest(self) -> None:
-        printer = Printer(slow=0.01).start()
-        outlet = NetworkPrinter(printer.name, stuck=0.4)
+        printer = Printer().start()
+        outlet = NetworkPrinter(printer.name, stuck=50.0)
         outlet.open().setsockopt(socket.SOL_SOCKET, socket.SO_SNDBUF, 4096)  # on their way at most
-        start = time.monotonic()
-        outlet.send(b"\0" * 300_000)
-        outlet.close()
-        self.assertGreater(time.monotonic() - start, 0.4)
+        clock = mock.Mock(monotonic=lambda: float(printer.pieces), sleep=time.sleep)
+        with mock.patch("labeltools.printing.network.time", clock):
+            outlet.send(b"\0" * 300_000)
+            outlet.close()
+        self.assertGreater(printer.pieces, 100)
+
+    def test_one_that_does_not_answer(self) -> None:
+        """Whoever waits at a desk hears so while he still waits."""
+        error = TimeoutError(errno.ETIMEDOUT, "Connection timed out")
+        with mock.patch("socket.create_connection", side_effect=error) as connect:
+            done = printed("--print", "tcp://till-3")
+        self.said(done, 1, "timed out: line 1 and what follows it were not sent; is it on")
+        ((_, seconds), _) = connect.call_args
+        self.assertLessEqual(seconds, 30)
 
     def test_names(self) -> None:
         long = "x" * 64
@@ -88,16 +95,8 @@ class Printers(Folder):
         for word in ("--journal", "--again", "--only-code"):
             self.said(printed(word, ""), 2, f"argument {word}: it is empty")
 
-    def test_a_queue_that_says_nothing(self) -> None:
-        program = Path(self.folder, "lp")
-        program.write_text("#!/bin/sh\nexit 7\n")
-        program.chmod(0o755)
-        path = f"{self.folder}{os.pathsep}{os.environ['PATH']}"
-        done = support.printed(*ROLL, "--print", "till", input=TICKETS, PATH=path)
-        self.said(done, 1, "lp does not print on till: it ended with status 7")
 
-
-class Rows(Folder):
+class Rows(Desk):
     """The rows that a message says to go on from, and rows that no table has."""
 
     def broken_off(self, lines: bytes, *words: str) -> str:
@@ -174,18 +173,16 @@ class Rows(Folder):
 
     def test_a_signal_after_the_last_label(self) -> None:
         """Without a word it would look as if nothing had gone out."""
-        printer = Printer(stuck=30).start()
-        pipe = subprocess.PIPE
-        words = [str(support.TOOLS / "label-print"), *ROLL, "--print", printer.name]
-        with subprocess.Popen(words, stdin=pipe, stderr=pipe) as run:
-            assert run.stdin is not None
-            run.stdin.write(TICKETS)
-            run.stdin.close()
-            run.stdin = None
-            printer.wait(30)
-            time.sleep(0.3)  # it waits for the printer's end of the connection
-            run.send_signal(signal.SIGTERM)
-            said = run.communicate()[1]
+        printer = Printer(lingers=True).start()
+        run = self.begin("--print", printer.name, code=f"network.FAREWELL = {support.SECONDS}.0")
+        assert run.stdin
+        run.stdin.write(TICKETS)
+        run.stdin.close()
+        run.stdin = None
+        printer.at_end.wait()
+        run.send_signal(signal.SIGTERM)
+        printer.told.set()
+        said = run.communicate()[1]
         self.assertEqual(run.returncode, -signal.SIGTERM)
         self.assertIn(b"it took 30 labels whole, and these are all\n", said)
 
@@ -232,7 +229,7 @@ class Rows(Folder):
         self.assertEqual(len(labels_in(done)), 1)
 
 
-class Editors(Folder):
+class Editors(Desk):
     """Journals that another program has written."""
 
     def done_again(self) -> "support.Finished[bytes]":
@@ -322,11 +319,8 @@ class Editors(Folder):
 
     def written_to(self, path: str, mode: str = "wb") -> "support.Finished[bytes]":
         """Runs label-print with a file as standard output."""
-        command = [str(support.TOOLS / "label-print"), *ROLL, "--journal", self.path]
-        pipe = subprocess.PIPE
-        env = support.environment()
         with open(path, mode) as output:
-            return subprocess.run(command, input=TICKETS, stdout=output, stderr=pipe, env=env)
+            return self.run_alone("--journal", self.path, stdout=output)
 
     def test_standard_output(self) -> None:
         done = self.written_to(self.path)
@@ -338,7 +332,7 @@ class Editors(Folder):
         self.said(self.written_to(f"{self.folder}/labels", "ab"), 0, "^label-print: 0 labels; ")
 
 
-class Lanes(Folder):
+class Lanes(Desk):
     """Lanes that end, and others that go on."""
 
     def test_a_number_that_a_label_waits_with(self) -> None:
@@ -358,23 +352,14 @@ class Lanes(Folder):
     def test_a_lane_that_is_stopped(self) -> None:
         """It may keep the journal: the other one says so, and goes on when it is free."""
         Journal(self.path, "tcp://a")
-        script = (
-            "import sys\n"
-            "from labeltools.printing.journal import Journal\n"
-            "with Journal(sys.argv[1], 'tcp://b').locked():\n"
-            "    print('locked', flush=True); sys.stdin.read()\n"
-        )
-        words = ["/usr/bin/python3", "-c", script, self.path]
-        pipe = subprocess.PIPE
-        with subprocess.Popen(words, stdin=pipe, stdout=pipe, cwd=support.TOOLS) as other:
-            assert other.stdin and other.stdout
-            other.stdout.readline()
-            with mock.patch("labeltools.printing.journal.STUCK", 0.2):
-                done = printed("--journal", self.path)
-            self.said(done, 1, "another lane keeps it for 0 seconds; is it stopped[?] let it go on")
-            self.assertEqual(labels_in(done), [])
-            other.stdin.close()
-            self.assertEqual(len(labels_in(printed("--journal", self.path))), 30)
+        other = self.holding()
+        with mock.patch("labeltools.printing.journal.STUCK", 0.2):
+            done = printed("--journal", self.path)
+        self.said(done, 1, "another lane keeps it for 0 seconds; is it stopped[?] let it go on")
+        self.assertEqual(labels_in(done), [])
+        assert other.stdin
+        other.stdin.close()
+        self.assertEqual(len(labels_in(printed("--journal", self.path))), 30)
 
     def test_too_many_lanes(self) -> None:
         free = journals.FAR  # the byte that is locked to read and write
@@ -386,21 +371,15 @@ class Lanes(Folder):
         done = printed("--journal", self.path, "--only", "1")
         self.assertEqual(done.returncode, 0)
         size = Path(self.path).stat().st_size
-        done = self.limited(size, TICKETS)
+        words = ("--journal", self.path)
+        done = self.run_alone(*words, code=f"limit({size})")
         self.said(done, 1, "File too large: line 2 and what follows it were not sent; see that it")
-        done = self.limited(size, TICKETS[:20], "--stream")
+        done = self.run_alone(*words, "--stream", code=f"limit({size})", input=TICKETS[:20])
         self.said(done, 1, "^known 1 qr T00001\nunsent 2 .*File too large; see that it can be")
         self.assertEqual(labels_in(done), [])
 
-    def limited(self, size: int, lines: bytes, *words: str) -> "support.Finished[bytes]":
-        """Runs label-print whose files have so many bytes at most."""
-        command = [str(support.TOOLS / "label-print"), *ROLL, "--journal", self.path, *words]
-        limit = functools.partial(resource.setrlimit, resource.RLIMIT_FSIZE, (size, size))
-        env = support.environment()
-        return subprocess.run(command, input=lines, capture_output=True, env=env, preexec_fn=limit)
 
-
-class Reprints(Folder):
+class Reprints(Desk):
     """--again by another printer, which breaks off."""
 
     def test_what_was_taken_and_is_missing_is_printed_by_the_name_of_that_printer(self) -> None:
@@ -428,23 +407,8 @@ class Reprints(Folder):
         return found["taken"], found["sending"]
 
 
-class Streams(Folder):
+class Streams(Desk):
     """Streams that are ended, that nobody reads, and whose journal goes."""
-
-    def start(
-        self,
-        *words: str,
-        labels: int = subprocess.DEVNULL,
-        answers: Optional[socket.socket] = None,
-    ) -> "subprocess.Popen[bytes]":
-        """Starts a stream, with its standard output and standard error (a pipe)."""
-        pipe = subprocess.PIPE
-        command = [str(support.TOOLS / "label-print"), *ROLL, "--stream", *words]
-        env = support.environment()
-        error = pipe if answers is None else answers.fileno()
-        stream = subprocess.Popen(command, stdin=pipe, stdout=labels, stderr=error, env=env)
-        self.addCleanup(ended, stream)
-        return stream
 
     def test_a_label_in_doubt_stays_so(self) -> None:
         """Until it is printed by another command, while the stream goes on."""
@@ -465,15 +429,15 @@ class Streams(Folder):
         """It ends before the next label, which would be there without an answer."""
         printer = Printer().start()
         ours, theirs = socket.socketpair()
-        for answers in (None, theirs):
-            stream = self.start("--print", printer.name, "--journal", self.path, answers=answers)
+        for answers in (PIPE, theirs.fileno()):
+            stream = self.start("--print", printer.name, "--journal", self.path, stderr=answers)
             assert stream.stdin
-            stream.stdin.write(b"qr %d\n" % (answers is None))
+            stream.stdin.write(b"qr %d\n" % (answers == PIPE))
             stream.stdin.flush()
             said = stream.stderr if stream.stderr else ours.makefile("rb")
             self.assertRegex(said.readline(), b"^taken 1 ")
             said.close()
-            for end in (ours, theirs) if answers else ():
+            for end in (ours, theirs) if answers != PIPE else ():
                 end.close()
             stream.stdin.write(b"qr T00002\n")
             stream.stdin.flush()
@@ -483,7 +447,7 @@ class Streams(Folder):
 
     def test_nobody_reads_the_labels_any_more(self) -> None:
         """The label has not gone out, and is not in doubt."""
-        stream = self.start("--journal", self.path, labels=subprocess.PIPE)
+        stream = self.start("--journal", self.path, stdout=PIPE)
         assert stream.stdout
         self.assertRegex(self.answer(stream, b"qr A\n"), "^taken 1 ")
         stream.stdout.close()
@@ -512,8 +476,7 @@ class Streams(Folder):
 
     def test_half_a_line_of_a_writer_that_has_gone(self) -> None:
         """It is not one line with that of the next writer."""
-        fifo = f"{self.folder}/till"
-        os.mkfifo(fifo)
+        fifo = self.fifo()
         stream = self.start(fifo)
         assert stream.stderr
         for line, pattern in (
@@ -526,30 +489,21 @@ class Streams(Folder):
             Path(fifo).write_bytes(line)
             self.assertRegex(stream.stderr.readline(), b"^" + pattern)
         size = stream_size(stream, fifo, b"qr E\n")
-        Path(fifo).write_bytes(b'#{"title":"of another"}\n')
-        time.sleep(0.3)  # the next writer comes when that one has gone
+        self.written(stream, fifo, b'#{"title":"of another"}\n')
         self.assertEqual(stream_size(stream, fifo, b"qr E\n"), size)
         self.assertGreater(stream_size(stream, fifo, b'#{"title":"Stuhl"}\nqr E\n'), size)
-        stream.terminate()
 
     def test_labels_and_answers_that_are_read_late(self) -> None:
         """By streams that do not wait."""
-        command = [str(support.TOOLS / "label-print"), *ROLL]
-        pipe = subprocess.PIPE
-        env = support.environment()
         source, target = pipe_that_does_not_wait()
-        run = subprocess.Popen(command, stdin=pipe, stdout=target, stderr=pipe, env=env)
+        run = self.begin(stdout=target)
         self.assertEqual(len(LABEL.findall(self.late(run, source, target))), 400)
         source, target = pipe_that_does_not_wait()
-        null = subprocess.DEVNULL
-        run = subprocess.Popen(
-            [*command, "--stream"], stdin=pipe, stdout=null, stderr=target, env=env
-        )
+        run = self.start(stderr=target)
         self.assertEqual(self.late(run, source, target).count(b"taken "), 400)
 
     def late(self, run: "subprocess.Popen[bytes]", source: int, target: int) -> bytes:
         """What a program writes that has many lines to print, and is read late."""
-        self.addCleanup(ended, run)
         os.close(target)
         lines = b"".join(b"qr W%05d\n" % number for number in range(400))
         threading.Thread(target=self.write, args=(run, lines), daemon=True).start()
@@ -568,16 +522,13 @@ class Streams(Folder):
     def test_lines_that_come_slowly_by_an_input_that_does_not_wait(self) -> None:
         source, target = os.pipe()
         os.set_blocking(source, False)
-        command = [str(support.TOOLS / "label-print"), *ROLL]
-        pipe = subprocess.PIPE
-        env = support.environment()
-        with subprocess.Popen(command, stdin=source, stdout=pipe, stderr=pipe, env=env) as run:
-            os.close(source)
-            for start in range(0, 30, 10):
-                time.sleep(0.4)
-                os.write(target, TICKETS[start * 10 : (start + 10) * 10])
-            os.close(target)
-            output, _ = run.communicate(timeout=support.SECONDS)
+        run = self.begin(stdin=source, stdout=PIPE)
+        os.close(source)
+        for start in range(0, 30, 10):
+            time.sleep(0.4)
+            os.write(target, TICKETS[start * 10 : (start + 10) * 10])
+        os.close(target)
+        output, _ = run.communicate(timeout=support.SECONDS)
         self.assertEqual((run.returncode, len(LABEL.findall(output))), (0, 30))
 
     def test_a_client_that_breaks_off(self) -> None:
@@ -585,19 +536,15 @@ class Streams(Folder):
         with socket.create_server(("127.0.0.1", 0)) as server:
             client = socket.create_connection(server.getsockname())
             line, _ = server.accept()
-        command = [str(support.TOOLS / "label-print"), *ROLL, "--stream"]
-        pipe = subprocess.PIPE
-        env = support.environment()
-        with line, subprocess.Popen(
-            command, stdin=line.fileno(), stdout=pipe, stderr=pipe, env=env
-        ) as run:
-            assert run.stderr
-            client.sendall(b"qr A\n")
-            self.assertRegex(run.stderr.readline(), b"^taken 1 ")
-            client.setsockopt(socket.SOL_SOCKET, socket.SO_LINGER, BROKEN)
-            client.close()
-            said = run.stderr.read()
-        self.assertEqual(run.returncode, 1)
+        with line:
+            run = self.begin("--stream", stdin=line.fileno())
+        assert run.stderr
+        client.sendall(b"qr A\n")
+        self.assertRegex(run.stderr.readline(), b"^taken 1 ")
+        client.setsockopt(socket.SOL_SOCKET, socket.SO_LINGER, BROKEN)
+        client.close()
+        said = run.stderr.read()
+        self.assertEqual(run.wait(support.SECONDS), 1)
         self.assertRegex(said, b"^label-print: the lines cannot be read: Connection reset by peer")
 
     def test_another_journal_ends_it_with_an_answer(self) -> None:

@@ -9,43 +9,26 @@ import subprocess
 import threading
 import time
 import unittest
-from contextlib import suppress
 from pathlib import Path
 from typing import Callable
 from unittest import mock
 
 import support
+from desk import PIPE, ROLL, TICKETS, Desk, labels_in, open_files, printed, program
 from labeltools.common import files
 from labeltools.printing import network, stream
 from labeltools.printing.journal import Journal
 from labeltools.printing.network import Broken, NetworkPrinter
 from printers import LABEL, Printer
-from test_desk import ROLL, TICKETS, Folder, ended, labels_in, printed
 
-WAIT = 20.0  # seconds in which a stream ends that has nothing to do
-START = """
-import os, signal
-from labeltools.printing.network import Broken
-from labeltools.commands.start import main
-from labeltools.printing.sending import StandardOutput
-from labeltools.common.text import Text
-
-def end():
-    os.kill(os.getpid(), signal.SIGTERM)
-
-def broken():
-    raise Broken(Text("it is off"))
-
-{code}
-main()
-"""
 MANY_FILES = """
-import resource
 _, most = resource.getrlimit(resource.RLIMIT_NOFILE)
 resource.setrlimit(resource.RLIMIT_NOFILE, (min(2048, most), most))
 for _ in range(1024):  # select() takes fewer
     os.dup(0)
 """
+# A printer may take nothing for longer than another program takes to start.
+PATIENT = f"network.NetworkPrinter.__init__.__defaults__ = ({support.SECONDS}.0,)"
 NO_FOLDER = """
 import tempfile
 
@@ -54,11 +37,12 @@ def gettempdir():
 
 tempfile.gettempdir = gettempdir
 """
-LIMIT = "import resource; resource.setrlimit(resource.RLIMIT_FSIZE, ({size}, {size}))"
 LOCK = """
-import fcntl, os, sys
-from labeltools.printing.journal import FAR
-fcntl.lockf(os.open(sys.argv[1], os.O_RDWR), fcntl.LOCK_EX | fcntl.LOCK_NB, 1, FAR)
+try:
+    flags = fcntl.LOCK_EX | fcntl.LOCK_NB
+    fcntl.lockf(os.open(sys.argv[1], os.O_RDWR), flags, 1, journal.FAR)
+except BlockingIOError:
+    print("held")
 """
 
 
@@ -66,71 +50,31 @@ def setUpModule() -> None:
     support.labels_program()
 
 
-class Impatient(Printer):
-    """A printer that ends each connection, once it has been quiet for some seconds."""
-
-    def __init__(self, quiet: float = 0.2) -> None:
-        super().__init__()
-        self.quiet = quiet
-        self.connections = 0
-        self.ended = 0
-
-    def read(self, line: socket.socket) -> None:
-        """Reads labels until none has come for a while."""
-        self.connections += 1
-        line.settimeout(self.quiet)
-        buffer = b""
-        with line, suppress(TimeoutError):
-            while data := line.recv(4096):
-                buffer += data
-        self.keep(LABEL.findall(buffer))
-        self.ended += 1
-
-
-class Starts(Folder):
-    """Tests that start a stream."""
-
-    def start(self, *words: str, code: str = "", **variables: str) -> "subprocess.Popen[bytes]":
-        """Starts a stream, with some code before it."""
-        pipe = subprocess.PIPE
-        stream = subprocess.Popen(
-            ["/usr/bin/python3", "-c", START.format(code=code), *ROLL, "--stream", *words],
-            stdin=pipe,
-            stdout=subprocess.DEVNULL,
-            stderr=pipe,
-            env={**support.environment(), **variables},
-            cwd=support.TOOLS,
-        )
-        self.addCleanup(ended, stream)
-        self.addCleanup(stream.kill)
-        return stream
-
-
-class Connections(Starts):
+class Connections(Desk):
     """Connections that a printer ends, and one that a stream has no more need of."""
 
     def test_one_that_a_printer_has_ended_is_made_again(self) -> None:
         """Nothing of the next label goes into the old one: it would be in doubt for nothing."""
-        printer = Impatient()
+        printer = Printer(ends=True)
         outlet = NetworkPrinter(printer.start().name)
         label = labels_in(printed(input=TICKETS[:10]))[0]
-        for count in (1, 2):
-            outlet.open()
+        for _ in range(2):
+            line = outlet.open()
             outlet.send(label)
-            printer.wait(count)
-            time.sleep(0.1)  # what it ended is on its way
+            while not network.has_ended(line):
+                time.sleep(0.001)
         outlet.close()
         self.assertEqual((printer.connections, printer.labels), (2, [label] * 2))
 
     def test_one_that_a_printer_has_broken_off_is_not(self) -> None:
         """It says that bytes were thrown away, which may be those of the label before."""
-        printer = Printer(cut=1, slow=0.2).start()  # its system has taken the label by then
+        printer = Printer(cut=1, waits=True).start()
         outlet = NetworkPrinter(printer.name)
         label = labels_in(printed(input=TICKETS[:10]))[0]
-        outlet.open()
-        outlet.send(label)
-        printer.wait(1)
-        time.sleep(0.1)  # its answer is on its way
+        line = outlet.open()
+        outlet.send(label)  # its system has taken the label, and it reads it then
+        printer.told.set()
+        self.assertTrue(network.wait_for(line, network.BREAK, support.SECONDS))
         outlet.open()
         with self.assertRaises(Broken):
             outlet.send(label)
@@ -153,29 +97,27 @@ class Connections(Starts):
             if is_read:
                 outlet.close()
                 continue
-            with mock.patch("labeltools.printing.network.REGRET", 5.0, create=True):
+            with mock.patch("labeltools.printing.network.REGRET", float(support.SECONDS)):
                 self.assertRaises(Broken, outlet.close)
             late.join()
 
     def test_a_stream_leaves_a_printer_to_the_lane_that_has_the_label(self) -> None:
         """It has connected, and finds that another lane was first."""
-        printer = Impatient(quiet=60.0)
+        printer = Printer()
         words = ("--print", printer.start().name, "--journal", self.path)
         stream = self.start(*words)
         self.assertRegex(self.answer(stream, b"qr T00001\n"), "^taken 1 ")
         done = printed(*words, "--only", "2")
         self.assertEqual(done.returncode, 0, done.stderr)
         self.assertEqual(self.answer(stream, b"qr T00002\n"), "known 2 qr T00002\n")
-        end = time.monotonic() + 10
-        while printer.ended < 3 and time.monotonic() < end:
+        while printer.ended < 3:
             time.sleep(0.01)
-        self.assertEqual((printer.connections, printer.ended), (3, 3))
+        self.assertEqual(printer.connections, 3)
         self.assertRegex(self.answer(stream, b"qr T00003\n"), "^taken 3 ")
 
     def test_more_open_files_than_select_takes(self) -> None:
         """A program that starts the tool may hand on as many as it has."""
-        fifo = f"{self.folder}/till"
-        os.mkfifo(fifo)
+        fifo = self.fifo()
         printer = Printer(slow=0.02).start()
         stream = self.start("--print", printer.name, "--dpi", "600", fifo, code=MANY_FILES)
         Path(fifo).write_bytes(b"qr A\n")
@@ -183,7 +125,7 @@ class Connections(Starts):
         self.assertRegex(stream.stderr.readline(), b"^taken 1 ")
 
 
-class Doubts(Starts):
+class Doubts(Desk):
     """Labels that are in doubt, and those that are not."""
 
     def waiting(self, printer: str) -> str:
@@ -208,9 +150,8 @@ class Doubts(Starts):
         held: list[bool] = []
 
         def look(journal: Journal, _: object) -> bool:
-            words = ["/usr/bin/python3", "-c", LOCK, journal.path]
-            other = subprocess.run(words, cwd=support.TOOLS, capture_output=True)
-            held.append(b"BlockingIOError" in other.stderr)
+            other = self.other(LOCK, journal.path)
+            held.append(other.communicate()[0] == b"held\n")
             return False
 
         with mock.patch.object(Journal, "is_alive", look):
@@ -296,8 +237,9 @@ class Doubts(Starts):
 
     def test_one_that_another_lane_is_sending(self) -> None:
         """That lane may break off: whoever is told `known` would tick it off."""
-        printer = Printer(stuck=1, slow=0.2).start()
-        busy = self.start("--print", printer.name, "--journal", self.path, "--dpi", "1200")
+        printer = Printer(stuck=1).start()
+        words = ("--print", printer.name, "--journal", self.path, "--dpi", "1200")
+        busy = self.start(*words, code=PATIENT)
         assert busy.stdin and busy.stderr
         busy.stdin.write(b"qr T00001\nqr T00002\n")
         busy.stdin.flush()
@@ -325,7 +267,7 @@ class Doubts(Starts):
         words = ("--print", printer.name, "--journal", self.path)
         size = Path(self.waiting(printer.name)).stat().st_size
         os.unlink(self.path)
-        stream = self.start(*words, code=LIMIT.format(size=size + 2))
+        stream = self.start(*words, code=f"limit({size + 2})")
         self.assertRegex(self.answer(stream, b"qr T00001\n"), "^doubtful 1 .*File too large")
         self.assertRegex(self.answer(stream, b"qr T00002\n"), "^unsent 2 .*File too large")
         lines = TICKETS[:10]
@@ -361,34 +303,26 @@ class Doubts(Starts):
         )
 
 
-class Ends(Folder):
+class Ends(Desk):
     """Signals, and disks that are full."""
-
-    def changed(self, code: str, *words: str) -> "support.Finished[bytes]":
-        """Runs label-print with some code before it."""
-        command = ["/usr/bin/python3", "-c", START.format(code=code), *ROLL, *words]
-        env = support.environment()
-        return subprocess.run(
-            command, input=TICKETS, capture_output=True, env=env, cwd=support.TOOLS
-        )
 
     def test_a_signal_leaves_no_label_in_doubt(self) -> None:
         """It comes when the label is in the journal, and has not gone out yet."""
-        done = self.changed("os.fdatasync = lambda file: end()", "--journal", self.path)
+        done = self.run_alone("--journal", self.path, code="os.fdatasync = lambda file: end()")
         self.said(done, -signal.SIGTERM, "it took 1 label whole: line 2 and what follows it were")
         self.said(done, -signal.SIGTERM, "not sent; the same command prints what is missing\n")
         self.assertEqual((len(labels_in(done)), self.events()), (1, ["sending", "taken"]))
 
     def test_a_way_out_that_breaks_off_after_a_signal(self) -> None:
         """The signal ends the tool, and the row is named all the same."""
-        done = self.changed("StandardOutput.send = lambda outlet, data: end() or broken()")
+        done = self.run_alone(code="StandardOutput.send = lambda outlet, data: end() or broken()")
         self.said(done, -signal.SIGTERM, "label-print: it is off: it took 0 labels whole; look at")
         self.said(done, -signal.SIGTERM, "then print from line 1 on by --only 1-\n")
 
     def test_a_way_out_that_breaks_off_before_a_label(self) -> None:
         """As of a printer that has ended the connection: of that label nothing was sent."""
         code = "StandardOutput.open = lambda outlet, left=[0, 0]: left.pop() if left else broken()"
-        done = self.changed(code, "--journal", self.path)
+        done = self.run_alone("--journal", self.path, code=code)
         self.said(done, 1, "it is off: it took 2 labels whole: line 3 and what follows it were not")
         self.said(done, 1, "not sent; look that line 2 is on paper, or print what is missing by")
         self.assertEqual(self.events(), ["sending", "taken"] * 2)
@@ -397,19 +331,14 @@ class Ends(Folder):
         """All labels are those of another lane, and the connection was made for the first one."""
         code = "StandardOutput.close = lambda outlet: broken()"
         printed("--journal", self.path)
-        done = self.changed(code, "--journal", self.path)
+        done = self.run_alone("--journal", self.path, code=code)
         self.said(done, 1, "^label-print: it is off: it took 0 labels whole\n$")
 
     def limited_answers(self, path: str, room: int, lines: bytes, *words: str) -> bytes:
         """The answers of a stream to a file that takes so many bytes."""
-        code = START.format(code=LIMIT.format(size=room))
-        command = ["/usr/bin/python3", "-c", code, *ROLL, "--stream", *words]
-        env = support.environment()
-        pipe = subprocess.PIPE
         with open(path, "wb") as output:
-            done = subprocess.run(
-                command, input=lines, stdout=output, stderr=pipe, env=env, cwd=support.TOOLS
-            )
+            words = ("--stream", *words)
+            done = self.run_alone(*words, code=f"limit({room})", input=lines, stdout=output)
         self.assertEqual(done.returncode, 1)
         return done.stderr
 
@@ -453,19 +382,18 @@ class Ends(Folder):
     def test_a_journal_in_place_of_a_stream_that_is_closed(self) -> None:
         """What a library writes on standard error is not in it."""
         Path(self.folder, "lines").write_bytes(TICKETS)
-        code = START.format(code="os.fdatasync = lambda file: os.write(2, b'warning')")
-        words = [*ROLL, "--journal", self.path, f"{self.folder}/lines"]
-        command = ["/bin/sh", "-c", 'exec "$@" <&- 2>&-', "sh", "/usr/bin/python3", "-c", code]
+        command = program("os.fdatasync = lambda file: os.write(2, b'warning')")
+        words = [*command, *ROLL, "--journal", self.path, f"{self.folder}/lines"]
         env = support.environment()
-        pipe = subprocess.PIPE
-        done = subprocess.run([*command, *words], stdout=pipe, env=env, cwd=support.TOOLS)
+        closed = ["/bin/sh", "-c", 'exec "$@" <&- 2>&-', "sh", *words]
+        done = subprocess.run(closed, stdout=PIPE, env=env, cwd=support.TOOLS)
         self.assertEqual((done.returncode, len(LABEL.findall(done.stdout))), (0, 30))
         self.assertRegex(Path(self.path).read_text(), r"\A#labels journal 1\n")
         self.assertEqual(self.events(), ["sending", "taken"] * 30)
 
     def test_no_folder_for_temporary_files(self) -> None:
         """The message names no other file, and has what to do."""
-        done = self.changed(NO_FOLDER, "--to", "pdf")
+        done = self.run_alone("--to", "pdf", code=NO_FOLDER)
         self.said(done, 1, r"label-print: \$TMPDIR: none; make room there, or name another folder")
 
     def test_labels_of_others_in_the_same_file(self) -> None:
@@ -487,7 +415,7 @@ class Ends(Folder):
                     self.assertEqual(path.read_bytes(), b"oldlater")
 
 
-class Streams(Starts):
+class Streams(Desk):
     """Answers, FIFOs and objects of a stream."""
 
     def test_a_writer_that_comes_when_another_one_has_gone(self) -> None:
@@ -511,12 +439,12 @@ class Streams(Starts):
 
     def test_a_writer_that_goes_while_a_label_is_on_its_way(self) -> None:
         """Its half line is not one with the line of the next writer."""
-        fifo = f"{self.folder}/till"
-        os.mkfifo(fifo)
-        stream = self.start("--print", Printer(slow=0.6).start().name, fifo)
+        fifo = self.fifo()
+        printer = Printer(waits=True).start()
+        stream = self.start("--print", printer.name, fifo)
         for line in (b"qr A\n", b"qr T000", b"qr B\n"):
-            Path(fifo).write_bytes(line)
-            time.sleep(0.3)  # the next writer comes when that one has gone
+            self.written(stream, fifo, line)
+        printer.told.set()
         assert stream.stderr
         for pattern in (b"^taken 1 ", b"^refused 2 cut off before its line end$", b"^taken 3 "):
             self.assertRegex(stream.stderr.readline(), pattern)
@@ -536,16 +464,14 @@ class Streams(Starts):
 
     def test_what_libraries_say_is_no_answer(self) -> None:
         """Fontconfig warns of this locale, which a ssh from another system may set."""
-        stream = self.start(LC_ALL="UTF-8")
+        stream = self.begin("--stream", variables={"LC_ALL": "UTF-8"})
         self.assertRegex(self.answer(stream, b"qr A\n"), "^taken 1 ")
-        stream = self.start(FONTCONFIG_FILE="/no/such")
+        stream = self.begin("--stream", variables={"FONTCONFIG_FILE": "/no/such"})
         self.assertRegex(self.answer(stream, b"qr A\n"), "^taken 1 ")
 
     def test_standard_error_is_closed(self) -> None:
-        words = [str(support.TOOLS / "label-print"), *ROLL, "--stream"]
-        command = ["/bin/sh", "-c", 'exec "$@" 2>&-', "sh", *words]
-        pipe = subprocess.PIPE
-        done = subprocess.run(command, input=TICKETS, stdout=pipe, env=support.environment())
+        command = ["/bin/sh", "-c", 'exec "$@" 2>&-', "sh", *program(), *ROLL, "--stream"]
+        done = subprocess.run(command, input=TICKETS, stdout=PIPE, env=support.environment())
         self.assertEqual((done.returncode, done.stdout), (1, b""))
 
     def test_an_object_that_is_too_long(self) -> None:
@@ -592,21 +518,20 @@ class Streams(Starts):
                 self.assertRegex(stream.stderr.readline(), b"^taken 1 ")
                 fifo.unlink()
                 make()
-            self.assertEqual(stream.wait(WAIT), 1)
+            self.assertEqual(stream.wait(support.SECONDS), 1)
             self.assertRegex(stream.stderr.read(), b"till: another program has changed it; make")
             fifo.unlink()
 
     def test_a_fifo_that_goes_while_nobody_writes(self) -> None:
-        fifo = f"{self.folder}/till"
-        os.mkfifo(fifo)
-        stream = self.start(fifo, code="from labeltools.printing import stream; stream.LOOK = 0.1")
+        fifo = self.fifo()
+        stream = self.start(fifo, code="stream.LOOK = 0.1")
         Path(fifo).write_bytes(b"qr A\n")
         assert stream.stderr
         self.assertRegex(stream.stderr.readline(), b"^taken 1 ")
-        while sum(path.samefile(fifo) for path in open_files(stream)) < 2:
+        while open_files(stream, fifo) < 2:
             time.sleep(0.01)  # it waits for the next writer when it is one itself
         os.unlink(fifo)
-        self.assertEqual(stream.wait(WAIT), 1)
+        self.assertEqual(stream.wait(support.SECONDS), 1)
         said = b"/till: No such file or directory; make the FIFO anew by mkfifo, then give the same"
         self.assertIn(said, stream.stderr.read())
 
@@ -614,12 +539,10 @@ class Streams(Starts):
         """It has opened it, and taken its name away: it may write whenever it likes."""
         fifo = Path(self.folder, "till")
         os.mkfifo(fifo)
-        stream = self.start(
-            str(fifo), code="from labeltools.printing import stream; stream.LOOK = 0.1"
-        )
+        stream = self.start(str(fifo), code="stream.LOOK = 0.1")
         assert stream.stderr
         with fifo.open("wb", buffering=0) as writer:
-            while sum(path.samefile(fifo) for path in open_files(stream)) < 1:
+            while open_files(stream, str(fifo)) < 1:
                 time.sleep(0.01)
             time.sleep(0.3)  # longer than the name may be missing
             fifo.unlink()
@@ -629,7 +552,7 @@ class Streams(Starts):
                 self.assertRegex(stream.stderr.readline(), b"^taken %d " % number)
 
 
-class Choices(Folder):
+class Choices(Desk):
     """Rows and codes of large files."""
 
     def test_rows_beyond_those_of_a_spreadsheet(self) -> None:
@@ -649,11 +572,6 @@ class Choices(Folder):
         done = printed("--only", "1", *codes)
         named = ", ".join(f"X{number:02}" for number in range(10))
         self.said(done, 1, rf"\Alabel-print: {named} .. \(12 in all\): of --only-code, but not")
-
-
-def open_files(stream: "subprocess.Popen[bytes]") -> list[Path]:
-    """The open files of a stream."""
-    return [path for path in Path(f"/proc/{stream.pid}/fd").iterdir() if path.exists()]
 
 
 if __name__ == "__main__":

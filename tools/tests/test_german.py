@@ -221,9 +221,7 @@ class German(unittest.TestCase):
             table = Path(folder, "wide.csv")
             table.write_text(";".join(NAMES).replace('"', "") + "\n1\n")
             words = [str(support.TOOLS / "label-table"), "--code", "EAN", str(table)]
-            ran = subprocess.run(
-                words, env=german(folder), capture_output=True, text=True, timeout=60
-            )
+            ran = subprocess.run(words, env=german(folder), capture_output=True, text=True)
         self.assertIn("keine Spalte", ran.stderr)
         self.assertNotIn("column", ran.stderr.partition("error")[2] or ran.stderr)
 

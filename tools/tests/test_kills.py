@@ -19,6 +19,7 @@ from printers import LABEL, Printer
 KILLS = 100
 TICKETS = 40
 SEED = 73
+ENDED = os.WEXITED | os.WNOHANG | os.WNOWAIT
 
 
 def setUpModule() -> None:
@@ -59,14 +60,24 @@ class Kills(unittest.TestCase):
             os._exit(status)
 
     def killed(self, printers: List[Printer]) -> None:
-        """Runs both lanes and kills them, one after the other."""
+        """Runs both lanes and kills them, one after the other, each at a random moment after some
+        events of the journal: a machine that is slow gets as far as another one.
+        """
         lanes = [self.lane(printer) for printer in printers]
         for process in lanes:
-            time.sleep(self.random.uniform(0.0, 0.08))
+            last = self.events() + self.random.randrange(8)
+            while self.events() < last and not os.waitid(os.P_PID, process, ENDED):
+                time.sleep(0.001)
+            time.sleep(self.random.uniform(0.0, 0.01))
             os.kill(process, signal.SIGKILL)
         for process in lanes:
             _, state = os.waitpid(process, 0)
             self.kills += os.WIFSIGNALED(state)
+
+    def events(self) -> int:
+        """How many events the journal has."""
+        path = Path(self.journal)
+        return path.read_bytes().count(b"\n") if path.exists() else 0
 
     def test_each_label_is_on_paper_once_or_named(self) -> None:
         support.printed(input=b"")  # all modules are there before the first lane begins

@@ -1,0 +1,205 @@
+"""A desk for tests: label-print on a roll by a journal and printers, as a command or a stream."""
+
+import fcntl
+import os
+import struct
+import subprocess
+import tempfile
+import termios
+import time
+import unittest
+from pathlib import Path
+from types import MappingProxyType
+from typing import IO, List, Mapping, Sequence, Union
+from unittest import mock
+
+import support
+from labeltools.lines.file import read_lines
+from labeltools.printing.journal import Journal, code_of
+from printers import LABEL
+
+PIPE, NULL = subprocess.PIPE, subprocess.DEVNULL
+ROLL = ("--paper", "60x40", "--dpi", "203", "--to", "zpl")
+TICKETS = b"".join(b"qr T%05d\n" % number for number in range(1, 31))
+# What code before the tool can call.
+START = """
+import fcntl, os, resource, signal, sys
+from labeltools.printing import journal, network, stream
+from labeltools.commands.start import main
+from labeltools.printing.sending import StandardOutput
+from labeltools.common.text import Text
+
+def end():
+    os.kill(os.getpid(), signal.SIGTERM)
+
+def broken():
+    raise network.Broken(Text("it is off"))
+
+def limit(size):
+    resource.setrlimit(resource.RLIMIT_FSIZE, (size, size))
+
+{code}
+main()
+"""
+# Where the lines of a program come from, and what it writes goes: a file or its number, PIPE, NULL.
+End = Union[int, IO[bytes]]
+
+
+def printed(*words: str, input: bytes = TICKETS) -> "support.Finished[bytes]":
+    """Runs label-print on a roll, in this process."""
+    return support.printed(*ROLL, *words, input=input)
+
+
+def labels_in(done: "support.Finished[bytes]") -> List[bytes]:
+    """The labels on standard output."""
+    return LABEL.findall(done.stdout)
+
+
+def program(code: str = "") -> Sequence[str]:
+    """The command label-print, with some code before it."""
+    tool = [str(support.TOOLS / "label-print")]
+    return ["/usr/bin/python3", "-c", START.format(code=code)] if code else tool
+
+
+def ended(run: "subprocess.Popen[bytes]") -> None:
+    """Waits for the end of a program, and closes its pipes."""
+    for pipe in (run.stdin, run.stdout, run.stderr):
+        if pipe is not None:
+            pipe.close()
+    run.wait(support.SECONDS)
+
+
+def open_files(run: "subprocess.Popen[bytes]", path: str) -> int:
+    """How many open files of a program are this one."""
+    names = Path(f"/proc/{run.pid}/fd").iterdir()
+    return sum(name.exists() and name.samefile(path) for name in names)
+
+
+class Desk(unittest.TestCase):
+    """Tests with a folder and the name of a journal in it."""
+
+    def setUp(self) -> None:
+        folder = tempfile.TemporaryDirectory()
+        self.addCleanup(folder.cleanup)
+        self.folder = folder.name
+        self.path = f"{self.folder}/journal"
+        self.records = read_lines(TICKETS, "lines").records
+        # A printer of these tests has its time on a busy machine too.
+        patient = mock.patch("labeltools.printing.network.FAREWELL", float(support.SECONDS))
+        self.addCleanup(patient.stop)
+        patient.start()
+
+    def events(self) -> List[str]:
+        """The events of the journal."""
+        lines = Path(self.path).read_text().splitlines()[1:]
+        return [line.split("\t")[1] for line in lines]
+
+    def said(self, done: "support.Finished[bytes]", status: int, pattern: str) -> None:
+        """Compares a status and a message."""
+        text = done.stderr.decode()
+        self.assertEqual(done.returncode, status, text)
+        self.assertRegex(text, pattern)
+
+    def is_doubtful(self, journal: Journal, number: int) -> bool:
+        """Whether the label of a line of TICKETS, from 0, is in doubt."""
+        return code_of(self.records[number]) in journal.doubtful()
+
+    # ---- programs
+
+    def run_alone(
+        self, *words: str, code: str = "", input: bytes = TICKETS, stdout: End = PIPE
+    ) -> "support.Finished[bytes]":
+        """Runs label-print on a roll as a program, with some code before it."""
+        return subprocess.run(
+            [*program(code), *ROLL, *words],
+            input=input,
+            stdout=stdout,
+            stderr=PIPE,
+            env=support.environment(),
+            cwd=support.TOOLS,
+            timeout=support.SECONDS,
+        )
+
+    def begin(
+        self,
+        *words: str,
+        code: str = "",
+        stdin: End = PIPE,
+        stdout: End = NULL,
+        stderr: End = PIPE,
+        variables: Mapping[str, str] = MappingProxyType({}),
+    ) -> "subprocess.Popen[bytes]":
+        """Starts label-print on a roll, with some code before it; it ends with the test."""
+        run = subprocess.Popen(
+            [*program(code), *ROLL, *words],
+            stdin=stdin,
+            stdout=stdout,
+            stderr=stderr,
+            env={**support.environment(), **variables},
+            cwd=support.TOOLS,
+        )
+        self.addCleanup(ended, run)
+        self.addCleanup(run.kill)
+        return run
+
+    def other(self, code: str, *words: str) -> "subprocess.Popen[bytes]":
+        """Starts other code, which can have a journal of its own; it ends with the test."""
+        command = ["/usr/bin/python3", "-c", START.replace("main()", "").format(code=code)]
+        run = subprocess.Popen([*command, *words], stdin=PIPE, stdout=PIPE, cwd=support.TOOLS)
+        self.addCleanup(ended, run)
+        self.addCleanup(run.kill)
+        return run
+
+    def holding(self) -> "subprocess.Popen[bytes]":
+        """A lane that keeps the journal until its standard input ends."""
+        code = (
+            "with journal.Journal(sys.argv[1], 'tcp://b').locked():\n"
+            "    print('locked', flush=True); sys.stdin.read()\n"
+        )
+        lane = self.other(code, self.path)
+        assert lane.stdout is not None
+        self.assertEqual(lane.stdout.readline(), b"locked\n")
+        return lane
+
+    # ---- streams
+
+    def start(
+        self, *words: str, code: str = "", stdout: End = NULL, stderr: End = PIPE
+    ) -> "subprocess.Popen[bytes]":
+        """Starts a stream."""
+        return self.begin("--stream", *words, code=code, stdout=stdout, stderr=stderr)
+
+    def answers(self, input: bytes, *words: str) -> List[str]:
+        """The answers to lines."""
+        done = printed("--stream", *words, input=input)
+        self.assertEqual(done.stderr.count(b"\n"), len(done.stderr.splitlines()))
+        return done.stderr.decode().splitlines()
+
+    def answer(self, stream: "subprocess.Popen[bytes]", line: bytes) -> str:
+        """The answer to a line."""
+        assert stream.stdin and stream.stderr
+        stream.stdin.write(line)
+        stream.stdin.flush()
+        return stream.stderr.readline().decode()
+
+    def fifo(self) -> str:
+        """A new FIFO in the folder."""
+        path = f"{self.folder}/till"
+        os.mkfifo(path)
+        return path
+
+    def written(self, stream: "subprocess.Popen[bytes]", fifo: str, data: bytes) -> None:
+        """Writes into a FIFO, as a writer that comes and goes, and waits until its stream has read
+        that, and waits for the next writer, as one itself.
+        """
+        reader = os.open(fifo, os.O_RDONLY | os.O_NONBLOCK)
+        Path(fifo).write_bytes(data)
+        while unread(reader) or open_files(stream, fifo) < 2:
+            time.sleep(0.01)
+        os.close(reader)
+
+
+def unread(file: int) -> int:
+    """How many bytes are in a FIFO."""
+    found = fcntl.ioctl(file, termios.FIONREAD, struct.pack("i", 0))
+    return int(struct.unpack("i", found)[0])
