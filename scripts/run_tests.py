@@ -10,7 +10,6 @@ are shown that end in each way, of which just the right one may pass. The last l
 """
 
 import compileall
-import faulthandler
 import io
 import os
 import py_compile
@@ -41,11 +40,9 @@ def too_long(*_: object) -> NoReturn:
 
 
 def give_time(seconds: float = LONGEST) -> None:
-    """Gives what begins now its time. Then an error ends it, and every 5 seconds what it waits for at its end. Where
-    no error reaches it, as in code of C, the run ends a minute later, and names the line."""
+    """Gives what begins now its time. Then an error ends it, and every 5 seconds what it waits for at its end."""
     signal.signal(signal.SIGALRM, too_long)
     signal.setitimer(signal.ITIMER_REAL, seconds, 5)
-    faulthandler.dump_traceback_later(seconds + 60, exit=True, file=sys.__stderr__)
 
 
 class Result(unittest.TextTestResult):
