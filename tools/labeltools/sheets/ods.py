@@ -7,6 +7,7 @@ from datetime import date, datetime
 from decimal import Decimal
 from functools import lru_cache
 from itertools import groupby
+from typing import NamedTuple
 from zipfile import ZipFile
 
 from labeltools.common.text import Text
@@ -22,11 +23,13 @@ from labeltools.sheets.workbook import (
     NOT_SAVED_HINT,
     SAVE_AGAIN,
 )
-from labeltools.sheets.workbook import Sheet, TOO_LARGE, TYPED, areas_of, chosen, elements, events
-from labeltools.sheets.workbook import exact_of, filled, merges_at, repeats, rows_from, whole
+from labeltools.sheets.workbook import Attributes, Reader, Sheet, TOO_LARGE, TYPED, areas_of
+from labeltools.sheets.workbook import chosen, elements, exact_of, filled, has_word, local
+from labeltools.sheets.workbook import merges_at, repeats, rows_from, whole
 
 TABLE = "body/spreadsheet/table"
-NAMES = ("table", "table-column", "table-row")
+CONTENT = "content.xml"
+CONDITION = "conditional-format"
 # groups of rows and columns, which may be in one another, and count nothing
 GROUPS = re.compile("/table-(?:row-group|header-rows|rows|column-group|header-columns|columns)")
 # a style, and what is right in it; formats of numbers have properties, too
@@ -83,7 +86,7 @@ class Number(Special):
         if self.exact is None:
             is_right = not value or is_date_of(self.text, value)
         else:
-            is_right = is_text_of(self.text, value)
+            is_right = self.text == value or is_text_of(self.text, value)
         if not is_right:
             what = Text("has the value {} and the text {}", value, quoted(self.text))
             raise RowError(what, SAVE_AGAIN)
@@ -129,8 +132,11 @@ class Styles:
     last: tuple[str, str] = ("", "")  # the style that is read
     forms: dict[tuple[str, str], Form] = field(default_factory=dict)  # those that were asked for
 
-    def take(self, name: str, found: Mapping[str, str]) -> None:
-        """Takes an element of a style."""
+    def take(self, path: str, found: Mapping[str, str]) -> None:
+        """Takes an element, which may be of a style."""
+        if not STYLE.fullmatch(path):
+            return
+        name = path.rpartition("/")[2]
         if name in ("style", "default-style"):
             self.last = found.get("family", ""), found.get("name", "")
             self.own[self.last] = {}
@@ -191,145 +197,196 @@ def form_of(said: Mapping[str, str]) -> Form:
     return Form(Mark.WHITE if is_white else Mark.NONE, points)
 
 
-@dataclass
-class Content:
-    """What a file has beside its rows: its styles; its sheets, each with whether it can be seen;
-    the areas that conditions show as something else, by sheet.
+class Look(NamedTuple):
+    """How the cells of a style look: the form of their letters, and what is doubtful of them."""
+
+    form: Form
+    doubt: Doubt | None
+
+
+class Condition(NamedTuple):
+    """An area of cells which a condition may show by a style, or hide."""
+
+    area: Merge
+    style: str
+    is_hiding: bool
+
+
+def conditions_of(archive: ZipFile) -> list[list[Condition]]:
+    """Returns the conditions of each sheet, which are below its rows; no list if no sheet has
+    one.
     """
-
-    formatter: Formatter
-    is_calculated: bool
-    styles: Styles = field(default_factory=Styles)
-    sheets: list[tuple[str, bool]] = field(default_factory=list)
-    conditions: list[list[Merge]] = field(default_factory=list)
-
-
-def content_of(archive: ZipFile, formatter: Formatter) -> Content:
-    """Returns what a file has beside its rows."""
-    content = Content(formatter, is_calculated(archive))
-    has_common = "styles.xml" in archive.namelist()
-    for name, found in elements(archive, "styles.xml" if has_common else ""):
-        if STYLE.fullmatch(name):
-            content.styles.take(name.rpartition("/")[2], found)
+    conditions: list[list[Condition]] = []
+    if not has_word(archive, CONTENT, CONDITION.encode()):
+        return conditions
     areas: list[Merge] = []  # of the conditions that are read
-    for name, found in elements(archive, "content.xml", ["table-row"]):
+    for name, found in elements(archive, CONTENT, "table-row"):
         outer, _, last = name.rpartition("/")
-        if STYLE.fullmatch(name):
-            content.styles.take(last, found)
-        elif name == TABLE:
-            is_visible = found.get("style-name") not in content.styles.hidden
-            content.sheets.append((found.get("name", ""), is_visible))
-            content.conditions.append([])
-        elif last == "conditional-format":
+        if name == TABLE:
+            conditions.append([])
+        elif last == CONDITION:
             references = found.get("target-range-address", "").split()
             areas = areas_of(" ".join(map(bare_area, references)))
-        elif outer.endswith("/conditional-format") and content.conditions:
-            is_struck = content.styles.strikes(found.get("apply-style-name", ""))
-            if is_struck or found.get("show-value") == "false":
-                content.conditions[-1] += areas
-    return content
+        elif outer.endswith(f"/{CONDITION}") and conditions:
+            how = found.get("apply-style-name", ""), found.get("show-value") == "false"
+            conditions[-1] += [Condition(area, *how) for area in areas]
+    return conditions
+
+
+def styles_of(archive: ZipFile) -> Styles:
+    """Returns the styles that a file has beside those of its content."""
+    styles = Styles()
+    part = "styles.xml" if "styles.xml" in archive.namelist() else ""
+    for name, found in elements(archive, part):
+        styles.take(name, found)
+    return styles
+
+
+class Programs(Reader[str]):
+    """Finds the names of the programs that wrote a file."""
+
+    def ended(self, name: str) -> None:
+        """Finds a name."""
+        if name == "generator":
+            self.found.append(self.text)
 
 
 def is_calculated(archive: ZipFile) -> bool:
     """Returns whether the program that wrote a file calculates its formulas before."""
-    part = "meta.xml" if "meta.xml" in archive.namelist() else ""
-    ends = (
-        text for name, found, text in events(archive, part) if name == "generator" and not found
-    )
-    return any(text.startswith(CALCULATES) for text in ends)
+    if "meta.xml" not in archive.namelist():
+        return False
+    return any(name.startswith(CALCULATES) for name in Programs().read(archive, "meta.xml"))
 
 
 def rows_of_ods(archive: ZipFile, wanted: str | None, formatter: Formatter) -> Iterator[Row]:
     """Yields the rows of the sheet that is wanted, else of the only one that is visible and has
     data.
     """
-    content = content_of(archive, formatter)
-    found = groupby(Reader(content).rows(archive), lambda one: one[0])
-    sheets = (Sheet(*content.sheets[at], (row for _, row in rows)) for at, rows in found)
+    reader = RowReader(archive, formatter)
+    found = groupby(reader.read(archive, CONTENT), lambda one: one[0])
+    sheets = (Sheet(head.name, head.is_visible, (row for _, row in rows)) for head, rows in found)
     return chosen(sheets, wanted)
 
 
-@dataclass
-class Reader:
-    """Reads the rows of a file; `sheet` is the place of the sheet that is read, `columns` are the
-    styles of its columns, and what follows is of the row and of the cell that are read.
+Line = str | list[tuple[str, str]]  # of a cell: a text, or texts each with the style of its letters
+
+
+class Head(NamedTuple):
+    """A sheet of a file: its place, its name, and whether it can be seen."""
+
+    place: int
+    name: str
+    is_visible: bool
+
+
+class RowReader(Reader[tuple[Head, Row]]):
+    """Finds the rows of a file, each with its sheet, and an empty row for each sheet.
+
+    `areas` are those of a sheet whose cells may be shown as something else, `columns` the styles of
+    its columns, and what follows is of the row and of the cell that are read; `row_depth` and
+    `cell_depth` are those of their elements, 0 for none.
     """
 
-    content: Content
-    sheet: int = -1
-    columns: list[str] = field(default_factory=list)
-    number: int = 1
-    merges: list[Merge] = field(default_factory=list)
-    row: Mapping[str, str] = field(default_factory=dict)
-    cells: list[Cell] = field(default_factory=list)
-    links: dict[int, str] = field(default_factory=dict)
-    doubts: dict[int, Doubt] = field(default_factory=dict)
-    place: int = 0
-    letters: int = 0  # of the row
-    cell: Mapping[str, str] = field(default_factory=dict)
-    lines: list[list[tuple[str, str]]] = field(default_factory=list)  # letters, and their style
-    spans: list[str] = field(default_factory=list)  # styles of letters that are open
-    addresses: set[str] = field(default_factory=set)
+    def __init__(self, archive: ZipFile, formatter: Formatter) -> None:
+        super().__init__()
+        self.formatter = formatter
+        self.is_calculated = is_calculated(archive)
+        self.conditions = conditions_of(archive)
+        self.styles = styles_of(archive)
+        self.looks: dict[str, Look] = {}  # of the styles that were asked for
+        self.path: list[str] = []  # around the rows
+        self.sheet = Head(-1, "", False)
+        self.areas: list[Merge] = []
+        self.columns: list[str] = []
+        self.number = 1
+        self.merges: list[Merge] = []
+        self.row: Attributes = {}
+        self.row_depth = self.cell_depth = 0
+        self.cells: list[Cell] = []
+        self.links: dict[int, str] = {}
+        self.doubts: dict[int, Doubt] = {}
+        self.place = self.letters = 0
+        self.cell: Attributes = {}
+        self.lines: list[Line] = []
+        self.line: list[tuple[str, str]] = []  # letters of the line that is read, and their style
+        self.spans: list[str] = []  # styles of letters that are open
+        self.addresses: set[str] = set()
 
-    def rows(self, archive: ZipFile) -> Iterator[tuple[int, Row]]:
-        """Yields each row behind the place of its sheet; an empty one for each sheet."""
-        path: list[str] = []  # around the rows
-        depth = in_row = in_cell = 0  # the depths of the row and of the cell that are read
-        for name, found, text in events(archive, "content.xml", ["table-row"]):
-            depth += found is not None
-            if found is None:
-                if depth == in_cell:
-                    in_cell = 0
-                    self.end_cell()
-                elif in_cell:
-                    self.end(text)
-                elif depth == in_row:
-                    in_row = 0
-                    yield from ((self.sheet, row) for row in self.end_row())
-                if not in_row:
-                    path.pop()
-                depth -= 1
-            elif in_cell:
-                self.begin(name, found, text, depth - in_cell)
-            elif in_row:
-                in_cell = depth
-                self.begin_cell(found)
-            else:
-                path.append(name)
-                at = GROUPS.sub("", "/".join(path[1:])) if name in NAMES else ""
-                if at == TABLE:
-                    yield self.begin_sheet()
-                elif at == f"{TABLE}/table-column":
-                    self.add_columns(found)
-                elif at == f"{TABLE}/table-row":
-                    in_row = depth
-                    self.begin_row(found)
+    def begun(self, name: str, attributes: Attributes) -> None:
+        """Takes an element that begins: right in a cell are its lines, all else in it are comments
+        or pictures.
+        """
+        if self.spans:
+            self.begin_letters(name, local(attributes))
+        elif self.cell_depth:
+            if self.depth == self.cell_depth + 1 and name == "p":
+                self.spans.append("")
+                self.line = []
+        elif self.row_depth:
+            self.cell_depth = self.depth
+            self.begin_cell(local(attributes))
+        else:
+            self.begin_outside(name, local(attributes))
 
-    def begin_sheet(self) -> tuple[int, Row]:
-        """Begins a sheet, and returns its number and an empty row."""
-        self.sheet += 1
+    def ended(self, name: str) -> None:
+        """Takes the end of an element."""
+        if self.spans:
+            self.end_letters()
+        elif self.depth == self.cell_depth:
+            self.end_cell()
+            self.cell_depth = 0
+        elif self.depth == self.row_depth:
+            self.end_row()
+            self.row_depth = 0
+            self.is_inside = False
+        if not self.is_inside:
+            self.path.pop()
+
+    def begin_outside(self, name: str, attributes: Attributes) -> None:
+        """Begins a sheet, columns or a row."""
+        self.path.append(name)
+        at = GROUPS.sub("", "/".join(self.path[1:]))
+        self.styles.take(at, attributes)
+        if at == TABLE:
+            self.begin_sheet(attributes)
+        elif at == f"{TABLE}/table-column":
+            self.add_columns(attributes)
+        elif at == f"{TABLE}/table-row":
+            self.begin_row(attributes)
+
+    def begin_sheet(self, attributes: Attributes) -> None:
+        """Begins a sheet."""
+        place = self.sheet.place + 1
+        is_visible = attributes.get("style-name") not in self.styles.hidden
+        self.sheet = Head(place, attributes.get("name", ""), is_visible)
+        here = self.conditions[place] if self.conditions else ()
+        shown = (one for one in here if one.is_hiding or self.styles.strikes(one.style))
+        self.areas = [one.area for one in shown]
         self.columns = []
         self.number = 1
         self.merges = []
-        return self.sheet, Row(0, ())
+        self.found.append((self.sheet, Row(0, ())))
 
-    def add_columns(self, attributes: Mapping[str, str]) -> None:
+    def add_columns(self, attributes: Attributes) -> None:
         """Adds the style of columns, which may be repeated."""
         count = repeats(attributes, "number-columns-repeated")
         style = attributes.get("default-cell-style-name", "")
         self.columns += [style] * min(count, MOST_COLUMNS - len(self.columns))
 
-    def begin_row(self, attributes: Mapping[str, str]) -> None:
+    def begin_row(self, attributes: Attributes) -> None:
         """Begins a row."""
         self.row = attributes
+        self.row_depth = self.depth
+        self.is_inside = True
         self.merges = merges_at(self.merges, self.number)
         self.cells, self.links, self.doubts = [], {}, {}
         self.place = self.letters = 0
 
-    def begin_cell(self, attributes: Mapping[str, str]) -> None:
+    def begin_cell(self, attributes: Attributes) -> None:
         """Begins a cell."""
         self.cell = attributes
-        self.lines, self.spans, self.addresses = [], [], set()
+        self.lines = []
+        self.addresses.clear()
         if "number-rows-spanned" not in attributes and "number-columns-spanned" not in attributes:
             return  # most cells
         rows = repeats(attributes, "number-rows-spanned")
@@ -338,29 +395,25 @@ class Reader:
             last = self.number + rows - 1, self.place + columns - 1
             self.merges.append(Merge(self.number, self.place, *last))
 
-    def begin(self, name: str, found: Mapping[str, str], text: str, depth: int) -> None:
-        """Takes what begins in a cell, at a depth; its lines are right in it, so neither comments
-        nor pictures.
-        """
-        if not self.spans:
-            if name == "p" and depth == 1:
-                self.spans.append("")
-                self.lines.append([])
-            return
-        self.lines[-1].append((text, self.spans[-1]))
-        is_span = name == "span" and "style-name" in found
-        self.spans.append(found["style-name"] if is_span else self.spans[-1])
+    def begin_letters(self, name: str, attributes: Attributes) -> None:
+        """Takes what begins in a line: letters with a style, an address, or white space."""
+        self.line.append((self.text, self.spans[-1]))
+        is_span = name == "span" and "style-name" in attributes
+        self.spans.append(attributes["style-name"] if is_span else self.spans[-1])
         if name == "a":
-            self.addresses.add(found.get("href", ""))
+            self.addresses.add(attributes.get("href", ""))
         elif name in SIGNS:
-            count = whole(found.get("c", "1"))
+            count = whole(attributes.get("c", "1"))
             self.add_letters(count)
-            self.lines[-1].append((SIGNS[name] * count, self.spans[-1]))
+            self.line.append((SIGNS[name] * count, self.spans[-1]))
 
-    def end(self, text: str) -> None:
-        """Takes what ends in a cell."""
-        if self.spans:
-            self.lines[-1].append((text, self.spans.pop()))
+    def end_letters(self) -> None:
+        """Takes the end of a line, or of what is in it."""
+        style = self.spans.pop()
+        if self.line or self.spans:
+            self.line.append((self.text, style))
+        if not self.spans:
+            self.lines.append(self.line or self.text)
 
     def add_letters(self, count: int) -> None:
         """Counts letters of the row, of which there may be too many."""
@@ -372,40 +425,41 @@ class Reader:
         """Adds the cell that is read, as often as it is repeated: columns may differ in their
         styles.
         """
-        repeat = min(repeats(self.cell, "number-columns-repeated"), MOST_COLUMNS + 1)
-        place = self.place
+        attributes, place = self.cell, self.place
+        repeat = 1
+        if "number-columns-repeated" in attributes:
+            repeat = min(repeats(attributes, "number-columns-repeated"), MOST_COLUMNS + 1)
         self.place = min(place + repeat, MOST_COLUMNS)
-        if not (self.lines or "value-type" in self.cell or "formula" in self.cell):
+        if not (self.lines or "value-type" in attributes or "formula" in attributes):
             return
-        own = self.cell.get("style-name", "") or self.row.get("default-cell-style-name", "")
-        for style, count in self.styles_of(own, place, repeat):
-            cell = self.cell_by(style)
-            if cell:
-                self.add_letters(count * (len(cell) if isinstance(cell, str) else 1))
-                filled(self.cells, place).extend([cell] * count)
-                if doubt := self.content.styles.doubt(style):
-                    self.doubts |= dict.fromkeys(range(place, place + count), doubt)
-            place += count
         if len(self.addresses) == 1:
-            self.links[place - repeat] = self.addresses.pop()
+            self.links[place] = self.addresses.pop()
+        own = attributes.get("style-name", "") or self.row.get("default-cell-style-name", "")
+        columns = self.columns[place : place + repeat] or [""]
+        if own or repeat == 1:  # most cells
+            self.add_cell(own or columns[0], place, repeat)
+            return
+        for style, same in groupby(columns + [""] * (repeat - len(columns))):
+            count = len(list(same))
+            self.add_cell(style, place, count)
+            place += count
 
-    def styles_of(self, own: str, place: int, repeat: int) -> Sequence[tuple[str, int]]:
-        """Returns the styles of a cell that is repeated, and of how many cells each is: those
-        without a style of their own have that of their column.
-        """
-        if own:
-            return [(own, repeat)]
-        columns = self.columns[place : place + repeat]
-        columns += [""] * (repeat - len(columns))
-        if repeat == 1:  # most cells
-            return [(columns[0], 1)]
-        return [(style, len(list(same))) for style, same in groupby(columns)]
+    def add_cell(self, style: str, place: int, count: int) -> None:
+        """Adds the cell that is read by a style, so many times."""
+        look = self.look(style)
+        cell = self.cell_by(style, look.form)
+        if not cell:
+            return
+        self.add_letters(count * (len(cell) if isinstance(cell, str) else 1))
+        filled(self.cells, place).extend([cell] * count)
+        if look.doubt:
+            self.doubts |= dict.fromkeys(range(place, place + count), look.doubt)
 
-    def end_row(self) -> Iterator[Row]:
-        """Yields the row that is read, as often as it is repeated, but none that is empty and not
+    def end_row(self) -> None:
+        """Finds the row that is read, as often as it is repeated, but none that is empty and not
         hidden.
         """
-        for area in self.content.conditions[self.sheet]:
+        for area in self.areas:
             if area.row <= self.number <= area.last_row:
                 places = range(area.place, min(area.last_place + 1, len(self.cells)))
                 self.doubts |= dict.fromkeys(places, Doubt.CONDITION)
@@ -414,21 +468,38 @@ class Reader:
         if is_hidden or any(self.cells):
             merges = tuple(self.merges)
             row = Row(self.number, self.cells, None, is_hidden, merges, self.links)
-            yield from rows_from(row._replace(doubts=self.doubts), repeat)
+            rows = rows_from(row._replace(doubts=self.doubts), self.letters, repeat)
+            self.found += ((self.sheet, one) for one in rows)
         self.number += repeat
 
-    def cell_by(self, style: str) -> Cell:
+    def look(self, style: str) -> Look:
+        """Returns how the cells of a style look."""
+        if style not in self.looks:
+            self.looks[style] = Look(self.styles.form(style), self.styles.doubt(style))
+        return self.looks[style]
+
+    def line_text(self, line: Line, style: str, form: Form) -> str | Fault:
+        """Returns the text of a line of a cell of a style."""
+        if isinstance(line, str) and form.mark is Mark.NONE:
+            text: str | Fault = line
+        else:
+            runs = [(line, "")] if isinstance(line, str) else line
+            of = self.styles.form
+            found = [(one, of(style, span) if span else form) for one, span in runs if one]
+            text = text_of_runs(found, form.mark)
+        return text if isinstance(text, Fault) else SPACE.sub(" ", text).strip(" ")
+
+    def cell_by(self, style: str, form: Form) -> Cell:
         """Returns the cell that is read by its type, its text, and a style."""
-        styles = self.content.styles
-        form = styles.form(style)
         lines: list[str] = []
         for line in self.lines:
-            runs = [(one, styles.form(style, span) if span else form) for one, span in line if one]
-            text = text_of_runs(runs, form.mark)
+            text = self.line_text(line, style, form)
             if isinstance(text, Fault):
                 return text
-            lines.append(SPACE.sub(" ", text).strip(" "))
-        text = "\n".join(lines).translate(UNSIGNED)
+            lines.append(text)
+        text = "\n".join(lines)
+        if not text.isprintable():
+            text = text.translate(UNSIGNED)
         kind = self.cell.get("value-type", "")
         if kind in NUMBERS:
             value, moment = self.cell.get("value", ""), self.cell.get("date-value", "")
@@ -436,12 +507,12 @@ class Reader:
                 return Fault(RAISED, TYPED, value or text)
             exact = exact_of(value) if value else None
             own = Kind.MOMENT if kind in ("date", "time") else Kind.NUMBER
-            return Number(value or text, text, exact, moment, self.content.formatter, own)
+            return Number(value or text, text, exact, moment, self.formatter, own)
         if kind == "error":
             return Fault(no_value(text).what, value=text)
         if kind == "boolean":
             return Truth(text)
-        is_uncalculated = "formula" in self.cell and not self.content.is_calculated
+        is_uncalculated = "formula" in self.cell and not self.is_calculated
         if not kind and not text and is_uncalculated:
             return Fault(NOT_SAVED, NOT_SAVED_HINT)
         return text

@@ -7,13 +7,13 @@ are refused before they take memory.
 import re
 import struct
 import zlib
-from collections.abc import Container, Iterable, Iterator, Mapping
+from collections.abc import Iterable, Iterator, Mapping
 from contextlib import contextmanager
 from decimal import Decimal
 from functools import lru_cache, partial, reduce
 from io import BytesIO
 from itertools import chain, pairwise
-from typing import NamedTuple
+from typing import Generic, NamedTuple, TypeVar
 from xml.parsers.expat import ExpatError, ParserCreate
 from zipfile import ZIP_DEFLATED, ZIP_STORED, BadZipFile, ZipFile
 
@@ -31,7 +31,7 @@ LARGEST_TEXTS = 1 << 27  # letters of all shared strings
 PIECE = 1 << 16
 DEEPEST = 100
 MOST_PARTS = 1 << 14  # of the zip
-MOST_OTHERS = 1 << 20  # elements one after another that are no part of a row
+MOST_OTHERS = 1 << 21  # elements that are no part of a row
 MOST_NAMES = 4096
 LARGEST_EXPONENT = 307  # of a number
 MOST_DIGITS = 10  # of a count
@@ -54,9 +54,9 @@ TRUE = ("1", "true")
 NOT_SAVED = Text("has a formula without a saved value")
 NOT_SAVED_HINT = Text("open the table in the spreadsheet and save it")
 TYPED = Text("enter it again as text")
-# an element that begins: its name and attributes; one that ends: its name and None; and the text
-# between this and what was before; names have no namespaces
-Event = tuple[str, Mapping[str, str] | None, str]
+F = TypeVar("F")  # what a reader finds
+Attributes = Mapping[str, str]
+Element = tuple[str, Attributes]  # its path below the outermost one
 
 
 class Sheet(NamedTuple):
@@ -173,86 +173,90 @@ class LocalNames(dict[str, str]):
 LOCAL = LocalNames()
 
 
-class Parser:
-    """Finds what begins and ends in a part, `found`, and forgets it in time: `inside` is the depth
-    of an element of `rows` that is open, 0 where none is, which may have `LARGEST_ROW` bytes.
-    Nothing is found in elements of `passed`.
+def local(attributes: Attributes) -> Attributes:
+    """Returns attributes by their names without prefixes."""
+    return {LOCAL[name]: value for name, value in attributes.items()}
+
+
+class Reader(Generic[F]):
+    """Reads a part piece by piece, and finds what a subclass makes of it.
+
+    `depth` is that of the element that begins or ends; a row, from where `is_inside` is set, or any
+    other element may have `LARGEST_ROW` bytes.
     """
 
-    def __init__(self, rows: Container[str], passed: Container[str]) -> None:
-        self.rows = rows
-        self.passed = passed
-        self.found: list[Event] = []
+    def __init__(self) -> None:
+        self.found: list[F] = []
         self.texts: list[str] = []
-        self.depth = self.inside = self.passing = self.size = self.others = 0
-        self.parser = ParserCreate()
-        self.parser.buffer_text = True
-        self.parser.StartDoctypeDeclHandler = refuse_document_type
-        self.look()
+        self.depth = self.size = self.others = 0
+        self.is_inside = False
 
-    def feed(self, piece: bytes) -> list[Event]:
-        """Takes a piece, or the end, which is empty; returns what is found in it."""
-        self.found = []
-        self.size += len(piece)
-        self.parser.Parse(piece, not piece)
-        if self.size > LARGEST_ROW or self.others > MOST_OTHERS:
-            raise ToolError(TOO_LARGE, SAVE_AGAIN)
-        return self.found
+    def read(self, archive: ZipFile, part: str) -> Iterator[F]:
+        """Yields what is found in a part."""
+        parser = ParserCreate()
+        parser.buffer_text = True
+        parser.StartDoctypeDeclHandler = refuse_document_type
+        parser.StartElementHandler = self.begin
+        parser.EndElementHandler = self.end
+        parser.CharacterDataHandler = self.texts.append
+        for piece in chain(pieces(archive, part), [b""]):
+            self.size += len(piece)
+            parser.Parse(piece, not piece)
+            if self.size > LARGEST_ROW or self.others > MOST_OTHERS:
+                raise ToolError(TOO_LARGE, SAVE_AGAIN)
+            yield from self.found
+            self.found.clear()
 
-    def look(self) -> None:
-        """Looks at what comes."""
-        self.parser.StartElementHandler = self.begin
-        self.parser.EndElementHandler = self.end
-        self.parser.CharacterDataHandler = self.texts.append
-
-    def begin(self, name: str, attributes: dict[str, str]) -> None:
-        """Takes an element that begins."""
-        self.deepen()
-        local = LOCAL[name]
-        if not self.inside and local in self.rows:
-            self.inside = self.depth
-            self.others = 0
-        if attributes:
-            attributes = {LOCAL[one]: value for one, value in attributes.items()}
-        self.found.append((local, attributes, self.text()))
-        if local in self.passed:
-            self.passing = self.depth
-            self.parser.StartElementHandler = self.deepen
-            self.parser.EndElementHandler = self.end_passed
-            self.parser.CharacterDataHandler = None
-
-    def deepen(self, *_: object) -> None:
-        """Counts an element that begins."""
+    def begin(self, name: str, attributes: Attributes) -> None:
+        """Begins an element."""
         self.depth += 1
         if self.depth > DEEPEST:
             raise ToolError(TOO_LARGE, SAVE_AGAIN)
-
-    def end_passed(self, name: str) -> None:
-        """Takes the end of an element that is passed, or in it."""
-        self.size = 0
-        if self.depth == self.passing:
-            self.look()
-            self.end(name)
-        else:
-            self.depth -= 1
+        self.begun(LOCAL[name], attributes)
+        self.texts.clear()
 
     def end(self, name: str) -> None:
-        """Takes the end of an element."""
-        self.found.append((LOCAL[name], None, self.text()))
-        if self.inside == self.depth:
-            self.inside = 0
-        if not self.inside:
+        """Ends an element."""
+        self.ended(LOCAL[name])
+        self.texts.clear()
+        self.depth -= 1
+        if not self.is_inside:
             self.size = 0
             self.others += 1
-        self.depth -= 1
 
+    def begun(self, name: str, attributes: Attributes) -> None:
+        """Takes an element that begins, by its name without a prefix."""
+
+    def ended(self, name: str) -> None:
+        """Takes the end of an element."""
+
+    @property
     def text(self) -> str:
-        """Returns the text since the event before."""
-        if not self.texts:
-            return ""
-        text = "".join(self.texts)
-        self.texts.clear()
-        return text
+        """The text since what began or ended before."""
+        return "".join(self.texts)
+
+
+class Elements(Reader[Element]):
+    """Finds the elements of a part, but none in elements of the name `passed`."""
+
+    def __init__(self, passed: str) -> None:
+        super().__init__()
+        self.passed = passed
+        self.path: list[str] = []
+
+    def begun(self, name: str, attributes: Attributes) -> None:
+        """Finds an element."""
+        if not self.is_inside:
+            self.path.append(name)
+            self.found.append(("/".join(self.path[1:]), local(attributes)))
+            self.is_inside = name == self.passed
+
+    def ended(self, name: str) -> None:
+        """Ends an element."""
+        self.size = 0
+        if self.depth == len(self.path):
+            self.is_inside = False
+            self.path.pop()
 
 
 def refuse_document_type(*_: object) -> None:
@@ -260,31 +264,17 @@ def refuse_document_type(*_: object) -> None:
     raise ToolError(Text("has a document type (DOCTYPE), which no spreadsheet writes"), SAVE_AGAIN)
 
 
-def events(
-    archive: ZipFile, part: str, rows: Container[str] = (), passed: Container[str] = ()
-) -> Iterator[Event]:
-    """Yields what begins and ends in a part; of the elements `passed` nothing that is in them."""
-    if part:  # else the file has no such part
-        parser = Parser(rows, passed)
-        for piece in chain(pieces(archive, part), [b""]):
-            yield from parser.feed(piece)
+def elements(archive: ZipFile, part: str, passed: str = "") -> Iterator[Element]:
+    """Yields the paths of the elements of a part below the outermost one, with their attributes; a
+    part that the file does not have has no name, and none.
+    """
+    return Elements(passed).read(archive, part) if part else iter(())
 
 
-def elements(
-    archive: ZipFile, part: str, passed: Container[str] = ()
-) -> Iterator[tuple[str, Mapping[str, str]]]:
-    """Yields the paths of the elements of a part below the outermost one, with their attributes."""
-    path: list[str] = []
-    for name, attributes, _ in events(archive, part, passed=passed):
-        if attributes is None:
-            path.pop()
-        else:
-            path.append(name)
-            yield "/".join(path[1:]), attributes
-
-
-def rows_from(row: Row, repeat: int) -> Iterator[Row]:
-    """Yields a row as often as it is there; raises `ToolError` beyond what a sheet has."""
+def rows_from(row: Row, letters: int, repeat: int = 1) -> Iterator[Row]:
+    """Yields a row of so many letters as often as it is there; raises `ToolError` beyond what a
+    sheet has.
+    """
     is_beyond = row.number + repeat - 1 > MOST_ROWS or len(row.cells) > MOST_COLUMNS
     if is_beyond or len(row.merges) > MOST_MERGES:
         raise ToolError(
@@ -295,7 +285,6 @@ def rows_from(row: Row, repeat: int) -> Iterator[Row]:
                 MOST_MERGES,
             )
         )
-    letters = sum(len(cell) for cell in row.cells if isinstance(cell, str))
     is_repeated = repeat > 1 and not row.is_hidden
     if letters > LARGEST_ROW or is_repeated and (letters + EACH) * repeat > LARGEST_ROW:
         raise ToolError(TOO_LARGE, SAVE_AGAIN)

@@ -4,7 +4,9 @@ import posixpath
 import re
 from dataclasses import dataclass, field
 from decimal import Decimal
-from typing import Iterator, Mapping, NamedTuple, Sequence
+from collections.abc import Callable, Iterator, Mapping, Sequence
+from functools import partial
+from typing import NamedTuple
 from zipfile import ZipFile
 
 from labeltools.sheets import number_format
@@ -21,8 +23,9 @@ from labeltools.sheets.workbook import (
     SAVE_AGAIN,
     TOO_LARGE,
 )
-from labeltools.sheets.workbook import Sheet, TRUE, areas_of, chosen, corners_of, elements, events
-from labeltools.sheets.workbook import exact_of, filled, merges_at, place_of, rows_from, whole
+from labeltools.sheets.workbook import Attributes, F, Reader, Sheet, TRUE, areas_of
+from labeltools.sheets.workbook import chosen, corners_of, elements, exact_of, filled, merges_at
+from labeltools.sheets.workbook import place_of, rows_from, whole
 
 ESCAPED = re.compile("_x([0-9A-Fa-f]{4})_")
 # an address and a text, as a formula has them
@@ -33,6 +36,7 @@ PLACES = {"superscript": Mark.RAISED, "subscript": Mark.LOWERED}
 # white by the numbers of themes and of palettes (18.8.3, 18.8.27)
 WHITE_THEME = "0"
 WHITE_INDEXES = ("1", "9", "65")
+PROPERTIES = ("strike", "vertAlign", "sz", "color")  # of a font, that change what letters mean
 
 
 class Target(NamedTuple):
@@ -42,53 +46,112 @@ class Target(NamedTuple):
     path: str
 
 
-@dataclass
-class Letters:
-    """Reads the letters of a string, run by run; a run without a form has that of the cell."""
-
-    runs: list[tuple[str, Form | None]] = field(default_factory=list)
-    form: Form | None = None
-    is_spoken: bool = False  # how letters are spoken is beside the text
-
-    def begin(self, name: str, attributes: Mapping[str, str]) -> None:
-        """Takes an element of a string that begins."""
-        if name in ("r", "rPr"):
-            self.form = PLAIN if name == "rPr" else None
-        elif name == "rPh":
-            self.is_spoken = True
-        elif self.form is not None:
-            self.form = having(self.form, name, attributes)
-
-    def end(self, name: str, text: str) -> None:
-        """Takes the end of an element of a string."""
-        if name == "t" and text and not self.is_spoken:
-            self.runs.append((unescaped(text), self.form))
-        elif name == "r":
-            self.form = None
-        elif name == "rPh":
-            self.is_spoken = False
-
-    def string(self) -> "str | Letters":
-        """Returns the string: a text, where all its letters have the form of the cell."""
-        is_rich = any(form is not None for _, form in self.runs)
-        return self if is_rich else "".join(text for text, _ in self.runs)
-
-    def within(self, cell: Form) -> str | Fault:
-        """Returns the text in a cell whose letters have a form."""
-        runs = [(text, cell if form is None else form.within(cell)) for text, form in self.runs]
-        return text_of_runs(runs, cell.mark)
+Begin = Callable[[Attributes], None]
+End = Callable[[], None]
+Runs = Sequence[tuple[str, Form | None]]  # letters; those without a form have that of their cell
 
 
-@dataclass
-class Styles:
-    """The styles of a file by their numbers: their number formats, and the forms of their letters.
-    `conditional` are the numbers of the forms that a condition gives to cells, and which show them
-    as something else.
+class Strings(Reader[F]):
+    """Reads strings, run by run; `form` is that of the run that is read. `begins` take what begins,
+    `ends` what ends, by its name.
     """
 
-    formats: list[str] = field(default_factory=list)
-    forms: list[Form] = field(default_factory=list)
-    conditional: set[int] = field(default_factory=set)
+    def __init__(self, begins: Mapping[str, Begin], ends: Mapping[str, End]) -> None:
+        super().__init__()
+        properties = {name: partial(self.have, name) for name in PROPERTIES}
+        forms = {"rPr": self.begin_form, "rPh": self.begin_spoken, **properties}
+        texts = {"t": self.end_text, "r": self.end_run, "rPh": self.end_spoken}
+        self.begins = {**forms, **begins}
+        self.ends = {**texts, **ends}
+        self.runs: list[tuple[str, Form | None]] = []
+        self.form: Form | None = None
+        self.is_spoken = False  # how letters are spoken is beside the text
+
+    def begun(self, name: str, attributes: Attributes) -> None:
+        """Takes an element that begins."""
+        if take := self.begins.get(name):
+            take(attributes)
+
+    def ended(self, name: str) -> None:
+        """Takes the end of an element."""
+        if take := self.ends.get(name):
+            take()
+
+    def begin_form(self, _: Attributes) -> None:
+        """Begins the form of a run."""
+        self.form = PLAIN
+
+    def have(self, name: str, attributes: Attributes) -> None:
+        """Takes a property of the form of a run."""
+        if self.form is not None:
+            self.form = having(self.form, name, attributes)
+
+    def end_text(self) -> None:
+        """Takes a text of a run."""
+        if self.texts and not self.is_spoken:
+            self.runs.append((unescaped(self.text), self.form))
+
+    def end_run(self) -> None:
+        """Ends a run."""
+        self.form = None
+
+    def begin_spoken(self, _: Attributes) -> None:
+        """Begins how letters are spoken."""
+        self.is_spoken = True
+
+    def end_spoken(self) -> None:
+        """Ends how letters are spoken."""
+        self.is_spoken = False
+
+    def string(self) -> str | Runs:
+        """Returns the string that was read: a text, where all its letters have the form of the
+        cell.
+        """
+        runs, self.runs = self.runs, []
+        is_rich = any(form is not None for _, form in runs)
+        return runs if is_rich else "".join(text for text, _ in runs)
+
+
+class SharedStrings(Strings[str | Runs]):
+    """Finds the shared strings of a file."""
+
+    def __init__(self) -> None:
+        super().__init__({"si": self.begin_string}, {"si": self.end_string})
+        self.letters = 0
+
+    def begin_string(self, _: Attributes) -> None:
+        """Begins a string."""
+        self.is_inside = True
+
+    def end_string(self) -> None:
+        """Finds a string."""
+        self.is_inside = False
+        self.letters += sum(len(text) for text, _ in self.runs)
+        if self.letters > LARGEST_TEXTS:
+            raise ToolError(TOO_LARGE, SAVE_AGAIN)
+        self.found.append(self.string())
+
+
+def text_within(runs: Runs, cell: Form) -> str | Fault:
+    """Returns the text of runs in a cell whose letters have a form."""
+    found = [(text, cell if form is None else form.within(cell)) for text, form in runs]
+    return text_of_runs(found, cell.mark)
+
+
+class Look(NamedTuple):
+    """A style: its number format, and the form of its letters."""
+
+    number_format: str
+    form: Form
+
+
+class Styles(NamedTuple):
+    """The styles of a file by their numbers, as the file has them; `conditional` are the numbers of
+    the forms that a condition gives to cells, and which show them as something else.
+    """
+
+    looks: Mapping[str, Look]
+    conditional: set[str]
 
 
 @dataclass(frozen=True)
@@ -99,7 +162,7 @@ class Book:
     nothing.
     """
 
-    strings: list[str | Letters]
+    strings: Mapping[str, str | Runs]
     styles: Styles
     formatter: Formatter
     is_from_1904: bool
@@ -179,28 +242,16 @@ def sheets_of(archive: ZipFile, path: str, formatter: Formatter) -> Iterator[She
             yield Sheet(sheet["name"], is_visible, sheet_rows(archive, part, book))
 
 
-def strings_of(archive: ZipFile, part: str) -> list[str | Letters]:
-    """Returns the shared strings."""
-    strings: list[str | Letters] = []
-    size = 0
-    letters = Letters()
-    for name, attributes, text in events(archive, part, ["si"]):
-        if name == "si" and attributes is None:
-            strings.append(letters.string())
-            letters = Letters()
-        elif attributes is not None:
-            letters.begin(name, attributes)
-        else:
-            letters.end(name, text)
-            size += len(text)
-            if size > LARGEST_TEXTS:
-                raise ToolError(TOO_LARGE, SAVE_AGAIN)
-    return strings
+def strings_of(archive: ZipFile, part: str) -> dict[str, str | Runs]:
+    """Returns the shared strings by their numbers."""
+    strings = SharedStrings().read(archive, part) if part else ()
+    return {str(number): string for number, string in enumerate(strings)}
 
 
 def styles_of(archive: ZipFile, part: str) -> Styles:
     """Returns the styles."""
-    styles = Styles()
+    looks: dict[str, Look] = {}
+    conditional: set[str] = set()
     by_number = {**BUILT_IN, **BUILT_IN_DATES}
     fonts: list[Form] = []
     are_filled: list[bool] = []
@@ -218,17 +269,15 @@ def styles_of(archive: ZipFile, part: str) -> Styles:
         elif path == "fills/fill/gradientFill":
             are_filled.append(True)
         elif path == "cellXfs/xf":
-            styles.formats.append(by_number.get(found.get("numFmtId", "0"), LANGUAGE))
-            styles.forms.append(form_of(found, fonts, are_filled))
+            number_format = by_number.get(found.get("numFmtId", "0"), LANGUAGE)
+            looks[str(len(looks))] = Look(number_format, form_of(found, fonts, are_filled))
         elif path == "dxfs/dxf":
             count += 1
         elif path == "dxfs/dxf/numFmt":
-            styles.conditional.add(count)
+            conditional.add(str(count))
         elif outer == "dxfs/dxf/font" and having(PLAIN, name, found).mark is Mark.STRUCK:
-            styles.conditional.add(count)
-    styles.formats = styles.formats or ["General"]
-    styles.forms = styles.forms or [PLAIN]
-    return styles
+            conditional.add(str(count))
+    return Styles(looks or {"0": Look("General", PLAIN)}, conditional)
 
 
 def form_of(found: Mapping[str, str], fonts: Sequence[Form], are_filled: Sequence[bool]) -> Form:
@@ -293,7 +342,7 @@ def beside_of(archive: ZipFile, path: str, styles: Styles) -> Beside:
     beside = Beside()
     targets: dict[str, Target] = {}
     areas: list[Merge] = []  # of the conditions that are read
-    for name, found in elements(archive, path, [ROWS]):
+    for name, found in elements(archive, path, ROWS):
         if name == "mergeCells/mergeCell":
             first, *_, last = corners_of(found["ref"]) * 2
             beside.merges.setdefault(first[0], []).append(Merge(*first, *last))
@@ -306,34 +355,85 @@ def beside_of(archive: ZipFile, path: str, styles: Styles) -> Beside:
         elif name == "conditionalFormatting":
             areas = areas_of(found.get("sqref", ""))
         elif name.startswith("conditionalFormatting/"):
-            number = found.get("dxfId", "")
-            is_other = number and whole(number) in styles.conditional
+            is_other = found.get("dxfId") in styles.conditional
             if is_other or found.get("showValue") in FALSE:
                 beside.conditions += areas
     return beside
 
 
-@dataclass
-class CellReader:
-    """What is read of a cell: its attributes, and what is in it; the value and the formula are None
-    where it has none.
+class SheetReader(Strings[Row]):
+    """Reads a sheet row by row, with what the sheet says beside its rows; what follows is of the
+    row and of the cell that are read. The value and the formula are None where a cell has none.
     """
 
-    book: Book
-    attributes: Mapping[str, str] = field(default_factory=dict)
-    value: str | None = None
-    formula: str | None = None
-    letters: Letters = field(default_factory=Letters)
+    def __init__(self, book: Book, beside: Beside) -> None:
+        rows = {ROWS: self.begin_rows, "row": self.begin_row, "c": self.begin_cell}
+        cells = {"c": self.end_cell, "v": self.end_value, "f": self.end_formula}
+        super().__init__(rows, {**cells, "row": self.end_row, ROWS: self.end_rows})
+        self.book = book
+        self.beside = beside
+        self.has_rows = False  # elements outside of the rows may have their names
+        self.number = self.letters = 0
+        self.merges: list[Merge] = []
+        self.row: Attributes = {}
+        self.cells: list[Cell] = []
+        self.links: dict[int, str] = {}
+        self.doubts: dict[int, Doubt] = {}
+        self.cell: Attributes = {}
+        self.value: str | None = None
+        self.formula: str | None = None
 
-    def form(self) -> Form:
-        """Returns the form of its letters."""
-        return self.book.styles.forms[whole(self.attributes.get("s", "0"))]
+    def begin_rows(self, _: Attributes) -> None:
+        """Begins the rows."""
+        self.has_rows = True
 
-    def cell(self) -> Cell:
+    def end_rows(self) -> None:
+        """Ends the rows."""
+        self.has_rows = False
+
+    def begin_row(self, attributes: Attributes) -> None:
+        """Begins a row."""
+        if not self.has_rows:
+            return
+        self.is_inside = True
+        before, self.number = self.number, whole(attributes.get("r", str(self.number + 1)), 1)
+        if self.number <= before:
+            raise out_of_order(self.number)
+        self.row, self.cells, self.doubts, self.letters = attributes, [], {}, 0
+        self.links = dict(self.beside.links.get(self.number, {}))
+
+    def begin_cell(self, attributes: Attributes) -> None:
+        """Begins a cell."""
+        self.cell = attributes
+        self.value = self.formula = None
+
+    def end_value(self) -> None:
+        """Takes the value of a cell."""
+        self.value = self.text
+
+    def end_formula(self) -> None:
+        """Takes the formula of a cell."""
+        self.formula = self.text
+
+    def end_cell(self) -> None:
+        """Puts the cell that was read in its place."""
+        cells, reference = self.cells, self.cell.get("r")
+        place = place_of(reference.rstrip("0123456789")) if reference else len(cells)
+        if place < len(cells):
+            raise out_of_order(self.number)
+        look = self.book.styles.looks[self.cell.get("s", "0")]
+        cell = self.cell_by(look)
+        filled(cells, place).append(cell)
+        if isinstance(cell, str):
+            self.letters += len(cell)
+        if cell and look.form.mark is Mark.WHITE:
+            self.doubts[place] = Doubt.UNSEEN
+        if self.formula and (found := HYPERLINK.fullmatch(self.formula)):
+            self.links[place] = found[1]
+
+    def cell_by(self, look: Look) -> Cell:
         """Returns the cell by its type, and its value, if there is one."""
-        kind, value, book = self.attributes.get("t", "n"), self.value or "", self.book
-        number = whole(self.attributes.get("s", "0"))
-        shown, form = book.styles.formats[number], book.styles.forms[number]
+        kind, value, book = self.cell.get("t", "n"), self.value or "", self.book
         if self.formula is not None:
             is_empty_text = kind == "str" and self.value is not None
             if book.is_stale or not value and not is_empty_text:
@@ -341,101 +441,42 @@ class CellReader:
         elif not value and kind != "inlineStr":
             return ""
         if kind == "s":
-            return text_of(book.strings[whole(value)], shown, form)
+            return text_of(book.strings[value], look)
         if kind == "n":
-            return formed(Number(value, exact_of(value), shown, book), form)
+            return formed(Number(value, exact_of(value), look.number_format, book), look.form)
         if kind in ("str", "inlineStr"):
-            return text_of(unescaped(value) or self.letters.string(), shown, form)
+            return text_of(unescaped(value) or self.string(), look)
         if kind == "e":
             return Fault(no_value(value).what, value=value)
-        return formed(Truth({"1": "TRUE", "0": "FALSE"}.get(value, value)), form)
+        return formed(Truth({"1": "TRUE", "0": "FALSE"}.get(value, value)), look.form)
+
+    def end_row(self) -> None:
+        """Finds the row that was read."""
+        if not self.has_rows:
+            return
+        self.is_inside = False
+        number, cells = self.number, self.cells
+        self.merges = merges_at(self.merges, number) + self.beside.merges.get(number, [])
+        doubts = self.doubts | self.beside.doubts(number, len(cells))
+        row = Row(number, cells, None, is_unseen(self.row), self.merges, self.links, doubts=doubts)
+        self.found += rows_from(row, self.letters)
 
 
-def text_of(text: str | Letters, style: str, form: Form) -> Cell:
+def sheet_rows(archive: ZipFile, path: str, book: Book) -> Iterator[Row]:
+    """Yields the rows of a sheet."""
+    return SheetReader(book, beside_of(archive, path, book.styles)).read(archive, path)
+
+
+def text_of(text: str | Runs, look: Look) -> Cell:
     """Returns a text; none where its format puts something around it, as `"SKU-"@` does."""
-    found = formed(text, form) if isinstance(text, str) else text.within(form)
+    style, form = look
+    found = formed(text, form) if isinstance(text, str) else text_within(text, form)
     if isinstance(found, str) and found and "@" in style and style != "@":
         try:
             number_format.sections_of(style)
         except RowError as problem:
             return Fault(problem.what, problem.hint, found)
     return found
-
-
-@dataclass
-class SheetReader:
-    """Reads a sheet row by row, with what the sheet says beside its rows."""
-
-    book: Book
-    beside: Beside
-    one: CellReader
-    number: int = 0
-    merges: list[Merge] = field(default_factory=list)
-    row: Mapping[str, str] = field(default_factory=dict)
-    cells: list[Cell] = field(default_factory=list)
-    links: dict[int, str] = field(default_factory=dict)
-    doubts: dict[int, Doubt] = field(default_factory=dict)
-
-    def begin_row(self, attributes: Mapping[str, str]) -> None:
-        """Begins a row."""
-        before, self.number = self.number, whole(attributes.get("r", str(self.number + 1)), 1)
-        if self.number <= before:
-            raise out_of_order(self.number)
-        self.row, self.cells, self.doubts = attributes, [], {}
-        self.links = dict(self.beside.links.get(self.number, {}))
-
-    def end_cell(self) -> None:
-        """Puts the cell that was read in its place."""
-        one = self.one
-        place = place_in(one.attributes, len(self.cells))
-        if place < len(self.cells):
-            raise out_of_order(self.number)
-        filled(self.cells, place).append(one.cell())
-        if self.cells[-1] and one.form().mark is Mark.WHITE:
-            self.doubts[place] = Doubt.UNSEEN
-        if one.formula and (found := HYPERLINK.fullmatch(one.formula)):
-            self.links[place] = found[1]
-
-    def end_row(self) -> Iterator[Row]:
-        """Returns the row that was read, and what is to be seen of those between."""
-        number, cells = self.number, self.cells
-        self.merges = merges_at(self.merges, number) + self.beside.merges.get(number, [])
-        doubts = self.doubts | self.beside.doubts(number, len(cells))
-        row = Row(number, cells, None, is_unseen(self.row), self.merges, self.links, doubts=doubts)
-        return rows_from(row, 1)
-
-
-def sheet_rows(archive: ZipFile, path: str, book: Book) -> Iterator[Row]:
-    """Yields the rows of a sheet."""
-    reader = SheetReader(book, beside_of(archive, path, book.styles), CellReader(book))
-    is_inside = False
-    for name, attributes, text in events(archive, path, ["row"]):
-        if name == ROWS:
-            is_inside = attributes is not None
-        elif not is_inside:
-            continue
-        elif name == "c" and attributes is not None:
-            reader.one = CellReader(book, attributes)
-        elif name == "c":
-            reader.end_cell()
-        elif name == "v" and attributes is None:
-            reader.one.value = text
-        elif name == "f":
-            reader.one.formula = text
-        elif name == "row" and attributes is not None:
-            reader.begin_row(attributes)
-        elif name == "row":
-            yield from reader.end_row()
-        elif attributes is not None:
-            reader.one.letters.begin(name, attributes)
-        else:
-            reader.one.letters.end(name, text)
-
-
-def place_in(cell: Mapping[str, str], after: int) -> int:
-    """Returns the place of a cell in its row, which may not say it."""
-    reference = cell.get("r")
-    return place_of(reference.rstrip("0123456789")) if reference else after
 
 
 def is_unseen(row: Mapping[str, str]) -> bool:
