@@ -209,8 +209,8 @@ class RowReader:
             raise row.problem
         place = self.columns.code.place
         cell = row.cells[place] if place < len(row.cells) else ""
-        text = cell if isinstance(cell, str) else cell.value
-        if not text.isdigit() or text == self.code_name or self.other_names:  # but most rows
+        typed = cell if isinstance(cell, str) else cell.value
+        if not typed.isdigit() or typed == self.code_name or self.other_names:  # but most rows
             self.refuse_names(row)
         if not self.is_marked(row):
             return None
