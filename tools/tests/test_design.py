@@ -502,10 +502,31 @@ class Texts(OwnPages):
     def test_a_number_is_not_parted(self) -> None:
         """In two lines it would be two numbers."""
         place = f'<rect id="Count" x="2" y="2" width="6" height="7"/>{CODE}'
-        for count, lines, said in (("999999", 1, 1), ("99 99", 2, 0), ("abcdefghi", 3, 0)):
+        words = "many words that are cut"
+        for count, lines, said in (
+            ("999999", 1, 1),
+            ("99 99", 2, 0),
+            ("abcdefghi", 3, 0),
+            (f"250 g {words}", 3, 1),
+            (f"{words} 1/2 {words}", 3, 1),
+            (f"999999 {words}", 1, 1),
+        ):
             found = self.found(place, [("code128 A", {"text": {"Count": count}})])
             shortened = [one for one in self.said(found) if "shortened" in one]
             self.assertEqual((texts_of(found)[0].lines, len(shortened)), (lines, said), count)
+
+    def test_one_long_text_makes_no_others_small(self) -> None:
+        """It has smaller letters alone, and is cut at the least ones."""
+        place = '<rect data-place="title{}" x="2" y="2" width="56" height="10"/>' + CODE
+        labels = [("code128 A", {"title": title}) for title in ("Soap", "Salt", "x " * 99, "Tea")]
+        for words, least in (("", 1.8), (", least=4", 4)):
+            found = self.found(place.format(words), labels)
+            sizes = [text.size * found.laid_out.area.dot for text in texts_of(found)]
+            self.assertEqual(sizes[0], sizes[1])
+            self.assertGreater(sizes[0], 10)
+            self.assertTrue(least - 0.13 < sizes[2] < least + 0.5, sizes)
+            said = ["line 6: shortened to fit, with an ellipsis"]
+            self.assertEqual(self.said(found), said * (least == 4))
 
     def test_signs_are_as_small_as_letters(self) -> None:
         """A hyphen alone has the letters of a capital one, not the height of its place."""
@@ -654,20 +675,34 @@ class Drawings(OwnPages):
             self.assertEqual((dots_of(found)[:150].any(), self.said(found)), (is_drawn, []))
 
     def test_a_place_that_is_dark_in_part(self) -> None:
-        """Letters would be black on black: it is said. A line around letters is no such part."""
+        """Letters would be black on black: it is said, or the label is left out. A line around
+        letters is no such part.
+        """
         place = f'<rect id="title" x="2" y="2" width="56" height="10"/>{CODE}'
-        for shape, is_said in (
-            ("M40 0H60V14H40Z", True),
-            ("M0 0H15V14H0Z", True),
-            ("M0 0H60V14H0Z M30 5H38V10H30Z", True),
-            ("M2 2H58V12H2Z M2.3 2.3V11.7H57.7V2.3Z", False),
-            ("M0 0H60V14H0Z", False),
+        hint = "letters need light or dark behind them: move the place"
+        why = f"the drawing is light and dark in the place title: {hint}"
+        for shape, said, left_out in (
+            ("M40 0H60V14H40Z", 0, 1),
+            ("M0 0H60V14H0Z M5 0H45V14H5Z", 0, 1),
+            ("M0 0H15V14H0Z", 1, 0),
+            ("M0 0H60V14H0Z M30 5H38V10H30Z", 1, 0),
+            ("M2 2H58V12H2Z M2.3 2.3V11.7H57.7V2.3Z", 0, 0),
+            ("M0 0H60V14H0Z", 0, 0),
         ):
             drawn = f'<path fill-rule="evenodd" d="{shape}"/>{place}'
-            said = self.said(self.found(drawn, [ONE]))
-            hint = "letters need light or dark behind them: move the place"
-            wanted = f": the drawing is light and dark in the place title: {hint}"
-            self.assertEqual(said, [wanted] * is_said, shape)
+            found = self.found(drawn, [ONE, ("code128 B", {})])
+            self.assertEqual(self.said(found), [f": {why}"] * said, shape)
+            self.assertEqual(reasons_of(found), [f"{self.path}: {why}"] * left_out, shape)
+
+    def test_letters_that_a_group_makes_dark_in_part(self) -> None:
+        """With the old price half of the title is on black: that label alone is left out."""
+        place = f'<rect id="title" x="2" y="2" width="56" height="10"/>{CODE}'
+        for group, behind in (("M30 0H60V14H30Z", "none"), ("M30 0H60V14H30Z", "#000")):
+            drawn = f'<path d="M0 0H60V14H0Z" fill="{behind}"/><g id="was">'
+            drawn += f'<path d="{group}" fill="{"#fff" if behind == "#000" else "#000"}"/></g>'
+            labels: list[Label] = [ONE, ("code128 B", {"title": "b", "was": "2 €"})]
+            found = self.found(drawn + place, labels)
+            self.assertEqual([one.place.number for one in found.left_out if one.place], [4])
 
     def test_a_group_goes_with_its_field(self) -> None:
         word = '<g id="Best before"><path d="M2 2H9V9H2Z"/></g>'

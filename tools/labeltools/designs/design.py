@@ -14,6 +14,7 @@ else the id. Lengths are in millimetres from the left upper corner of the label 
 
 import re
 from dataclasses import dataclass, replace
+from functools import lru_cache
 from typing import Any, Callable, Iterator, Mapping, Optional
 from xml.etree.ElementTree import Element
 
@@ -32,6 +33,7 @@ MODE = "{http://www.inkscape.org/namespaces/inkscape}groupmode"  # of layers
 NEAR = 1.0  # millimetres by which a page may differ from a label
 ALIKE = 0.015  # by which the proportions of a page without millimetres may
 MOST_PLACES = 400
+KEPT = 16  # drawings
 SHAPES = ("path", "circle", "ellipse", "polygon", "polyline", "line", "image", "use", "text")
 FILLED = re.compile(r"(?<![\w-])fill:\s*url\(")  # by a picture, or a gradient
 THIN = "1e-7px"  # the height of what shows the upper edge of a place
@@ -43,6 +45,7 @@ WHITEST = bytes((254, 255))  # what symbols take behind them: a line far thinner
 LIGHT = bytes(range(128, 256))  # what is white in dots
 # the least part of a place, but for so many millimetres at its edges, that some letters may lie on
 SPOTTED = 0.05
+UNREAD = 0.25  # the least part from which on they are refused
 FRAME = 0.5
 EDGE = 0.05  # of the place of a symbol, where the drawing may end
 CONTRAST = 0.3  # between letters and what is behind them, of that between black and white
@@ -93,8 +96,9 @@ class OwnDesign:
         self.draw(canvas, scale, absent)
         return surface
 
+    @lru_cache(KEPT)
     def seen(self, absent: frozenset[str]) -> cairo.RecordingSurface:
-        """Returns the drawing as it is looked at."""
+        """Returns the drawing without some parts as it is looked at."""
         return self.recorded(CHECKED, absent)
 
     def colours(self, seen: cairo.Surface) -> dict[Place, Colour]:
@@ -103,6 +107,15 @@ class OwnDesign:
         """
         texts = (place for place in self.places if not place.is_symbol)
         return {place: colour_on(place, behind(seen, place, 0.0)) for place in texts}
+
+    def mixed(self, absent: frozenset[str], least: float, most: float) -> list[Place]:
+        """Returns the places of texts in which that part of the drawing is of the rarer kind, light
+        or dark: letters cannot be read there, or hardly.
+        """
+        seen = self.seen(absent)
+        texts = [place for place in self.places if not place.is_symbol]
+        dark = [dark_part(behind(seen, place, FRAME)) for place in texts]
+        return [one for one, part in zip(texts, dark) if least < min(part, 1 - part) <= most]
 
 
 def is_file(design: str) -> bool:
@@ -329,17 +342,18 @@ def remarks_on(
         if len(whole.translate(None, LIGHT)) > len(within.translate(None, LIGHT)):
             what = Text("{}: the drawing is cut at the edge", file)
             yield Text("{}: {}", what, Text("move it in, or give another --edge or --shift"))
-    texts = (place for place in design.places if not place.is_symbol)
-    parts = {one.title: dark_part(behind(seen, one, FRAME)) for one in texts}
-    spotted = [title for title, part in parts.items() if SPOTTED < part < 1 - SPOTTED]
-    if spotted:
-        what = Text("{}: the drawing is light and dark in the place {}", file, ", ".join(spotted))
-        hint = Text("letters need light or dark behind them: move the place")
-        yield Text("{}: {}", what, hint)
+    if spotted := design.mixed(frozenset(), SPOTTED, UNREAD):
+        yield mixed_text(file, ", ".join(place.title for place in spotted))
     if names := design.page.unlike:
         what = Text("{}: {} may be drawn otherwise, or not at all", file, named(names))
         hint = Text("look at it by --to png, save it with texts as paths, or make it a picture")
         yield Text("{}: {}", what, hint)
+
+
+def mixed_text(file: str, places: str) -> Text:
+    """Returns that letters can hardly be read in some places."""
+    what = Text("{}: the drawing is light and dark in the place {}", file, places)
+    return Text("{}: {}", what, Text("letters need light or dark behind them: move the place"))
 
 
 def check_white(design: OwnDesign, seen: cairo.Surface) -> None:

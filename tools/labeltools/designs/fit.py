@@ -7,6 +7,7 @@ import re
 from bisect import bisect_left
 from collections import Counter
 from functools import cache
+from statistics import median_high
 from typing import NamedTuple, Optional
 
 from labeltools.layout.fitting import LINE_END, Style
@@ -21,6 +22,7 @@ SIDE = 1 / 8  # white at both sides of wrapped lines, in letters
 STEP = 0.97  # the next smaller size of letters that is tried
 STEPS = 160  # of these: from the largest letters to less than a hundredth of them
 PRICES = ("price", "unit", "was")  # they stay on one line, and are never cut
+OUTLYING = 2.0  # by how much smaller letters have no part in the size that is common to labels
 NUMBER = re.compile(r"\W*\d[\d\W]+")
 LOW = 0.5  # of the size of letters: signs with lower ink, as hyphens, are as beside a LETTER
 LETTER = "H"
@@ -83,7 +85,8 @@ class Room:
         self.bottom = max(sign.bottom for sign in signs)
         if self.bottom - self.top <= 0:
             self.top, self.bottom = -1.0, 0.0
-        self.least = max(1, min(math.ceil(LEAST_TEXT / dot), self.largest(1)))
+        least = math.ceil((place.least or LEAST_TEXT) / dot)
+        self.least = max(1, min(least, self.largest(1)))
         self.most_lines = 1
         while self.most_lines < (place.lines or MOST_LINES):
             if self.largest(self.most_lines + 1) < self.least:
@@ -93,7 +96,8 @@ class Room:
         sizes: Counter[float] = Counter()
         for text, labels in counts.items():
             sizes[1 / self.fits[text].size] += labels
-        self.common = round(1 / share(sizes))
+        most = OUTLYING * median_high(sizes.elements())
+        self.common = round(1 / share({one: sizes[one] for one in sizes if one <= most}))
 
     def largest(self, lines: int) -> int:
         """Returns the largest letters of a number of lines."""
@@ -168,15 +172,22 @@ class Room:
         written = fit.text
         if size < fit.size and LINE_END in written:
             written = self.lines_of(self.with_lines(text), size) or written
-        is_number = fit.is_cut and any(map(NUMBER.fullmatch, text.split()))
         lines = self.most_lines if fit.is_cut else count_of(written)
-        lines = 1 if is_number else lines  # a number in two lines would be two numbers
+        if fit.is_cut and any(map(self.is_parted_number, text.split())):
+            lines = 1
         tall = ((lines - 1) * LINE + self.bottom - self.top) * size
         base = round((self.high - tall) * place.down - self.top * size)
         struck = len(text.encode()) if place.part == "was" else 0
         is_parted = lines > 1 or fit.is_cut or "\n" in written
         style = self.style(size, lines * is_parted, struck, base)
         return OwnText(place, written, self.box, size, lines, style, self.wide, self.high)
+
+    def is_parted_number(self, word: str) -> bool:
+        """Returns whether a word is a number that is wider than a line of the least letters: in two
+        lines it would be two numbers.
+        """
+        room = self.wide / self.least / HINTING - SIDE
+        return bool(NUMBER.fullmatch(word)) and self.sign(word).advance > room
 
     def new_style(self, size: int, lines: int, struck: int, base: int) -> Style:
         """Returns how texts are written."""

@@ -17,7 +17,7 @@ from labeltools.layout.layout import ASKED, LaidOut, LaidOutFile, Layout, PrintL
 from labeltools.layout.letters import Fonts, Letters
 from labeltools.lines.file import symbology_and_data
 from labeltools.common.messages import Talk, ToolError, quoted
-from labeltools.designs.design import NEAR, OwnDesign
+from labeltools.designs.design import NEAR, OwnDesign, UNREAD, mixed_text
 from labeltools.designs.fit import ENLARGE, NoRoom, OwnText, Room
 from labeltools.designs.places import PARTS, Place, key_of
 from labeltools.paper.stock import size_text
@@ -117,6 +117,7 @@ class OwnLayouts:
         self.asked = frozenset(PARTS).union(map(key_of, self.empty))
         self.boxes = {place: self.box_of(place) for place in self.places}
         self.boxes_of = cache(self.new_boxes)
+        self.unread = cache(lambda absent: self.design.mixed(absent, UNREAD, 0.5))
 
     def box_of(self, place: Place) -> Box:
         """Returns the dots of a place that the paper takes."""
@@ -214,9 +215,12 @@ class OwnLayouts:
         """Returns the layout of a label whose texts are those of a row; raises `NoRoom`."""
         texts = []
         symbols = []
+        unread = self.unread(absent)
         for place, text in zip(self.places, row):
             if not text:
                 continue
+            if place in unread:
+                raise NoRoom(mixed_text(self.design.file, place.title))
             if place in rooms:
                 texts.append(rooms[place].texts[text])
                 continue

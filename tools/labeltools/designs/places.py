@@ -35,7 +35,7 @@ AFTER_HYPHEN = re.compile(r"-\d+\s*$")
 MOST_KNOWN = 1024  # names whose keys are kept
 BLANKS = " _-"
 LENGTH = re.compile(r"\d{1,3}(?:\.\d{1,3})?", re.ASCII)
-NUMBERS = {"module": LENGTH, "size": LENGTH, "lines": re.compile("[0-9]{1,2}")}
+NUMBERS = {"module": LENGTH, "size": LENGTH, "least": LENGTH, "lines": re.compile("[0-9]{1,2}")}
 WORDS: dict[str, dict[str, Any]] = {  # of texts
     "left": {"across": -1},
     "middle": {"across": 0},
@@ -54,7 +54,7 @@ class Place:
     """The place of a part: its name, its sides in millimetres, by how many quarters it is turned to
     the right; how its letters are written, and their colour (None: what can be read on the
     drawing); the symbology and settings of a symbol that is made of its text; its module, the
-    largest letters in millimetres, the most lines: 0 for what suits.
+    largest and the least letters in millimetres, the most lines: 0 for what suits.
     """
 
     title: str
@@ -72,6 +72,7 @@ class Place:
     settings: tuple[str, ...] = ()
     module: float = 0.0
     size: float = 0.0
+    least: float = 0.0
     lines: float = 0.0
 
     @property
@@ -175,7 +176,7 @@ def changes_of(place: Place, word: str, is_symbol: bool) -> dict[str, Any]:
 def known_words(place: Place, is_symbol: bool) -> Text:
     """Returns what may be behind the name of a symbol, or of a text."""
     if not is_symbol:
-        known = [*WORDS, "font=NAME", "size=N", "lines=N", *SYMBOLOGIES]
+        known = [*WORDS, "font=NAME", "size=N", "least=N", "lines=N", *SYMBOLOGIES]
         return Text("behind the name of a text is one of {}", ", ".join(known))
     settings = SYMBOLOGIES[place.symbology].settings if place.symbology else ()
     known = [*SYMBOLOGIES, "module=N", *(f"{one}=N" for one in settings)]
