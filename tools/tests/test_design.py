@@ -25,7 +25,7 @@ ONE: Label = ("code128 A", {"title": "Title"})
 PICTURE = '<image x="2" y="2" width="5" height="5" href="data:image/{};base64,{}"/>' + CODE
 BOX = '<rect x="2" y="2" width="9" height="9"/>'
 NOT_EMBEDDED = "is of another file, or is no PNG or JPEG; embed it"
-NOT_DRAWN = "is not drawn; save it as plain SVG with texts as paths, or make it a picture"
+NOT_DRAWN = "is not drawn; export it as a picture, or with texts as paths"
 HIDDEN = "the place title is hidden, or has no size; give it a width and a height, and show its"
 
 
@@ -62,7 +62,7 @@ def beside(dots: Any) -> Any:
 NOT_WHITE = "is not white in the place code"
 # what is drawn on a page of 60 by 40 mm, and what it is refused with
 REFUSED = (
-    ("", "has no place for the code; draw a rectangle with the id code"),
+    ("", "has no place for the code; name a rectangle code: in Inkscape by its label, which"),
     (TITLE.format('x="2" y="2" width="0" height="9"'), HIDDEN),
     (f'<g style="display:none"><rect id="title" {WIDE}/></g>{CODE}', HIDDEN),
     (f'<defs><rect id="title" {WIDE}/></defs>{CODE}', HIDDEN),
@@ -118,7 +118,11 @@ REFUSED = (
     ('<rect data-place="code, blod"/>', '"code, blod": "blod" is not understood; behind the name'),
     ('<rect data-place="title, level=Q"/>', '"level=Q" is not understood; behind the name of a t'),
     ('<rect data-place="title, size=0"/>', '"size=0" is not understood; behind the name of a text'),
-    ('<rect data-place="code, left"/>', '"left" is not understood; behind the name of a symbol is'),
+    ('<rect data-place="code, bold"/>', '"bold" is not understood; behind the name of a symbol is'),
+    (
+        '<rect data-place="title" inkscape:label="price"/>',
+        'a rectangle is named "title" and "price"; make its label and its data-place alike, or',
+    ),
     (
         '<rect data-place="code, size=1"/>',
         '"size=1" is not understood; behind the name of a symbol',
@@ -268,6 +272,22 @@ class Names(OwnPages):
             'data-place="title" id="x"',
         ):
             self.assertEqual(self.places(f"<rect {name} {WIDE}/>"), ["title"])
+
+    def test_a_label_like_data_place_is_no_second_name(self) -> None:
+        self.assertEqual(
+            self.places(f'<rect data-place="title" inkscape:label="Title" {WIDE}/>'), ["title"]
+        )
+
+    def test_rectangles_with_one_name_are_said(self) -> None:
+        body = f'<rect id="a" data-place="title" {WIDE}/><rect data-place="Title, bold" {WIDE}/>'
+        said = ": several rectangles are named title: name the second one title-2, or take one away"
+        self.assertIn(said, self.said(self.found(body + CODE)))
+
+    def test_a_group_of_matplotlib_is_drawn(self) -> None:
+        """Its id is no name of a part, of which no label has a text."""
+        group = '<g id="text_{}"><path d="M2 2H9V9H2Z"/></g>'
+        self.assertTrue(dots_of(self.found(group.format(1) + CODE))[:150].any())
+        self.assertFalse(dots_of(self.found(group.format("") + CODE))[:150].any())
 
     def test_names_that_programs_give_are_none(self) -> None:
         for name in ("rect12-3", "Rectangle 5", "svg1", "shape_4", "id7"):
@@ -850,6 +870,23 @@ class Symbols(OwnPages):
             (item,) = found.labels
             dot = found.laid_out.area.dot
             self.assertTrue(module - dot <= item.layout.module * dot <= module + dot / 2, line)
+
+    def test_where_a_symbol_is_in_its_place(self) -> None:
+        place = '<rect data-place="code, qr{}" x="10" y="2" width="40" height="17"/>'
+        for words, left, right in (
+            (", left", 10, None),
+            ("", None, None),
+            (", right", None, 50),
+        ):
+            (item,) = self.found(place.format(words), [("qr A", {})]).labels
+            layout = item.layout
+            assert isinstance(layout, OwnLayout)
+            ((_, box, _, _, _, _, boxes),) = layout.symbols
+            bars, dot = boxes["bars"], 25.4 / 203
+            ends = (10 + bars.left * dot, 10 + bars.right * dot)
+            wanted = (left, right) if words else (30 - bars.width * dot / 2, None)
+            for end, one in zip(ends, wanted):
+                self.assertTrue(one is None or abs(end - one) < 0.2, (words, ends))
 
     def test_second_symbols(self) -> None:
         body = f'<rect data-place="Url, qr, level=Q" x="2" y="2" width="16" height="16"/>{CODE}'

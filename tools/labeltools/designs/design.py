@@ -13,6 +13,7 @@ else the id. Lengths are in millimetres from the left upper corner of the label 
 """
 
 import re
+from collections import Counter
 from dataclasses import dataclass, replace
 from functools import lru_cache
 from typing import Any, Callable, Iterator, Mapping, Optional
@@ -24,7 +25,7 @@ from labeltools.paper.area import Edges
 from labeltools.common.messages import BAD_ARGUMENTS, ToolError
 from labeltools.designs.drawing import HOLDERS, SvgPage, named, read_page, rectangle, tag_of
 from labeltools.designs.places import Colour, PARTS, Place, key_of, part_of, place_of
-from labeltools.designs.places import title_of, written_name
+from labeltools.designs.places import title_of
 from labeltools.paper.stock import Size, size_text
 from labeltools.common.text import Text
 
@@ -222,13 +223,13 @@ def marked_places(page: SvgPage) -> list[Place]:
         title = title_of(rect) if tag_of(rect) == "rect" else ""
         is_filled = FILLED.search(f"fill:{rect.get('fill')};{rect.get('style')}")
         if title and (part_of(title) in PARTS or not (is_filled or rect in held)):
-            place = place_of(page.file, written_name(rect))
+            place = place_of(page.file, rect)
             rect.set("id", f"place-{len(found)}")
             found.append(place)
     if len(found) > MOST_PLACES:
         raise ToolError(Text("{} has more than {} places", page.file, MOST_PLACES))
     if not any(place.part == "code" for place in found):
-        hint = Text("draw a rectangle with the id code")
+        hint = Text("name a rectangle code: in Inkscape by its label, which plain SVG loses")
         raise ToolError(Text("{} has no place for the code", page.file), hint)
     return found
 
@@ -331,6 +332,10 @@ def remarks_on(
     since an edge takes no ink.
     """
     file = design.file
+    counts = Counter(place.key for place in design.places)
+    if again := [key for key, count in counts.items() if count > 1]:
+        what = Text("{}: several rectangles are named {}", file, ", ".join(again))
+        yield Text("{}: {}", what, Text("name the second one {}-2, or take one away", again[0]))
     if smaller:
         why = Text("an edge of the page takes no ink there (--edge)")
         yield Text("{}: smaller than drawn: {}: {}", file, ", ".join(smaller), why)

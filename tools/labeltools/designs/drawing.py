@@ -55,7 +55,7 @@ SPREAD = re.compile(r"^d?[xy]:[-+.\de]+[\s,]+[-+.\de]+")  # letters that are pla
 FAMILY = re.compile(r"(?<![\w-])font-family:([^;{}]+)")
 GENERAL = ("serif", "sans-serif", "sans", "monospace", "cursive", "fantasy", "system-ui", "inherit")
 MOST_NAMED = 9
-PLAIN = Text("save it as plain SVG with texts as paths, or make it a picture")
+PLAIN = Text("export it as a picture, or with texts as paths")
 
 
 @dataclass(frozen=True, eq=False)

@@ -253,8 +253,9 @@ class OwnLayouts:
         if module < least or tall < lowest:
             raise NoRoom(self.no_room(place, symbology, (width * least, lowest + below * least)))
         tall -= tall % module
-        left = (wide - width * module) // 2
-        bars = Box(left, (high - tall - below * module) // 2, width * module, tall)
+        left = (wide - width * module) * (place.across + 1) // 2
+        top = int((high - tall - below * module) * place.down)
+        bars = Box(left, top, width * module, tall)
         boxes = {"bars": bars}
         if below:
             boxes["digits"] = bars._replace(top=bars.bottom, height=below * module)

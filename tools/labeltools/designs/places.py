@@ -14,6 +14,7 @@ from labeltools.common.messages import ToolError, quoted
 from labeltools.common.names import name_of
 from labeltools.lines.symbologies import SYMBOLOGIES
 from labeltools.common.text import Text
+from labeltools.designs.drawing import SPACE
 
 # where programs write the name that was typed; ids have no spaces and commas in many of them
 WRITTEN = (
@@ -29,6 +30,7 @@ UNNAMED = re.compile(
     r"(?:[\s_-]*(?:copy|kopie))?|(?:shape|id|svg)(?=[\s_.-]*\d))?[\s_\d.-]*",
     re.IGNORECASE,
 )
+MADE = re.compile(r"text_\d+")  # ids of groups of matplotlib
 PARTS = ("code", "title", "text", "price", "unit", "was", "note")
 AGAIN = re.compile(r"(.+?) \d+")
 AFTER_HYPHEN = re.compile(r"-\d+\s*$")
@@ -36,15 +38,15 @@ MOST_KNOWN = 1024  # names whose keys are kept
 BLANKS = " _-"
 LENGTH = re.compile(r"\d{1,3}(?:\.\d{1,3})?", re.ASCII)
 NUMBERS = {"module": LENGTH, "size": LENGTH, "least": LENGTH, "lines": re.compile("[0-9]{1,2}")}
-WORDS: dict[str, dict[str, Any]] = {  # of texts
+WHERE: dict[str, dict[str, Any]] = {  # a text or a symbol is in its place
     "left": {"across": -1},
     "middle": {"across": 0},
     "right": {"across": 1},
     "top": {"down": 0.0},
     "centre": {"down": 0.5},
     "bottom": {"down": 1.0},
-    "bold": {"is_bold": True},
 }
+WORDS = {**WHERE, "bold": {"is_bold": True}}  # of texts
 
 Colour = tuple[float, float, float]  # red, green, blue: 0 to 1
 
@@ -128,8 +130,11 @@ def written_name(element: Element) -> str:
     >>> written_name(Element("rect", {"id": "title_x2C__bold"}))
     'title,_bold'
     """
+    given = element.get("id", "")
     typed = next(filter(None, map(element.get, WRITTEN)), "")
-    return typed or ESCAPED.sub(lambda found: chr(int(found[1], 16)), element.get("id", ""))
+    if not typed and element.tag == f"{SPACE}g" and MADE.fullmatch(given):
+        return ""
+    return typed or ESCAPED.sub(lambda found: chr(int(found[1], 16)), given)
 
 
 def title_of(element: Element) -> str:
@@ -138,13 +143,21 @@ def title_of(element: Element) -> str:
     return "" if UNNAMED.fullmatch(title) else title
 
 
-def place_of(file: str, written: str) -> Place:
-    """Returns the place of a name, without its sides; raises `ToolError` for a word that means
-    nothing. Some programs write a blank in an id as _ or -.
+def place_of(file: str, element: Element) -> Place:
+    """Returns the place of a rectangle, without its sides; raises `ToolError` where it has two
+    names, and for a word that means nothing. Some programs write a blank in an id as _ or -.
     """
+    written = written_name(element)
+    for other in filter(None, map(element.get, WRITTEN)):
+        if key_of(other) != key_of(written):
+            what = Text("{}: a rectangle is named {} and {}", file, quoted(written), quoted(other))
+            hint = Text("make its label and its data-place alike, or take one away")
+            raise ToolError(what, hint)
     title, *words = (" ".join(word.split()).strip(BLANKS) for word in written.split(","))
     place = Place(title)
     is_symbol = place.is_symbol or any(word.casefold() in SYMBOLOGIES for word in words)
+    if is_symbol:
+        place = replace(place, across=0)
     for word in filter(None, words):
         changes = changes_of(place, word, is_symbol)
         if not changes:
@@ -165,12 +178,11 @@ def changes_of(place: Place, word: str, is_symbol: bool) -> dict[str, Any]:
     if key in NUMBERS and (key == "module") == is_symbol:
         is_number = NUMBERS[key].fullmatch(value) and float(value) > 0
         return {key: float(value)} if is_number else {}
-    if is_symbol:
-        is_known = place.symbology and key in SYMBOLOGIES[place.symbology].settings
-        return {"settings": (*place.settings, f"{key}={value.upper()}")} if is_known else {}
-    if key == "font" and value:
+    if is_symbol and place.symbology and key in SYMBOLOGIES[place.symbology].settings:
+        return {"settings": (*place.settings, f"{key}={value.upper()}")}
+    if not is_symbol and key == "font" and value:
         return {"font": value.replace("_", " ")}
-    return WORDS.get(word.casefold(), {})
+    return (WHERE if is_symbol else WORDS).get(word.casefold(), {})
 
 
 def known_words(place: Place, is_symbol: bool) -> Text:
@@ -179,5 +191,5 @@ def known_words(place: Place, is_symbol: bool) -> Text:
         known = [*WORDS, "font=NAME", "size=N", "least=N", "lines=N", *SYMBOLOGIES]
         return Text("behind the name of a text is one of {}", ", ".join(known))
     settings = SYMBOLOGIES[place.symbology].settings if place.symbology else ()
-    known = [*SYMBOLOGIES, "module=N", *(f"{one}=N" for one in settings)]
+    known = [*WHERE, *SYMBOLOGIES, "module=N", *(f"{one}=N" for one in settings)]
     return Text("behind the name of a symbol is one of {}", ", ".join(known))
