@@ -255,7 +255,7 @@ def add_choice_options(parser: Parser) -> None:
 
 def add_output_options(parser: Parser) -> None:
     """Adds the options of where labels go, and in which form."""
-    group = parser.add_argument_group("where labels go")
+    group = parser.add_argument_group("output")
     add = group.add_argument
     count = reads("3", 1, int)
     add("--to", metavar="FORM", choices=tuple(FORMS), help=f"{', '.join(FORMS)} (pdf)")
