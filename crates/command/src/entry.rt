@@ -2,7 +2,7 @@
 ghost use Rattle.std.specs.Prelude.{◌≡◌, List, ℕ, Option, Some, IfSome, MatchResult, map, option_map, string_bytes};
 ghost use Rattle.device.specs.Streams.{reader_of};
 ghost use Rattle.command.specs.CommandLine.{invocation_of, run};
-ghost use Rattle.command.specs.Program.{EndsShown, EndsSo, Finishes, Helps, RunsOver, WriterTook};
+ghost use Rattle.command.specs.Program.{EndsShown, EndsSo, Finishes, Helps, RunsOverNew, WriterTook, devices};
 
 use crate::arguments::{ArgumentsFault, Choice, options_of};
 use crate::end::End;
@@ -39,45 +39,28 @@ pub fn arguments_of<S: Env + AllocGlobal>(system: &S) -> Result<Vec<String>, End
 /// Does what the arguments after the program's name ask for: runs the filter over the file that they name or over
 /// `input`, or prints the help text. Pictures and help go to `output`, messages to `errors`, and after the messages the
 /// line of the end, if it has one. Returns the exit status. Where there are no arguments, but an end, the program ends
-/// so.
-pub fn program<F: NamedFiles, R: Read + Drop, W: Write, E: Sink>(
+/// so. `input` is read only in a run over it, and no file is opened but the one that is named.
+pub fn program<F: NamedFiles, R: Read, W: Write, E: Sink>(
     alloc: Global,
     arguments: Result<Vec<String>, End>,
-    files: &F,
-    input: R,
+    files: &mut F,
+    input: &mut StdSource<R>,
     output: &mut Buffered<StdSink<W>>,
     errors: &mut E,
 ) -> u8
-    ensures runs { Finishes E.Sink (λ told end. MatchResult arguments
-        (λ known. EndsSo (record {
-          input = ⟦<StdSource<R> as Source>⟧;
-          left_in = λ s. R.remaining (reader_of s);
-          file = ⟦<StdSource<F::Reader> as Source>⟧;
-          left_file = λ s. F.Reader.remaining (reader_of s);
-          out = ⟦<Buffered<StdSink<W>> as Sink>⟧;
-          wrote = WriterTook W.contents;
-          err = E.Sink;
-          known = R.remaining input;
-          bytes_of = F.bytes_of files.now;
-          refuses = F.refuses files.now;
-        }) output.old output.new errors.old told end
-        (invocation_of (map string_bytes known.items)))
-        (λ early. (end ≡ early) × (output.new ≡ output.old) × (told ≡ errors.old))) errors.new result }
-    ensures shows { Finishes E.Sink (λ told end. MatchResult arguments
-        (λ known. EndsShown (record {
-          input = ⟦<StdSource<R> as Source>⟧;
-          left_in = λ s. R.remaining (reader_of s);
-          file = ⟦<StdSource<F::Reader> as Source>⟧;
-          left_file = λ s. F.Reader.remaining (reader_of s);
-          out = ⟦<Buffered<StdSink<W>> as Sink>⟧;
-          wrote = WriterTook W.contents;
-          err = E.Sink;
-          known = R.remaining input;
-          bytes_of = F.bytes_of files.now;
-          refuses = F.refuses files.now;
-        }) output.old output.new errors.old told end
-        (invocation_of (map string_bytes known.items)))
-        (λ early. (end ≡ early) × (output.new ≡ output.old) × (told ≡ errors.old))) errors.new result }
+    ensures runs { let before = devices files.old input.old output.old errors.old in
+        let after = devices files.new input.new output.new in
+        Finishes E.Sink (λ told end. MatchResult arguments
+        (λ known. EndsSo (⟦<StdSource<R> as Source>⟧) R.remaining (⟦<StdSource<F::Reader> as Source>⟧)
+        F.Reader.remaining (⟦<Buffered<StdSink<W>> as Sink>⟧) W.contents E.Sink F.opens F.bytes_of F.refuses
+        before (after told) end (invocation_of (map string_bytes known.items)))
+        (λ early. (end ≡ early) × (after told ≡ before))) errors.new result }
+    ensures shows { let before = devices files.old input.old output.old errors.old in
+        let after = devices files.new input.new output.new in
+        Finishes E.Sink (λ told end. MatchResult arguments
+        (λ known. EndsShown R.remaining (⟦<Buffered<StdSink<W>> as Sink>⟧) W.contents E.Sink
+        F.opens F.bytes_of F.refuses before (after told) end (invocation_of (map string_bytes known.items)))
+        (λ early. (end ≡ early) × (after told ≡ before))) errors.new result }
 {
     let end = match arguments {
         Ok(arguments) => end_of(alloc, arguments.as_slice(), files, input, output, errors),
@@ -89,27 +72,18 @@ pub fn program<F: NamedFiles, R: Read + Drop, W: Write, E: Sink>(
 }
 
 /// Does what the arguments ask for, and returns how it ended.
-fn end_of<F: NamedFiles, R: Read + Drop, W: Write, E: Sink>(
+fn end_of<F: NamedFiles, R: Read, W: Write, E: Sink>(
     alloc: Global,
     arguments: &[String],
-    files: &F,
-    input: R,
+    files: &mut F,
+    input: &mut StdSource<R>,
     output: &mut Buffered<StdSink<W>>,
     errors: &mut E,
 ) -> End
-    ensures { EndsSo (record {
-      input = ⟦<StdSource<R> as Source>⟧;
-      left_in = λ s. R.remaining (reader_of s);
-      file = ⟦<StdSource<F::Reader> as Source>⟧;
-      left_file = λ s. F.Reader.remaining (reader_of s);
-      out = ⟦<Buffered<StdSink<W>> as Sink>⟧;
-      wrote = WriterTook W.contents;
-      err = E.Sink;
-      known = R.remaining input;
-      bytes_of = F.bytes_of files.now;
-      refuses = F.refuses files.now;
-    }) output.old output.new errors.old errors.new result
-        (invocation_of (map string_bytes arguments.now)) }
+    ensures { EndsSo (⟦<StdSource<R> as Source>⟧) R.remaining (⟦<StdSource<F::Reader> as Source>⟧)
+        F.Reader.remaining (⟦<Buffered<StdSink<W>> as Sink>⟧) W.contents E.Sink F.opens F.bytes_of F.refuses
+        (devices files.old input.old output.old errors.old) (devices files.new input.new output.new errors.new)
+        result (invocation_of (map string_bytes arguments.now)) }
 {
     match options_of(alloc, arguments) {
         Ok(choice) => run_choice(&choice, files, input, output, errors),
@@ -131,26 +105,17 @@ fn help<O: Sink>(text: &str, output: &mut O) -> Result<(), IoFault>
 }
 
 /// Runs the filter over the file of the choice, or over `input` if it names none.
-fn run_choice<F: NamedFiles, R: Read + Drop, W: Write, E: Sink>(
+fn run_choice<F: NamedFiles, R: Read, W: Write, E: Sink>(
     choice: &Choice,
-    files: &F,
-    input: R,
+    files: &mut F,
+    input: &mut StdSource<R>,
     output: &mut Buffered<StdSink<W>>,
     errors: &mut E,
 ) -> End
-    ensures { EndsSo (record {
-      input = ⟦<StdSource<R> as Source>⟧;
-      left_in = λ s. R.remaining (reader_of s);
-      file = ⟦<StdSource<F::Reader> as Source>⟧;
-      left_file = λ s. F.Reader.remaining (reader_of s);
-      out = ⟦<Buffered<StdSink<W>> as Sink>⟧;
-      wrote = WriterTook W.contents;
-      err = E.Sink;
-      known = R.remaining input;
-      bytes_of = F.bytes_of files.now;
-      refuses = F.refuses files.now;
-    }) output.old output.new errors.old errors.new result
-        (run choice.now.options (option_map string_bytes choice.now.file)) }
+    ensures { EndsSo (⟦<StdSource<R> as Source>⟧) R.remaining (⟦<StdSource<F::Reader> as Source>⟧)
+        F.Reader.remaining (⟦<Buffered<StdSink<W>> as Sink>⟧) W.contents E.Sink F.opens F.bytes_of F.refuses
+        (devices files.old input.old output.old errors.old) (devices files.new input.new output.new errors.new)
+        result (run choice.now.options (option_map string_bytes choice.now.file)) }
 {
     match &choice.file {
         Some(name) => match files.open(name.as_str()) {
@@ -158,7 +123,7 @@ fn run_choice<F: NamedFiles, R: Read + Drop, W: Write, E: Sink>(
             Err(OpenFault::NoFile) => End::NoFile,
             Err(OpenFault::Memory) => End::NoMemory,
         },
-        None => End::Ran(run_over(choice.options, input, output, errors)),
+        None => End::Ran(run_streams(choice.options, input, output, errors)),
     }
 }
 
@@ -170,7 +135,7 @@ fn run_over<R: Read + Drop, W: Write, E: Sink>(
     errors: &mut E,
 ) -> Result<Status, RunFault>
     ensures { (known : Option (List ℕ)) → IfSome known (λ bytes. R.remaining reader ≡ Some bytes)
-        → RunsOver (⟦<StdSource<R> as Source>⟧) (⟦<Buffered<StdSink<W>> as Sink>⟧) E.Sink
+        → RunsOverNew (⟦<StdSource<R> as Source>⟧) (⟦<Buffered<StdSink<W>> as Sink>⟧) E.Sink
         (λ s. R.remaining (reader_of s)) (WriterTook W.contents) known options
         output.old output.new errors.old errors.new result }
 {

@@ -2,18 +2,19 @@
 #![tactic(auto)]
 
 use command::{StdFiles, arguments_of, program};
-use device::{Buffered, StdSink};
+use device::{Buffered, StdSink, StdSource};
 use std::process::ExitCode;
 
 fn main(rt: HostRuntime) -> ExitCode {
     // The buffer comes first: after a call it would be cleared twice.
     let mut output = Buffered::new(StdSink::new(rt.stdout()));
     let mut errors = StdSink::new(rt.stderr());
+    let mut input = StdSource::new(rt.stdin());
     ExitCode::from(program(
         rt.alloc(),
         arguments_of(&rt),
-        &StdFiles::new(&rt),
-        rt.stdin(),
+        &mut StdFiles::new(&rt),
+        &mut input,
         &mut output,
         &mut errors,
     ))

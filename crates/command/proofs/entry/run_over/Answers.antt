@@ -6,6 +6,5 @@ returns g c = λ known has. record {
   last = c.run_streams.new.source;
   is_new = c.new-source.ensures.new;
   has = rw c.new-source.ensures.reader has;
-  runs = c.run_streams.ensures.runs;
-  whole = c.run_streams.ensures.whole;
+  over = record { runs = c.run_streams.ensures.runs; whole = c.run_streams.ensures.whole };
 }
