@@ -1,8 +1,9 @@
 """The calls of the system that the program `labels` makes: their order, their number, how much each
 moves, and what follows one that fails.
 
-A library that is loaded before the C library notes each read and each write. No clause says what is
-seen here: a clause speaks of one device alone, and std's clauses do not say when a call fails.
+A library that is loaded before the C library notes each opening, each read and each write. No
+clause says what is seen here: a clause speaks of one device alone, and std's clauses do not say
+when a call fails, or what the system opens.
 """
 
 import errno
@@ -36,14 +37,32 @@ ENDS = {
     MESSAGES: b"labels: write failed\n",
 }
 
-# Notes each read and each write, moves at most so many bytes, and fails at the call of this number,
-# counted from 1.
+# Notes the name of each file that is opened, and each read and each write; these move at most so
+# many bytes, and fail at the call of this number, counted from 1.
 NOTING = """
 #include <errno.h>
+#include <fcntl.h>
+#include <limits.h>
 #include <stdio.h>
 #include <stdlib.h>
 #include <sys/syscall.h>
 #include <unistd.h>
+
+static void note(const char *line, int length) {
+    if (syscall(SYS_write, atoi(getenv("RECORD")), line, length) != length)
+        abort();
+}
+
+static int opened(int folder, const char *path, int flags) {
+    char line[PATH_MAX];
+    note(line, snprintf(line, sizeof line, "open %s\\n", path));
+    return syscall(SYS_openat, folder, path, flags);
+}
+
+int open(const char *path, int flags, ...) { return opened(AT_FDCWD, path, flags); }
+int open64(const char *path, int flags, ...) { return opened(AT_FDCWD, path, flags); }
+int openat(int folder, const char *path, int flags, ...) { return opened(folder, path, flags); }
+int openat64(int folder, const char *path, int flags, ...) { return opened(folder, path, flags); }
 
 static ssize_t move(long call, int file, const void *bytes, size_t asked, const char *most) {
     static int calls;
@@ -51,9 +70,7 @@ static ssize_t move(long call, int file, const void *bytes, size_t asked, const 
     size_t count = atol(getenv(most)) < (long) asked ? atol(getenv(most)) : asked;
     int fails = ++calls == atoi(getenv("FAILING"));
     long moved = fails ? -1 : count ? syscall(call, file, bytes, count) : 0;
-    int length = snprintf(line, sizeof line, "%d %zu %ld\\n", file, asked, moved);
-    if (syscall(SYS_write, atoi(getenv("RECORD")), line, length) != length)
-        abort();
+    note(line, snprintf(line, sizeof line, "%d %zu %ld\\n", file, asked, moved));
     errno = atoi(getenv("ERROR"));
     return moved;
 }
@@ -70,12 +87,13 @@ ssize_t write(int file, const void *bytes, size_t asked) {
 
 @dataclass(frozen=True)
 class Ran:
-    """The calls of a run, its status, and what it wrote."""
+    """The calls of a run, its status, what it wrote, and the files that it opened, in order."""
 
     calls: List[Call]
     status: int
     images: bytes
     messages: bytes
+    opened: Tuple[str, ...] = ()
 
 
 @dataclass(frozen=True)
@@ -161,15 +179,22 @@ class Calls(unittest.TestCase):
         subprocess.run(command, input=NOTING.encode(), check=True)
 
     def ran(
-        self, lines: Sequence[Line], most: Most, failing: int = 0, error: int = errno.EIO
+        self,
+        lines: Sequence[Line],
+        most: Most,
+        failing: int = 0,
+        error: int = errno.EIO,
+        command: Sequence[str] = (),
     ) -> Ran:
-        """A run over lines, of whose calls the one of this number fails with an error."""
+        """A run over lines, of whose calls the one of this number fails with an error; or of
+        another command, to which they are given.
+        """
         Path(self.folder, "input").write_bytes(input_of(lines))
         with open(f"{self.folder}/input", "rb") as given, open(
             f"{self.folder}/record", "w+"
         ) as record:
             done = subprocess.run(
-                [support.labels_program(), *OPTIONS],
+                command or [str(support.labels_program()), *OPTIONS],
                 stdin=given,
                 capture_output=True,
                 pass_fds=[record.fileno()],
@@ -185,9 +210,11 @@ class Calls(unittest.TestCase):
                 },
             )
             record.seek(0)
-            noted = [tuple(map(int, line.split())) for line in record]
-        calls = [(file, asked, moved) for file, asked, moved in noted]
-        return Ran(calls, done.returncode, done.stdout, done.stderr)
+            noted = [line.rstrip("\n").partition(" ") for line in record]
+        opened = tuple(rest for word, _, rest in noted if word == "open")
+        moves = [(int(word), *map(int, rest.split())) for word, _, rest in noted if word != "open"]
+        calls = [(file, asked, moved) for file, asked, moved in moves]
+        return Ran(calls, done.returncode, done.stdout, done.stderr, opened)
 
     def assert_stops(
         self, right: Ran, lines: Sequence[Line], most: Most, failing: int, error: int = errno.EIO
@@ -243,6 +270,23 @@ class Calls(unittest.TestCase):
         for number in sorted(errno.errorcode):
             for failing in first:
                 self.assert_stops(right, IN_TURN, most, failing, number)
+
+    def test_only_a_named_file_is_opened_and_read(self) -> None:
+        """Once, and nothing of the input. A program that opens two files is seen to do it."""
+        named, other = f"{self.folder}/named", f"{self.folder}/other"
+        Path(named).write_bytes(input_of(IN_TURN))
+        program = str(support.labels_program())
+        for command, status, opened in (
+            ([program, named], 1, (named,)),
+            ([program, other], 3, (other,)),
+            ([program, named, named], 2, ()),
+            ([program, "--scale=9", named], 2, ()),
+            ([program, "--help"], 0, ()),
+            (["cat", named, named], 0, (named, named)),
+        ):
+            ran = self.ran(IN_TURN, Most(), command=command)
+            self.assertEqual((ran.status, ran.opened), (status, opened), command)
+            self.assertNotIn(INPUT, [file for file, *_ in ran.calls], command)
 
     def test_a_write_that_takes_nothing_fails(self) -> None:
         ran = self.ran(IN_TURN, Most(13, 0))

@@ -272,10 +272,28 @@ class Arguments(InFolder):
 
 class Files(InFolder):
     def test_a_file_is_read(self) -> None:
-        """And the input is not."""
+        """And not the input."""
         Path(self.folder, "two").write_bytes(b"ean8 7351353\npdf x\n")
         found = ran("--height", "1", "two", data=b"upca 03600029145\n", cwd=self.folder)
         self.assertEqual(found, (1, pbm([EAN8]), b"line 2: unknown symbology\n"))
+
+    def test_what_is_left_of_the_input(self) -> None:
+        """All of it, but after a run over it: a script may read it before and after."""
+        script = '"$@" > pictures 2> messages; echo $?; cat'
+        lines = b"ean8 7351353\nupca 03600029145\n"
+        for words, status, left in (
+            (["a-file"], 0, lines),
+            (["there-is-no-such-file"], 3, lines),
+            (["."], 3, lines),
+            (["--scale", "9"], 2, lines),
+            (["a-file", "a-file"], 2, lines),
+            (["--help"], 0, lines),
+            (["-h", "a-file"], 0, lines),
+            (["--height", "1"], 0, b""),
+        ):
+            command = ["-c", script, "sh", str(support.labels_program()), *words]
+            done = support.run("/bin/sh", *command, input=lines, cwd=self.folder)
+            self.assertEqual(done.stdout, b"%d\n%s" % (status, left), words)
 
     def test_a_folder_cannot_be_read(self) -> None:
         """The system opens a folder, and then fails to read it."""
