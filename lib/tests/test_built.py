@@ -51,7 +51,21 @@ WRONG = (
         ),
     ),
     ("a stack that can be executed", (("Makefile", "noexecstack", "execstack"),)),
-    ("not of every amd64 processor", (("labels.c", LAST, LAST + '\n__asm__(".text\\npopcnt %rax, %rax\\n");'),)),
+    ("not of every amd64 processor", (("labels.c", LAST, LAST + '\n__asm__(".text\\ntzcnt %rax, %rax\\n");'),)),
+)
+# Instructions that came with SSE3 and later, and with x86-64-v2 and -v3, one of each kind.
+NEWER = (
+    "andn %rax,%rbx,%rcx",
+    "crc32b %al,%ecx",
+    "fisttpll -8(%rsp)",
+    "haddps %xmm1,%xmm0",
+    "lzcnt %rax,%rcx",
+    "movbe 8(%rsp),%rcx",
+    "pabsd %xmm1,%xmm0",
+    "pminud %xmm1,%xmm0",
+    "popcnt %rax,%rcx",
+    "roundsd $1,%xmm1,%xmm0",
+    "vxorps %ymm1,%ymm1,%ymm0",
 )
 
 
@@ -88,6 +102,45 @@ class Built(WithLibrary):
                 self.assertEqual(made.returncode, 0, text_of(made))
                 status, text = self.check(out)
                 self.assertEqual((status, said in text), (1, True), text)
+
+    def test_programs_for_newer_processors_are_refused(self) -> None:
+        """Also where no test runs the instruction."""
+        folder = Path(tempfile.mkdtemp(dir=self.library.folder))
+        for newer in NEWER:
+            with self.subTest(newer):
+                source, program = folder / "newer.s", folder / "newer"
+                source.write_text(f".globl main\nmain: ret\n{newer}\n", encoding="ascii")
+                self.run_ok("gcc", source, "-o", program)
+                status, text = self.check(self.library.built, program)
+                said = f"not of every amd64 processor: .*{newer.split()[0][:5]}"
+                self.assertEqual((status, bool(re.search(said, text))), (1, True), text)
+
+    def test_the_test_of_the_packages(self) -> None:
+        """debian/tests/library passes, and fails where one of the three ways to the library draws otherwise."""
+        self.assertEqual(self.packages_tested({}), 0)
+        place = "(uint32_t)symbology, data"
+        source = self.library.changed(("labels.c", place, place.replace("symbology", "symbology ^ 1")))
+        wrong = Path(tempfile.mkdtemp(dir=self.library.folder))
+        self.assertEqual(self.library.make(source, wrong, "all").returncode, 0)
+        module = self.wrong_module("    return picture\n", "    return picture + picture\n")
+        for name in (f"{LIBDIR}/liblabels.a", f"{LIBDIR}/liblabels.so.1.1.0", f"{PYTHONDIR}/liblabels/__init__.py"):
+            of_module = module / "liblabels/__init__.py"
+            with self.subTest(name):
+                found = of_module if name.endswith(".py") else wrong / Path(name).name
+                self.assertNotEqual(self.packages_tested({name: found}), 0)
+
+    def packages_tested(self, changed: dict[str, Path]) -> int:
+        """The status of debian/tests/library over a copy of what is installed, with other files in it."""
+        folder = Path(tempfile.mkdtemp(dir=self.library.folder))
+        root = folder / "root"
+        shutil.copytree(self.library.root, root, symlinks=True)
+        for name, file in changed.items():
+            shutil.copy(file, root / name)
+        places = {
+            name: value.replace(str(self.library.root), str(root)) for name, value in self.library.environment.items()
+        }
+        test = LIB.parent / "debian/tests/library"
+        return run("bash", test, environment={**places, "AUTOPKGTEST_TMP": str(folder)}).returncode
 
     def test_each_file_is_looked_for(self) -> None:
         folder = Path(tempfile.mkdtemp(dir=self.library.folder))

@@ -6,6 +6,7 @@ import shutil
 import subprocess
 import tempfile
 import unittest
+from datetime import datetime, timedelta
 from pathlib import Path
 from typing import Any, Dict, List, Set
 
@@ -132,22 +133,27 @@ class Versions(InFolder):
 
     @support.slow
     def test_versions_rise(self) -> None:
-        """A commit has a version above that of the one before; a tag has the plain version."""
+        """A commit has a version above that of the one before, and of all of the days before, as
+        they were given away; a tag has the plain version.
+        """
         for name in ("debian/changelog.py", "CHANGELOG.md"):
             (self.folder / name).parent.mkdir(exist_ok=True)
             shutil.copy(support.TOP / name, self.folder / name)
         command_of("git", "init", "-q", cwd=self.folder)
         author = ("-c", "user.name=A", "-c", "user.email=a@example.com")
+        newest = re.findall(r"^## (\d\S+) \(", text("CHANGELOG.md"), re.M)[0]
         versions: List[str] = []
-        for number in range(12):
-            message = f"Commit {number}"
-            command_of(
-                "git", *author, "commit", "-q", "--allow-empty", "-m", message, cwd=self.folder
-            )
+        for day in (*["2026-11-28"] * 11, "2026-11-30", "2026-12-01", "2027-01-01"):
+            date = f"{day}T01:00:00+0300"  # in Coordinated Universal Time it is the day before
+            words = ("--allow-empty", "-m", f"Commit of {day}", "--date", date)
+            dated = ("env", f"GIT_COMMITTER_DATE={date}", "git", *author, "commit", "-q", *words)
+            command_of(*dated, cwd=self.folder)
             versions.append(self.version_of_head())
+            before = datetime.fromisoformat(day) - timedelta(days=2)
+            older = f"{newest}+git{before:%Y%m%d}.9999.ffffffff"
+            command_of("dpkg", "--compare-versions", older, "lt", versions[-1])
         for older, newer in zip(versions, versions[1:]):
             command_of("dpkg", "--compare-versions", older, "lt", newer)
-        newest = versions[0].partition("+")[0]
         command_of("git", "tag", f"v{newest}", cwd=self.folder)
         self.assertEqual(self.version_of_head(), newest)
 

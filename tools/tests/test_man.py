@@ -3,11 +3,29 @@
 import re
 import subprocess
 import unittest
+from typing import Dict
 
 import support
+from labeltools.commands.label_print import command_line
+from labeltools.printing import job, network, stream
 
 PAGES = sorted((support.TOP / "man").glob("label*.1"))
 TOOLS = sorted(path.name for path in support.TOOLS.glob("label-*"))
+
+# What a page says of an option that is left out.
+NAMED = re.compile(
+    r"(?<= )\((?:A4: )?([\w. ]+?)(?:; [^)]*)?\)(?=[,.:]| *$)|(\w+) \(the default\)|The default is (\w+)\."
+)
+# Numbers of label-print(1), and what they are in the tools.
+NUMBERS = (
+    (r"which take (\d+)\.", job.DRAWING_DPI),
+    (r"On sheets they have (\d+) dots an inch", job.DRAWING_DPI),
+    (r"takes bytes on a port \((\d+)\)", network.PORT),
+    (r"takes nothing for (a minute)", {60.0: "a minute"}.get(network.STUCK)),
+    (r"not seen once (\d+) seconds have passed since the last label", network.FAREWELL),
+    (r"or (a twentieth) of one since", {0.05: "a twentieth"}.get(network.REGRET)),
+    (r"as when ([\d,]+) lines wait", stream.MOST_AHEAD),
+)
 
 
 def text_of(name: str) -> str:
@@ -50,6 +68,49 @@ class Pages(unittest.TestCase):
             options = set(re.findall(r"(?<![\w-])--[a-z][a-z-]*", help_of(tool)))
             self.assertIn("--help", options, tool)
             self.assertEqual([option for option in options if option not in text], [], tool)
+
+    def test_defaults_are_those_of_the_parsers(self) -> None:
+        """What a page and the help of a tool say of an option that is left out."""
+        support.needs("mandoc")
+        named = {"--edge": job.EDGE, "--to": "pdf"}
+        options = [it for it in command_line()._actions if it.option_strings and it.default]
+        named |= {it.option_strings[0]: it.default for it in options}
+        found = defaults_of("label-print.1")
+        self.assertGreater(len(found), 6)
+        self.assertEqual(found, {it: typed(named[it]) for it in found})
+        for option in options:
+            for said in re.findall(r"\(([\w. ]+)\)$", option.help or ""):
+                self.assertEqual(said, typed(option.default), option.option_strings)
+        helps = re.findall(r"(--[a-z-]+) .*\[default: (\w+)\]", help_of("labels"))
+        self.assertEqual(defaults_of("labels.1"), dict(helps))
+
+    def test_numbers_are_those_of_the_tools(self) -> None:
+        support.needs("mandoc")
+        text = " ".join(shown("label-print.1").split())
+        for pattern, wanted in NUMBERS:
+            found = re.search(pattern, text)
+            said = found[1].replace(",", "") if found else None
+            self.assertEqual(said, typed(wanted), pattern)
+
+
+def shown(page: str) -> str:
+    """A page as a reader sees it, a paragraph in a line."""
+    command = ["mandoc", "-Tascii", "-O", "width=900", str(support.TOP / "man" / page)]
+    return re.sub(".\b", "", subprocess.run(command, stdout=subprocess.PIPE, text=True).stdout)
+
+
+def defaults_of(page: str) -> Dict[str, str]:
+    """The defaults that a page names, by option."""
+    found = re.findall(r"^ {7}(--[a-z-]+).*\n {14}(.*)$", shown(page), re.M)
+    claims = {option: NAMED.search(text) for option, text in found}
+    return {option: "".join(claim.groups("")) for option, claim in claims.items() if claim}
+
+
+def typed(value: object) -> str:
+    """A value as it is typed."""
+    if isinstance(value, tuple):
+        return "x".join(map(typed, value))
+    return f"{value:g}" if isinstance(value, float) else str(value)
 
 
 if __name__ == "__main__":
