@@ -5,21 +5,21 @@ function whose proof has to fail, by its path below the crate. Then it has one o
 
 - `body: TEXT` is a body in place of the function's own. It can call the function itself, which is
   there beside it: `body: match run(source) { Err(_) => Ok(()), well => well }`. So it quotes no
-  code, and a change of the code leaves it as it is. It is tried without a proof of its own, and a
-  right body, one that calls the function and does no more, shows that this is enough.
-- `file: FILE` and pairs of `old: TEXT` and `new: TEXT` change the code; each TEXT is in the file
-  once. `alone: WHY` keeps it apart from others, where the proofs of several functions read what
-  it changes.
+  code, and a change of the code leaves it as it is. It is tried in a copy of the function without
+  a proof, and a right body, one that calls the function and does no more, shows that this is
+  enough. No function of a trait has a copy, and none that calls itself.
+- `file: FILE` and pairs of `old: TEXT` and `new: TEXT` change the code in its place; each TEXT is
+  in the file once. `alone: WHY` keeps it apart from others, where the proofs of several functions
+  read what it changes.
 """
 
 import dataclasses
 import functools
 import os
 import re
-import shutil
 import sys
 from dataclasses import dataclass
-from typing import Iterator, Mapping, Sequence
+from typing import Mapping, Sequence
 
 import reader
 import sources
@@ -38,10 +38,8 @@ class Change:
 
 @dataclass(frozen=True)
 class Body:
-    """A wrong body: `text` in place of the body of its function, or else changes of the code.
-
-    One that `is_right` is there to be accepted; a control is a right one, a function as it is
-    beside copies of it.
+    """A wrong body: `text` in place of the body of its function, or else changes of the code. One
+    that `is_right` is there to be accepted.
     """
 
     name: str
@@ -50,12 +48,11 @@ class Body:
     changes: tuple[Change, ...] = ()
     is_alone: bool = False
     is_right: bool = False
-    is_control: bool = False
 
 
 @dataclass(frozen=True)
 class Copy:
-    """A function once more, under another name, which `body` has in place of the function's.
+    """A function once more, under the name that `body` has, with the text of that.
 
     `function` is the path of the one that it is a copy of, and `end` the place in the file at
     which that one ends; `text` has the attributes too, and begins in the column of that one.
@@ -66,13 +63,6 @@ class Copy:
     file: str
     end: int
     text: str
-
-    @property
-    def has_proof(self) -> bool:
-        """Whether it has the function's proof. That of a body as a text would name places of the
-        function's own body, and refuse it for its form.
-        """
-        return self.body.is_control or not self.body.text
 
 
 @dataclass(frozen=True)
@@ -239,54 +229,21 @@ def fault_of(body: Body, folder: str, seen: dict[object, Body]) -> str:
 # ---- copies of functions
 
 
-def changed_function(body: Body, folder: str) -> tuple[Found, str] | None:
-    """Returns the one function that a body changes and its text then, from its head on, or None
-    where it changes something else too.
-    """
-    if len(body.functions) > 1:
-        return None
-    if body.text:
-        found = found_anywhere(body.functions[0], folder)
-        if found is None:
-            return None
-        begin, _ = found.file.extent(found.item.tokens)
-        return found, f"{found.file.text[begin : found.block[0]]}{{{body.text}}}"
-    texts = changed({}, body, folder) or {}
-    found = found_in(body.functions[0], body.changes[0].file, folder) if len(texts) == 1 else None
-    if found is None:
-        return None
-    old, new = found.file.text, texts[found.name]
-    begin, end = found.file.extent(found.item.tokens)
-    new_end = len(new) - len(old) + end
-    is_inside = (new[:begin], new[new_end:]) == (old[:begin], old[end:])
-    return (found, new[begin:new_end]) if is_inside else None
-
-
 def copy_of(body: Body, ending: str, folder: str) -> Copy | None:
-    """Returns a copy of the function that a body changes, with this ending of its name. There is
-    none of a function of a trait, and of one that calls itself.
+    """Returns a copy of the function of a body that is a text, with this ending of its name. There
+    is none of a function of a trait, and of one that calls itself.
     """
-    made = changed_function(body, folder)
-    if made is None or "cycle" in [token.text for token in made[0].item.attributes]:
+    function = body.functions[0]
+    found = found_anywhere(function, folder)
+    if found is None or "cycle" in [token.text for token in found.item.attributes]:
         return None
-    found, text = made
-    file, one, function = found.file, found.item, body.functions[0]
+    file, one = found.file, found.item
     begin, end = file.extent(one.tokens)
     attributes = file.text[one.attributes[0].start : begin] if one.attributes else ""
-    text = re.sub(rf"\bfn {one.name}\b", f"fn {one.name}_{ending}", text, count=1)
-    renamed = dataclasses.replace(body, functions=(f"{function}_{ending}",), is_alone=False)
+    head = re.sub(rf"\bfn {one.name}\b", f"fn {one.name}_{ending}", file.text[begin : found.block[0]], count=1)
+    renamed = dataclasses.replace(body, functions=(f"{function}_{ending}",))
     margin = " " * one.tokens[0].column
-    return Copy(renamed, function, found.name, end, margin + attributes + text)
-
-
-def as_it_is(copy: Copy, folder: str) -> Copy | None:
-    """Returns a copy of the same function with nothing changed, a control."""
-    found = found_in(copy.function, copy.file, folder)
-    begin, end = found.block if found else (0, 0)
-    text = found.file.text[begin + 1 : end - 1] if found else ""
-    name = f"{copy.function} as it is"
-    body = Body(name, (copy.function,), text, is_right=True, is_control=True)
-    return copy_of(body, "as_it_is", folder)
+    return Copy(renamed, function, found.name, end, f"{margin}{attributes}{head}{{{body.text}}}")
 
 
 def parameters_of(words: Sequence[str]) -> list[str]:
@@ -317,38 +274,27 @@ def call_of(item: reader.Declaration, is_method: bool) -> str:
     return f"{'Self::' if is_method else ''}{name}({', '.join(values)})"
 
 
-def calling_itself(copy: Copy, folder: str) -> Copy | None:
-    """Returns a copy of the same function whose body calls it and does no more, a control: that
-    nothing more is proved of a copy without the function's proof refuses no right body.
+def calling_itself(function: str, folder: str) -> Copy | None:
+    """Returns a copy of a function whose body calls it and does no more, a control: that nothing
+    more is proved of a copy refuses no right body.
     """
-    found = found_in(copy.function, copy.file, folder)
+    found = found_anywhere(function, folder)
     if not found:
         return None
-    *_, holder, _ = ["", *copy.function.split("::")]
+    *_, holder, _ = ["", *function.split("::")]
     text = f" {call_of(found.item, holder[:1].isupper())} "
-    name = f"{copy.function} calling itself"
-    body = Body(name, (copy.function,), text, is_right=True)
+    body = Body(f"{function} calling itself", (function,), text, is_right=True)
     return copy_of(body, "calling_itself", folder)
 
 
-def copies_of(bodies: Sequence[Body], folder: str) -> Iterator[Copy]:
-    """Yields copies of the functions that several bodies change, or one that is a text. Beside
-    them it yields a copy of the function as it is where one has the function's proof, and one
-    that calls the function where one is a text: each is a control of its kind.
+def copies_of(bodies: Sequence[Body], folder: str) -> list[Copy]:
+    """Returns copies of functions with the bodies that are texts, and for each of these functions
+    one that calls it.
     """
-    groups: dict[str, list[Copy]] = {}
-    for number, body in enumerate(bodies):
-        copy = copy_of(body, str(number), folder)
-        if copy:
-            groups.setdefault(copy.function, []).append(copy)
-    for copies in groups.values():
-        if len(copies) > 1 or copies[0].body.text:
-            controls = []
-            if any(copy.has_proof for copy in copies):
-                controls.append(as_it_is(copies[0], folder))
-            if any(copy.body.text for copy in copies):
-                controls.append(calling_itself(copies[0], folder))
-            yield from (*copies, *filter(None, controls))
+    texts = [body for body in bodies if body.text]
+    controls = (calling_itself(it, folder) for it in dict.fromkeys(body.functions[0] for body in texts))
+    copies = (copy_of(body, str(number), folder) for number, body in enumerate(texts))
+    return [copy for copy in (*copies, *controls) if copy]
 
 
 def with_copies(copies: Sequence[Copy], folder: str) -> dict[str, str]:
@@ -360,25 +306,13 @@ def with_copies(copies: Sequence[Copy], folder: str) -> dict[str, str]:
     return texts
 
 
-def copy_proof(copy: Copy, crate: str, room: str) -> None:
-    """Gives a copy the proof of its function, in a copy of the crate."""
-    names = copy.function, copy.body.functions[0]
-    old_folder, folder = (f"{room}/proofs/{it.replace('::', '/')}" for it in names)
-    old_module, module = (f"Rattle.{crate}.proofs.{it.replace('::', '.')}." for it in names)
-    if os.path.isdir(old_folder):
-        shutil.copytree(old_folder, folder)
-    for path in sources.files_below(folder, ".antt"):
-        sources.write(path, sources.read(path).replace(old_module, module))
-
-
-def together(
-    bodies: Sequence[Body], folder: str, texts: dict[str, str], beside: Sequence[Body]
-) -> tuple[list[Body], dict[str, str]]:
-    """Returns as many of the bodies as fit into texts beside others, each in functions of its
-    own, and the texts then.
+def together(bodies: Sequence[Body], folder: str, copies: Sequence[Copy]) -> tuple[list[Body], dict[str, str]]:
+    """Returns as many of the bodies that change code as fit beside copies, each in functions of
+    its own that no copy calls, and the texts of the files then.
     """
     chosen: list[Body] = []
-    taken = {name for body in beside for name in body.functions}
+    texts = with_copies(copies, folder)
+    taken = {name for copy in copies for name in (copy.function, *copy.body.functions)}
     for body in bodies:
         is_apart = bool(taken) and body.is_alone or any(it.is_alone for it in chosen)
         more = None if is_apart or taken & {*body.functions} else changed(texts, body, folder)

@@ -6,22 +6,17 @@ ghost items and attributes as they are, and no two of a crate leave the same tex
 crates/*/right-bodies are of the same form and not wrong: the prover has to accept each, and one
 that is reported as refused is a fault of this script.
 
-`rt` tries each must-fail edit by a check of the crate. Here one check tries many. Where several
-wrong bodies are of one function, a copy of the crate has the function once more for each of them,
-under another name, with its contract and its proof. It also has it once more as it is, a control
-in which the prover must find nothing wrong: a copy is judged as a function is.
-
-Any other body is tried in its function's place, and so are those that change something else too,
-or are of a trait. A proof reads of other functions their contracts alone, so one check tries
-several functions, copies too, and those that are not tried have a hole for a proof
-(scripts/stand_ins.py). What fails only because it calls another is not judged, and is tried again
-without it.
+`rt` tries each must-fail edit by a check of the crate. Here one check tries many: a copy of the
+crate has a function once more for each of its bodies that are texts, and beside these a control
+that the prover must accept. A body that changes the code is tried in its function's place. A proof
+reads of other functions their contracts alone, so one check tries several functions, and those
+that are not tried have a hole for a proof (scripts/stand_ins.py). What fails only because it calls
+another is not judged, and is tried again without it.
 
 The status is 0 where each wrong body is refused, 1 where one is not or there is none, and 2 where
 an argument names no crate or there is no kit. For each crate a line says how many bodies it has
 and how long their checks took; a line `refused in CRATE:` has the names of those that were
-refused, which `.ci/run` compares with the files. The last line is `N passed, M failed`, as of `rt
-ci`.
+refused. The last line is `N passed, M failed`, as of `rt ci`.
 """
 
 import concurrent.futures
@@ -41,7 +36,7 @@ import edits
 import libraries
 import sources
 import stand_ins
-from edits import Body, Copy
+from edits import Body
 
 # The line of a function that is proved, given those that it calls: these have holes for proofs.
 PROVED = re.compile(r"no holes$|depends on a hole in `[^`]*\.Proof\.\w+_spec`")
@@ -136,7 +131,6 @@ def check(
     texts: dict[str, str],
     functions: Sequence[str],
     kept: str,
-    copies: Sequence[Copy] = (),
 ) -> str:
     """Returns what a check of these functions says over a copy of the crate with these texts."""
     with tempfile.TemporaryDirectory(prefix="wrong-bodies-") as top:
@@ -146,9 +140,6 @@ def check(
                 shutil.copytree(f"{crate.folder}/{part}", f"{room}/{part}")
         for file, text in texts.items():
             sources.write(f"{room}/{file}", text)
-        for copy in copies:
-            if copy.has_proof:
-                edits.copy_proof(copy, crate.name, room)
         stand_ins.put(top, crate.name, functions)
         words = [*crate.words(["--jobs", "1"], keeps=False), "--incremental", kept, "--allow-holes"]
         asked = [it for name in functions for it in ("--only", name)]
@@ -159,16 +150,13 @@ def try_bodies(rtlib: Any, crate: Any, bodies: Sequence[Body], kept: str, tried:
     """Tries bodies: in the first check all copies, and what fits beside them in its place. Those
     that are not judged are tried again, those in place alone where no other was judged.
     """
-    copies = list(edits.copies_of(bodies, crate.folder))
-    copied = {copy.body.name for copy in copies}
-    left = [body for body in bodies if body.name not in copied]
+    copies = edits.copies_of(bodies, crate.folder)
+    left = [body for body in bodies if not body.text]
     while copies or left:
-        beside = [copy.body for copy in copies]
-        texts = edits.with_copies(copies, crate.folder)
-        chosen, texts = edits.together(left, crate.folder, texts, beside)
-        asked = [*beside, *chosen]
+        chosen, texts = edits.together(left, crate.folder, copies)
+        asked = [*(copy.body for copy in copies), *chosen]
         names = [name for body in asked for name in body.functions]
-        again = tried.judge(asked, check(rtlib, crate, texts, names, kept, copies))
+        again = tried.judge(asked, check(rtlib, crate, texts, names, kept))
         left = [body for body in left if body not in chosen]
         if again == asked and (copies or len(asked) == 1):
             tried.lines += [f"{body.name}: not judged" for body in again]

@@ -153,54 +153,49 @@ class Outcomes(InFolder):
         self.assertEqual(self.tried(SAID.format("not proved")), (1, 0, ["two: it leaves the same text as one"]))
 
     def of_copies(self, *said: str) -> str:
-        """What a check says of two copies of a function, and of the one as it is."""
-        names = ("one_0", "one_1", "one_as_it_is")
+        """What a check says of two copies of a function, and of the control beside them."""
+        names = ("one_0", "one_1", "one_calling_itself")
         return "".join(f"fn small::{name}: {line}\n" for name, line in zip(names, said)) + "only=3 proved=1\n"
 
-    def test_two_of_one_function(self) -> None:
-        """Both are tried in copies of the function, beside one in which nothing may be wrong as it is."""
-        self.edit(EDIT.format("2"))
-        self.edit(EDIT.format("3"), name="two")
-        refused = "not proved"
-        control = "one as it is: it is right, and not reported as not refused"
-        for said, wanted in (
-            ((refused, refused, "no holes"), (2, 1, [])),
-            ((refused, "no holes", "no holes"), (1, 1, ["two: NOT REFUSED"])),
-            ((refused, refused, refused), (2, 0, [control])),
-            ((refused, refused, CALLS), (2, 1, [])),
-        ):
-            with self.subTest(said):
-                self.assertEqual(self.tried(self.of_copies(*said)), wanted)
-        self.assertEqual(self.tried("only=3\n"), (0, 0, ["one: NOT REFUSED", "two: NOT REFUSED", control]))
-
-    def test_copies_that_are_not_judged(self) -> None:
-        """They are tried again: one that fails only by what it calls, and a control whose goals were not all tried."""
-        self.edit(EDIT.format("2"))
-        self.edit(EDIT.format("3"), name="two")
-        unknown = self.of_copies(CALLS, "not proved", "no holes")
-        waits = "note: `search` has not tried the goals of `small::one_as_it_is`, which wait for a callee's proof\n"
+    def test_two_texts_of_one_function(self) -> None:
+        """Both are tried in copies of the function, beside a control in which nothing may be wrong."""
+        self.whole("one() + 1", "one")
+        self.whole("one() + 2", "two")
+        waits = "note: `search` has not tried the goals of `small::one_calling_itself`, which wait for a callee\n"
         untried = waits + self.of_copies("not proved", "not proved", CALLS)
-        control = "one as it is: it is right, and not reported as not refused"
-        for first, name, said, wanted in (
-            (unknown, "one_0", "not proved", (2, 1, [])),
-            (unknown, "one_0", "no holes", (1, 1, ["one: NOT REFUSED"])),
-            (unknown, "one_0", CALLS, (1, 1, ["one: not judged"])),
-            (untried, "one_as_it_is", "no holes", (2, 1, [])),
-            (untried, "one_as_it_is", "not proved", (2, 0, [control])),
+        unknown = self.of_copies(CALLS, "not proved", "no holes")
+        again = "fn small::{}: {}\nonly=1 proved=0\n".format
+        control = "one calling itself: it is right, and not reported as not refused"
+        refused = "not proved"
+        for said, wanted in (
+            ([self.of_copies(refused, refused, "no holes")], (2, 1, [])),
+            ([self.of_copies(refused, "no holes", "no holes")], (1, 1, ["two: NOT REFUSED"])),
+            ([self.of_copies(refused, refused, refused)], (2, 0, [control])),
+            ([self.of_copies(refused, refused, CALLS)], (2, 1, [])),
+            (["only=3\n"], (0, 0, ["one: NOT REFUSED", "two: NOT REFUSED", control])),
+            # What fails only by what it calls is tried again, and a control whose goals were not all tried.
+            ([unknown, again("one_0", refused)], (2, 1, [])),
+            ([unknown, again("one_0", "no holes")], (1, 1, ["one: NOT REFUSED"])),
+            ([unknown, again("one_0", CALLS)], (1, 1, ["one: not judged"])),
+            ([untried, again("one_calling_itself", "no holes")], (2, 1, [])),
+            ([untried, again("one_calling_itself", refused)], (2, 0, [control])),
         ):
-            with self.subTest(name=name, said=said):
-                self.assertEqual(self.tried(first, f"fn small::{name}: {said}\nonly=1 proved=0\n"), wanted)
+            with self.subTest(said=said):
+                self.assertEqual(self.tried(*said), wanted)
 
     def test_copies_beside_others(self) -> None:
-        """One check tries copies, and bodies in the places of other functions; what has to be alone comes after."""
+        """One check tries copies, and bodies in the places of other functions. After it comes what has to be alone,
+        and what is in the place of a function that the copies call."""
         text = ONE + "\nfn other() -> u8 {\n    7\n}\n\nfn third() -> u8 {\n    9\n}\n"
         write(self.path("src/lib.rt"), text)
-        self.edit(EDIT.format("2"), name="a")
-        self.edit(EDIT.format("3"), name="b")
+        self.whole("one() + 1", "a")
+        self.whole("one() + 2", "b")
         self.edit("refused: other\nfile: src/lib.rt\nold:     7\nnew:     8\n", name="c")
         self.edit("refused: third\nalone: it is read\nfile: src/lib.rt\nold:     9\nnew:     8\n", name="d")
+        self.edit(EDIT.format("2"), name="e")
         first = "fn small::other: not proved\n" + self.of_copies("not proved", "not proved", CALLS)
-        self.assertEqual(self.tried(first, "fn small::third: not proved\nonly=1 proved=0\n"), (4, 1, []))
+        alone = "fn small::{}: not proved\nonly=1 proved=0\n".format
+        self.assertEqual(self.tried(first, alone("third"), alone("one")), (5, 1, []))
 
     def test_two_functions(self) -> None:
         """They are tried in one check, and what fails by what it calls again: after the others, and then alone."""
@@ -220,22 +215,6 @@ class Outcomes(InFolder):
             with self.subTest(said):
                 self.assertEqual(self.tried(*said), wanted)
 
-    def test_copies(self) -> None:
-        """A copy has the text of its own body and a proof of its own; the function stands as it is."""
-        self.edit(EDIT.format("2"))
-        self.edit(EDIT.format("3"), name="two")
-        copies = list(edits.copies_of(edits.bodies_of(self.folder), self.folder))
-        text = edits.with_copies(copies, self.folder)["src/lib.rt"]
-        self.assertTrue(text.startswith(ONE.rstrip()))
-        names = [*zip(re.findall(r"pub fn (\w+)\(", text), re.findall(r"^    (\d)$", text, re.M))]
-        self.assertEqual(sorted(names), [("one", "1"), ("one_0", "2"), ("one_1", "3"), ("one_as_it_is", "1")])
-        for name in ("one.Goals", "one_more.Goals"):
-            write(self.path("proofs/one", f"{name}.antt"), f"use Rattle.small.proofs.{name} as goal\n")
-        edits.copy_proof(copies[1], "small", self.folder)
-        goals = read(self.path("proofs/one_1/one.Goals.antt"))
-        self.assertEqual(goals, "use Rattle.small.proofs.one_1.Goals as goal\n")
-        self.assertNotIn("one_1", read(self.path("proofs/one_1/one_more.Goals.antt")))
-
     def whole(self, text: str, name: str = "one") -> None:
         """Writes a wrong body that is a text in place of that of `one`."""
         self.edit(f"refused: one\nbody: {text}\n", name=name)
@@ -244,41 +223,18 @@ class Outcomes(InFolder):
         """It is always a copy, beside the function that it can call, and a control that calls it."""
         self.whole("one() + 1")
         (copy, calling) = edits.copies_of(edits.bodies_of(self.folder), self.folder)
-        self.assertEqual(
-            copy.text, ONE.partition("\n")[2].partition("{\n")[0].replace("one(", "one_0(") + "{ one() + 1 }"
-        )
-        # The proof of the function would refuse it for its form.
-        self.assertEqual((copy.has_proof, calling.has_proof), (False, False))
-        self.assertEqual(
-            calling.text, copy.text.replace("one_0(", "one_calling_itself(").replace("one() + 1", "one()")
-        )
+        text = ONE.partition("\n")[2].partition("{\n")[0]
+        self.assertEqual(copy.text, text.replace("one(", "one_0(") + "{ one() + 1 }")
+        self.assertEqual(calling.text, text.replace("one(", "one_calling_itself(") + "{ one() }")
+        placed = edits.with_copies([copy, calling], self.folder)["src/lib.rt"]
+        self.assertTrue(placed.startswith(ONE.rstrip()))
+        self.assertEqual(placed.count(copy.text) + placed.count(calling.text), 2)
         control_says = "one calling itself: it is right, and not reported as not refused"
         said = "fn small::one_0: {}\nfn small::one_calling_itself: {}\nonly=2 proved=1\n"
         self.assertEqual(self.tried(said.format("not proved", "proved")), (1, 1, []))
         self.assertEqual(self.tried(said.format("not proved", CALLS)), (1, 1, []))
         self.assertEqual(self.tried(said.format("no holes", "no holes")), (0, 1, ["one: NOT REFUSED"]))
         self.assertEqual(self.tried(said.format("not proved", "not proved")), (1, 0, [control_says]))
-
-    def test_controls(self) -> None:
-        """Beside a copy with the function's proof is one as it is, and beside a text one that calls the function."""
-        text, change = "refused: one\nbody: one() + 1\n", EDIT.format("2")
-        cases: tuple[tuple[list[str], list[str]], ...] = (
-            ([text], ["calling_itself"]),
-            ([text, "refused: one\nbody: one() + 2\n"], ["calling_itself"]),
-            ([change, EDIT.format("3")], ["as_it_is"]),
-            ([text, change], ["as_it_is", "calling_itself"]),
-            ([change], []),
-        )
-        for bodies, wanted in cases:
-            with self.subTest(bodies):
-                for number, body in enumerate(bodies):
-                    self.edit(body, name=f"body_{number}")
-                copies = [*edits.copies_of(edits.bodies_of(self.folder), self.folder)]
-                names = [copy.body.functions[0].removeprefix("one_") for copy in copies]
-                self.assertEqual([name for name in names if not name.isdigit()], wanted)
-                proved = [copy.has_proof for copy in copies if copy.body.is_control]
-                self.assertEqual(proved, [True] * ("as_it_is" in wanted))
-                shutil.rmtree(self.path("wrong-bodies"))
 
     def test_calls_of_a_function_by_itself(self) -> None:
         for number, (head, is_method, wanted) in enumerate(
@@ -337,29 +293,18 @@ class Outcomes(InFolder):
         self.assertIn("no right body was accepted", said.getvalue())
 
     def test_no_copies(self) -> None:
-        """What is more than one function, one of a trait, or one that calls itself, is tried in its place."""
+        """A method can be there twice, with its attributes; one of a trait cannot, nor one that calls itself."""
         text = "const A: u8 = 7;\nimpl<T> Some<T> {\n    #[inline]\n    fn one() -> u8 { 1 }\n}\n"
         write(self.path("src/part.rt"), text + "impl Trait for Some {\n    fn one() -> u8 { 11 }\n}\n")
         write(self.path("src/cycle.rt"), "#[cycle(one)]\nfn one() -> u8 { 1 }\n")
-
-        def copy_of(functions: Sequence[str], changes: Sequence[tuple[str, str, str]]) -> Any:
-            body = edits.Body("", tuple(functions), "", tuple(edits.Change(*one) for one in changes))
-            return edits.copy_of(body, "0", self.folder)
-
-        one = ("src/part.rt", "{ 1 }", "{ 2 }")
-        copy = copy_of(["part::Some::one"], [one])
-        self.assertEqual(copy.text, "    #[inline]\n    fn one_0() -> u8 { 2 }")
-        for functions, changes in (
-            (["part::SomeTrait::one"], [("src/part.rt", "{ 11 }", "{ 2 }")]),
-            (["part::Some::one"], [("src/part.rt", "{ 11 }", "{ 2 }")]),
-            (["part::Some::one"], [one, ("src/part.rt", "= 7", "= 8")]),
-            (["part::Some::one"], [one, ("src/lib.rt", "    1", "    2")]),
-            (["part::Some::one", "one"], [one]),
-            (["other::Some::one"], [one]),
-            (["cycle::one"], [("src/cycle.rt", "{ 1 }", "{ 2 }")]),
+        for function, wanted in (
+            ("part::Some::one", "    #[inline]\n    fn one_0() -> u8 { 2 }"),
+            ("part::SomeTrait::one", None),
+            ("other::Some::one", None),
+            ("cycle::one", None),
         ):
-            with self.subTest(functions=functions, changes=changes):
-                self.assertIsNone(copy_of(functions, changes))
+            copy = edits.copy_of(edits.Body("", (function,), " 2 "), "0", self.folder)
+            self.assertEqual(copy and copy.text, wanted, function)
 
 
 class StandIns(InFolder):
