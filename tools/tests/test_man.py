@@ -7,7 +7,7 @@ from typing import Dict
 
 import support
 from labeltools.commands.label_print import command_line
-from labeltools.printing import job, network, stream
+from labeltools.printing import job, network
 
 PAGES = sorted((support.TOP / "man").glob("label*.1"))
 TOOLS = sorted(path.name for path in support.TOOLS.glob("label-*"))
@@ -18,13 +18,12 @@ NAMED = re.compile(
 )
 # Numbers of label-print(1), and what they are in the tools.
 NUMBERS = (
-    (r"which take (\d+)\.", job.DRAWING_DPI),
-    (r"On sheets they have (\d+) dots an inch", job.DRAWING_DPI),
-    (r"takes bytes on a port \((\d+)\)", network.PORT),
+    (r"svg, which take (\d+)", job.DRAWING_DPI),
+    (r"sheets have (\d+) dots an inch", job.DRAWING_DPI),
+    (r"on a port \((\d+)\)", network.PORT),
     (r"takes nothing for (a minute)", {60.0: "a minute"}.get(network.STUCK)),
-    (r"not seen once (\d+) seconds have passed since the last label", network.FAREWELL),
-    (r"or (a twentieth) of one since", {0.05: "a twentieth"}.get(network.REGRET)),
-    (r"as when ([\d,]+) lines wait", stream.MOST_AHEAD),
+    (r"after (\d+) seconds without a label", network.FAREWELL),
+    (r"(a twentieth) of a second", {0.05: "a twentieth"}.get(network.REGRET)),
 )
 
 
