@@ -13,14 +13,18 @@ reads of other functions their contracts alone, so one check tries several funct
 that are not tried have a hole for a proof (scripts/stand_ins.py). What fails only because it calls
 another is not judged, and is tried again without it.
 
+The verdicts of a crate are kept in out/wrong-bodies, and hold as long as nothing changes that
+decides them: the files of the crate and of those below it, its bodies, the kit, these scripts.
+Verdicts with a fault are not kept.
+
 The status is 0 where each wrong body is refused, 1 where one is not or there is none, and 2 where
 an argument names no crate or there is no kit. For each crate a line says how many bodies it has
-and how long their checks took; a line `refused in CRATE:` has the names of those that were
-refused. The last line is `N passed, M failed`, as of `rt ci`.
+and how long their checks took. The last line is `N passed, M failed`, as of `rt ci`.
 """
 
 import concurrent.futures
 import dataclasses
+import hashlib
 import multiprocessing
 import os
 import re
@@ -37,6 +41,9 @@ import libraries
 import sources
 import stand_ins
 from edits import Body
+
+# What decides a verdict beside the crate and the kit.
+SCRIPTS = ("edits", "libraries", "reader", "sources", "stand_ins", "wrong_bodies")
 
 # The line of a function that is proved, given those that it calls: these have holes for proofs.
 PROVED = re.compile(r"no holes$|depends on a hole in `[^`]*\.Proof\.\w+_spec`")
@@ -192,8 +199,28 @@ def try_all(rtlib: Any, crate: Any) -> Tried:
         try_bodies(rtlib, crate, left, kept, tried)
     took = f"{seconds_of_programs() - before:.1f} s of processor"
     counts = f"{len(tried.refused)} refused, {tried.accepted} accepted, in {tried.checks} checks"
-    names = " ".join(sorted(tried.refused))
-    print(f"{crate.name}: {counts}, {took}\nrefused in {crate.name}: {names}", flush=True)
+    print(f"{crate.name}: {counts}, {took}", flush=True)
+    return tried
+
+
+def sum_of(crate: Any) -> str:
+    """Returns a sum of all that decides what comes of the bodies of a crate."""
+    files = [f"{sources.TOP}/scripts/{name}.py" for name in SCRIPTS]
+    files += (path for kind in ("wrong", "right") for path in sources.files_below(f"{crate.folder}/{kind}-bodies", ""))
+    texts = [(os.path.basename(path), sources.read(path)) for path in files]
+    return hashlib.sha256(repr((crate.stamp(), texts)).encode()).hexdigest()
+
+
+def tried_once(rtlib: Any, crate: Any) -> Tried:
+    """Returns what comes of the bodies of a crate, as it is kept where nothing has changed."""
+    path, total = f"{sources.TOP}/out/wrong-bodies/{crate.name}", sum_of(crate)
+    kept = sources.read(path).split() if os.path.isfile(path) else []
+    if kept[:1] == [total]:
+        print(f"{crate.name}: as in the last run", flush=True)
+        return Tried(crate.name, kept[2:], int(kept[1]))
+    tried = try_all(rtlib, crate)
+    if not tried.lines:
+        sources.write(path, " ".join([total, str(tried.accepted), *tried.refused]))
     return tried
 
 
@@ -205,7 +232,7 @@ CRATES: dict[str, Any] = {}
 
 def try_named(name: str) -> Tried:
     """Tries the bodies of a crate of this run, in a process that knows what its own checks took."""
-    return try_all(libraries.kit(), CRATES[name])
+    return tried_once(libraries.kit(), CRATES[name])
 
 
 def counts_of(names: Sequence[str]) -> dict[str, int]:

@@ -236,6 +236,39 @@ class Outcomes(InFolder):
         self.assertEqual(self.tried(said.format("no holes", "no holes")), (0, 1, ["one: NOT REFUSED"]))
         self.assertEqual(self.tried(said.format("not proved", "not proved")), (1, 0, [control_says]))
 
+    def test_verdicts_that_are_kept(self) -> None:
+        """They hold until something changes that decides them; those with a fault are not kept."""
+        self.crate.stamp = lambda: read(self.path("src/lib.rt"))
+        self.edit(EDIT.format("2"))
+        self.enterContext(mock.patch.object(wrong_bodies.sources, "TOP", self.folder))
+        for name in wrong_bodies.SCRIPTS:
+            write(self.path("scripts", f"{name}.py"), "")
+        steps: tuple[tuple[str, str, bool], ...] = (
+            ("", "", True),
+            ("", "", False),
+            ("src/lib.rt", ONE + "\n", True),
+            ("wrong-bodies/one.edit", EDIT.format("3"), True),
+            ("right-bodies/two.edit", EDIT.format("0 + 1"), True),
+            ("", "", False),
+            ("scripts/edits.py", "x", True),
+            ("out/wrong-bodies/small", "0" * 64 + " 0 one", True),
+            ("", "", False),
+        )
+        for file, text, is_tried in steps:
+            if file:
+                write(self.path(file), text)
+            said = ["fn small::one: not proved\nonly=1\n", "fn small::one: no holes\nonly=1\n"]
+            with self.subTest(file=file), contextlib.redirect_stdout(io.StringIO()):
+                with mock.patch.object(wrong_bodies, "check", side_effect=said) as check:
+                    found = wrong_bodies.tried_once(None, self.crate)
+                self.assertEqual((check.called, found.refused, found.lines), (is_tried, ["one"], []))
+        write(self.path("src/lib.rt"), ONE)
+        for _ in range(2):
+            with mock.patch.object(wrong_bodies, "check", return_value="only=0\n") as check:
+                with contextlib.redirect_stdout(io.StringIO()):
+                    wrong_bodies.tried_once(None, self.crate)
+            self.assertTrue(check.called)
+
     def test_calls_of_a_function_by_itself(self) -> None:
         for number, (head, is_method, wanted) in enumerate(
             (
