@@ -26,6 +26,7 @@ PICTURE = '<image x="2" y="2" width="5" height="5" href="data:image/{};base64,{}
 BOX = '<rect x="2" y="2" width="9" height="9"/>'
 NOT_EMBEDDED = "is of another file, or is no PNG or JPEG; embed it"
 NOT_DRAWN = "is not drawn; export it as a picture, or with texts as paths"
+PIXELS = "has pictures of more than 25 million pixels; make its pictures smaller"
 HIDDEN = "the place title is hidden, or has no size; give it a width and a height, and show its"
 
 
@@ -115,6 +116,9 @@ REFUSED = (
     (PICTURE.format("webp", "aGVsbG8="), f"image {NOT_EMBEDDED}"),
     (PICTURE.format("svg+xml", svg_in_base64()), f"image {NOT_EMBEDDED}"),
     (f'<image href="data:image/png,hello"/>{CODE}', f"image {NOT_EMBEDDED}"),
+    (PICTURE.format("png", png_of(20_000, 20_000)), PIXELS),
+    (PICTURE.format("png", png_of(3_000, 5_000)) * 2, PIXELS),
+    (PICTURE.format("png", "iVBORw0KGgo="), "a picture is broken; embed it again"),
     ('<rect data-place="code, blod"/>', '"code, blod": "blod" is not understood; behind the name'),
     ('<rect data-place="title, level=Q"/>', '"level=Q" is not understood; behind the name of a t'),
     ('<rect data-place="title, size=0"/>', '"size=0" is not understood; behind the name of a text'),
@@ -251,6 +255,10 @@ class Refused(OwnPages):
             self.assertTrue(designs.is_refused(caught.exception, why), caught.exception)
         folder = self.path.parent / "folder.svg"
         folder.mkdir()
+        fifo = self.path.parent / "fifo.svg"
+        os.mkfifo(fifo)
+        with self.assertRaisesRegex(ToolError, "is no SVG: no element found"):
+            planned(PrintOptions(paper=designs.PAPER, design=str(fifo)))
         for path, why in ((Path("none.svg"), "No such file"), (folder, "Is a directory")):
             with self.assertRaisesRegex(ToolError, f"--design {path}: {why}"):
                 planned(PrintOptions(paper=designs.PAPER, design=str(path)))

@@ -6,11 +6,13 @@ the preview shows it, alike on all labels. Nothing of a page is written anew: wh
 is hidden by a style sheet.
 """
 
+import os
 import re
 import zlib
+from base64 import b64decode
 from dataclasses import dataclass
 from functools import cached_property
-from pathlib import Path
+from io import BytesIO
 from typing import Any, Iterable
 from xml.etree import ElementTree
 from xml.etree.ElementTree import Element
@@ -28,6 +30,7 @@ NO_STYLES = (*LINKS, "d", "points")  # long ones
 DPI = 96.0  # of CSS, in which lengths without a unit are; librsvg takes 90 where nothing is said
 PX = 25.4 / DPI  # millimetres
 MOST_BYTES = 8_000_000
+MOST_PIXELS = 25_000_000  # of all pictures: each takes 16 bytes when it is drawn
 LARGEST = 4000.0  # millimetres of a page
 PACKED = b"\x1f\x8b"  # what .svgz begins with
 WITHIN = re.compile("#|data:image/(?:png|jpeg);base64,")
@@ -56,6 +59,8 @@ FAMILY = re.compile(r"(?<![\w-])font-family:([^;{}]+)")
 GENERAL = ("serif", "sans-serif", "sans", "monospace", "cursive", "fantasy", "system-ui", "inherit")
 MOST_NAMED = 9
 PLAIN = Text("export it as a picture, or with texts as paths")
+
+SMALLER = Text("make its pictures smaller")
 
 
 @dataclass(frozen=True, eq=False)
@@ -119,10 +124,12 @@ def read_page(file: str) -> SvgPage:
 
 
 def data_of(file: str) -> bytes:
-    """Returns the bytes of a file; raises `ToolError`."""
+    """Returns the bytes of a file; raises `ToolError`. A FIFO is empty, and is not waited for."""
     try:
-        with Path(file).open("rb") as opened:
-            data = opened.read(MOST_BYTES + 1)
+        with open(
+            file, "rb", opener=lambda name, how: os.open(name, how | os.O_NONBLOCK)
+        ) as opened:
+            data = opened.read(MOST_BYTES + 1) or b""
         if data.startswith(PACKED):
             data = zlib.decompressobj(zlib.MAX_WBITS + 16).decompress(data, MOST_BYTES + 1)
     except OSError as error:
@@ -130,8 +137,7 @@ def data_of(file: str) -> bytes:
     except zlib.error as error:
         raise ToolError(Text("{} is no SVG: {}", file, error)) from error
     if len(data) > MOST_BYTES:
-        hint = Text("make its pictures smaller")
-        raise ToolError(Text("{} has more than {} MB", file, MOST_BYTES // 1_000_000), hint)
+        raise ToolError(Text("{} has more than {} MB", file, MOST_BYTES // 1_000_000), SMALLER)
     return data
 
 
@@ -178,6 +184,7 @@ def check_elements(file: str, root: Element) -> None:
     tags = dict.fromkeys(map(tag_of, filled))
     if unknown := [tag for tag in tags if not tag.startswith("{") and tag not in ELEMENTS]:
         raise ToolError(Text("{}: {} is not drawn", file, named(unknown)), PLAIN)
+    pixels = 0
     for element in root.iter():
         links = [*filter(None, map(element.get, LINKS))]
         if tag_of(element) == "a":  # of which Cairo makes no PDF
@@ -185,6 +192,25 @@ def check_elements(file: str, root: Element) -> None:
         elif not all(map(WITHIN.match, links)) or any(map(OUTSIDE.search, values_of(element))):
             what = Text("{}: {} is of another file, or is no PNG or JPEG", file, tag_of(element))
             raise ToolError(what, Text("embed it, in Inkscape by Extensions, Images, Embed Images"))
+        elif tag_of(element) == "image":
+            pixels += sum(pixels_of(file, link) for link in links if link.startswith("data:"))
+    if pixels > MOST_PIXELS:
+        what = Text(
+            "{} has pictures of more than {} million pixels", file, MOST_PIXELS // 1_000_000
+        )
+        raise ToolError(what, SMALLER)
+
+
+def pixels_of(file: str, link: str) -> int:
+    """Returns the pixels of a picture in a page; raises `ToolError` where it is none."""
+    from PIL import Image  # it takes 40 ms, also of built-in designs
+
+    Image.MAX_IMAGE_PIXELS = None  # its own limit is a warning
+    try:
+        with Image.open(BytesIO(b64decode(link.partition(",")[2]))) as picture:
+            return int(picture.width * picture.height)
+    except (OSError, ValueError) as error:
+        raise ToolError(Text("{}: a picture is broken", file), Text("embed it again")) from error
 
 
 def is_empty_flow(element: Element) -> bool:
