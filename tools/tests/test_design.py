@@ -68,24 +68,12 @@ REFUSED = (
     (f'<g style="display:none"><rect id="title" {WIDE}/></g>{CODE}', HIDDEN),
     (f'<defs><rect id="title" {WIDE}/></defs>{CODE}', HIDDEN),
     (f'<clipPath><rect id="title" {WIDE}/></clipPath>{CODE}', HIDDEN),
-    (
-        TITLE.format('x="2" y="2" width="9" height="9" transform="rotate(9)"'),
-        "title is askew; turn",
-    ),
+    (TITLE.format('x="2" y="2" width="9" height="9" transform="rotate(9)"'), "title is askew; tu"),
     (TITLE.format('x="2" y="2" width="9" height="9" transform="skewX(9)"'), "title is askew; turn"),
-    (
-        TITLE.format('x="50" y="2" width="20" height="9"'),
-        "title leaves the label by 10.0 mm; the pa",
-    ),
-    (
-        TITLE.format('x="-1" y="2" width="20" height="9"'),
-        "title leaves the label by 1.0 mm; the pag",
-    ),
+    (TITLE.format('x="50" y="2" width="20" height="9"'), "title leaves the label by 10.0 mm; the"),
+    (TITLE.format('x="-1" y="2" width="20" height="9"'), "title leaves the label by 1.0 mm; the"),
     (TITLE.format('x="2" y="15" width="9" height="9"'), "title and code have room in common; move"),
-    (
-        f'<rect id="code-2" x="9" y="9" width="40" height="20"/>{CODE}',
-        "code-2 and code have room in",
-    ),
+    (f'<rect id="code-2" x="9" y="9" width="40" height="20"/>{CODE}', "code-2 and code have roo"),
     (f'<path d="M0 30H60" stroke="black"/>{CODE}', "is not white in the place code; a symbol nee"),
     (
         f'{CODE}<path d="M2 20H58V38H2Z" fill="none" stroke="black"/>',
@@ -127,16 +115,10 @@ REFUSED = (
         '<rect data-place="title" inkscape:label="price"/>',
         'a rectangle is named "title" and "price"; make its label and its data-place alike, or',
     ),
-    (
-        '<rect data-place="code, size=1"/>',
-        '"size=1" is not understood; behind the name of a symbol',
-    ),
+    ('<rect data-place="code, size=1"/>', '"size=1" is not understood; behind the name of a'),
     ('<rect data-place="title, qr, bold"/>', '"bold" is not understood; behind the name of a symb'),
     ('<rect data-place="title, bold, qr"/>', '"bold" is not understood; behind the name of a symb'),
-    (
-        '<rect data-place="title, module=1"/>',
-        '"module=1" is not understood; behind the name of a t',
-    ),
+    ('<rect data-place="title, module=1"/>', '"module=1" is not understood; behind the name'),
     ('<rect id="title-2"/>' * 500, "has more than 400 places"),
     ('<rect data-place="title, lines=1.5"/>', '"lines=1.5" is not understood; behind the name of'),
     (f'<rect data-place="title, font=Nothing" {WIDE}/>{CODE}', "there is no font Nothing; fc-list"),
@@ -144,40 +126,16 @@ REFUSED = (
 )
 # the attributes of a page, options, and what it is refused with
 PAGES: tuple[tuple[str, dict[str, Any], str], ...] = (
-    (
-        "",
-        {},
-        'has no size; give it width, height and viewBox, as width="60mm" height="40mm" viewBox',
-    ),
+    ("", {}, 'has no size; give it width, height and viewBox, as width="60mm" height="40mm"'),
     ('width="0mm" height="40mm"', {}, "has no size; give it width, height and viewBox"),
     ('width="60mm" height="40mm" viewBox="0 0 0 40"', {}, "has no size; give it width, height and"),
-    (
-        'width="60000mm" height="40mm"',
-        {"paper": None},
-        "has no size; give it width, height and viewBox",
-    ),
-    (
-        designs.PAGE,
-        {"paper": (50.0, 30.0)},
-        "is 60 by 40 mm, and a label is 50 by 30 mm; set the si",
-    ),
-    (
-        designs.PAGE,
-        {"paper": (40.0, 60.0), "turn": False},
-        "is 60 by 40 mm, and a label is 40 by 60",
-    ),
+    ('width="60000mm" height="40mm"', {"paper": None}, "has no size; give it width, height"),
+    (designs.PAGE, {"paper": (50.0, 30.0)}, "is 60 by 40 mm, and a label is 50 by 30 mm; set"),
+    (designs.PAGE, {"paper": (40.0, 60.0), "turn": False}, "is 60 by 40 mm, and a label is 40 by"),
     (designs.PAGE, {"turn": True}, "is 60 by 40 mm, and a label is 40 by 60 mm; set the size of"),
     (designs.PAGE, {"height": 9.0}, "--height is not for a design of one's own; the places of a"),
-    (
-        designs.PAGE,
-        {"edge": (5.0, 13.0, 5.0, 5.0)},
-        "the place title is at an edge of the paper that",
-    ),
-    (
-        'viewBox="0 0 90 40"',
-        {},
-        "is 90 by 40 without a unit, and a label is 60 by 40 mm; draw it in",
-    ),
+    (designs.PAGE, {"edge": (5.0, 13.0, 5.0, 5.0)}, "the place title is at an edge of the paper"),
+    ('viewBox="0 0 90 40"', {}, "is 90 by 40 without a unit, and a label is 60 by 40 mm; draw"),
     ('width="60" height="40"', {"paper": None}, "has no size in millimetres; name the paper by"),
 )
 # what is in a file that is no SVG, and what it is refused with
