@@ -6,7 +6,6 @@ tools/tests The program `labels` that they draw with is $LABELS, or else crates/
 test that needs what is not there is skipped, with a message; NO_SKIP=1 makes it fail.
 """
 
-import importlib
 import importlib.util
 import io
 import json
@@ -18,7 +17,7 @@ import subprocess
 import sys
 import tempfile
 import unittest
-from functools import cache
+from functools import cache, partial
 from importlib import import_module
 from pathlib import Path
 from typing import Any, Dict, List, NoReturn, Optional, Sequence, Tuple, Union
@@ -30,9 +29,11 @@ OURS = TOP / "tools"
 TOOLS = Path(os.environ.get("TOOLS") or OURS)
 LOCALES = ("C", "C.UTF-8")
 SECONDS = 600  # that a program may take on a busy machine: one that hangs is ended
+# The modules of the tools that can run in this process.
 MODULES = {
-    "label-table": "labeltools.commands.label_table"
-}  # of the tools that run in this process
+    "label-print": "labeltools.commands.start",
+    "label-table": "labeltools.commands.label_table",
+}
 os.environ["LC_ALL"] = "C.UTF-8"  # of these too: their dates are those of the locale
 
 # Under nohup, or `&` of a script, programs that a test starts would ignore them too, and never end.
@@ -73,24 +74,6 @@ def processor_seconds() -> float:
     """The processor time, in seconds, of all programs that this process ran to their end."""
     used = resource.getrusage(resource.RUSAGE_CHILDREN)
     return used.ru_utime + used.ru_stime
-
-
-def run_here(tool: str, *arguments: str, input: bytes = b"") -> "Finished[bytes]":
-    """Runs a tool of tools/ in this process: the same result as of `run`, for tests of hundreds of
-    runs.
-    """
-    source = io.TextIOWrapper(io.BytesIO(input))
-    written, said = io.BytesIO(), io.BytesIO()
-    out, err = io.TextIOWrapper(written), io.TextIOWrapper(said, "utf-8", "backslashreplace")
-    status = 0
-    with mock.patch.multiple(sys, argv=[tool, *arguments], stdin=source, stdout=out, stderr=err):
-        try:
-            import_module(MODULES[tool]).main()
-        except SystemExit as end:
-            status = int(end.code or 0)
-        out.flush()
-        err.flush()
-    return Finished([tool, *arguments], status, written.getvalue(), said.getvalue())
 
 
 def environment(locale: str = "C.UTF-8") -> Dict[str, str]:
@@ -209,35 +192,34 @@ def file_of(labels: Sequence[Tuple[str, Optional[Dict[str, Any]]]], **end: Any) 
     return "".join(parts).encode("utf-8")
 
 
-def printed(
-    *arguments: Union[str, Path], input: bytes = b"", **variables: str
+def run_here(
+    tool: str, *arguments: Union[str, Path], input: bytes = b"", **variables: str
 ) -> "Finished[bytes]":
-    """Runs label-print in this process: the same result as of `run`, in a quarter of the time."""
+    """Runs a tool of tools/ in this process: the same result as of `run`, in a quarter of the
+    time.
+    """
     if TOOLS != OURS:
-        return run("label-print", *arguments, input=input, **variables)
-    tool = str(TOOLS / "label-print")
+        return run(tool, *arguments, input=input, **variables)
+    words = [str(TOOLS / tool), *map(str, arguments)]
     sys.stdout.flush()
     sys.stderr.flush()
     kept = os.dup(1), os.dup(2)
     with tempfile.TemporaryFile() as out, tempfile.TemporaryFile() as err:
         os.dup2(out.fileno(), 1)
         os.dup2(err.fileno(), 2)
+        error = open(2, "w", errors="backslashreplace", closefd=False)
         streams: Dict[str, Any] = {
-            "stdout": open(1, "w", closefd=False),
-            "stderr": open(2, "w", closefd=False),
-        }
-        changed: Dict[str, Any] = {
-            "argv": [tool, *map(str, arguments)],
+            "argv": words,
             "stdin": io.TextIOWrapper(io.BytesIO(input)),
-            **streams,
+            "stdout": open(1, "w", closefd=False),
+            "stderr": error,
         }
+        signals = mock.patch("labeltools.common.command_line.on_signals", mock.MagicMock())
+        changed = mock.patch.dict(os.environ, {**environment(), **variables})
         try:
-            with mock.patch.multiple(sys, **changed), mock.patch.dict(
-                os.environ, {**environment(), **variables}
-            ):
-                with mock.patch("labeltools.common.command_line.on_signals", mock.MagicMock()):
-                    status = status_of("labeltools.commands.start")
-                if sys.stderr is not streams["stderr"]:  # of a stream: else Python warns of it
+            with signals, changed, mock.patch.multiple(sys, **streams):
+                status = status_of(tool)
+                if sys.stderr is not error:  # of a stream: else Python warns of it
                     sys.stderr.close()
         finally:
             for number, copy in enumerate(kept, 1):
@@ -245,13 +227,16 @@ def printed(
                 os.close(copy)
         out.seek(0)
         err.seek(0)
-        return Finished([tool, *arguments], status, out.read(), err.read())
+        return Finished(words, status, out.read(), err.read())
 
 
-def status_of(module: str) -> int:
-    """The status with which the tool of a module ends in this process."""
+printed = partial(run_here, "label-print")
+
+
+def status_of(tool: str) -> int:
+    """The status with which a tool ends in this process."""
     try:
-        importlib.import_module(module).main()
+        import_module(MODULES[tool]).main()
     except SystemExit as end:
         return int(end.code or 0)
-    raise AssertionError(f"{module} has no end")
+    raise AssertionError(f"{tool} has no end")

@@ -55,7 +55,7 @@ class Kills(unittest.TestCase):
             # the streams of the process, not those in which a runner keeps what tests print
             sys.stdin, sys.stdout, sys.stderr = sys.__stdin__, sys.__stdout__, sys.__stderr__
             sys.argv = ["label-print", *self.words(printer)]
-            status = support.status_of("labeltools.commands.start")
+            status = support.status_of("label-print")
         finally:
             os._exit(status)
 
