@@ -31,9 +31,10 @@ readelf -h "$shared" | grep -q X86-64 || exit 0
 # later FILE COMMAND: the first instruction that came later. The places of jumps are left out, and padding; endbr64 is
 # padding to an older processor. COMMAND changes more, by sed.
 later() {
-    objdump -d --no-show-raw-insn "$1" | sed -nE 's/^ *[0-9a-f]+:\t//p' |
-        sed -E "s/ *[#<].*//; /^(bnd |notrack )?(j|call|loop)/d; /nop|endbr64/d; $2" | sort -u |
-        as -march=generic64 -o /dev/null - 2>&1 | grep -m 1 Error: || :
+    listed=$(objdump -d --no-show-raw-insn "$1" | sed -nE 's/^ *[0-9a-f]+:\t//p' |
+        sed -E "s/ *[#<].*//; /^(bnd |notrack )?(j|call|loop)/d; /nop|endbr64/d; $2" | sort -u)
+    echo "$listed" | grep -q '^ret' || fail "$1 has no instructions that objdump lists"
+    echo "$listed" | as -march=generic64 -o /dev/null - 2>&1 | grep -m 1 -v 'messages:$' || :
 }
 
 found=$(later "$shared" '')

@@ -59,6 +59,23 @@ class Install(InFolder):
             helped = subprocess.run([str(self.folder / "bin" / tool), "--help"], **how)
             self.assertEqual((helped.returncode, helped.stderr), (0, b""), tool)
 
+    def test_each_file_is_installed(self) -> None:
+        """Of the tools with their translations, and of the pages with what they show."""
+        make("install", f"PREFIX={self.folder}")
+        for place, folders in (
+            ("share/label-tools", ["tools/label-*", "tools/labeltools"]),
+            ("share/doc/labels", ["README.md", "docs", "designs", "examples"]),
+        ):
+            names = command_of("git", "ls-files", *folders).split()
+            wanted = {name.removeprefix("tools/") for name in names}
+            if "tools/labeltools" in folders:
+                languages = [path.stem for path in (support.TOP / "tools/po").glob("*.po")]
+                locale = "labeltools/locale/{}/LC_MESSAGES/label-tools.mo"
+                wanted |= {locale.format(language) for language in languages}
+            top = self.folder / place
+            found = {str(path.relative_to(top)) for path in top.rglob("*") if path.is_file()}
+            self.assertEqual(found, wanted)
+
     def test_a_folder_with_a_space_is_refused_at_once(self) -> None:
         for words in ([f"PREFIX={self.folder}/a b"], [f"DESTDIR={self.folder}/a b"]):
             done = subprocess.run(

@@ -6,7 +6,7 @@ import unittest
 from typing import Dict
 
 import support
-from labeltools.commands.label_print import command_line
+from labeltools.commands import label_print, label_table
 from labeltools.printing import job, network
 
 PAGES = sorted((support.TOP / "man").glob("label*.1"))
@@ -14,7 +14,8 @@ TOOLS = sorted(path.name for path in support.TOOLS.glob("label-*"))
 
 # What a page says of an option that is left out.
 NAMED = re.compile(
-    r"(?<= )\((?:A4: )?([\w. ]+?)(?:; [^)]*)?\)(?=[,.:]| *$)|(\w+) \(the default\)|The default is (\w+)\."
+    r"(?<= )\((?:A4: )?([\w. ]+?)(?:; [^)]*)?\)(?=[,.:]| *$)|(\w+) \(the default\)"
+    r"|The default is (\w+)\.|(\w+), which is the default"
 )
 # Numbers of label-print(1), and what they are in the tools.
 NUMBERS = (
@@ -71,15 +72,22 @@ class Pages(unittest.TestCase):
     def test_defaults_are_those_of_the_parsers(self) -> None:
         """What a page and the help of a tool say of an option that is left out."""
         support.needs("mandoc")
-        named = {"--edge": job.EDGE, "--to": "pdf"}
-        options = [it for it in command_line()._actions if it.option_strings and it.default]
-        named |= {it.option_strings[0]: it.default for it in options}
-        found = defaults_of("label-print.1")
-        self.assertGreater(len(found), 6)
-        self.assertEqual(found, {it: typed(named[it]) for it in found})
-        for option in options:
-            for said in re.findall(r"\(([\w. ]+)\)$", option.help or ""):
-                self.assertEqual(said, typed(option.default), option.option_strings)
+        named = {
+            "--edge": job.EDGE,
+            "--to": "pdf",
+            "--decimal": "LC_NUMERIC",
+            "--symbology": "auto",
+        }
+        for module, least in ((label_print, 6), (label_table, 2)):
+            options = module.command_line()._actions
+            options = [it for it in options if it.option_strings and it.default]
+            named |= {it.option_strings[0]: it.default for it in options}
+            found = defaults_of(f"{module.TOOL}.1")
+            self.assertGreaterEqual(len(found), least)
+            self.assertEqual(found, {it: typed(named[it]) for it in found})
+            for option in options:
+                for said in re.findall(r"\(([\w. ]+)\)$", option.help or ""):
+                    self.assertEqual(said, typed(option.default), option.option_strings)
         helps = re.findall(r"(--[a-z-]+) .*\[default: (\w+)\]", help_of("labels"))
         self.assertEqual(defaults_of("labels.1"), dict(helps))
 
