@@ -144,10 +144,17 @@ def with_a_line(self: Any, canvas: Any, page: Any, turn: int = 0) -> None:
     canvas.stroke()
 
 
+def drawn_grey(self: Any, canvas: Any, codes: Any, turn: int) -> None:
+    """`Pen.draw_white` that leaves another colour than black."""
+    DRAW_WHITE(self, canvas, codes, turn)
+    canvas.set_source_rgb(0.9, 0.9, 0.9)
+
+
 def is_refused(wanted: compare.Wanted, rows: Sequence[bytes]) -> bool:
     """Whether dots of a page are not those of a symbol."""
+    page = decode.Dots(8 * len(rows[0]), len(rows), b"".join(rows))
     try:
-        compare.check_dots(wanted, rows, wanted.picture.right, 0.125)
+        compare.check_dots(wanted, page, 0.125)
     except compare.Different:
         return True
     return False
@@ -161,10 +168,10 @@ def of_modules(change: Callable[[bytes], bytes]) -> Callable[..., Any]:
     )
 
 
-def twice(self: Any, canvas: Any, modules: Any, layout: Any) -> None:
+def twice(*arguments: Any) -> None:
     """`Pen.draw_modules`, twice in the same place."""
-    DRAW_MODULES(self, canvas, modules, layout)
-    DRAW_MODULES(self, canvas, modules, layout)
+    DRAW_MODULES(*arguments)
+    DRAW_MODULES(*arguments)
 
 
 def drawn_wrong(number: int, other: Optional[Modules] = None) -> Callable[..., Any]:
@@ -173,11 +180,11 @@ def drawn_wrong(number: int, other: Optional[Modules] = None) -> Callable[..., A
     """
     seen = count()
 
-    def call(self: Any, canvas: Any, modules: Any, layout: Any) -> None:
+    def call(self: Any, canvas: Any, modules: Any, *where: Any) -> None:
         if next(seen) == number:
             less = replace(modules, packed=without_a_module(modules.packed))
             modules = other or less
-        DRAW_MODULES(self, canvas, modules, layout)
+        DRAW_MODULES(self, canvas, modules, *where)
 
     return call
 
@@ -240,7 +247,7 @@ def first_letters(whole: list[str]) -> int:
 def wrong_count(whole: list[str], size: int) -> None:
     """Makes a count of a row above all codes one more; the row keeps its length."""
     number = first_letters(whole)
-    row = decode.rows_of_field(whole[number].encode(), size)[0].hex().upper()
+    row = decode.rows_of_field((whole[number].encode(), size)).hex().upper()
     whole[number] = "0" + row[:-1]
 
 
@@ -265,6 +272,7 @@ def without_row(picture: Picture) -> Picture:
 DRAW = pen.Pen.draw
 RUN_LENGTHS = zpl.run_lengths
 DRAW_MODULES = pen.Pen.draw_modules
+DRAW_WHITE = pen.Pen.draw_white
 RUN_LABELS = engine.run_labels
 ENGINE_DRAW = engine.Engine.draw
 PAGE = press.Press.page
@@ -340,7 +348,27 @@ FAULTS = {
         DOTS,
         PAIR,
     ),
-    "no white below codes": Fault(PEN + "boxes_of", lambda symbol: (), ("pdf", "svg")),
+    "no white below codes": Fault(PEN + "Pen.draw_white", lambda *_: None, ("pdf", "svg")),
+    "no white below guards": Fault(
+        PEN + "white_of", lambda symbol: (symbol.boxes["bars"],), ("pdf", "svg"), PAIR
+    ),
+    "white that is cut off": Fault(
+        PEN + "white_of",
+        lambda symbol: (symbol.boxes["bars"]._replace(width=9),),
+        ("pdf", "svg"),
+    ),
+    "white where it is not": Fault(
+        PEN + "Pen.fill_white",
+        changed(
+            pen.Pen.fill_white,
+            whites=lambda whites: [
+                one._replace(place=(one.place[0] + 1, one.place[1])) for one in whites
+            ],
+        ),
+        ("pdf", "svg"),
+        PAIR,
+    ),
+    "codes in another colour": Fault(PEN + "Pen.draw_white", drawn_grey, ("pdf", "svg")),
     "something drawn last": Fault(PEN + "Pen.draw", with_a_line, ("pdf", "svg")),
     "a cell off the sheet": Fault(
         "labeltools.printing.press.Press.page", placed(900), ("pdf", "pbm")
@@ -579,6 +607,24 @@ class Again(unittest.TestCase):
             self.assertEqual(write(found), copied)
 
 
+def rows_of(symbol: Any) -> tuple[list[str], list[str], int]:
+    """The rows of modules of a symbol with its quiet zones, four of bars and five of longer guards;
+    those that are looked at; and how many of them have no guards alone.
+    """
+    before, behind, above, below = symbol.quiet_zones
+    dots = symbol.modules.translate(bytes.maketrans(b"\0\1", b"01")).decode()
+    modules = [dots[at : at + symbol.width] for at in range(0, len(dots), symbol.width)]
+    wide = before + symbol.width + behind
+    rows = [f"{'0' * before}{row}{'0' * behind}" for row in modules]
+    if symbol.rows > 1:
+        rows = ["0" * wide] * above + rows + ["0" * wide] * below
+        return rows, ["1" * wide] * len(rows), len(rows)
+    guards = compare.GUARDS.get(symbol.symbology, ())
+    own = {before + at for first, last in guards for at in range(first, last)}
+    longer = ["".join("01"[at in own] for at in range(wide))] * (5 if guards else 0)
+    return rows * (4 + len(longer)), ["1" * wide] * 4 + longer, 4
+
+
 class Read(unittest.TestCase):
     """What is read back is what was written."""
 
@@ -594,11 +640,11 @@ class Read(unittest.TestCase):
 
     def test_rows_by_the_manual(self) -> None:
         """The examples of the ZPL II manual for counts: M6 is seven of 6, hB forty of B."""
-        (row,) = decode.rows_of_field(b"M6hBgMF", 37)
+        row = decode.rows_of_field((b"M6hBgMF", 37))
         self.assertEqual(row.hex().upper(), "6666666" + "B" * 40 + "F" * 27)
-        rows = decode.rows_of_field(b"F0,J5,:,12345678,M9,", 4)
-        wanted = "F0000000 55550000 55550000 00000000 12345678 00000000 99999990".lower().split()
-        self.assertEqual([row.hex() for row in rows], wanted)
+        rows = decode.rows_of_field((b"F0,J5,:,12345678,M9,", 4))
+        wanted = "F0000000 55550000 55550000 00000000 12345678 00000000 99999990"
+        self.assertEqual(rows.hex(" ", 4).upper(), wanted)
         for text in (b"F0F", b"12345678F", b"GZ", b"12:", b"M:", b"12 3", b"12345678:\n:"):
             with self.subTest(text=text), self.assertRaises(decode.NotDecoded):
                 decode.dots_of("zpl", FIELD % text, 32)
@@ -610,30 +656,28 @@ class Read(unittest.TestCase):
         lines = (b"ean13 4006381333931", b"ean8 73513537", b"code128 LOT-7", b"qr X")
         for line, scale, quarters, left in product(lines, (1, 3), range(4), (0, 5)):
             symbol = engine.library().line(line, height=1)
-            bands = compare.bands_of(symbol, 4)
+            dark, looked, high = rows_of(symbol)
+            wide = len(dark[0])
             dark, looked = (
-                [
-                    "".join(module * scale for module in row)
-                    for row, high in rows
-                    for _ in range(high * scale)
-                ]
-                for rows in ([(b.dark, b.high) for b in bands], [(b.looked, b.high) for b in bands])
+                ["".join(module * scale for module in row) for row in rows for _ in range(scale)]
+                for rows in (dark, looked)
             )
             for _ in range(quarters):
                 dark, looked = (["".join(c) for c in zip(*rows[::-1])] for rows in (dark, looked))
             box = Box(left, 2, len(dark[0]), len(dark))
             record = mock.sentinel.record
-            wanted = compare.Wanted(record, bands, box, (), box, quarters, scale)
-            wide = (box.right + 7) // 8
-            behind = 8 * wide - box.right
-            rows = [bytes(wide)] * 2 + [(int(r, 2) << behind).to_bytes(wide, "big") for r in dark]
+            where = compare.Where(box, (), quarters, scale, wide, high)
+            wanted = compare.Wanted(record, symbol, where)
+            size = (box.right + 7) // 8
+            behind = 8 * size - box.right
+            rows = [bytes(size)] * 2 + [(int(r, 2) << behind).to_bytes(size, "big") for r in dark]
             with self.subTest(line=line, scale=scale, quarters=quarters, left=left):
                 self.assertFalse(is_refused(wanted, rows))
                 for down, across in product(range(len(dark)), range(0, len(dark[0]), 11)):
                     bit = 1 << behind + len(dark[0]) - 1 - across
                     row = int.from_bytes(rows[2 + down], "big") ^ bit
                     other = [*rows]
-                    other[2 + down] = row.to_bytes(wide, "big")
+                    other[2 + down] = row.to_bytes(size, "big")
                     is_seen = looked[down][across] == "1"
                     self.assertEqual(is_refused(wanted, other), is_seen)
 
@@ -659,24 +703,29 @@ class Read(unittest.TestCase):
         compare.check_codes(wanted, page, 0.125)
 
     def test_fields_that_are_not_whole(self) -> None:
-        """Each field ends, is as wide as the label, and right below the one before."""
+        """Each field ends, is on the label, and over no other one."""
         label = b"^XA^PON^LH0,0^LS0^PW32^LL3\n%b^XZ\n"
+        first = b"^FO0,0^GFA,4,4,2,12,:^FS\n"
         for field in (
             b"^FO0,0^GFA,12,12,4,12345678::",
             b"^FO0,0^GFA,12,12,4,12345678::^FS",
             b"^FO0,0^GFA,12,12,4,12345678::^FR\n",
             b"^FO8,0^GFA,12,12,4,12345678::^FS\n",
+            b"^FO3,0^GFA,3,3,1,12::^FS\n",
             b"^FO0,1^GFA,12,12,4,12345678::^FS\n",
             b"^FO0,0^GFA,12,13,4,12345678::^FS\n",
             b"^FO0,0^GFA,12,12,3,12345678::^FS\n",
-            b"^FO0,0^GFA,8,8,4,12345678:^FS\n",
+            b"^FO0,0^GFA,8,8,4,12345678::^FS\n",
             b"^FO0,0^GFA,16,16,4,12345678:::^FS\n",
+            b"^FO0,0^GFA,0,0,0,^FS\n",
+            first + b"^FO0,1^GFA,2,2,2,34,^FS\n",
+            first + b"^FO0,0^GFA,6,6,2,,::^FS\n",
         ):
             with self.subTest(field=field), self.assertRaises(decode.NotDecoded):
                 decode.dots_of("zpl", label % field, 32)
-        fields = b"^FO0,0^GFA,4,4,4,12345678^FS\n^FO0,1^GFA,8,8,4,12,:^FS\n"
+        fields = first + b"^FO16,0^GFA,6,6,2,1234::^FS\n^FO0,2^GFA,1,1,1,FF^FS\n"
         whole = decode.dots_of("zpl", label % fields, 32)
-        self.assertEqual(whole.packed.hex(), "12345678" + "12000000" * 2)
+        self.assertEqual(whole.packed.hex(" ", 4), "12001234 12001234 ff001234")
 
 
 if __name__ == "__main__":

@@ -7,12 +7,13 @@ its size, and turned as it is asked for. This holds for each symbol of a label: 
 user's own may have several.
 """
 
-from functools import cache
+from functools import cache, lru_cache
+from itertools import islice
 from operator import mul
 from typing import Any, Iterator, NamedTuple, Optional, Sequence
 
 from labeltools.paper.area import Plan
-from labeltools.checking.decode import Dots, NotDecoded, dots_of, rows_in
+from labeltools.checking.decode import Dots, NotDecoded, dots_of, rows_in, rows_reader
 from labeltools.checking.pdf import DrawnPage, is_at, pages_of
 from labeltools.checking.svg import dots_of_svg
 from labeltools.lines.engine import Engine, LABELS_FAILED, Refused, bytes_a_row
@@ -25,6 +26,7 @@ from labeltools.designs.places import PARTS, Place, key_of
 from labeltools.common.text import Text
 
 Labels = Sequence[tuple[LaidOut, tuple[int, int]]]
+Kind = tuple[str, tuple[int, int, int, int], int, int]  # symbology, quiet zones, width, rows
 LONGER = 5  # modules by which guards are longer (GS1 General Specifications, 5.2)
 # modules of the longer bars, from the first bar on: ISO/IEC 15420
 GUARDS = {
@@ -32,7 +34,7 @@ GUARDS = {
     "ean8": ((0, 3), (31, 36), (64, 67)),
     "upca": ((0, 10), (45, 50), (85, 95)),
 }
-DIGITS = bytes.maketrans(b"\0\1", b"01")
+KNOWN = 4096  # places of symbols that are kept: most pages share them
 FAULT = Text("this is a fault of label-print: nothing of it has gone out; report it")
 
 
@@ -56,44 +58,48 @@ class Document(NamedTuple):
     drawn: Optional[bytes] = None
 
 
-class Spot(NamedTuple):
-    """Where a symbol of a label has to be: its line, whether that has escapes for certain, its
-    data; the room in which it is, which is turned by some quarters, and its bars in that room; the
-    dots of a module.
+class SpotPlace(NamedTuple):
+    """Where a symbol has to be in its label: the room in which it is, which is turned by some
+    quarters, and its bars in that room; the dots of a module.
     """
 
-    line: bytes
-    is_escaped: bool
-    data: bytes
     room: Box
     quarters: int
     bars: Box
     module: int
 
 
-class Band(NamedTuple):
-    """Rows of modules that are the same: which are dark, which are looked at, how many there are.
-    Between longer guards nothing is looked at, since digits are there.
+class Spot(NamedTuple):
+    """What a symbol of a label has to say: its line, whether that has escapes for certain, its
+    data; and where it has to be.
     """
 
-    dark: str
-    looked: str
+    line: bytes
+    is_escaped: bool
+    data: bytes
+    place: SpotPlace
+
+
+class Where(NamedTuple):
+    """Where a symbol has to be on a page: its picture, which has longer guards too; what of it is
+    on white in a drawing, its bars and these guards; the quarters by which it is turned; the dots
+    of a module; and how many modules, as it is read, it is wide, and has rows of bars.
+    """
+
+    picture: Box
+    whites: tuple[Box, ...]
+    quarters: int
+    scale: int
+    wide: int
     high: int
 
 
 class Wanted(NamedTuple):
-    """What has to be on a page for a symbol: of which line it is; its bands as it is read; its
-    longer guards and its picture, which has them too, on the page; its quarters; the dots of a
-    module.
-    """
+    """What has to be on a page for a symbol: of which line it is, the symbol, and where."""
 
     record: LineRecord
-    bands: Sequence[Band]
-    bars: Box
-    guards: Sequence[Box]
-    picture: Box
-    quarters: int
-    scale: int
+    symbol: Any
+    where: Where
 
 
 class Comparison:
@@ -114,6 +120,7 @@ class Comparison:
         area = plan.area.turned() if is_turned else plan.area
         self.area = Box(0, 0, area.width, area.height)
         self.cells = dict(zip(plan.places, plan.sheet.places))
+        self.where = lru_cache(KNOWN)(self.new_where)
 
     def check(self, document: Document) -> None:
         """Raises `ToolError` where a document has not the codes of the labels on its pages, or, of
@@ -145,9 +152,8 @@ class Comparison:
             dots = dots_of(self.form, document.data, self.plan.page[0])
             self.check_size(dots, document.copies)
             self.check_drawn(dots, document)
-        rows = dots.rows
         for symbol in wanted[0]:
-            check_dots(symbol, rows, dots.width, self.plan.dot)
+            check_dots(symbol, dots, self.plan.dot)
 
     def check_size(self, dots: Dots, copies: int) -> None:
         """Raises `Different` where a page has not its size, or not its copies."""
@@ -183,25 +189,28 @@ class Comparison:
     def wanted(self, spot: Spot, at: tuple[int, int], record: LineRecord) -> Wanted:
         """Returns what has to be on a page for a symbol of a label whose area is at a place."""
         symbol = self.code(spot)
-        left, right, above, below = symbol.quiet_zones
-        bars = spot.bars
-        wide = left + symbol.width + right
-        scale = spot.module
-        high = bars.height // scale if symbol.rows == 1 else above + symbol.rows + below
+        kind = (symbol.symbology, symbol.quiet_zones, symbol.width, symbol.rows)
+        return Wanted(record, symbol, self.where(spot.place, at, kind))
+
+    def new_where(self, place: SpotPlace, at: tuple[int, int], kind: Kind) -> Where:
+        """Returns where a symbol of a kind has to be on the page; raises `Different`."""
+        symbology, (left, right, above, below), width, rows = kind
+        bars, scale = place.bars, place.module
+        wide = left + width + right
+        high = bars.height // max(1, scale) if rows == 1 else above + rows + below
         if not scale or (wide * scale, high * scale) != (bars.width, bars.height):
             raise Different(Text("its modules are no whole dots"))
-        bands = bands_of(symbol, high)
-        spans = GUARDS.get(symbol.symbology, ())
-        low, longer = bars.bottom, LONGER * scale
+        spans = GUARDS.get(symbology, ())
+        longer = LONGER * scale
         guards = [
-            Box(bars.left + (left + first) * scale, low, (end - first) * scale, longer)
+            Box(bars.left + (left + first) * scale, bars.bottom, (end - first) * scale, longer)
             for first, end in spans
         ]
-        picture = bars._replace(height=sum(band.high for band in bands) * scale)
-        bars, picture, *guards = (self.on_page(spot, box, at) for box in (bars, picture, *guards))
+        whites = tuple(self.on_page(place, box, at) for box in (bars, *guards))
+        whole = bars._replace(height=bars.height + longer * bool(spans))
+        picture = self.on_page(place, whole, at)
         self.check_cell(at, picture)
-        quarters = (spot.quarters + self.is_turned) % 4
-        return Wanted(record, bands, bars, guards, picture, quarters, scale)
+        return Where(picture, whites, (place.quarters + self.is_turned) % 4, scale, wide, high)
 
     def code(self, spot: Spot) -> Any:
         """Returns the symbol of a spot, drawn anew from its line; raises `Different` where that
@@ -216,11 +225,11 @@ class Comparison:
             raise Different(Text("its code says other data than its line"))
         return symbol
 
-    def on_page(self, spot: Spot, box: Box, at: tuple[int, int]) -> Box:
-        """Returns where a box in the room of a spot is on the page."""
-        room = spot.room
-        size = (room.height, room.width) if spot.quarters % 2 else (room.width, room.height)
-        found = turned(box, size, spot.quarters)
+    def on_page(self, place: SpotPlace, box: Box, at: tuple[int, int]) -> Box:
+        """Returns where a box in the room of a symbol is on the page."""
+        room = place.room
+        size = (room.height, room.width) if place.quarters % 2 else (room.width, room.height)
+        found = turned(box, size, place.quarters)
         found = found._replace(left=found.left + room.left, top=found.top + room.top)
         if self.is_turned:
             found = turned(found, (self.area.width, self.area.height), 1)
@@ -246,65 +255,84 @@ def first_of(labels: Labels) -> LineRecord:
     return labels[0][0].label.record
 
 
-def bands_of(symbol: Any, high: int) -> list[Band]:
-    """Returns the bands of a symbol with its quiet zones, which is so many modules high."""
-    left, right, above, below = symbol.quiet_zones
-    digits = symbol.modules.translate(DIGITS).decode("ascii")
-    starts = range(0, len(digits), symbol.width)
-    rows = ["0" * left + digits[start : start + symbol.width] + "0" * right for start in starts]
-    whole = "1" * len(rows[0])
-    if len(rows) > 1:
-        blank = "0" * len(whole)
-        return [Band(row, whole, 1) for row in (*[blank] * above, *rows, *[blank] * below)]
-    bars = Band(rows[0], whole, high)
-    if symbol.symbology not in GUARDS:
-        return [bars]
-    looked = looked_at(symbol.symbology, left, len(whole))
-    dark = f"{int(rows[0], 2) & int(looked, 2):0{len(whole)}b}"
-    return [bars, Band(dark, looked, LONGER)]
-
-
-@cache
-def looked_at(symbology: str, left: int, wide: int) -> str:
-    """Returns which modules below the bars are looked at: those of longer guards."""
-    looked = ["0"] * wide
-    for first, end in GUARDS[symbology]:
-        looked[left + first : left + end] = "1" * (end - first)
-    return "".join(looked)
-
-
-def check_dots(wanted: Wanted, rows: Sequence[bytes], width: int, dot: float) -> None:
+def check_dots(wanted: Wanted, dots: Dots, dot: float) -> None:
     """Raises `Different` where dots of a page are not those of a symbol."""
-    box = wanted.picture
-    if box.left < 0 or box.right > width or not 0 <= box.top <= box.bottom <= len(rows):
+    box = wanted.where.picture
+    if box.left < 0 or box.right > dots.width or not 0 <= box.top <= box.bottom <= dots.height:
         raise Different(Text("its code leaves the page"), wanted.record)
     first, last = box.left // 8, bytes_a_row(box.right)
     behind = 8 * last - box.right
-    top = box.top
-    for dark, looked, high in turned_bands(wanted):
-        for row in {row[first:last] for row in rows[top : top + high]}:  # most are the same
-            if ((int.from_bytes(row, "big") >> behind) ^ dark) & looked:
-                raise wrong(wanted, dot)
-        top += high
+    read = rows_reader(first, last - first, dots.stride - last, box.height)
+    rows = read(dots.packed, box.top * dots.stride)
+    for row, (dark, looked) in set(zip(rows, rows_of(wanted))):  # most are the same
+        if ((int.from_bytes(row, "big") >> behind) ^ dark) & looked:
+            raise wrong(wanted, dot)
 
 
-def turned_bands(wanted: Wanted) -> Iterator[tuple[int, int, int]]:
-    """Yields the bands of a symbol as it is on a page: dark dots and those that are looked at, as
-    numbers, and how many rows of dots are so.
+def rows_of(wanted: Wanted) -> Iterator[tuple[int, int]]:
+    """Yields the rows of dots of a symbol as it is on a page: which are dark, and which are looked
+    at, as numbers.
     """
-    darks = [band.dark for band in wanted.bands]
-    looks = [band.looked for band in wanted.bands]
-    highs = [band.high * wanted.scale for band in wanted.bands]
-    wides = [wanted.scale] * len(darks[0])
-    for _ in range(wanted.quarters):
-        darks = ["".join(column) for column in zip(*darks[::-1])]
+    where = wanted.where
+    rows, highs, looks = bands_of(wanted)
+    wides = (1,) * where.wide
+    for _ in range(where.quarters):
+        rows = ["".join(column) for column in zip(*rows[::-1])]
+        highs, wides = wides, highs[::-1]
+    dots = {row: number_of(row, wides, where.scale) for row in {*rows}}
+    for row, look, high in zip(rows, looks, highs):
+        yield from [(dots[row], look)] * (high * where.scale)
+
+
+def bands_of(wanted: Wanted) -> tuple[list[str], tuple[int, ...], Sequence[int]]:
+    """Returns the rows of a symbol with its quiet zones as digits, those of bars and of longer
+    guards once; how many modules each of them is high; and which dots are looked at on a page in
+    each of them, as it is turned: between longer guards none, since digits are there.
+    """
+    symbol, where = wanted.symbol, wanted.where
+    packed = symbol.packed(quiet_zones=True)
+    size = bytes_a_row(where.wide)
+    numbers = [int.from_bytes(packed[at : at + size], "big") for at in range(0, len(packed), size)]
+    rows = [f"{number:0{8 * size}b}"[: where.wide] for number in numbers]
+    if symbol.rows > 1:
+        return rows, (1,) * len(rows), looks_of(where, "", 0)
+    if symbol.symbology not in GUARDS:
+        return rows, (where.high,), looks_of(where, "", 0)
+    return rows * 2, (where.high, LONGER), looks_of(where, symbol.symbology, symbol.quiet_zones[0])
+
+
+@lru_cache(KNOWN)
+def looks_of(where: Where, symbology: str, left: int) -> Sequence[int]:
+    """Returns the dots that are looked at in each row of modules on a page: all of a symbol, or of
+    bars with longer guards those too.
+    """
+    wide = where.wide
+    if not symbology:
+        dots = (1 << where.picture.width) - 1
+        return [dots] * max(wide, where.high)
+    looks = ["1" * wide, guards_of(symbology, left, wide)]
+    wides: tuple[int, ...] = (1,) * wide
+    highs: tuple[int, ...] = (where.high, LONGER)
+    for _ in range(where.quarters):
         looks = ["".join(column) for column in zip(*looks[::-1])]
         highs, wides = wides, highs[::-1]
-    known: dict[str, int] = {}
-    for line in {*darks, *looks}:
-        known[line] = int("".join(map(mul, line, wides)), 2)
-    for dark, look, high in zip(darks, looks, highs):
-        yield known[dark], known[look], high
+    return [number_of(look, wides, where.scale) for look in looks]
+
+
+@cache
+def guards_of(symbology: str, left: int, wide: int) -> str:
+    """Returns a row with the modules of longer guards, behind a quiet zone, as digits."""
+    found = ["0"] * wide
+    for first, end in GUARDS[symbology]:
+        found[left + first : left + end] = "1" * (end - first)
+    return "".join(found)
+
+
+def number_of(row: str, wides: Sequence[int], scale: int) -> int:
+    """Returns a row of modules, each of which is so many wide, as the number that its dots are."""
+    if max(wides) > 1:
+        row = "".join(map(mul, row, wides))
+    return int(row.replace("0", "0" * scale).replace("1", "1" * scale), 2)
 
 
 def check_codes(symbols: Sequence[Wanted], page: DrawnPage, dot: float) -> None:
@@ -313,23 +341,35 @@ def check_codes(symbols: Sequence[Wanted], page: DrawnPage, dot: float) -> None:
     """
     whites = iter(page.whites)
     for wanted, code in zip(symbols, page.codes):
-        packed = [packed_of(band.dark) * band.high for band in wanted.bands]
-        wide, high = len(wanted.bands[0].dark), sum(band.high for band in wanted.bands)
-        is_same = (code.width, code.height, code.modules) == (wide, high, b"".join(packed))
-        is_there = is_at(code.corners, wanted.picture, wanted.quarters)
-        is_on_white = all(next(whites, None) == box for box in (wanted.bars, *wanted.guards))
+        where = wanted.where
+        is_same = (code.width, code.height, code.modules) == modules_of(wanted)
+        is_there = is_at(code.corners, where.picture, where.quarters)
+        is_on_white = where.whites == tuple(islice(whites, len(where.whites)))
         if not (is_same and is_there and is_on_white):
             raise wrong(wanted, dot)
 
 
-def packed_of(digits: str) -> bytes:
-    """Returns a row of modules in whole bytes."""
-    return (int(digits, 2) << -len(digits) % 8).to_bytes(bytes_a_row(len(digits)), "big")
+def modules_of(wanted: Wanted) -> tuple[int, int, bytes]:
+    """Returns how many modules a symbol with its longer guards has across and down, and these in
+    rows of whole bytes, as it is read.
+    """
+    symbol, where = wanted.symbol, wanted.where
+    packed: bytes = symbol.packed(quiet_zones=True)
+    if symbol.rows > 1:
+        return where.wide, where.high, packed
+    rows = packed * where.high
+    if symbol.symbology not in GUARDS:
+        return where.wide, where.high, rows
+    digits = guards_of(symbol.symbology, symbol.quiet_zones[0], where.wide)
+    guards = int(digits.ljust(8 * len(packed), "0"), 2) & int.from_bytes(packed, "big")
+    rows += guards.to_bytes(len(packed), "big") * LONGER
+    return where.wide, where.high + LONGER, rows
 
 
 def wrong(wanted: Wanted, dot: float) -> Different:
     """Returns where a code is wrong."""
-    across, down = wanted.picture.left * dot, wanted.picture.top * dot
+    box = wanted.where.picture
+    across, down = box.left * dot, box.top * dot
     what = Text(
         "its code is wrong as it goes out, {:.1f} mm from the left, {:.1f} mm down", across, down
     )
@@ -345,14 +385,14 @@ def spots_of(item: LaidOut, area: Box) -> Iterator[Spot]:
 def spot_of(symbol: OwnSymbol, record: LineRecord) -> Spot:
     """Returns where a symbol has to be."""
     place = symbol.place
-    where = (symbol.box, place.quarters, symbol.boxes["bars"], symbol.module)
+    where = SpotPlace(symbol.box, place.quarters, symbol.boxes["bars"], symbol.module)
     if not place.symbology:
-        return Spot(record.line, False, record.data, *where)
+        return Spot(record.line, False, record.data, where)
     text = own_text(place, record)
     data = symbol.data if text is None else text.encode("utf-8", "surrogateescape")
     escaped = data.replace(b"\\", b"\\\\").replace(b"\n", b"\\n")
     line = ",".join((place.symbology, *place.settings)).encode() + b" " + escaped
-    return Spot(line, True, symbol.data, *where)
+    return Spot(line, True, symbol.data, where)
 
 
 def own_text(place: Place, record: LineRecord) -> Optional[str]:

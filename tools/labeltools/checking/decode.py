@@ -7,15 +7,25 @@ import struct
 import zlib
 from binascii import unhexlify
 from dataclasses import dataclass
-from functools import cache, lru_cache
+from functools import lru_cache
+from operator import itemgetter
 from typing import Callable
 
+from labeltools.common.kept import Kept
 from labeltools.common.text import Text
 
 ZPL_HEAD = re.compile(rb"\^XA\^PON\^LH0,0\^LS0\^PW([0-9]+)\^LL([0-9]+)\n")
-ZPL_FIELD = re.compile(rb"\^FO0,([0-9]+)\^GFA,([0-9]+),([0-9]+),([0-9]+),([^^]*)\^FS\n")
+ZPL_FIELD = re.compile(rb"\^FO([0-9]+),([0-9]+)\^GFA,([0-9]+),([0-9]+),([1-9][0-9]*),([^^]*)\^FS\n")
 ZPL_END = re.compile(rb"(?:\^PQ([0-9]+)\n)?\^XZ\n")
-COUNTED = re.compile(rb"([G-Yg-z]+)([0-9A-F])")
+DIGITS = b"0123456789ABCDEF"
+COUNTS = bytes([*range(ord("G"), ord("Y") + 1), *range(ord("g"), ord("z") + 1)])
+WITHOUT_COUNTS = bytes.maketrans(COUNTS, b" " * len(COUNTS))
+COUNTS_ALONE = bytes(byte if byte in COUNTS else ord(" ") for byte in range(256))
+# a sign that fills the rest of a row does what tabs do with spaces; that of a row that comes again
+# is a line end meanwhile, behind which a row begins
+TABS = bytes.maketrans(b",:", b"\t\r")
+ZEROS = bytes.maketrans(b" \r", b"0:")
+AGAIN = re.compile(rb":(:*)")
 KNOWN = 1024  # sizes of what is read that are kept
 RASTER = b"\x1dv0\0"
 LINES_AND_CUT = b"\x1bd\x03\x1dV\x42\x00"
@@ -121,60 +131,97 @@ def dots_of_escpos(data: bytes, width: int) -> Dots:
 
 
 def dots_of_zpl(data: bytes, _: int) -> Dots:
-    """Reads the graphic fields of a label, one below another."""
+    """Reads the graphic fields of a label, which is white where none is."""
     head = ZPL_HEAD.match(data)
     if not head:
         raise NotDecoded(Text("no zpl of label-print"))
     width, height = map(int, head.groups())
     stride = (width + 7) // 8
-    rows: list[bytes] = []
-    at = head.end()
+    page = bytearray(stride * height)
+    at, low = head.end(), 0
     while field := ZPL_FIELD.match(data, at):
-        top, length, again, size = map(int, field.groups()[:4])
-        found = rows_of_field(field[5], size)
-        if (top, size) != (len(rows), stride) or not length == again == size * len(found):
+        left, top, length, again, size = map(int, field.groups()[:5])
+        dots = FIELDS.get((field[6], size), rows_of_field)
+        bottom = top + length // size
+        if left % 8 or left + 8 * size > 8 * stride or bottom > height:
             raise NotDecoded(Text("zpl with a field that leaves the label"))
-        rows += found
+        if not length == again == len(dots):
+            raise NotDecoded(Text("zpl with a field that has not its rows"))
+        place = slice(stride * top + left // 8, stride * bottom, stride)
+        put(page, place, dots, size, is_first=top >= low)
+        low = max(low, bottom)
         at = field.end()
     end = ZPL_END.fullmatch(data, at)
     if not end:
         raise NotDecoded(Text("zpl without an end"))
-    return Dots(width, height, whole(b"".join(rows), stride * height), int(end[1] or 1))
+    return Dots(width, height, bytes(page), int(end[1] or 1))
 
 
-def rows_of_field(text: bytes, size: int) -> list[bytes]:
-    """Returns the rows of a graphic field, of some bytes each; raises `NotDecoded`.
-
-    >>> [row.hex() for row in rows_of_field(b"F0,:12345678M9,", 4)]
-    ['f0000000', 'f0000000', '12345678', '99999990']
+def put(page: bytearray, place: slice, dots: bytes, size: int, is_first: bool) -> None:
+    """Puts the rows of a field, of some bytes each, into a page whose first column of it is given:
+    all rows at once, with white beside them, where it is the first field in them, or else one
+    column of bytes after another. Raises `NotDecoded` where another field is dark there.
     """
-    pieces = COUNTED.split(text)
-    pieces[1::3] = map(digits_of, pieces[1::3], pieces[2::3])
-    del pieces[2::3]
-    plain = b"".join(pieces)
-    found = row_in(size).findall(plain)
-    if len(b"".join(map(b"".join, found))) + plain.count(b",") != len(plain) or found[0][2]:
+    start, end, stride = place.start, place.stop, place.step
+    if is_first:
+        rows = bytes(stride - size).join(rows_in(dots, size))
+        page[start : start + len(rows)] = rows
+        return
+    for column in range(size):
+        place = slice(start + column, end, stride)
+        if page[place].strip(b"\0"):
+            raise NotDecoded(Text("zpl with a field over another one"))
+        page[place] = dots[column::size]
+
+
+def rows_of_field(field: tuple[bytes, int]) -> bytes:
+    """Returns the rows of a graphic field, of some bytes each, one behind another; raises
+    `NotDecoded`.
+
+    >>> rows_of_field((b"F0,:12345678M9,", 4)).hex(" ", 4)
+    'f0000000 f0000000 12345678 99999990'
+    """
+    text, size = field
+    parts = AGAIN.split(text)
+    rest = b":".join(parts[::2])
+    if rest.translate(None, DIGITS + b":"):
+        rest = expanded(rest).translate(TABS).expandtabs(2 * size).translate(ZEROS)
+    rows = [*map(unhexlify, rest.split(b":"))]
+    if any([len(some) % size for some in rows]):
         raise NotDecoded(Text("a row of the zpl has not its length"))
-    rows: list[bytes] = []
-    for full, part, above in found:
-        rows.append(rows[-1] if above else full or part.ljust(2 * size, b"0"))
-    return list(map(unhexlify, rows))
+    for number, again in enumerate(parts[1::2]):
+        rows[number] += rows[number][-size:] * (1 + len(again))
+    return b"".join(rows)
 
 
-@cache
-def row_in(size: int) -> re.Pattern[bytes]:
-    """Returns the pattern of a row of some bytes: whole, or with its rest light, or as above."""
-    return re.compile(rb"([0-9A-F]{%d})|([0-9A-F]{0,%d}),|(:)" % (2 * size, 2 * size - 1))
+def expanded(text: bytes) -> bytes:
+    """Returns digits for counts and digits; raises `NotDecoded`.
 
-
-@cache
-def digits_of(count: bytes, digit: bytes) -> bytes:
-    """Returns the digits that a count and a digit mean: G to Y are 1 to 19, g to z are 20 to 400.
-
-    >>> digits_of(b"I", b"F"), len(digits_of(b"zgM", b"0"))
-    (b'FFF', 427)
+    >>> expanded(b"FIFA")
+    b'FFFFA'
     """
-    return digit * sum(one - 70 if one <= 89 else 20 * (one - 102) for one in count)
+    if text.translate(None, DIGITS + COUNTS + b":,"):
+        raise NotDecoded(Text("no zpl of label-print"))
+    pieces = (b"+" + text).translate(WITHOUT_COUNTS).split()
+    counts = text.translate(COUNTS_ALONE).split()
+    found = [b""] * (len(pieces) + len(counts))
+    found[0::2] = pieces
+    found[1::2] = map(RUNS.__getitem__, zip(counts, map(itemgetter(0), pieces[1:])))
+    return b"".join(found)[1:]
+
+
+class Runs(dict[tuple[bytes, int], bytes]):
+    """The digits that counts say, but for the one that follows each of them: G to Y are 1 to 19, g
+    to z are 20 to 400.
+    """
+
+    def __missing__(self, key: tuple[bytes, int]) -> bytes:
+        count, digit = key
+        if digit not in DIGITS:
+            raise NotDecoded(Text("no zpl of label-print"))
+        times = sum(one - 70 if one <= 89 else 20 * (one - 102) for one in count)
+        self[key] = bytes([digit]) * (times - 1)
+        return self[key]
 
 
 def rows_in(data: bytes | bytearray, size: int) -> tuple[bytes, ...]:
@@ -197,6 +244,8 @@ def whole(data: bytes, length: int) -> bytes:
     return data
 
 
+RUNS = Runs()
+FIELDS: Kept[tuple[bytes, int], bytes] = Kept(1024)
 DECODERS = {
     "pbm": dots_of_pbm,
     "png": dots_of_png,

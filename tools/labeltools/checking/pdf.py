@@ -13,7 +13,8 @@ from labeltools.common.text import Text
 
 POINTS = 72  # in an inch
 NEAR = 0.25  # of a dot, by which the place of a code may be off
-NUMBERS = rb"(%b)" % rb" ".join([rb"-?[0-9.]+"] * 6)
+NUMBER = rb"-?[0-9.]+"
+NUMBERS = rb"(%b)" % rb" ".join([NUMBER] * 6)
 PAGE = re.compile(
     rb"[^>]*/MediaBox \[ 0 0 [0-9.]+ ([0-9.]+) \][^>]*/Contents ([0-9]+) 0 R"  # its height
 )
@@ -21,11 +22,23 @@ MASK = re.compile(
     rb"[^>]*/ImageMask true\s+/Width ([0-9]+)\s+/Height ([0-9]+)[^>]*"
     rb"/Decode \[1 0\][^>]*>>\s*stream\n"  # a bit of 1 is dark
 )
-# what a page is: its matrix; then anything, in which strings may have any bytes; white rectangles;
-# and in black, in a matrix of its own, one picture behind another
+FORM = re.compile(
+    rb"[^>]*/Subtype /Form\s+/BBox \[ ([0-9]+) ([0-9]+) ([0-9]+) ([0-9]+) \][^>]*>>\s*stream\n"
+)
+# what a page is: its matrix; then anything, in which strings may have any bytes; a drawing of white
+# rectangles in dots, and the first of them once more; and in black, in a matrix of its own, one
+# picture behind another
 STRING = re.compile(rb"\((?:[^\\()]|\\.)*\)|<[0-9A-Fa-f\n]*>", re.DOTALL)
-STATE = re.compile(rb"(?<!\S)(?:q|Q|cm)(?!\S)")
-WHITES = re.compile(rb"1 1 1 rg (?:/a[0-9]+ gs\s)?((?:[-0-9. ]+ re f\n)+)0 0 0 rg q\n\Z")
+STATE = re.compile(rb"(?<![^\s\])>])(?:q|Q|cm)(?![^\s\[(<])")
+WHITES = re.compile(
+    rb"q\n(N) 0 0 (N) 0 0 cm\n(?:/a[0-9]+ gs )?/x([0-9]+) Do\nQ\n"
+    rb"1 1 1 rg (?:/a[0-9]+ gs\s)?N N N N re f\n0 0 0 rg q\n\Z".replace(b"N", NUMBER)
+)
+WHITE = re.compile(rb"\s*q\s+1 1 1 rg (?:/a[0-9]+ gs\s)?([-0-9. \nmlhre]+) f\s+Q\s*")
+# one rectangle, or several and a point that paints nothing
+ALONE = re.compile(rb"(N) (N) (N) (N) re".replace(b"N", NUMBER))
+RECTANGLE = re.compile(rb"(N) (N) m (N) (N) l (N) (N) l (N) (N) l\s+h\s".replace(b"N", NUMBER))
+POINT = re.compile(rb"N N m".replace(b"N", NUMBER))
 PICTURE = re.compile(rb"(?:Q\nq\n)?%b cm\n/x([0-9]+)" % NUMBERS)
 END = re.compile(rb"Q\s+Q\s*")
 KIDS = b"/Kids ["
@@ -69,6 +82,7 @@ class Pdf:
         if table is None:
             raise ValueError("no table")
         self.table = table.end()
+        self.white = lru_cache(KNOWN)(self.new_white)
 
     def start(self, number: int) -> int:
         """Returns where an object begins."""
@@ -101,9 +115,25 @@ class Pdf:
         whites = WHITES.search(before[:first])
         if whites is None:
             raise ValueError("codes without white below them")
+        if {round(float(number) * self.scale, 4) for number in whites.groups()[:2]} != {1}:
+            raise ValueError("white that is not in dots")
         require_matrix(before[: whites.start()], b"1 0 0 -1 0 %b cm\nq\n" % high)
         found = [self.code(text) for text in (before[first:], *pictures)]
-        return DrawnPage(found, [self.box(*one.split()[:4]) for one in whites[1].splitlines()])
+        return DrawnPage(found, self.white(int(whites[3])))
+
+    def new_white(self, number: int) -> tuple[Box, ...]:
+        """Returns the white rectangles of a drawing."""
+        start = self.data.index(b" R\n", self.start(number))  # behind its length
+        form = FORM.match(self.data, start)
+        path = WHITE.fullmatch(self.stream(start))
+        if form is None or path is None:
+            raise ValueError("a drawing that is no white")
+        boxes = boxes_in(path[1])
+        left, top, right, bottom = map(int, form.groups())
+        for box in boxes:
+            if box.left < left or box.top < top or box.right > right or box.bottom > bottom:
+                raise ValueError("white that is cut off")
+        return boxes
 
     def code(self, text: bytes) -> DrawnCode:
         """Returns a picture that is drawn in a matrix."""
@@ -120,11 +150,6 @@ class Pdf:
             raise ValueError("a picture that is no code")
         return int(mask[1]), int(mask[2]), self.stream(start)
 
-    def box(self, *numbers: bytes) -> Box:
-        """Returns a rectangle in whole dots."""
-        left, top, width, height = (round(float(number) * self.scale) for number in numbers)
-        return Box(left, top, width, height)
-
 
 def require_matrix(before: bytes, begin: bytes) -> None:
     """Raises `ValueError` where a page does not begin so, or what is behind that leaves another
@@ -132,8 +157,11 @@ def require_matrix(before: bytes, begin: bytes) -> None:
     """
     if not before.startswith(begin):
         raise ValueError("a page in another matrix")
+    rest = before[len(begin) :]
+    if not STATE.search(rest):  # not even in a string
+        return
     kept = 0
-    for word in STATE.findall(STRING.sub(b"", before[len(begin) :])):
+    for word in STATE.findall(STRING.sub(b" ", rest)):
         if word == b"q":
             kept += 1
         elif not kept:
@@ -149,6 +177,34 @@ def corners_of(numbers: bytes, scale: float) -> Corners:
     """Returns where three corners of a picture are in dots by its matrix in points."""
     a, b, c, d, e, f = (float(number) * scale for number in numbers.split())
     return tuple((a * x + c * y + e, b * x + d * y + f) for x, y in ((0, 1), (1, 1), (0, 0)))
+
+
+def boxes_in(path: bytes) -> tuple[Box, ...]:
+    """Returns the rectangles of a path in dots; raises `ValueError` where it has others."""
+    if alone := ALONE.fullmatch(path):
+        left, top, width, height = (float(number) for number in alone.groups())
+        right, low = left + width, top + height
+        corners = [[left, top, right, top, right, low, left, low]]
+    else:
+        corners = [[*map(float, found)] for found in RECTANGLE.findall(path)]
+        if not POINT.fullmatch(RECTANGLE.sub(b"", path)):
+            raise ValueError("codes on no rectangles")
+    sides = [sides_of(numbers, 1) for numbers in corners]
+    return tuple(Box(left, top, right - left, low - top) for left, top, right, low in sides)
+
+
+def sides_of(corners: Sequence[float], scale: float) -> tuple[int, int, int, int]:
+    """Returns the sides of a rectangle in whole dots by its corners, one behind another; raises
+    `ValueError` where they are none.
+    """
+    places = [number * scale for number in corners]
+    dots = [round(place) for place in places]
+    points = [*zip(dots[::2], dots[1::2])]
+    is_near = all(abs(place - dot) <= NEAR for place, dot in zip(places, dots))
+    sides = [(x == u, y == v) for (x, y), (u, v) in zip(points, [*points[1:], points[0]])]
+    if not is_near or sides[:2] != sides[2:] or {*sides} != {(True, False), (False, True)}:
+        raise ValueError("a rectangle that is none, or on no whole dots")
+    return min(dots[::2]), min(dots[1::2]), max(dots[::2]), max(dots[1::2])
 
 
 @lru_cache(KNOWN)

@@ -4,12 +4,11 @@ that nothing else of the page is over them.
 
 import re
 from itertools import takewhile
-from typing import Sequence
 from xml.etree import ElementTree
 from xml.etree.ElementTree import Element
 
 from labeltools.checking.decode import Dots, NotDecoded
-from labeltools.checking.pdf import NEAR, POINTS
+from labeltools.checking.pdf import POINTS, sides_of
 from labeltools.common.text import Text
 
 PATH = "{http://www.w3.org/2000/svg}path"
@@ -32,7 +31,8 @@ def dots_of_svg(data: bytes, dpi: float, size: tuple[int, int]) -> Dots:
         for element in reversed(last):
             is_white = WHITE in element.get("style", "")
             for corners in RECTANGLE.findall(element.get("d", "")):
-                left, top, right, bottom = sides_of(corners, dpi / POINTS)
+                numbers = [float(number) for number in corners]
+                left, top, right, bottom = sides_of(numbers, dpi / POINTS)
                 bits = ((1 << (right - left)) - 1) << (8 * stride - right)
                 if not 0 <= left < right <= width or not 0 <= top < bottom <= height:
                     raise NotDecoded(Text("its code leaves the page"))
@@ -49,13 +49,3 @@ def is_rectangles(element: Element) -> bool:
     is_whole = re.fullmatch(f"M {NUMBER} {NUMBER} ", rest) is not None
     has_style = FILL.search(element.get("style", "")) is not None
     return element.tag == PATH and has_style and is_whole and "transform" not in element.keys()
-
-
-def sides_of(corners: Sequence[str], scale: float) -> tuple[int, int, int, int]:
-    """Returns the sides of a rectangle in whole dots; raises `NotDecoded` where they are none."""
-    places = [float(number) * scale for number in corners]
-    across, down = {round(x) for x in places[::2]}, {round(y) for y in places[1::2]}
-    is_near = all(abs(place - round(place)) <= NEAR for place in places)
-    if not is_near or len(across) != 2 or len(down) != 2:
-        raise NotDecoded(Text("its modules are no whole dots"))
-    return min(across), min(down), max(across), max(down)

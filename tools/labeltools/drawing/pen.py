@@ -3,9 +3,9 @@
 import math
 import re
 from collections import defaultdict
-from contextlib import contextmanager
 from dataclasses import dataclass
-from functools import cache
+from functools import cache, lru_cache
+from itertools import repeat
 from typing import (
     Any,
     Iterable,
@@ -42,7 +42,10 @@ DIGITS = "0123456789"
 BETWEEN = "   "  # old price and unit price on one line
 EDGE = 4.0  # dots: white around letters on a tint, of which letters cover half
 WITHOUT_END = 1 << 20  # dots: the height of a text of which all lines are wanted
+KNOWN = 1024  # boxes that are kept
+KNOWN_PAGES = 16  # of which the white is kept
 Page = Sequence[tuple[LaidOut, Dots]]  # labels, with the upper left corners of their areas
+Codes = Sequence[tuple[OwnSymbol, Dots]]  # symbols, with those of the areas of their labels
 
 
 class Placed(NamedTuple):
@@ -56,6 +59,17 @@ class Placed(NamedTuple):
     quarters: int = 0
     colour: Optional[Colour] = None
     is_edged: bool = False
+
+
+class White(NamedTuple):
+    """White rectangles in a room of a label, which is turned to the right by some quarters, and
+    where the area of the label begins.
+    """
+
+    boxes: tuple[Box, ...]
+    room: Box
+    quarters: int
+    place: Dots
 
 
 # glyphs of many labels that are drawn together, by their faces and sizes: a call of Cairo takes as
@@ -108,6 +122,7 @@ class Pen:
         self.digits_of_size = cache(self.new_digits)
         self.style = cache(self.new_style)
         self.digit_places = cache(self.new_digit_places)
+        self.recorded_white = lru_cache(KNOWN_PAGES)(self.new_recorded_white)
 
     def digits_font(self, options: cairo.FontOptions, size: int) -> Any:
         """Returns the font of digits in a size."""
@@ -120,7 +135,7 @@ class Pen:
         """
         whole = canvas.get_matrix()
         if turn:
-            canvas.transform(cairo.Matrix(0, 1, -1, 0, turn, 0))
+            canvas.transform(upright_from(turn))
             page = [(item, (top, -left)) for item, (left, top) in page]
         self.draw_below(canvas, page, bool(turn))
         runs: Runs = defaultdict(list)
@@ -132,7 +147,16 @@ class Pen:
             for text in self.texts(item):
                 self.draw_text(canvas, text, place)
         self.show_runs(canvas, runs)
-        self.draw_codes(canvas, codes)
+        turned = canvas.get_matrix()
+        if codes and not self.medium.is_dots:
+            canvas.set_matrix(whole)
+            self.draw_white(canvas, codes, turn)
+            canvas.set_matrix(turned)
+        for symbol, place in codes:
+            corner = turn_to(canvas, symbol.box, symbol.place.quarters, place)
+            self.draw_modules(canvas, symbol.modules, symbol, corner)
+            if symbol.place.quarters:
+                canvas.set_matrix(turned)
         canvas.set_matrix(whole)
 
     def draw_below(self, canvas: Any, page: Page, is_turned: bool) -> None:
@@ -229,29 +253,61 @@ class Pen:
             yield *self.text_of("text", label, layout), box.width, WITHOUT_END
 
     def draw_digits(self, canvas: Any, symbol: OwnSymbol, place: Dots, runs: Runs) -> None:
-        """Draws what is below the bars of a symbol of a label whose area begins at a place."""
-        box = symbol.box
-        if not symbol.place.quarters:
-            self.draw_data(canvas, symbol, (place[0] + box.left, place[1] + box.top), runs)
-            return
-        with self.turned(canvas, box, symbol.place.quarters, place) as own:
-            self.draw_data(canvas, symbol, (0, 0), own)
-
-    def draw_codes(self, canvas: Any, codes: Sequence[tuple[OwnSymbol, Dots]]) -> None:
-        """Draws symbols of labels whose areas begin at places: last on their page, and in a drawing
-        on white, so that nothing is over them.
+        """Draws what is below the bars of a symbol of a label whose area begins at a place; digits
+        that are not turned are shown with those of other labels.
         """
-        if not self.medium.is_dots:
-            canvas.set_source_rgb(1, 1, 1)
-            for symbol, place in codes:
-                with self.turned(canvas, symbol.box, symbol.place.quarters, place):
-                    for box in boxes_of(symbol):
-                        canvas.rectangle(*box)
-                        canvas.fill()
-            canvas.set_source_rgb(0, 0, 0)
-        for symbol, place in codes:
-            with self.turned(canvas, symbol.box, symbol.place.quarters, place):
-                self.draw_modules(canvas, symbol.modules, symbol)
+        quarters = symbol.place.quarters
+        whole = canvas.get_matrix() if quarters else None
+        corner = turn_to(canvas, symbol.box, quarters, place)
+        if whole is None:
+            self.draw_data(canvas, symbol, corner, runs)
+            return
+        own: Runs = defaultdict(list)
+        self.draw_data(canvas, symbol, corner, own)
+        self.show_runs(canvas, own)
+        canvas.set_matrix(whole)
+
+    def draw_white(self, canvas: Any, codes: Codes, turn: int) -> None:
+        """Draws what is white below the codes of a page, so that nothing is over them, and makes
+        black the colour. A PDF has it once for all pages that have their codes in the same places.
+        """
+        whites = [
+            White(white_of(symbol), symbol.box, symbol.place.quarters, place)
+            for symbol, place in codes
+        ]
+        if self.medium.is_pdf:
+            canvas.set_source_surface(self.recorded_white(tuple(whites), turn))
+            canvas.paint()
+            # the first one is drawn once more, since the colour is said behind it
+            whites = [whites[0]._replace(boxes=whites[0].boxes[:1])]
+        canvas.set_source_rgb(1, 1, 1)
+        self.fill_white(canvas, whites, turn)
+        canvas.set_source_rgb(0, 0, 0)
+
+    def new_recorded_white(self, whites: Sequence[White], turn: int) -> cairo.RecordingSurface:
+        """Returns what is white below codes."""
+        anywhere: Any = None
+        drawing = cairo.RecordingSurface(cairo.CONTENT_COLOR_ALPHA, anywhere)
+        canvas = cairo.Context(drawing)
+        canvas.set_source_rgb(1, 1, 1)
+        self.fill_white(canvas, whites, turn)
+        return drawing
+
+    def fill_white(self, canvas: Any, whites: Sequence[White], turn: int) -> None:
+        """Fills rectangles of symbols, which are in the boxes of labels; the canvas is that of a
+        page, and `turn` as in `draw`.
+        """
+        whole = canvas.get_matrix()
+        if turn:
+            canvas.transform(upright_from(turn))
+        upright = canvas.get_matrix()
+        for boxes, room, quarters, place in whites:
+            left, top = turn_to(canvas, room, quarters, place)
+            for box in boxes:
+                canvas.rectangle(left + box.left, top + box.top, box.width, box.height)
+            canvas.set_matrix(upright)
+        canvas.set_matrix(whole)
+        canvas.fill()
 
     def draw_text(self, canvas: Any, placed: Placed, place: Dots) -> None:
         """Draws a text of a label whose area begins at a place; in dots it is black, or takes black
@@ -261,28 +317,17 @@ class Pen:
         if not quarters and colour is None and not is_edged:
             self.show(canvas, text, style, place[0] + box.left, place[1] + box.top)
             return
-        with self.turned(canvas, box, quarters, place):
-            if is_edged:
-                edge_letters(canvas, text)
-            if colour and not self.medium.is_dots:
-                canvas.set_source_rgb(*colour)
-            elif colour and is_light(colour):
-                canvas.set_operator(cairo.Operator.DEST_OUT)
-            self.show(canvas, text, style, 0, 0)
-
-    @contextmanager
-    def turned(self, canvas: Any, box: Box, quarters: int, place: Dots) -> Iterator[Runs]:
-        """Gives glyphs that are shown at the end in a box of a label, which is turned to the right
-        by some quarters, as is the canvas until then.
-        """
-        corners = ((0, 0), (box.width, 0), (box.width, box.height), (0, box.height))
-        rows = ((1, 0, 0, 1), (0, 1, -1, 0), (-1, 0, 0, -1), (0, -1, 1, 0))
         canvas.save()
-        canvas.translate(place[0] + box.left, place[1] + box.top)
-        canvas.transform(cairo.Matrix(*rows[quarters], *corners[quarters]))
-        runs: Runs = defaultdict(list)
-        yield runs
-        self.show_runs(canvas, runs)
+        corner = turn_to(canvas, box, quarters, place)
+        if is_edged:
+            canvas.translate(*corner)
+            corner = 0, 0
+            edge_letters(canvas, text)
+        if colour and not self.medium.is_dots:
+            canvas.set_source_rgb(*colour)
+        elif colour and is_light(colour):
+            canvas.set_operator(cairo.Operator.DEST_OUT)
+        self.show(canvas, text, style, *corner)
         canvas.restore()
 
     def show(self, canvas: Any, text: Fitted, style: Style, left: int, top: int) -> None:
@@ -306,9 +351,10 @@ class Pen:
             else:
                 canvas.show_glyphs(glyphs)
 
-    def draw_modules(self, canvas: Any, modules: Modules, layout: OwnSymbol) -> None:
-        """Draws the modules of a label, and the longer guards of bars."""
-        box = layout.boxes["bars"]
+    def draw_modules(self, canvas: Any, modules: Modules, layout: OwnSymbol, corner: Dots) -> None:
+        """Draws the modules of a symbol whose box begins at a corner, and longer guards of bars."""
+        bars = layout.boxes["bars"]
+        box = Box(corner[0] + bars.left, corner[1] + bars.top, bars.width, bars.height)
         module = layout.module
         has_rows = len(modules.packed) > modules.row_size  # bars have one, whatever their height
         if self.medium.is_dots and has_rows and is_upright(canvas):
@@ -343,22 +389,17 @@ class Pen:
             return
         base = top + round((DIGITS_TOP + DIGITS_SIZE * self.digit_height) * module)
         for first, last, size, start in self.digit_places(symbol.symbology.name, module):
-            found = runs[self.digits_face, size]
-            digits = self.digits_of_size(size)
-            x: float = left + start
-            for digit in data[first:last]:
-                number, advance = digits[digit]
-                found.append((number, x, base))
-                x += advance
+            glyphs, wide = self.digits_of_size(size)
+            x = left + start
+            runs[self.digits_face, size] += [
+                (glyphs[digit], x + at * wide, base) for at, digit in enumerate(data[first:last])
+            ]
 
-    def new_digits(self, size: int) -> dict[str, tuple[int, float]]:
+    def new_digits(self, size: int) -> tuple[dict[str, int], float]:
         """Returns the glyphs of digits in a size, and how far each one is from the next."""
         font = self.digits_font(self.options, size)
-        found = {}
-        for digit in DIGITS:
-            first, second = font.text_to_glyphs(0, 0, 2 * digit, False)
-            found[digit] = first.index, second.x
-        return found
+        glyphs = {digit: font.text_to_glyphs(0, 0, digit, False)[0].index for digit in DIGITS}
+        return glyphs, font.text_to_glyphs(0, 0, "00", False)[1].x
 
     def new_digit_places(self, symbology: str, module: int) -> list[DigitPlace]:
         """Returns which digits are where below the bars, and how large."""
@@ -408,13 +449,40 @@ def titled(title: str, frame: Frame) -> tuple[str, int]:
     return title, lines
 
 
-def boxes_of(symbol: OwnSymbol) -> Iterator[Box]:
-    """Yields the boxes of a symbol: that of its bars, and those of what guards are longer."""
-    bars = symbol.boxes["bars"]
-    yield bars
-    for span in symbol.symbology.guards:
-        left, wide = bars.left + span.left * symbol.module, (span.right - span.left) * symbol.module
-        yield Box(left, bars.bottom, wide, GUARD * symbol.module)
+def turn_to(canvas: Any, box: Box, quarters: int, place: Dots) -> Dots:
+    """Turns a canvas to the right by some quarters, with a box of a label whose area begins at a
+    place, and returns where that begins.
+    """
+    left, top = place[0] + box.left, place[1] + box.top
+    if not quarters:
+        return left, top
+    corners = ((0, 0), (box.width, 0), (box.width, box.height), (0, box.height))
+    rows = ((1, 0, 0, 1), (0, 1, -1, 0), (-1, 0, 0, -1), (0, -1, 1, 0))
+    canvas.translate(left, top)
+    canvas.transform(cairo.Matrix(*rows[quarters], *corners[quarters]))
+    return 0, 0
+
+
+def upright_from(turn: int) -> cairo.Matrix:
+    """Returns the matrix of labels that are turned to the right, whose areas are so wide on the
+    paper.
+    """
+    return cairo.Matrix(0, 1, -1, 0, turn, 0)
+
+
+def white_of(symbol: OwnSymbol) -> tuple[Box, ...]:
+    """Returns the boxes of a symbol: that of its bars, and those of what guards are longer."""
+    return boxes_of(symbol.boxes["bars"], symbol.module, symbol.symbology.name)
+
+
+@lru_cache(KNOWN)
+def boxes_of(bars: Box, module: int, symbology: str) -> tuple[Box, ...]:
+    """Returns the boxes of bars, whose modules have so many dots, and of what guards are longer."""
+    guards = (
+        Box(bars.left + span.left * module, bars.bottom, (span.right - span.left) * module, longer)
+        for longer, span in zip(repeat(GUARD * module), SYMBOLOGIES[symbology].guards)
+    )
+    return bars, *guards
 
 
 def bits_of(row: bytes) -> str:

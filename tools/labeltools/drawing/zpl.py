@@ -1,26 +1,50 @@
 """ZPL II of label printers."""
 
 import re
-from functools import cache
-from typing import Iterator
+from functools import cache, reduce
+from itertools import repeat
+from operator import ne, or_
+from typing import Iterator, NamedTuple
 
-from labeltools.drawing.dots import Picture
+from labeltools.common.kept import Kept
+from labeltools.drawing.dots import Picture, rows_reader
 
 MOST_BYTES = 99_999  # of a graphic field
-RUN = re.compile("(0{6,}|F{6,})")  # a count of fewer saves next to nothing
+# white that parts two fields: fewer rows or bytes of it take less than the head of a field
+INKED_ROWS = re.compile(rb"[^\0]+(?:\0{1,7}[^\0]+)*")
+INKED = re.compile(rb"[^\0]+(?:\0{1,2}[^\0]+)*")
+INKED_OF_MANY = re.compile(rb"[^\0]+")
+MANY = 50  # rows that differ, from which on a byte of white in each takes more: large letters
 # run lengths: counts of one are a letter from G on, counts of twenty a letter from g on
 MOST_COUNT = 400
 TWENTY = 20
 BEFORE_ONE = ord("F")
 BEFORE_TWENTY = ord("f")
+# a count of fewer saves next to nothing; one pattern for both takes twice the time
+OFTEN = (re.compile("(000000*)"), re.compile("(FFFFFF*)"))
+RUNS = ("000000", "FFFFFF")
+RARELY = 20  # digits to one of these: where there are more, counts save less than a third
+BLOCKS: Kept[tuple[bytes, int], bytes] = Kept(1024)
+
+
+class Block(NamedTuple):
+    """A part of a label: its columns in bytes and its rows in dots, from the first to that behind
+    the last.
+    """
+
+    left: int
+    top: int
+    right: int
+    bottom: int
 
 
 def zpl(picture: Picture, copies: int) -> bytes:
     """Returns a label, which is printed `copies` times.
 
     It is not turned (^PON), and begins at the left upper corner (^LH, ^LS), whatever the job before
-    has set. Its dots are in graphic fields as wide as the label, in run lengths, which each printer
-    and clone reads.
+    has set. Its dots are a graphic field for each block between white rows and columns, so that a
+    row of bars is that above it once more, whatever is beside them. They are in run lengths, which
+    each printer and clone reads.
     """
     head = b"^XA^PON^LH0,0^LS0^PW%d^LL%d\n" % (picture.width, picture.height)
     count = b"^PQ%d\n" % copies if copies > 1 else b""
@@ -28,27 +52,80 @@ def zpl(picture: Picture, copies: int) -> bytes:
 
 
 def graphic_fields(picture: Picture) -> Iterator[bytes]:
-    """Yields the graphic fields of a label, one below another."""
-    size = picture.stride
-    high = MOST_BYTES // size
-    for top in range(0, picture.height, high):
-        dots = picture.packed[top * size : (top + high) * size]
-        head = b"^FO0,%d^GFA,%d,%d,%d," % (top, len(dots), len(dots), size)
-        yield head + run_lengths(dots, size) + b"^FS\n"
+    """Yields the graphic fields of a label."""
+    for block in blocks(picture, Block(0, 0, picture.stride, picture.height), False):
+        size = block.right - block.left
+        high = MOST_BYTES // size
+        for top in range(block.top, block.bottom, high):
+            part = block._replace(top=top, bottom=min(block.bottom, top + high))
+            dots = b"".join(rows_of(picture, part))
+            head = (8 * block.left, top, len(dots), len(dots), size)
+            yield b"^FO%d,%d^GFA,%d,%d,%d,%b^FS\n" % (*head, run_lengths(dots, size))
+
+
+def rows_of(picture: Picture, block: Block) -> tuple[bytes, ...]:
+    """Returns the rows of a block."""
+    left, top, right, bottom = block
+    read = rows_reader(left, right - left, picture.stride - right, bottom - top)
+    return read(picture.packed, top * picture.stride)
+
+
+def blocks(picture: Picture, block: Block, is_narrow: bool) -> Iterator[Block]:
+    """Yields the blocks of a part of a label with white around them, from top to bottom, and from
+    left to right; `is_narrow` is whether no column of white parts it.
+    """
+    bands = [*bands_of(picture, block)]
+    if is_narrow and len(bands) == 1:
+        yield from bands
+        return
+    for band in bands:
+        rows = {*rows_of(picture, band)}
+        dots = [int.from_bytes(row, "big") for row in rows]
+        inked = reduce(or_, dots).to_bytes(band.right - band.left, "big")
+        parts = [*INKED.finditer(inked)]
+        is_split = len(parts) == 1 and len(rows) >= MANY
+        if is_split:
+            parts = [*INKED_OF_MANY.finditer(inked)]
+        for first, last in map(re.Match.span, parts):
+            found = band._replace(left=band.left + first, right=band.left + last)
+            if len(parts) == 1:
+                yield found
+            else:
+                yield from blocks(picture, found, is_split)
+
+
+def bands_of(picture: Picture, block: Block) -> Iterator[Block]:
+    """Yields parts of a block with white rows between them, and none at their ends."""
+    blank = bytes(block.right - block.left)
+    inked = bytes(map(ne, rows_of(picture, block), repeat(blank)))
+    for first, last in map(re.Match.span, INKED_ROWS.finditer(inked)):
+        yield block._replace(top=block.top + first, bottom=block.top + last)
 
 
 def run_lengths(dots: bytes, size: int) -> bytes:
-    """Returns rows of some bytes in hexadecimal: `:` for the row above once more, `,` for a rest of
-    0, and a count before six or more of 0 and F.
+    """Returns rows of some bytes in hexadecimal: `:` for the row above once more, and where it
+    saves much, a count before 0 and F that come often, and `,` for a rest of 0.
 
     >>> run_lengths(bytes.fromhex("FF00AB FF00AB 00000000000C"), 3)
-    b'FF00AB:,00000C'
+    b'FF00AB:,K0C'
     """
+    return BLOCKS.get((dots, size), new_run_lengths)
+
+
+def new_run_lengths(block: tuple[bytes, int]) -> bytes:
+    """Writes rows in run lengths, or without counts, which are quicker to write and to read."""
+    dots, size = block
     rows = dots.hex("\n", size).upper().split("\n")
-    texts = [":" if row == above else without_rest(row) for above, row in zip(["", *rows], rows)]
-    pieces = RUN.split("\n".join(texts))  # no run goes on from a row to the next
-    pieces[1::2] = map(run_length_of, pieces[1::2])
-    return "".join(pieces).replace("\n", "").encode()
+    texts = [":" if row == above else row for above, row in zip(["", *rows], rows)]
+    whole = "".join(texts)
+    if sum(map(whole.count, RUNS)) * RARELY < len(whole):
+        return whole.encode()
+    whole = "".join(map(without_rest, texts))  # no run goes on from a row to the next
+    for often in OFTEN:
+        pieces = often.split(whole)
+        pieces[1::2] = map(run_length_of, pieces[1::2])
+        whole = "".join(pieces)
+    return whole.encode()
 
 
 def without_rest(row: str) -> str:

@@ -70,6 +70,7 @@ class Fitter:
         self.is_dots = is_dots
         self.context = pango_context(options, is_dots)
         self.blank = cache(self.new_blank)
+        self.line = cache(self.new_line)
         self.kept: Kept[Hashable, Fitted] = Kept(KEPT)
 
     def found(self, text: str, style: Style, width: int, height: int) -> Fitted:
@@ -80,6 +81,11 @@ class Fitter:
     def fitted(self, text: str, style: Style, width: int, height: int) -> Fitted:
         """Returns a text as it fits a box: smaller where its ink would leave it."""
         size = style.size
+        if self.is_one_line(text, style, width):
+            layout, high = self.line(style)  # which takes less time than one that wraps
+            if high <= height:
+                layout.set_text(text, -1)
+                return Fitted(size, layout, size // SIDE, int((height - high) * style.down), high)
         is_on_base = style.base is not None
         while True:
             layout = self.laid_out(text, style, width, size)
@@ -101,17 +107,26 @@ class Fitter:
         """Returns whether a text ends in an ellipsis as it fits a box."""
         if not style.lines:
             return False
-        wider = HINTED if self.is_dots else PLAIN
-        room = (width - 2 * (style.size // SIDE)) / (style.size * wider)
-        is_measured = style.family == self.letters.family
-        if is_measured and all(
-            self.is_surely_whole(line, style, room) for line in text.split("\n")
-        ):
+        rows = [self.rows_of(line, style, width) for line in text.split("\n")]
+        if all(0 < count <= style.lines for count in rows):
             return False
         return bool(self.fitted(text, style, width, height).layout.is_ellipsized())
 
-    def is_surely_whole(self, line: str, style: Style, room: float) -> bool:
-        """Returns whether a line is whole by the widths of its words, which is quick to see."""
+    def is_one_line(self, text: str, style: Style, width: int) -> bool:
+        """Returns whether a text is a line of plain letters at the left for certain."""
+        is_plain = style.lines > 0 and style.base is None and style.across == LEFT
+        if not is_plain or "\n" in text or NOT_LATIN.search(text):
+            return False
+        return self.rows_of(text, style, width) == 1
+
+    def rows_of(self, line: str, style: Style, width: int) -> int:
+        """Returns how many rows a line takes by the widths of its words, which is quick to see; 0
+        where that is not certain.
+        """
+        if style.family != self.letters.family:
+            return 0
+        wider = HINTED if self.is_dots else PLAIN
+        room = (width - 2 * (style.size // SIDE)) / (style.size * wider)
         words = self.letters.words[style.is_bold]
         space = SPACE if self.is_dots else self.letters.spaces[style.is_bold]
         lines = 0
@@ -121,12 +136,12 @@ class Fitter:
             for word in row.split(" "):
                 sign = words[word]
                 if sign is None or sign.advance > room:
-                    return False
+                    return 0
                 if used + sign.advance > room:
                     lines += 1
                     used = 0.0
                 used += sign.advance + space * bool(word)
-        return lines <= style.lines
+        return lines
 
     def shown(self, text: str, style: Style, width: int, height: int) -> str:
         """Returns a text as it is seen in a box: up to the ellipsis, where it has one."""
@@ -135,12 +150,14 @@ class Fitter:
         return seen.replace(LINE_END, " ")
 
     def new_blank(self, style: Style, width: int, size: int) -> Any:
-        """Returns a layout of Pango without a text, its letters of a size in dots."""
+        """Returns a layout of Pango without a text, its letters of a size in dots; it has one line
+        for a width of less than 0.
+        """
         layout = Pango.Layout.new(self.context)
         font = Pango.FontDescription(f"{style.family}, {'Bold' * style.is_bold}")
         font.set_absolute_size(size * UNIT)
         layout.set_font_description(font)
-        if style.lines:
+        if style.lines and width >= 0:
             layout.set_width((width - size // SIDE * 2) * UNIT)
             layout.set_wrap(Pango.WrapMode.WORD_CHAR)
             layout.set_ellipsize(Pango.EllipsizeMode.END)
@@ -148,6 +165,12 @@ class Fitter:
         layout.set_alignment(ALIGNMENTS[style.across])
         layout.set_attributes(attributes_of(style, size))
         return layout
+
+    def new_line(self, style: Style) -> tuple[Any, int]:
+        """Returns a layout of Pango for texts of one line, and how high it is."""
+        layout = self.new_blank(style, -1, style.size)
+        layout.set_text("x", -1)
+        return layout, layout.get_pixel_size()[1]
 
     def laid_out(self, text: str, style: Style, width: int, size: int) -> Any:
         """Returns a text in a style and size, until another one is laid out so."""
