@@ -120,12 +120,12 @@ def new_run_lengths(block: tuple[bytes, int]) -> bytes:
     whole = "".join(texts)
     if sum(map(whole.count, RUNS)) * RARELY < len(whole):
         return whole.encode()
-    whole = "".join(map(without_rest, texts))  # no run goes on from a row to the next
+    whole = "\n".join(map(without_rest, texts))  # no run goes on from a row to the next
     for often in OFTEN:
         pieces = often.split(whole)
         pieces[1::2] = map(run_length_of, pieces[1::2])
         whole = "".join(pieces)
-    return whole.encode()
+    return whole.replace("\n", "").encode()
 
 
 def without_rest(row: str) -> str:
