@@ -1,9 +1,9 @@
 #!/usr/bin/python3
 """Prints Debian's changelog of the commit HEAD, made of CHANGELOG.md.
 
-The version is the newest of CHANGELOG.md where HEAD has its tag, as v1.0.0. Else it is that version with
-`+gitDATE.NUMBER.COMMIT`, which rises with each commit: NUMBER counts them. What is under "Unreleased" is in the entry
-of the commit. DEBFULLNAME and DEBEMAIL name the maintainer. The status is 1 in a clone that lacks older commits, or
+The version is that of lib/labels.h where HEAD has its tag, as v1.0.0. Else `~gitDATE.NUMBER.COMMIT` is behind it, or
+`+git..` where CHANGELOG.md has a section for it, since it is released then: it rises with each commit, which NUMBER
+counts. What is under "Unreleased" is in the entry of the commit. DEBFULLNAME and DEBEMAIL name the maintainer. The status is 1 in a clone that lacks older commits, or
 where CHANGELOG.md has two sections of one heading.
 """
 
@@ -19,6 +19,7 @@ from typing import Sequence
 
 TOP = Path(__file__).resolve().parent.parent
 MAINTAINER = f"{os.getenv('DEBFULLNAME', 'The labels project')} <{os.getenv('DEBEMAIL', 'labels@labels.invalid')}>"
+VERSION = re.compile(r'^#define LABELS_VERSION "(.*)"$', re.M)
 SECTION = re.compile(r"^## (\S+)(?: \((.*)\))?\n((?:(?!## ).*\n?)*)", re.M)
 CHANGE = re.compile(r"^- (.*(?:\n  .*)*)", re.M)
 
@@ -45,11 +46,15 @@ def main() -> None:
     if len(sections) < len(found):
         sys.exit("CHANGELOG.md has two sections of one heading")
     _, unreleased = sections.pop("Unreleased", ("", []))
-    newest = next(iter(sections))
+    header = VERSION.search((TOP / "lib/labels.h").read_text(encoding="utf-8"))
+    if not header:
+        sys.exit("lib/labels.h has no LABELS_VERSION")
+    next_one = header[1]
     entries = []
-    if f"v{newest}" not in git("tag", "--points-at", "HEAD").split():
+    if f"v{next_one}" not in git("tag", "--points-at", "HEAD").split():
         day, commit = git("log", "-1", "--date=format-local:%Y%m%d", "--abbrev=8", "--format=%cd %h").split()
-        version = f"{newest}+git{day}.{git('rev-list', '--count', 'HEAD')}.{commit}"
+        sign = "+" if next_one in sections else "~"
+        version = f"{next_one}{sign}git{day}.{git('rev-list', '--count', 'HEAD')}.{commit}"
         date, subject = git("log", "-1", "--date=rfc-local", "--format=%cd%n%s").split("\n")
         entries.append(entry(version, date, [f"Commit {commit}: {subject}", *unreleased]))
     for version, (day, changes) in sections.items():

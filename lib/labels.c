@@ -36,6 +36,37 @@ const char *labels_code_text(int code) {
     return code >= 0 && (size_t)code < sizeof texts / sizeof *texts ? texts[code] : "unknown code";
 }
 
+/* The names that labels(1) reads, each at its number. */
+static const char *const symbologies[] = {"ean13", "ean8", "upca", "code128", "qr"};
+static const char *const levels[] = {"L", "M", "Q", "H"};
+enum { SYMBOLOGIES = sizeof symbologies / sizeof *symbologies, LEVELS = sizeof levels / sizeof *levels };
+
+const char *labels_symbology_name(int symbology) {
+    return symbology >= 0 && symbology < SYMBOLOGIES ? symbologies[symbology] : NULL;
+}
+
+const char *labels_level_name(int level) { return level >= 0 && level < LEVELS ? levels[level] : NULL; }
+
+static int is_same(const char *one, const char *other) {
+    while (*one && *one == *other) {
+        one++;
+        other++;
+    }
+    return *one == *other;
+}
+
+/* The place of a name in a table, or -1. */
+static int place_of(const char *name, const char *const *names, int count) {
+    int place = 0;
+    while (name && place < count && !is_same(name, names[place]))
+        place++;
+    return name && place < count ? place : -1;
+}
+
+int labels_symbology_named(const char *name) { return place_of(name, symbologies, SYMBOLOGIES); }
+
+int labels_level_named(const char *name) { return place_of(name, levels, LEVELS); }
+
 void labels_defaults(labels_options *options) {
     if (options)
         *options = defaults;

@@ -33,8 +33,8 @@ extern "C" {
 #define LABELS_API
 #endif
 
-#define LABELS_VERSION "1.1.0"
-#define LABELS_VERSION_NUMBER 0x010100 /* for #if: two digits each of major, minor and patch */
+#define LABELS_VERSION "1.2.0"
+#define LABELS_VERSION_NUMBER 0x010200 /* for #if: two digits each of major, minor and patch */
 
 enum labels_symbology { LABELS_EAN13, LABELS_EAN8, LABELS_UPCA, LABELS_CODE128, LABELS_QR };
 enum labels_format { LABELS_PBM, LABELS_ASCII };
@@ -52,7 +52,7 @@ enum { LABELS_MESSAGE_ROOM = 96 };  /* bytes of a message, its NUL among them */
 enum labels_code {
     LABELS_OK,                     /* done */
     LABELS_NO_ROOM,                /* the room is too small: the answer has the length that is needed */
-    LABELS_BAD_OPTION,             /* an option is out of its range, or a reserved word is not 0 */
+    LABELS_BAD_OPTION,             /* an option is out of its range, or a reserved word is not 0: `at` says which */
     LABELS_BAD_SYMBOLOGY,          /* the number or the name is that of no symbology */
     LABELS_NO_DATA,                /* there is no data */
     LABELS_NOT_A_DIGIT,            /* EAN, UPC: a byte is not a digit */
@@ -90,7 +90,8 @@ typedef struct labels_answer {
     uint32_t code;         /* as the call returns it: enum labels_code */
     uint32_t reserved;
     size_t length;         /* bytes of the whole picture or data, or modules of the symbol; 0 where there is none */
-    size_t at;             /* the byte of the data that is wrong, or the setting of the line, from 1 on; 0 where none is */
+    size_t at;             /* the byte of the data that is wrong, the setting of the line, or the first wrong option of
+                              labels_options (1 format .. 7 escapes, 8 a reserved word), from 1 on; 0 where none is */
     size_t message_length; /* bytes of the message */
     char message[LABELS_MESSAGE_ROOM]; /* why there is no symbol, as labels(1) prints it, ended by NUL, or "" */
 } labels_answer;
@@ -130,11 +131,20 @@ typedef struct labels_found {
     uint32_t reserved[5];
 } labels_found;
 
-/* Returns the version of the library that runs, as "1.1.0". */
+/* Returns the version of the library that runs, as "1.2.0". */
 LABELS_API const char *labels_version(void);
 
 /* Returns what a code means, in English: never NULL, and not to be freed. */
 LABELS_API const char *labels_code_text(int code);
+
+/* Returns the name that labels(1) has for a symbology, as "ean13", or for a level, as "Q"; NULL where the number is that of
+ * none. It is not to be freed. LABELS_EAN13 is the first symbology: names come until NULL does. */
+LABELS_API const char *labels_symbology_name(int symbology);
+LABELS_API const char *labels_level_name(int level);
+
+/* Returns the symbology, or the level, that has this name, letter for letter; -1 where there is none, or with NULL. */
+LABELS_API int labels_symbology_named(const char *name);
+LABELS_API int labels_level_named(const char *name);
 
 /* Sets the options to their defaults: those of LABELS_DEFAULTS. With NULL it does nothing. */
 LABELS_API void labels_defaults(labels_options *options);
@@ -165,11 +175,11 @@ LABELS_API int labels_line(const labels_options *options, const void *text, size
 
 /* Draws one symbol as bits: the picture of labels_draw(), scale and quiet zones included, bars in all their rows. A dot is
  * a bit, 1 where dark; the first of a row is the highest bit of its first byte. A row is (dots->width + 7) / 8 bytes, and
- * its last bits are 0 where it has no dots for them; the next row begins `stride` bytes after it. Nothing else is
- * written, also between the rows: a bitmap can be put into a larger one, at any byte. Where the room is less than
- * `answer->length`, or `stride` less than a row, nothing is put and the code is LABELS_NO_ROOM; the length is that for the
- * given stride. So a call without room asks for `dots`, of which stride and room follow. `height` 1 gives bars in `scale`
- * rows. For a format in which 0 is dark, turn each byte: ~byte. */
+ * its last bits are 0 where it has no dots for them; the next row begins `stride` bytes after it, with stride 0 at once.
+ * Nothing else is written, also between the rows: a bitmap can be put into a larger one, at any byte. Where the room is
+ * less than `answer->length`, or `stride` less than a row and not 0, nothing is put and the code is LABELS_NO_ROOM; the
+ * length is that for the given stride. So a call with stride 0 and without room asks for `dots` and the length. `height` 1
+ * gives bars in `scale` rows. For a format in which 0 is dark, turn each byte: ~byte. */
 LABELS_API int labels_bitmap(const labels_options *options, int symbology, const void *data, size_t size,
                              unsigned char *bits, size_t stride, size_t room, labels_dots *dots, labels_answer *answer);
 

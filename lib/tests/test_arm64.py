@@ -65,7 +65,7 @@ class Arm64(WithLibrary):
         done = run("make", "-s", "-C", LIB, f"PROVED={PROVED_ARM64}", f"OUT={out}", *TOOLS, "all")
         self.assertEqual(done.returncode, 0, text_of(done))
         self.run_ok(LIB / "check.sh", out)
-        shared = out / "liblabels.so.1.1.0"
+        shared = out / "liblabels.so.1.2.0"
         self.assertIn(b"AArch64", self.run_ok("readelf", "-h", shared))
         (out / "liblabels.so.1").symlink_to(shared)
         for flags in ([shared], [out / "liblabels.a"]):

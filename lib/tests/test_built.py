@@ -14,14 +14,14 @@ FILES = {
     f"{LIBDIR}/liblabels.a",
     f"{LIBDIR}/liblabels.so",
     f"{LIBDIR}/liblabels.so.1",
-    f"{LIBDIR}/liblabels.so.1.1.0",
+    f"{LIBDIR}/liblabels.so.1.2.0",
     f"{LIBDIR}/pkgconfig/labels.pc",
     f"{PYTHONDIR}/liblabels/__init__.py",
     f"{PYTHONDIR}/liblabels/_binding.py",
     f"{PYTHONDIR}/liblabels/_pictures.py",
     f"{PYTHONDIR}/liblabels/_reading.py",
     f"{PYTHONDIR}/liblabels/py.typed",
-    f"{PYTHONDIR}/liblabels-1.1.0.dist-info/METADATA",
+    f"{PYTHONDIR}/liblabels-1.2.0.dist-info/METADATA",
     "usr/share/man/man3/labels.3",
 }
 LAST = "const char *labels_version(void) { return LABELS_VERSION; }"
@@ -78,7 +78,7 @@ class Built(WithLibrary):
         root = self.library.root
         found = {str(path.relative_to(root)) for path in root.rglob("*") if not path.is_dir()}
         self.assertEqual(found, FILES)
-        self.assertEqual((root / LIBDIR / "liblabels.so").resolve(), (root / LIBDIR / "liblabels.so.1.1.0").resolve())
+        self.assertEqual((root / LIBDIR / "liblabels.so").resolve(), (root / LIBDIR / "liblabels.so.1.2.0").resolve())
 
     def test_one_version(self) -> None:
         code = "import liblabels as it; print(it.version(), it.__version__, version('liblabels'))"
@@ -144,7 +144,7 @@ class Built(WithLibrary):
 
     def test_each_file_is_looked_for(self) -> None:
         folder = Path(tempfile.mkdtemp(dir=self.library.folder))
-        for gone in ("liblabels.a", "liblabels.so.1.1.0"):
+        for gone in ("liblabels.a", "liblabels.so.1.2.0"):
             shutil.copytree(self.library.built, folder / gone, symlinks=True)
             (folder / gone / gone).unlink()
             status, text = self.check(folder / gone)

@@ -4,5 +4,5 @@ Functions of this package return values, and say what they have to say to a `Tal
 executables print and end.
 """
 
-RELEASE = "1.1.0"
+RELEASE = "1.2.0"
 VERSION = 1  # of the file between label-table and label-print

@@ -128,11 +128,13 @@ class Install(InFolder):
 
 class Versions(InFolder):
     def test_one_version(self) -> None:
-        """Programs, changelog, manual, header and crates name the same."""
+        """Programs, manuals, header and crates name the same; no section of the changelog is above it."""
         version = command_of(str(support.labels_program()), "--help").split("\n")[0]
         version = version.removeprefix("labels ")
-        self.assertEqual(re.findall(r"^## (\d\S+) \(", text("CHANGELOG.md"), re.M)[:1], [version])
-        self.assertIn(f'"labels {version}"', text("man/labels.1").split("\n")[0])
+        newest = re.findall(r"^## (\d\S+) \(", text("CHANGELOG.md"), re.M)[0]
+        command_of("dpkg", "--compare-versions", newest, "le", version)
+        for page in ("man/labels.1", "man/labels.3"):
+            self.assertIn(f'"labels {version}"', text(page).split("\n")[0])
         self.assertIn(f'#define LABELS_VERSION "{version}"', text("lib/labels.h"))
         for tool in ("label-table", "label-print"):
             said = support.run(tool, "--version").stdout
@@ -151,14 +153,15 @@ class Versions(InFolder):
     @support.slow
     def test_versions_rise(self) -> None:
         """A commit has a version above that of the one before, and of all of the days before, as
-        they were given away; a tag has the plain version.
+        they were given away, and of the last release; a tag has the plain version, which is above
+        those of its commits.
         """
-        for name in ("debian/changelog.py", "CHANGELOG.md"):
+        for name in ("debian/changelog.py", "CHANGELOG.md", "lib/labels.h"):
             (self.folder / name).parent.mkdir(exist_ok=True)
             shutil.copy(support.TOP / name, self.folder / name)
         command_of("git", "init", "-q", cwd=self.folder)
         author = ("-c", "user.name=A", "-c", "user.email=a@example.com")
-        newest = re.findall(r"^## (\d\S+) \(", text("CHANGELOG.md"), re.M)[0]
+        released = re.findall(r"^## (\d\S+) \(", text("CHANGELOG.md"), re.M)[0]
         versions: List[str] = []
         for day in (*["2026-11-28"] * 11, "2026-11-30", "2026-12-01", "2027-01-01"):
             date = f"{day}T01:00:00+0300"  # in Coordinated Universal Time it is the day before
@@ -167,12 +170,18 @@ class Versions(InFolder):
             command_of(*dated, cwd=self.folder)
             versions.append(self.version_of_head())
             before = datetime.fromisoformat(day) - timedelta(days=2)
-            older = f"{newest}+git{before:%Y%m%d}.9999.ffffffff"
-            command_of("dpkg", "--compare-versions", older, "lt", versions[-1])
-        for older, newer in zip(versions, versions[1:]):
-            command_of("dpkg", "--compare-versions", older, "lt", newer)
+            for sign in (f"{released}+", f"{versions[0].partition('~')[0]}~"):
+                older = f"{sign}git{before:%Y%m%d}.9999.ffffffff"
+                command_of("dpkg", "--compare-versions", older, "lt", versions[-1])
+        newest = versions[0].partition("~")[0]
+        changes = self.folder / "CHANGELOG.md"
+        heading = f"## {newest} (2026-12-01)"
+        changes.write_text(text("CHANGELOG.md").replace("## Unreleased", heading))
         command_of("git", "tag", f"v{newest}", cwd=self.folder)
         self.assertEqual(self.version_of_head(), newest)
+        rising = [released, *versions, newest]
+        for older, newer in zip(rising, rising[1:]):
+            command_of("dpkg", "--compare-versions", older, "lt", newer)
 
 
 class Notices(unittest.TestCase):

@@ -102,7 +102,7 @@ BAD_ARGUMENTS = (2, b"", b"labels: bad words\n")
 NO_FILE = (3, b"", b"labels: cannot open file\n")
 NO_MEMORY = (3, b"", b"labels: no memory\n")
 
-HELP = rb"""labels 1.1.0
+HELP = rb"""labels 1.2.0
 
 Draws EAN, UPC, Code 128 and QR Code labels: one picture for each line of the input.
 

@@ -1,14 +1,18 @@
 -- Rows of bits, put one after another.
-use Rattle.std.proofs.Common.{◌≡◌, ◌+◌, ◌*◌, ◌≤◌, ℕ, zero, suc, List, ap, arith, ◌∙◌}
-use Rattle.std.specs.Prelude.{Bool, Result, Ok, Err}
+use Rattle.std.proofs.Common.{◌≡◌, ◌+◌, ◌*◌, ◌<◌, ◌≤◌, ℕ, zero, suc, List, ap, arith, ◌∙◌}
+use Rattle.std.specs.Prelude.{Bool, Result, Ok, Err, IfOk, Some}
 use Rattle.labelcore.specs.LineItem.{outcome_of}
 use Rattle.labelcore.specs.OptionValues.{RunValues}
 use Rattle.labelcore.specs.declared.fault.Fault.{Fault}
+use Rattle.filter.specs.Output.{picture_of}
 use Rattle.filter.specs.Symbol.{Symbol}
 use Rattle.picture.specs.Picture.{AreEqualRows, Picture}
+use Rattle.picture.specs.Reading.{raster}
 use Rattle.picture.specs.Text.{pixel_row}
+use Rattle.reading.specs.Found.{ReadingIsAlone}
+use Rattle.reading.specs.Labels.{read_dots}
 use Rattle.picture.proofs.GridLaws.{pixel_row-equal}
-use Rattle.capi.specs.Bits.{AnswersBits, AnswersBitsOutcome, bytes_of, put_bit_rows, row_size}
+use Rattle.capi.specs.Bits.{AnswersBits, AnswersBitsOutcome, IsReadInDots, ReadsBitsOutcome, bytes_of, put_bit_rows, row_size}
 use Rattle.capi.specs.Private.BitRows.{put_equal}
 use Rattle.capi.specs.Calls.{Rooms}
 use Rattle.capi.specs.Room.{put_text}
@@ -35,6 +39,19 @@ rows_more p stride room y count row same e (suc n) h =
     ap (λ (r : List ℕ). put_text r ((y + n) * stride) row) (rows_more p stride room y count row same e n (omega (arith, h)))
     ∙ (ap (λ (r : List ℕ). put_text (put_bit_rows p stride room (y + n)) ((y + n) * stride) r) here
     ∙ ap (λ (m : ℕ). put_bit_rows p stride room m) next)
+
+-- what is read at its scale is read where no scale is told
+pub read_in_dots : (run : RunValues) (found : Result Symbol Fault) → 0 < run.scale → ReadingIsAlone
+    → IfOk found (λ symbol. read_dots symbol.symbology run.scale (raster (picture_of run symbol)) ≡ Some symbol.full)
+    → IfOk found (IsReadInDots run)
+read_in_dots run (Ok symbol) low alone read = alone _ symbol.symbology run.scale symbol.full low read
+read_in_dots run (Err fault) low alone read = tt
+
+-- the dots of a symbol are read as those of its line
+pub reads_outcome : (run : RunValues) (found : Result Symbol Fault) → IfOk found (IsReadInDots run)
+    → ReadsBitsOutcome run (outcome_of found)
+reads_outcome run (Ok symbol) h = h
+reads_outcome run (Err fault) h = tt
 
 -- what is left of a symbol is what is left of its line
 pub bits_outcome : (rooms : Rooms) (stride : ℕ) (dots : Dots) (run : RunValues) (found : Result Symbol Fault)

@@ -1,6 +1,6 @@
 -- What a call of the C library leaves of a symbol's dots as bits.
-use Rattle.std.specs.Prelude.{◌≡◌, ℕ, zero, suc, ◌+◌, ◌-◌, ◌*◌, ◌^◌, ◌&&◌, nat_le, min, Bool, false, Result, Ok, Err, List, [], length}
-use Rattle.std.specs.Prelude.{if◌then◌else◌, map, slice_index_or}
+use Rattle.std.specs.Prelude.{◌≡◌, ℕ, zero, suc, ◌+◌, ◌-◌, ◌*◌, ◌^◌, ◌==◌, ◌&&◌, nat_le, min, Bool, false, Result, Ok, Err, List, [], length}
+use Rattle.std.specs.Prelude.{if◌then◌else◌, map, slice_index_or, IfOk, Some, ⊤}
 use Rattle.std.specs.Int.{div_ceil}
 use Rattle.labelcore.specs.LineItem.{Outcome, skipped, refused, drawn}
 use Rattle.labelcore.specs.Message.{fault_text}
@@ -11,10 +11,12 @@ use Rattle.picture.specs.Picture.{Picture}
 use Rattle.picture.specs.Text.{below, pixel_row}
 use Rattle.filter.specs.Output.{outcome, picture_of}
 use Rattle.filter.specs.Symbol.{Symbol, symbol_of}
+use Rattle.reading.specs.Found.{any_reading}
 use Rattle.capi.specs.Calls.{Declines, Rooms}
 use Rattle.capi.specs.Numbers.{code_of, place_of}
 use Rattle.capi.specs.Room.{put_text}
 use Rattle.capi.specs.declared.asked.Asked.{Asked}
+use Rattle.capi.specs.declared.asked.Reason.{Reason}
 use Rattle.capi.specs.declared.numbers.Dots.{Dots}
 
 -- 1 where the dot is dark; a dot past the end of the row is light
@@ -35,6 +37,10 @@ bytes_of dots count = map (λ j. byte_at dots (8 * j)) (below count)
 abbrev pub row_size : Picture → ℕ
 row_size p = div_ceil p.width 8
 
+-- the bytes from one row to the next, where `stride` are asked for: 0 asks for rows without a gap
+abbrev pub row_step : (stride size : ℕ) → ℕ
+row_step stride size = if stride == 0 then size else stride
+
 -- the room after the first rows of a picture were put, each `stride` bytes after the one before; the rest is as it was
 unfoldable pub put_bit_rows : Picture → ℕ → List ℕ → ℕ → List ℕ
 put_bit_rows p stride room zero = room
@@ -51,15 +57,21 @@ bits_fit p stride room = nat_le (row_size p) stride && nat_le (bits_size p strid
 
 -- the dots of a picture are put where there is room for all, and nothing else is written
 pub record PutsBits (rooms : Rooms) (stride : ℕ) (dots : Dots) (p : Picture) : Type 0 where
-  pub code_is : dots.answer.code ≡ (if bits_fit p stride rooms.out then 0 else 1)
+  pub code_is : dots.answer.code ≡ (if bits_fit p (row_step stride (row_size p)) rooms.out then 0 else 1)
   pub unused : dots.answer.reserved ≡ 0
-  pub size : dots.answer.length ≡ min (bits_size p stride) (2 ^ 64 - 1)
+  pub size : dots.answer.length ≡ min (bits_size p (row_step stride (row_size p))) (2 ^ 64 - 1)
   pub no_place : dots.answer.at ≡ 0
   pub no_message : dots.answer.message_length ≡ 0
   pub width : dots.width ≡ p.width
   pub height : dots.height ≡ p.height
-  pub out : rooms.out_after ≡ (if bits_fit p stride rooms.out then put_bit_rows p stride rooms.out p.height else rooms.out)
+  pub out : rooms.out_after ≡ (if bits_fit p (row_step stride (row_size p)) rooms.out
+      then put_bit_rows p (row_step stride (row_size p)) rooms.out p.height else rooms.out)
   pub message : rooms.message_after ≡ rooms.message
+
+-- the dots of a symbol's picture read as its full data, as it lies and at its scale, and as nothing else
+abbrev pub IsReadInDots : RunValues → Symbol → Type 0
+IsReadInDots run symbol = any_reading (picture_of run symbol)
+    ≡ Some (record { symbology = symbol.symbology; scale = run.scale; turns = 0; full = symbol.full })
 
 -- nothing is drawn, and has no size
 abbrev pub DeclinesBits : Rooms → Dots → ℕ → ℕ → List ℕ → Type 0
@@ -71,10 +83,15 @@ AnswersBits rooms stride dots run (Ok symbol) = PutsBits rooms stride dots (pict
 AnswersBits rooms stride dots run (Err fault) = DeclinesBits rooms dots (code_of fault) (place_of fault) (fault_text fault)
 
 -- the dots of what is asked for, or why there are none
-abbrev pub AnswersBitsAsked : Rooms → ℕ → Dots → Result Asked ℕ → List ℕ → Type 0
-AnswersBitsAsked rooms stride dots (Err code) bytes = DeclinesBits rooms dots code 0 []
+abbrev pub AnswersBitsAsked : Rooms → ℕ → Dots → Result Asked Reason → List ℕ → Type 0
+AnswersBitsAsked rooms stride dots (Err reason) bytes = DeclinesBits rooms dots reason.code reason.at []
 AnswersBitsAsked rooms stride dots (Ok a) bytes =
     AnswersBits rooms stride dots a.options.run (symbol_of a.options.label a.symbology bytes)
+
+-- the dots of what is asked for read as its full data
+abbrev pub ReadsBits : Result Asked Reason → List ℕ → Type 0
+ReadsBits found bytes = IfOk found (λ a.
+    IfOk (symbol_of a.options.label a.symbology bytes) (IsReadInDots a.options.run))
 
 -- the dots of the symbol of a line, or why there are none; 14 is a line that is skipped
 abbrev pub AnswersBitsOutcome : Rooms → ℕ → Dots → RunValues → Outcome Symbol → Type 0
@@ -82,8 +99,17 @@ AnswersBitsOutcome rooms stride dots run skipped = DeclinesBits rooms dots 14 0 
 AnswersBitsOutcome rooms stride dots run (refused fault) = DeclinesBits rooms dots (code_of fault) (place_of fault) (fault_text fault)
 AnswersBitsOutcome rooms stride dots run (drawn symbol) = PutsBits rooms stride dots (picture_of run symbol)
 
+-- the dots of the symbol of a line read as its full data
+abbrev pub ReadsBitsOutcome : RunValues → Outcome Symbol → Type 0
+ReadsBitsOutcome run (drawn symbol) = IsReadInDots run symbol
+ReadsBitsOutcome run other = ⊤
+
+-- the same of the line that is asked for
+abbrev pub ReadsBitsLine : Result Options Reason → List ℕ → Type 0
+ReadsBitsLine found text = IfOk found (λ options. ReadsBitsOutcome options.run (outcome options text))
+
 -- the dots of the line that is asked for, or why there are none
-abbrev pub AnswersBitsLine : Rooms → ℕ → Dots → Result Options ℕ → List ℕ → Type 0
-AnswersBitsLine rooms stride dots (Err code) text = DeclinesBits rooms dots code 0 []
+abbrev pub AnswersBitsLine : Rooms → ℕ → Dots → Result Options Reason → List ℕ → Type 0
+AnswersBitsLine rooms stride dots (Err reason) text = DeclinesBits rooms dots reason.code reason.at []
 AnswersBitsLine rooms stride dots (Ok options) text =
     AnswersBitsOutcome rooms stride dots options.run (outcome options text)

@@ -7,6 +7,7 @@ use Rattle.filter.specs.Output.{outcome}
 use Rattle.filter.specs.Symbol.{Symbol, symbol_of}
 use Rattle.capi.specs.Room.{put_text}
 use Rattle.capi.specs.declared.asked.Asked.{Asked}
+use Rattle.capi.specs.declared.asked.Reason.{Reason}
 
 -- full data is put into a room, as much as there is room for, and its length told
 abbrev pub IsFullPut : List ℕ → List ℕ → List ℕ → ℕ → Type 0
@@ -18,8 +19,8 @@ PutsFull room room_after told (Ok symbol) = IsFullPut symbol.full room room_afte
 PutsFull room room_after told (Err fault) = room_after ≡ room
 
 -- the full data of what is asked for
-abbrev pub PutsFullAsked : List ℕ → List ℕ → ℕ → Result Asked ℕ → List ℕ → Type 0
-PutsFullAsked room room_after told (Err number) bytes = room_after ≡ room
+abbrev pub PutsFullAsked : List ℕ → List ℕ → ℕ → Result Asked Reason → List ℕ → Type 0
+PutsFullAsked room room_after told (Err reason) bytes = room_after ≡ room
 PutsFullAsked room room_after told (Ok a) bytes =
     PutsFull room room_after told (symbol_of a.options.label a.symbology bytes)
 
@@ -29,6 +30,6 @@ PutsFullOutcome room room_after told (drawn symbol) = IsFullPut symbol.full room
 PutsFullOutcome room room_after told other = room_after ≡ room
 
 -- the full data of the line that is asked for
-abbrev pub PutsFullLine : List ℕ → List ℕ → ℕ → Result Options ℕ → List ℕ → Type 0
-PutsFullLine room room_after told (Err number) text = room_after ≡ room
+abbrev pub PutsFullLine : List ℕ → List ℕ → ℕ → Result Options Reason → List ℕ → Type 0
+PutsFullLine room room_after told (Err reason) text = room_after ≡ room
 PutsFullLine room room_after told (Ok options) text = PutsFullOutcome room room_after told (outcome options text)

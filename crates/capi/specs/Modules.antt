@@ -18,6 +18,7 @@ use Rattle.capi.specs.Numbers.{are_unused, level_numbered, place_of, symbology_n
 use Rattle.picture.specs.Text.{below, pixel_row}
 use Rattle.capi.specs.Calls.{Declines}
 use Rattle.capi.specs.declared.asked.Asked.{Asked}
+use Rattle.capi.specs.declared.asked.Reason.{Reason}
 use Rattle.capi.specs.declared.numbers.Answer.{Answer}
 use Rattle.capi.specs.declared.numbers.SymbolInfo.{SymbolInfo}
 
@@ -89,13 +90,13 @@ abbrev pub one_row : LabelValues → LabelValues
 one_row label = record label { height = 1 }
 
 -- the modules of what is asked for, or why there are none
-abbrev pub AnswersAsked : ModuleRooms → Answer → SymbolInfo → Result Asked ℕ → List ℕ → (Fault → ℕ) → Type 0
-AnswersAsked rooms answer info (Err number) bytes code = DeclinesModules rooms answer info number 0 []
+abbrev pub AnswersAsked : ModuleRooms → Answer → SymbolInfo → Result Asked Reason → List ℕ → (Fault → ℕ) → Type 0
+AnswersAsked rooms answer info (Err reason) bytes code = DeclinesModules rooms answer info reason.code reason.at []
 AnswersAsked rooms answer info (Ok a) bytes code =
     AnswersModules rooms answer info (symbol_of (one_row a.options.label) a.symbology bytes) code
 
 -- the modules of what is asked for read as the full data, and as nothing else
-abbrev pub ReadsModules : Result Asked ℕ → List ℕ → Type 0
+abbrev pub ReadsModules : Result Asked Reason → List ℕ → Type 0
 ReadsModules found bytes = IfOk found (λ a.
     IfOk (symbol_of (one_row a.options.label) a.symbology bytes) IsReadInModules)
 
@@ -120,11 +121,11 @@ HasNumbers label Qr bytes info = HasQrNumbers label bytes info
 HasNumbers label other bytes info = (info.version ≡ 0) × ((info.level ≡ 0) × (info.mask ≡ 0))
 
 -- the numbers of what is asked for, where it is drawn
-abbrev pub NumbersAsked : SymbolInfo → Result Asked ℕ → List ℕ → Type 0
+abbrev pub NumbersAsked : SymbolInfo → Result Asked Reason → List ℕ → Type 0
 NumbersAsked info found bytes = IfOk found (λ a. IfOk (symbol_of (one_row a.options.label) a.symbology bytes)
     (λ symbol. HasNumbers a.options.label a.symbology bytes info))
 
 -- the symbology and the height of what is asked for, where it is drawn
-abbrev pub ToldAsked : SymbolInfo → Result Asked ℕ → List ℕ → Type 0
+abbrev pub ToldAsked : SymbolInfo → Result Asked Reason → List ℕ → Type 0
 ToldAsked info found bytes = IfOk found (λ a. IfOk (symbol_of a.options.label a.symbology bytes)
     (λ symbol. IsDrawnAs symbol info))

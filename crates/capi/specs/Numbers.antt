@@ -1,6 +1,6 @@
 -- What the numbers of a call mean: the constants of the C header.
 -- Why: `format_numbered`, `level_numbered`, `symbology_numbered`, `mask_numbered`, `options_numbered`, `code_of`: lib/labels.h.
-use Rattle.std.specs.Prelude.{ℕ, ◌==◌, ◌&&◌, nat_le, Bool, true, false, List, Option, None, Some, if◌then◌else◌}
+use Rattle.std.specs.Prelude.{ℕ, ◌==◌, ◌&&◌, nat_le, Bool, true, false, not, List, Option, None, Some, is_none, if◌then◌else◌}
 use Rattle.std.specs.Bool.{then_some}
 use Rattle.std.specs.List.{list_all}
 use Rattle.labelcore.specs.declared.fault.Fault.{Fault}
@@ -61,6 +61,20 @@ options_numbered o = do
     run = record { format = format; scale = o.scale; escapes = escapes };
     label = record { height = o.height; level = level; min_version = o.min_version; mask = mask_numbered o.mask };
   })
+
+-- the number of the first option that is out of its range, as the C header has them, from 1 on: 8 is a spare word; 0 where
+-- there is none
+unfoldable pub wrong_option : CallOptions → ℕ
+wrong_option o =
+    if is_none (format_numbered o.format) then 1
+    else if not (nat_le 1 o.scale && nat_le o.scale 8) then 2
+    else if not (nat_le 1 o.height && nat_le o.height 500) then 3
+    else if is_none (level_numbered o.level) then 4
+    else if not (nat_le 1 o.min_version && nat_le o.min_version 10) then 5
+    else if not (nat_le o.mask 8) then 6
+    else if is_none (flag_numbered o.escapes) then 7
+    else if not (are_unused o.reserved) then 8
+    else 0
 
 -- the place of the wrong byte of a refusal, or of the wrong setting, from 1 on; 0 of others
 abbrev pub place_of : Fault → ℕ

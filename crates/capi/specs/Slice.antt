@@ -1,11 +1,15 @@
 -- A sink over a caller's room, as its clauses see it.
-use Rattle.std.specs.Prelude.{◌≡◌, ℕ, ◌+◌, ◌-◌, ◌^◌, ◌<◌, List, length, min}
+use Rattle.std.specs.Prelude.{◌≡◌, ℕ, ◌+◌, ◌-◌, ◌^◌, ◌<◌, Bool, List, length, min}
 use Rattle.capi.specs.Room.{put_text}
 use Rattle.capi.specs.declared.slice_sink.SliceSink.{SliceSink}
 
 -- how many bytes a sink took
 abbrev pub count_of : SliceSink → ℕ
 count_of s = s.count
+
+-- whether a sink was flushed after the last byte that it took
+abbrev pub is_flushed : SliceSink → Bool
+is_flushed s = s.is_flushed
 
 -- the room of a sink as it is now
 abbrev pub room_of : SliceSink → List ℕ

@@ -1,5 +1,5 @@
 //! The dots of one symbol as bits.
-ghost use Rattle.std.specs.Prelude.{◌≡◌, ◌≢◌, ◌+◌, ◌≤◌, ℕ, List, [], length};
+ghost use Rattle.std.specs.Prelude.{IfOk, ◌≡◌, ◌≢◌, ◌+◌, ◌≤◌, ℕ, List, [], length};
 ghost use Rattle.labelcore.specs.declared.symbology.Symbology.{Symbology as Symbologies};
 ghost use Rattle.labelcore.specs.declared.symbology.Symbology.TheVariants.{Qr};
 ghost use Rattle.linear.specs.declared.limits.TheConstants.{MAX_MODULES};
@@ -7,17 +7,18 @@ ghost use Rattle.picture.specs.Picture.{bars, enlargement, with_quiet_zone};
 ghost use Rattle.filter.specs.Private.{beside};
 ghost use Rattle.filter.specs.Symbol.{linear_symbol as linear_symbol_of, quiet_zone, symbol_of};
 ghost use Rattle.capi.specs.Calls.{asked};
-ghost use Rattle.capi.specs.Bits.{AnswersBits, AnswersBitsAsked, PutsBits};
+ghost use Rattle.capi.specs.Bits.{AnswersBits, AnswersBitsAsked, IsReadInDots, PutsBits, ReadsBits};
 
 use crate::asked::asked_of;
 use crate::dots::offer_bits;
-use crate::draw::{declined, refused};
+use crate::draw::{declined_at, refused};
 use crate::numbers::{Answer, CallOptions, Dots};
 use crate::symbol::matrix_of;
 use labelcore::{Fault, LabelOptions, Options, RunOptions, Symbology};
 use linear::{Code128, Ean8, Ean13, Linear, QuietZones, Row, UpcA};
 use picture::{Bars, Framed, Grid, QuietZone, Scaled};
 use qrmatrix::QUIET_ZONE;
+use reading::{labels_are_read, readings_are_alone};
 
 /// Puts the dots of one symbol into `bits`, in its quiet zone and enlarged: a bit each, 1 where dark, in rows that begin
 /// `stride` bytes after one another. Or puts the reason why there are none into `message`. The format is of no matter.
@@ -29,24 +30,24 @@ pub fn bits_into(
     stride: usize,
     message: &mut [u8],
 ) -> Dots
-    ensures { AnswersBitsAsked (record {
+    ensures answers { AnswersBitsAsked (record {
       out = bits.old;
       out_after = bits.new;
       message = message.old;
       message_after = message.new;
     }) stride result (asked options.now symbology bytes.now) bytes.now }
+    ensures read { ReadsBits (asked options.now symbology bytes.now) bytes.now }
 {
     match asked_of(options, symbology, bytes) {
         Ok(asked) => bits_asked(
-            &asked.options.run,
-            &asked.options.label,
+            &asked.options,
             asked.symbology,
             bytes,
             bits,
             stride,
             message,
         ),
-        Err(code) => no_dots(declined(code)),
+        Err(reason) => no_dots(declined_at(reason)),
     }
 }
 
@@ -64,8 +65,48 @@ pub fn no_dots(answer: Answer) -> Dots
 }
 
 /// Puts the dots of one symbol.
-#[tactic(auto, unfolding(filter::specs::Symbol::symbol_of))]
 pub fn bits_asked(
+    options: &Options,
+    symbology: Symbology,
+    bytes: &[u8],
+    bits: &mut [u8],
+    stride: usize,
+    message: &mut [u8],
+) -> Dots
+    requires { bytes.now ≢ [] }
+    ensures answers { AnswersBits (record {
+      out = bits.old;
+      out_after = bits.new;
+      message = message.old;
+      message_after = message.new;
+    }) stride result options.now.run (symbol_of options.now.label symbology bytes.now) }
+    ensures read { IfOk (symbol_of options.now.label symbology bytes.now) (IsReadInDots options.now.run) }
+{
+    bits_are_read(options, symbology, bytes);
+    symbol_bits(
+        &options.run,
+        &options.label,
+        symbology,
+        bytes,
+        bits,
+        stride,
+        message,
+    )
+}
+
+/// What is put is read: the dots of a symbol that is drawn read as its full data. It does nothing when it runs.
+fn bits_are_read(options: &Options, symbology: Symbology, bytes: &[u8])
+    requires { bytes.now ≢ [] }
+    ensures { IfOk (symbol_of options.now.label symbology bytes.now) (IsReadInDots options.now.run) }
+{
+    Options::prove_ranges(&options.run, &options.label);
+    labels_are_read(options, symbology, bytes);
+    readings_are_alone();
+}
+
+/// Puts the dots of one symbol.
+#[tactic(auto, unfolding(filter::specs::Symbol::symbol_of))]
+fn symbol_bits(
     run: &RunOptions,
     label: &LabelOptions,
     symbology: Symbology,

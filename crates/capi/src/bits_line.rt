@@ -1,10 +1,10 @@
 //! The dots of what the filter does with one line of text, as bits.
 ghost use Rattle.filter.specs.Output.{outcome};
-ghost use Rattle.capi.specs.Bits.{AnswersBitsLine, AnswersBitsOutcome};
+ghost use Rattle.capi.specs.Bits.{AnswersBitsLine, AnswersBitsOutcome, ReadsBitsLine, ReadsBitsOutcome};
 ghost use Rattle.capi.specs.Line.{line_asked};
 
 use crate::bits::{bits_asked, no_dots};
-use crate::draw::{declined, refused};
+use crate::draw::{declined, declined_at, refused};
 use crate::line::line_options;
 use crate::numbers::{CallOptions, Dots, SKIPPED};
 use labelcore::{Item, LineBuf, Options, Scratch, parse};
@@ -18,16 +18,17 @@ pub fn bits_line_into(
     stride: usize,
     message: &mut [u8],
 ) -> Dots
-    ensures { AnswersBitsLine (record {
+    ensures answers { AnswersBitsLine (record {
       out = bits.old;
       out_after = bits.new;
       message = message.old;
       message_after = message.new;
     }) stride result (line_asked options.now text.now) text.now }
+    ensures read { ReadsBitsLine (line_asked options.now text.now) text.now }
 {
     match line_options(options, text) {
         Ok(options) => line_bits(&options, text, bits, stride, message),
-        Err(code) => no_dots(declined(code)),
+        Err(reason) => no_dots(declined_at(reason)),
     }
 }
 
@@ -39,12 +40,13 @@ fn line_bits(
     stride: usize,
     message: &mut [u8],
 ) -> Dots
-    ensures { AnswersBitsOutcome (record {
+    ensures answers { AnswersBitsOutcome (record {
       out = bits.old;
       out_after = bits.new;
       message = message.old;
       message_after = message.new;
     }) stride result options.now.run (outcome options.now text.now) }
+    ensures read { ReadsBitsOutcome options.now.run (outcome options.now text.now) }
 {
     let mut line = LineBuf::new();
     line.extend(text);
@@ -52,14 +54,12 @@ fn line_bits(
     match parse(options, &line, &mut scratch) {
         Item::Skipped => no_dots(declined(SKIPPED)),
         Item::Refused(fault) => no_dots(refused(&fault, message)),
-        Item::Drawn(symbology, label, bytes) => bits_asked(
-            &options.run,
-            &label,
-            symbology,
-            bytes,
-            bits,
-            stride,
-            message,
-        ),
+        Item::Drawn(symbology, label, bytes) => {
+            let asked = Options {
+                run: options.run,
+                label,
+            };
+            bits_asked(&asked, symbology, bytes, bits, stride, message)
+        }
     }
 }

@@ -2,7 +2,7 @@
 ghost use Rattle.std.specs.Prelude.{◌≡◌, ◌+◌, ◌-◌, ◌*◌, ◌^◌, ◌<◌, ◌≤◌, ◌++◌, ℕ, List, false, length, drop, min, slice_index_or};
 ghost use Rattle.std.specs.Int.{div_ceil};
 ghost use Rattle.picture.specs.Text.{pixel_row};
-ghost use Rattle.capi.specs.Bits.{PutsBits, bits_size as size_of_bits, bytes_of, put_bit_rows};
+ghost use Rattle.capi.specs.Bits.{PutsBits, bits_size as size_of_bits, bytes_of, put_bit_rows, row_step};
 ghost use Rattle.capi.specs.Private.BitRows.{byte_of_dots, put_equal};
 
 use crate::numbers::{Answer, DONE, Dots, NO_ROOM};
@@ -21,7 +21,8 @@ const FEW_BYTES: usize = 64;
 /// highest bit: each of its bits moves one of them there, and no two meet.
 const GATHER: u64 = 0x8040_2010_0804_0201;
 
-/// Puts the dots of a picture where there is room for all.
+/// Puts the dots of a picture where there is room for all, in rows that begin `stride` bytes after one another: 0 asks for
+/// rows without a gap.
 pub fn offer_bits<G: Grid>(picture: &G, stride: usize, bits: &mut [u8]) -> Dots
     requires { ((G.picture picture.now).width ≤ 14520) × ((G.picture picture.now).height ≤ 4000) }
     ensures { (message : List ℕ) → PutsBits (record {
@@ -34,6 +35,7 @@ pub fn offer_bits<G: Grid>(picture: &G, stride: usize, bits: &mut [u8]) -> Dots
     let width = picture.width();
     let height = picture.height();
     let size = width.div_ceil(8);
+    let stride = row_step(stride, size);
     let length = bits_size(height, stride, size);
     let code = if size <= stride && length <= bits.len() {
         put_bits(picture, stride, bits);
@@ -52,6 +54,13 @@ pub fn offer_bits<G: Grid>(picture: &G, stride: usize, bits: &mut [u8]) -> Dots
         width: width as u32,
         height: height as u32,
     }
+}
+
+/// Returns the bytes from one row to the next: 0 asks for rows without a gap.
+fn row_step(stride: usize, size: usize) -> usize
+    ensures { result ≡ row_step stride size }
+{
+    if stride == 0 { size } else { stride }
 }
 
 /// Returns the bytes from the first row to the end of the last one, at most the greatest `usize`.

@@ -10,7 +10,7 @@ ghost use Rattle.std.specs.Prelude.{IfOk, List, ℕ};
 ghost use Rattle.capi.specs.Calls.{Answers, AnswersSymbol, Declines, ReadsAsked, asked};
 ghost use Rattle.capi.specs.Numbers.{code_of as number_of, place_of as place_told};
 
-use crate::asked::asked_of;
+use crate::asked::{Reason, asked_of};
 use crate::numbers::{Answer, CallOptions, DONE, NO_ROOM, code_of, place_of};
 use crate::slice_sink::SliceSink;
 use filter::draw;
@@ -42,7 +42,25 @@ pub fn draw_into(
             out,
             message,
         ),
-        Err(code) => declined(code),
+        Err(reason) => declined_at(reason),
+    }
+}
+
+/// The answer of a call that draws nothing for this reason.
+pub fn declined_at(reason: Reason) -> Answer
+    ensures { (out message : List ℕ) → Declines (record {
+      out = out;
+      out_after = out;
+      message = message;
+      message_after = message;
+    }) result reason.code reason.at [] }
+{
+    Answer {
+        code: reason.code,
+        reserved: 0,
+        length: 0,
+        at: reason.at,
+        message_length: 0,
     }
 }
 

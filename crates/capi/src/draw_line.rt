@@ -2,7 +2,7 @@
 ghost use Rattle.filter.specs.Output.{outcome};
 ghost use Rattle.capi.specs.Line.{AnswersDrawnLine, AnswersPicture, ReadsDrawnLine, ReadsPicture, line_asked};
 
-use crate::draw::{declined, draw_asked, refused};
+use crate::draw::{declined, declined_at, draw_asked, refused};
 use crate::line::line_options;
 use crate::numbers::{Answer, CallOptions, SKIPPED};
 use labelcore::{Item, LineBuf, Options, Scratch, parse};
@@ -25,7 +25,7 @@ pub fn draw_line_into(
 {
     match line_options(options, text) {
         Ok(options) => line_picture(&options, text, out, message),
-        Err(code) => declined(code),
+        Err(reason) => declined_at(reason),
     }
 }
 

@@ -7,10 +7,9 @@ ghost use Rattle.capi.specs.Line.{AnswersLine, AnswersOutcome, NumbersItem, Numb
 ghost use Rattle.capi.specs.Line.{line_asked};
 ghost use Rattle.capi.specs.Numbers.{code_of as number_of};
 
-use crate::draw::{declined, refused};
-use crate::numbers::{
-    BAD_OPTION, CallOptions, NOT_ONE_LINE, SKIPPED, Told, options_of, told_nothing,
-};
+use crate::asked::{Reason, options_asked};
+use crate::draw::{declined, declined_at, refused};
+use crate::numbers::{CallOptions, NOT_ONE_LINE, SKIPPED, Told, told_nothing};
 use crate::symbol::symbol_told;
 use labelcore::{Item, LineBuf, Options, Scratch, parse};
 
@@ -18,14 +17,17 @@ use labelcore::{Item, LineBuf, Options, Scratch, parse};
 ///
 /// # Errors
 ///
-/// The code of an option out of its range, else of a text with an LF.
+/// That of an option out of its range, else that of a text with an LF.
 #[tactic(auto, unfolding(crate::specs::Line::line_asked))]
-pub fn line_options(options: &CallOptions, text: &[u8]) -> Result<Options, u32>
+pub fn line_options(options: &CallOptions, text: &[u8]) -> Result<Options, Reason>
     ensures { result ≡ line_asked options.now text.now }
 {
-    let options = options_of(options).ok_or(BAD_OPTION)?;
+    let options = options_asked(options)?;
     if text.contains(&b'\n') {
-        return Err(NOT_ONE_LINE);
+        return Err(Reason {
+            code: NOT_ONE_LINE,
+            at: 0,
+        });
     }
     Ok(options)
 }
@@ -52,7 +54,7 @@ pub fn line_into(
 {
     match line_options(options, text) {
         Ok(options) => line_modules(&options, text, modules, message, full),
-        Err(code) => told_nothing(declined(code)),
+        Err(reason) => told_nothing(declined_at(reason)),
     }
 }
 

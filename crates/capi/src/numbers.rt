@@ -1,8 +1,8 @@
 //! Numbers in place of enums, as C has them.
 ghost use Rattle.std.specs.Prelude.{◌≡◌, Some, true};
-ghost use Rattle.capi.specs.Numbers.{are_in_range, are_unused, code_of, flag_numbered, level_numbered, place_of};
+ghost use Rattle.capi.specs.Numbers.{are_in_range, are_unused, code_of, flag_numbered, format_numbered, level_numbered, place_of};
 ghost use Rattle.capi.specs.Modules.{is_nothing};
-ghost use Rattle.capi.specs.Numbers.{options_numbered, symbology_numbered};
+ghost use Rattle.capi.specs.Numbers.{options_numbered, symbology_numbered, wrong_option};
 
 use labelcore::{Fault, Format, Options, Symbology};
 use qrdata::Level;
@@ -142,11 +142,7 @@ pub fn told_nothing(answer: Answer) -> Told
 pub fn options_of(numbers: &CallOptions) -> Option<Options>
     ensures { result ≡ options_numbered numbers.now }
 {
-    let format = match numbers.format {
-        0 => Format::Pbm,
-        1 => Format::Ascii,
-        _ => return None,
-    };
+    let format = format_of(numbers.format)?;
     let level = level_of(numbers.level)?;
     let escapes = flag_of(numbers.escapes)?;
     if !are_in_range(numbers) || !are_unused(&numbers.reserved) {
@@ -166,6 +162,33 @@ pub fn options_of(numbers: &CallOptions) -> Option<Options>
         mask,
         escapes,
     )
+}
+
+/// Returns the number of the first option that is out of its range, from 1 on; 8 for a spare word that is not 0. Returns
+/// 0 where there is none.
+#[tactic(auto, unfolding(crate::specs::Numbers::wrong_option))]
+pub fn wrong_option(numbers: &CallOptions) -> usize
+    ensures { result ≡ wrong_option numbers.now }
+{
+    if format_of(numbers.format).is_none() {
+        1
+    } else if !matches!(numbers.scale, 1..=8) {
+        2
+    } else if !matches!(numbers.height, 1..=500) {
+        3
+    } else if level_of(numbers.level).is_none() {
+        4
+    } else if !matches!(numbers.min_version, 1..=10) {
+        5
+    } else if numbers.mask > 8 {
+        6
+    } else if flag_of(numbers.escapes).is_none() {
+        7
+    } else if !are_unused(&numbers.reserved) {
+        8
+    } else {
+        0
+    }
 }
 
 /// Returns whether the numbers that are no names are in their ranges.
@@ -192,6 +215,17 @@ pub fn flag_of(number: u32) -> Option<bool>
     match number {
         0 => Some(false),
         1 => Some(true),
+        _ => None,
+    }
+}
+
+/// Returns the format of this number.
+fn format_of(number: u32) -> Option<Format>
+    ensures { result ≡ format_numbered number }
+{
+    match number {
+        0 => Some(Format::Pbm),
+        1 => Some(Format::Ascii),
         _ => None,
     }
 }

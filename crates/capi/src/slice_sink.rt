@@ -1,5 +1,5 @@
 //! A sink over a caller's bytes.
-ghost use Rattle.std.specs.Prelude.{◌≡◌, ◌^◌, ◌<◌, ⊤};
+ghost use Rattle.std.specs.Prelude.{◌≡◌, ◌^◌, ◌<◌, ⊤, false};
 
 use crate::room::{put, put_again};
 use device::{IoFault, Sink};
@@ -15,13 +15,14 @@ pub struct SliceSink<'a> {
 }
 
 impl<'a> SliceSink<'a> {
-    ghost use Rattle.capi.specs.Slice.{count_of, room_of};
+    ghost use Rattle.capi.specs.Slice.{count_of, is_flushed, room_of};
 
     /// Returns a sink that took no byte.
     pub fn new(room: &'a mut [u8]) -> Self
         ensures same { result.room.ghost_name ≡ room.entry.ghost_name }
         ensures room { room_of result ≡ room.old }
         ensures count { count_of result ≡ 0 }
+        ensures flushed { is_flushed result ≡ false }
     {
         SliceSink {
             room,

@@ -17,7 +17,7 @@ ghost use Rattle.capi.specs.Modules.{height_told, modules_of, one_row};
 ghost use Rattle.capi.specs.Numbers.{code_of as number_of};
 
 use crate::asked::asked_of;
-use crate::draw::{declined, refused};
+use crate::draw::{declined_at, refused};
 use crate::full::put_full;
 use crate::numbers::{
     Answer, CallOptions, DONE, NO_ROOM, SymbolInfo, Told, number_of as number_of_symbology,
@@ -121,7 +121,7 @@ pub fn symbol_into(
             message,
             full,
         ),
-        Err(code) => told_nothing(declined(code)),
+        Err(reason) => told_nothing(declined_at(reason)),
     }
 }
 

@@ -9,7 +9,7 @@ use clap::{Arg, ArgAction, Command};
 use std::alloc::{AllocError, Global};
 
 /// The program and its version: the first line of the help text.
-pub const VERSION: &str = "labels 1.1.0";
+pub const VERSION: &str = "labels 1.2.0";
 
 /// The help text before the usage.
 const ABOUT: &str =

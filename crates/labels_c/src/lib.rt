@@ -4,7 +4,7 @@
 //! written overlaps nothing else that is passed; each byte of `modules` is 0 or 1 when the call begins.
 #![tactic(auto)]
 
-ghost use Rattle.capi.specs.Bits.{AnswersBitsAsked, AnswersBitsLine};
+ghost use Rattle.capi.specs.Bits.{AnswersBitsAsked, AnswersBitsLine, ReadsBits, ReadsBitsLine};
 ghost use Rattle.capi.specs.Calls.{Answers, ReadsAsked, asked};
 ghost use Rattle.capi.specs.Full.{PutsFullAsked, PutsFullLine};
 ghost use Rattle.capi.specs.Line.{AnswersDrawnLine, AnswersLine, NumbersLine, ReadsDrawnLine, ReadsLine, line_asked};
@@ -78,13 +78,14 @@ pub extern "C" fn labels_proved_bitmap(
     height: &mut u32,
     answer: &mut Answer,
 )
-    ensures { AnswersBitsAsked (record {
+    ensures answers { AnswersBitsAsked (record {
       out = bits.old;
       out_after = bits.new;
       message = message.old;
       message_after = message.new;
     }) stride (record { answer = answer.new; width = width.new; height = height.new })
         (asked options.now symbology bytes.now) bytes.now }
+    ensures read { ReadsBits (asked options.now symbology bytes.now) bytes.now }
 {
     let dots = capi::bits_into(options, symbology, bytes, bits, stride, message);
     *width = dots.width;
@@ -151,13 +152,14 @@ pub extern "C" fn labels_proved_bitmap_line(
     height: &mut u32,
     answer: &mut Answer,
 )
-    ensures { AnswersBitsLine (record {
+    ensures answers { AnswersBitsLine (record {
       out = bits.old;
       out_after = bits.new;
       message = message.old;
       message_after = message.new;
     }) stride (record { answer = answer.new; width = width.new; height = height.new })
         (line_asked options.now text.now) text.now }
+    ensures read { ReadsBitsLine (line_asked options.now text.now) text.now }
 {
     let dots = capi::bits_line_into(options, text, bits, stride, message);
     *width = dots.width;

@@ -48,7 +48,7 @@ __all__ = [
     "symbol",
     "version",
 ]
-__version__ = "1.1.0"
+__version__ = "1.2.0"
 _DIGITS = bytes.maketrans(b"\0\1", b"01")
 
 
@@ -272,10 +272,8 @@ def _bitmap(call: Callable[..., int], *asked: object) -> Bitmap | None:
         return None
     if code != _binding.NO_ROOM:
         _expect_drawn(answer)
-    stride = (dots.width + 7) // 8
-    room = stride * dots.height
-    bits = ctypes.create_string_buffer(room)
-    call(*asked, bits, stride, room, ctypes.byref(dots), ctypes.byref(answer))
+    bits = ctypes.create_string_buffer(answer.length)
+    call(*asked, bits, 0, len(bits), ctypes.byref(dots), ctypes.byref(answer))
     _expect_drawn(answer)
     return Bitmap(dots.width, dots.height, bits.raw)
 
@@ -435,7 +433,7 @@ def version() -> str:
     """Returns the version of the library.
 
     >>> version()
-    '1.1.0'
+    '1.2.0'
     """
     number: bytes = LIBRARY.labels_version()
     return number.decode("ascii")

@@ -1,7 +1,7 @@
 use Rattle.std.proofs.Common.{refl}
 use Rattle.labelcore.specs.declared.symbology.Symbology.TheVariants.{Ean13, Ean8, UpcA}
 use Rattle.filter.specs.Symbol.{symbol_of}
-use Rattle.capi.proofs.bits.bits_asked.Goals as goal
+use Rattle.capi.proofs.bits.symbol_bits.Goals as goal
 
 pub returns-in-Ean13 : goal.returns-in-Ean13
 unfolding symbol_of
