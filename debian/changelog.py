@@ -3,8 +3,8 @@
 
 The version is that of lib/labels.h where HEAD has its tag, as v1.0.0. Else `~gitDATE.NUMBER.COMMIT` is behind it, or
 `+git..` where CHANGELOG.md has a section for it, since it is released then: it rises with each commit, which NUMBER
-counts. What is under "Unreleased" is in the entry of the commit. DEBFULLNAME and DEBEMAIL name the maintainer. The status is 1 in a clone that lacks older commits, or
-where CHANGELOG.md has two sections of one heading.
+counts. What is under "Unreleased" is in the entry of the commit. DEBFULLNAME and DEBEMAIL name the maintainer. The
+status is 1 in a clone that lacks older commits, or where CHANGELOG.md has two sections of one heading.
 """
 
 import os

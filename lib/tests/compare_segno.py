@@ -1,9 +1,9 @@
 """Compares QR symbols of liblabels with those that segno draws of the same segments: compare_segno.py
 
-segno is told the segments, the version, the level and the mask, and chooses nothing. What liblabels has to choose is found
-here by the slow form of each rule: the mask by the penalty of each, the segments by listing all. PYTHONPATH and
-LABELS_LIBRARY name the module and the library. The last line counts; the status is 1 where something differs, or where a
-symbol with one turned module does not.
+segno is told the segments, the version, the level and the mask, and chooses nothing. What liblabels has to choose is
+found here by the slow form of each rule: the mask by the penalty of each, the segments by listing all. PYTHONPATH and
+LABELS_LIBRARY name the module and the library. The last line counts; the status is 1 where something differs, or where
+a symbol with one turned module does not.
 """
 
 import re
@@ -63,14 +63,18 @@ ROWS = (
 TOO_LONG = (A + 645 * b"1", 272 * A, 653 * b"1")
 
 
+def payload(mode: int, size: int) -> int:
+    """The bits of so many characters of a mode (ISO/IEC 18004, 7.4.3 to 7.4.5)."""
+    if mode == NUMERIC:
+        return 10 * (size // 3) + (0, 4, 7)[size % 3]
+    if mode == ALPHANUMERIC:
+        return 11 * (size // 2) + 6 * (size % 2)
+    return 8 * size
+
+
 def cost(segments: Segments, version: int) -> int:
-    """The bits of segments (ISO/IEC 18004, 7.4)."""
-    payloads = {
-        NUMERIC: lambda size: 10 * (size // 3) + (0, 4, 7)[size % 3],
-        ALPHANUMERIC: lambda size: 11 * (size // 2) + 6 * (size % 2),
-        BYTE: lambda size: 8 * size,
-    }
-    return sum(4 + BITS_OF_COUNT[mode][version == 10] + payloads[mode](len(part)) for part, mode in segments)
+    """The bits of segments."""
+    return sum(4 + BITS_OF_COUNT[mode][version == 10] + payload(mode, len(part)) for part, mode in segments)
 
 
 def add_padding_bits(bits: Buffer, version: int, length: int) -> None:
@@ -142,8 +146,9 @@ def lists_of(text: bytes) -> Iterator[Segments]:
 
 
 def short_texts() -> Iterator[Row]:
-    """Each text of 1 to 6 of three characters with its cheapest segments: of equal lists the one whose first segment is
-    longest, then that whose mode has fewer characters."""
+    """Each text of 1 to 6 of three characters with its cheapest segments: of equal lists the one whose first segment
+    is longest, then that whose mode has fewer characters.
+    """
     for size in range(1, 7):
         for letters in product(b"1Aa", repeat=size):
             text = bytes(letters)

@@ -121,6 +121,38 @@ static void dots_are_put_in_rows(void) {
     SEE(answer.code == LABELS_SKIPPED && width == 0 && height == 0);
 }
 
+static void rows_may_have_no_gap(void) {
+    unsigned char bits[2 * 11 + 1];
+    uint32_t width, height;
+    begin();
+    options.height = 2;
+    memset(bits, UNTOUCHED, sizeof bits);
+    labels_proved_bitmap(&options, LABELS_EAN8, "7351353", 7, bits, 0, 0, message, sizeof message, &width, &height,
+                         &answer);
+    SEE(answer.code == LABELS_NO_ROOM && answer.length == 22 && width == 81 && height == 2);
+    labels_proved_bitmap(&options, LABELS_EAN8, "7351353", 7, bits, answer.length, 0, message, sizeof message, &width,
+                         &height, &answer);
+    SEE(answer.code == LABELS_OK && bits[0] == 0x01 && bits[1] == 0x5d);
+    SEE(memcmp(bits, bits + 11, 11) == 0 && bits[22] == UNTOUCHED);
+}
+
+/* Each option is out of its range in turn, and the last spare word with it. */
+static void the_first_wrong_option_is_told(void) {
+    enum { WORDS = sizeof options / sizeof(uint32_t), NAMED = 7 };
+    uint32_t words[WORDS];
+    for (size_t wrong = 0; wrong < WORDS; wrong++) {
+        begin();
+        memcpy(words, &options, sizeof options);
+        words[wrong] = words[WORDS - 1] = 1000;
+        memcpy(&options, words, sizeof options);
+        labels_proved_draw(&options, LABELS_EAN8, "7351353", 7, out, sizeof out, message, sizeof message, &answer);
+        SEE(answer.code == LABELS_BAD_OPTION && answer.at == (wrong < NAMED ? wrong : NAMED) + 1);
+        labels_proved_line(&options, "ean8 7351353", 12, modules, sizeof modules, message, sizeof message, full,
+                           sizeof full, &info, &answer);
+        SEE(answer.code == LABELS_BAD_OPTION && answer.at == (wrong < NAMED ? wrong : NAMED) + 1);
+    }
+}
+
 static void dots_are_read_back(void) {
     unsigned char bits[11];
     char digits[81];
@@ -246,6 +278,8 @@ int main(void) {
     modules_are_put_row_by_row();
     a_line_is_put_skipped_or_refused();
     dots_are_put_in_rows();
+    rows_may_have_no_gap();
+    the_first_wrong_option_is_told();
     dots_are_read_back();
     modules_are_read_back();
     a_region_of_bits_is_read();

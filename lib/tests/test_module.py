@@ -51,6 +51,24 @@ for line in ("ean13 1\\n2", "qr \\n\\n"):
         raise AssertionError(line)
 """
 
+# A line of each symbology and level is drawn as what its name says, by proved code; other names and numbers are none.
+NAMES = """
+import liblabels
+from liblabels._binding import LIBRARY
+DATA = {"ean13": "400638133393", "ean8": "7351353", "upca": "03600029145", "code128": "A", "qr": "A"}
+assert liblabels.SYMBOLOGIES == tuple(DATA) and liblabels.LEVELS == ("L", "M", "Q", "H")
+for number, (name, data) in enumerate(DATA.items()):
+    assert liblabels.line(f"{name} {data}").symbology == name
+    assert LIBRARY.labels_symbology_named(name.encode()) == number
+for number, name in enumerate(liblabels.LEVELS):
+    assert liblabels.line(f"qr,level={name} A").level == name
+    assert LIBRARY.labels_level_named(name.encode()) == number
+for wrong in (b"", b"ean1", b"ean133", b"EAN13", b"l", b"LM", None):
+    assert (LIBRARY.labels_symbology_named(wrong), LIBRARY.labels_level_named(wrong)) == (-1, -1), wrong
+for wrong in (-(2**31), -1, 5, 2**31 - 1):
+    assert (LIBRARY.labels_symbology_name(wrong), LIBRARY.labels_level_name(wrong)) == (None, None), wrong
+"""
+
 
 # For each code of a refusal a line that has it, and its message.
 REFUSALS = {
@@ -164,6 +182,22 @@ class Module(WithLibrary):
     def test_other_pictures_and_messages_are_seen(self) -> None:
         for more in (["--mask", "0"], ["--escapes"]):
             self.assert_fails(PYTHON, TESTS / "compare_lines.py", PROGRAM, "1", "200", *more)
+
+    def test_symbols_of_segno(self) -> None:
+        """Each version, level and mask, and the masks and segments that are chosen."""
+        self.run_ok(PYTHON, TESTS / "compare_segno.py")
+
+    def test_names(self) -> None:
+        self.run_ok(PYTHON, "-c", NAMES)
+
+    def test_wrong_names_are_seen(self) -> None:
+        """Two names that change places, and a name that ends earlier."""
+        for old, new in (('"ean13", "ean8"', '"ean8", "ean13"'), ("return *one == *other;", "return !*one;")):
+            out = Path(tempfile.mkdtemp(dir=self.library.folder))
+            made = self.library.make(self.library.changed(("labels.c", old, new)), out, "all")
+            self.assertEqual(made.returncode, 0)
+            [shared] = out.glob("liblabels.so.*")
+            self.assert_fails("env", f"LABELS_LIBRARY={shared}", PYTHON, "-c", NAMES)
 
     def test_no_library(self) -> None:
         none = self.library.folder / "none.so"

@@ -164,6 +164,8 @@ EAN8_LINE: Line = (b"ean8 7351353", pbm([EAN8]), b"")
 PDF_LINE: Line = (b"pdf x pdf x ", b"", b"unknown symbology")
 # Lines of 13 bytes each, in turn; and a line that is too long, a comment and a label.
 IN_TURN = told([EAN8_LINE, PDF_LINE, EAN8_LINE, PDF_LINE, EAN8_LINE])
+TWICE_DRAWN = told([EAN8_LINE, EAN8_LINE])
+TWICE_REFUSED = told([PDF_LINE, PDF_LINE])
 LONG = told([(1101 * b"a", b"", TOO_LONG), (b"#" + 2000 * b"a", b"", b""), EAN8_LINE])
 
 
@@ -236,7 +238,7 @@ class Calls(unittest.TestCase):
         asked for all.
         """
         self.assertEqual(len(LINES), 300)
-        for most in (Most(1), Most(13), Most(BUFFER), Most(), Most(BUFFER, 10)):
+        for most in (Most(1), Most(13), Most(BUFFER), Most(), Most(BUFFER, 10), Most(1, 1)):
             self.assertEqual(self.ran(LINES, most), right_run(LINES, most), most)
 
     def test_pictures_are_written_when_no_more_can_be_kept(self) -> None:
@@ -254,7 +256,9 @@ class Calls(unittest.TestCase):
             (IN_TURN, Most(1)),
             (IN_TURN, Most()),
             (IN_TURN, Most(BUFFER, 50)),
-            (LONG, Most(100)),
+            (TWICE_DRAWN, Most(BUFFER, 1)),
+            (TWICE_REFUSED, Most(BUFFER, 1)),
+            (LONG, Most(1)),
             (LONG, Most(BUFFER, 1)),
         ):
             right = right_run(lines, most)

@@ -316,6 +316,31 @@ class Files(InFolder):
             self.assertEqual(found, wanted, name)
 
 
+# Arguments, an input and its messages: lengths that just fit and one more, and what ends a line.
+CUT = (
+    ("", b"ean13 4006381333931\n", b""),
+    ("", b"ean13 4006381333932\n", b"line 1: check digit is 2, should be 1\n"),
+    ("", b"code128 PJJ123C\ncode128 42\ncode128 12345\n", b""),
+    ("", b"code128 a\\x01b\n", b""),
+    ("--level Q", b"qr HELLO WORLD\n", b""),
+    ("--level L", b"qr " + 41 * b"1" + b"\nqr " + 42 * b"1", b""),
+    ("--level L", b"qr " + 17 * b"a" + b"\nqr " + 18 * b"a", b""),
+    ("--level L", b"qr " + 271 * b"a" + b"\n", b""),
+    ("--level L", b"qr " + 272 * b"a" + b"\n", b"line 1: data does not fit version 10-L\n"),
+    ("--level L", b"qr " + 652 * b"1" + b"\n", b""),
+    ("--level L", b"qr " + 653 * b"1" + b"\n", b"line 1: data does not fit version 10-L\n"),
+    ("--level Q --min-version 5", b"qr " + 30 * b"a" + b"\n", b""),
+    ("", b"#\n\npdf x\n", b"line 3: unknown symbology\n"),
+    ("", b"ean8 7351353\r\n", b"line 1: not a digit at byte 8\n"),
+    (
+        "--height 1",
+        1101 * b"a" + b"\n#" + 2000 * b"a" + b"\nean8 7351353",
+        b"line 1: line is longer than 1100 bytes\n",
+    ),
+    ("", 1100 * b"a" + b"\n", b"line 1: unknown symbology\n"),
+)
+
+
 class Lines(unittest.TestCase):
     def assert_wrote(self, data: bytes, options: Sequence[str], out: bytes, err: bytes) -> None:
         """A run over the data writes this, read in pieces of several sizes and in two at each cut."""
@@ -340,6 +365,39 @@ class Lines(unittest.TestCase):
             b"line %d: %s\n" % (number, fault) for number, (_, fault) in enumerate(REFUSED, 1)
         )
         self.assert_wrote(data, OPTIONS, b"", said)
+
+    def test_where_an_input_is_cut_does_not_matter(self) -> None:
+        for arguments, data, said in CUT:
+            whole = ran(*arguments.split(), data=data)
+            self.assertEqual((whole[0], whole[2]), (1 if said else 0, said), arguments)
+            for cut in range(1, len(data)):
+                pieces = [data[:cut], data[cut:]]
+                self.assertEqual(in_pieces(pieces, *arguments.split()), whole, (data[:9], cut))
+
+    def test_an_input_that_ends_anywhere(self) -> None:
+        """The messages of its whole lines, and of the rest one or a picture, also byte by byte."""
+        data = b"".join(line + b"\n" for line, _ in REFUSED)
+        said = [b"line %d: %s\n" % (number, it) for number, (_, it) in enumerate(REFUSED, 1)]
+        for end in range(len(data) + 1):
+            found = in_pieces([data[:end]] if end else [], *OPTIONS)
+            lines = found[2].splitlines(keepends=True)
+            whole = data[:end].count(b"\n")
+            self.assertEqual((found[0], lines[:whole]), (1 if lines else 0, said[:whole]), end)
+            self.assertLessEqual(len(lines) + found[1].count(b"P1"), whole + 1)
+            self.assertEqual(in_pieces([data[at : at + 1] for at in range(end)], *OPTIONS), found)
+
+    def test_each_byte(self) -> None:
+        """As the data of a Code 128 symbol, of 75 bytes: a line feed ends its own line, and ASCII is drawn."""
+        data = b"".join(b"code128 %c\n" % byte for byte in range(256))
+        status, out, err = ran("--height", "1", data=data)
+        messages = [
+            b"line 11: no data",
+            *(b"line %d: byte 1 is not ASCII" % (byte + 2) for byte in range(128, 256)),
+        ]
+        self.assertEqual((status, err.splitlines()), (1, messages))
+        pictures = out.split(b"P1\n")[1:]
+        self.assertEqual([len(picture) for picture in pictures], 127 * [72])
+        self.assertEqual(len({*pictures}), 127)
 
     def test_lines_of_ten_million_letters(self) -> None:
         """A line that is too long, a comment, and a label that no line feed ends."""
