@@ -16,7 +16,7 @@ from reader import Declaration, File, Token
 
 CRATES = [
     *("device", "testing", "gf256", "linear", "qrdata"),
-    *("qrmatrix", "picture", "linear_reading", "reading", "labelcore", "filter", "command"),
+    *("qrmatrix", "picture", "linear_reading", "reading", "labelcore", "filter", "command", "capi"),
 ]
 # The files of worked values, the quick ones first, and the crate that has them where it is another.
 FILES = {

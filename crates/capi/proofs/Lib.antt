@@ -4,3 +4,4 @@ pub mod SliceLaws
 pub mod LineLaws
 pub mod Gather
 pub mod RowLaws
+mod Examples

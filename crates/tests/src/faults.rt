@@ -36,11 +36,11 @@ struct Ended {
 }
 
 /// Runs over a label and a refusal, where the calls of these numbers fail, of the images and of the messages.
-fn ran(options: Options, image_call: u64, message_call: u64) -> Ended {
+fn ran(options: &Options, image_call: u64, message_call: u64) -> Ended {
     let mut source = MemSource::new(b"ean8 7351353\npdf x\n", 1, false);
     let mut images: FailAt<MemSink<91>> = FailAt::new(MemSink::new(7, 91), image_call);
     let mut messages: FailAt<MemSink<26>> = FailAt::new(MemSink::new(7, 26), message_call);
-    let result = run(options, &mut source, &mut images, &mut messages);
+    let result = run(*options, &mut source, &mut images, &mut messages);
     Ended {
         result,
         images: images.device().bytes().len(),
@@ -56,16 +56,16 @@ fn flushes_fail(rt: HostRuntime) {
     let Some(options) = Options::new(Format::Pbm, 1, 1, Level::M, 1, None, false) else {
         panic!(rt; "these are in their ranges");
     };
-    let right = ran(options, 0, 0);
+    let right = ran(&options, 0, 0);
     assert!(rt;
         (right.result == Ok(Status::Refused)) & (right.images == 91) & (right.messages == 26)
     );
-    let first = ran(options, right.image_calls, 0);
+    let first = ran(&options, right.image_calls, 0);
     assert!(rt;
         (first.result == Err(RunFault::WriteOut)) & (first.images == 91) & (first.messages == 26)
     );
     assert!(rt; first.message_calls.saturating_add(1) == right.message_calls);
-    let second = ran(options, 0, right.message_calls);
+    let second = ran(&options, 0, right.message_calls);
     assert!(rt; (second.result == Err(RunFault::WriteMessages)) & (second.messages == 26));
     assert!(rt;
         (second.image_calls == right.image_calls) & (second.message_calls == right.message_calls)

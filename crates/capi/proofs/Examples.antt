@@ -1,0 +1,231 @@
+-- Worked values: the numbers of lib/labels.h, bits as binary PBM has them (pbm(5)), and a symbol that is read.
+use Rattle.std.proofs.Common.{◌≡◌, ℕ, Bool, List, [], ◌∷◌, ◌++◌, ◌-◌, ◌==◌, true, false, None, Some, Option, codes, refl, map, take, drop, replicate}
+use Rattle.std.specs.Prelude.{Result, Ok, Err, if◌then◌else◌, ◌||◌}
+use Rattle.labelcore.specs.OptionValues.{LabelValues}
+use Rattle.labelcore.specs.declared.fault.Fault.{Fault}
+use Rattle.labelcore.specs.declared.fault.Fault.TheVariants.{NotADigit, WrongNumberOfDigits, WrongCheckDigit}
+use Rattle.labelcore.specs.declared.fault.Fault.TheVariants.{DataTooLong, NotAscii, DoesNotFit, NoData}
+use Rattle.labelcore.specs.declared.fault.Fault.TheVariants.{LineTooLong, UnknownSymbology, UnknownSetting, BadValue}
+use Rattle.labelcore.specs.declared.fault.Fault.TheVariants.{BadEscape}
+use Rattle.labelcore.specs.declared.options.Format.TheVariants.{Pbm, Ascii}
+use Rattle.labelcore.specs.declared.options.Options.{Options}
+use Rattle.labelcore.specs.declared.symbology.Symbology.TheVariants.{Ean13, Ean8, UpcA, Code128, Qr}
+use Rattle.qrdata.specs.declared.level.Level.TheVariants.{L, M, Q, H}
+use Rattle.linear.specs.Tables.{number_set_a}
+use Rattle.picture.specs.Picture.{Picture}
+use Rattle.picture.specs.Reading.{sample}
+use Rattle.filter.specs.Symbol.{Symbol}
+use Rattle.reading.specs.declared.bits.BitRegion.{BitRegion}
+use Rattle.capi.specs.Bits.{bits_fit, bits_size, byte_at, bytes_of, dot_at, put_bit_rows, row_size, row_step}
+use Rattle.capi.specs.Calls.{asked, options_asked}
+use Rattle.capi.specs.Line.{has_LF, line_asked, rows_put, with_rows_put}
+use Rattle.capi.specs.Modules.{height_told, is_nothing, modules_of, one_row}
+use Rattle.capi.specs.Numbers.{are_in_range, are_unused, code_of, flag_numbered, format_numbered, level_numbered, mask_numbered}
+use Rattle.capi.specs.Numbers.{options_numbered, place_of, symbology_numbered, wrong_option}
+use Rattle.capi.specs.Read.{bits_as, modules_asked, read_asked, reading_of, region_numbered}
+use Rattle.capi.specs.declared.numbers.CallOptions.{CallOptions}
+use Rattle.capi.specs.declared.numbers.CallRegion.{CallRegion}
+use Rattle.capi.specs.declared.numbers.SymbolInfo.{SymbolInfo}
+
+-- ---- numbers of lib/labels.h
+
+-- enum labels_format, labels_level and labels_symbology, flags, and LABELS_MASK_AUTO, with the numbers after them
+names_of_numbers : (map format_numbered (0 ∷ 1 ∷ 2 ∷ []) ≡ Some Pbm ∷ Some Ascii ∷ None ∷ [])
+    × ((map level_numbered (0 ∷ 1 ∷ 2 ∷ 3 ∷ 4 ∷ []) ≡ Some L ∷ Some M ∷ Some Q ∷ Some H ∷ None ∷ [])
+    × ((map symbology_numbered (0 ∷ 1 ∷ 2 ∷ 3 ∷ 4 ∷ 5 ∷ [])
+    ≡ Some Ean13 ∷ Some Ean8 ∷ Some UpcA ∷ Some Code128 ∷ Some Qr ∷ None ∷ [])
+    × ((map flag_numbered (0 ∷ 1 ∷ 2 ∷ []) ≡ Some false ∷ Some true ∷ None ∷ [])
+    × (map mask_numbered (7 ∷ 8 ∷ 9 ∷ []) ≡ Some 7 ∷ None ∷ Some 9 ∷ []))))
+names_of_numbers = (refl, (refl, (refl, (refl, refl))))
+
+-- LABELS_DEFAULTS
+defaults : CallOptions
+defaults = record {
+  format = 0;
+  scale = 1;
+  height = 50;
+  level = 1;
+  min_version = 1;
+  mask = 8;
+  escapes = 0;
+  reserved = replicate 5 0;
+}
+
+-- options at the ends of their ranges
+at_ends : List CallOptions
+at_ends =
+    defaults ∷ record defaults { scale = 8 } ∷ record defaults { height = 1 } ∷ record defaults { height = 500 }
+    ∷ record defaults { min_version = 10 } ∷ record defaults { mask = 0 } ∷ []
+
+-- options one beyond them
+beyond : List CallOptions
+beyond =
+    record defaults { scale = 0 } ∷ record defaults { scale = 9 } ∷ record defaults { height = 0 }
+    ∷ record defaults { height = 501 } ∷ record defaults { min_version = 0 } ∷ record defaults { min_version = 11 }
+    ∷ record defaults { mask = 9 } ∷ []
+
+-- options whose number names nothing, and a spare word
+nameless : List CallOptions
+nameless =
+    record defaults { format = 2 } ∷ record defaults { level = 4 } ∷ record defaults { escapes = 2 }
+    ∷ record defaults { reserved = 0 ∷ 0 ∷ 0 ∷ 0 ∷ 1 ∷ [] } ∷ []
+
+ranges : (map are_in_range at_ends ≡ replicate 6 true) × (map are_in_range beyond ≡ replicate 7 false)
+unfolding defaults at_ends beyond
+ranges = (refl, refl)
+
+-- the fields of labels_options in their order
+wrong_options : (map wrong_option at_ends ≡ replicate 6 0)
+    × ((map wrong_option beyond ≡ 2 ∷ 2 ∷ 3 ∷ 3 ∷ 5 ∷ 5 ∷ 6 ∷ []) × (map wrong_option nameless ≡ 1 ∷ 4 ∷ 7 ∷ 8 ∷ []))
+unfolding wrong_option defaults at_ends beyond nameless
+wrong_options = (refl, (refl, refl))
+
+-- words that are 0, or are not all
+spare_words : map are_unused ([] ∷ (0 ∷ 0 ∷ []) ∷ (0 ∷ 1 ∷ []) ∷ (1 ∷ 1 ∷ []) ∷ []) ≡ true ∷ true ∷ false ∷ false ∷ []
+spare_words = refl
+
+-- LABELS_DEFAULTS as options
+default_options : Options
+default_options = record {
+  run = record { format = Pbm; scale = 1; escapes = false };
+  label = record { height = 50; level = M; min_version = 1; mask = None };
+}
+
+default_numbers : (options_numbered defaults ≡ Some default_options)
+    × ((map options_numbered beyond ≡ replicate 7 None) × (map options_numbered nameless ≡ replicate 4 None))
+unfolding options_numbered defaults default_options beyond nameless
+default_numbers = (refl, (refl, refl))
+
+-- options, then the symbology, then the data
+asked_for : (asked defaults 4 (65 ∷ []) ≡ Ok (record { options = default_options; symbology = Qr }))
+    × ((asked (record defaults { scale = 9 }) 5 [] ≡ Err (record { code = 2; at = 2 }))
+    × ((asked defaults 5 [] ≡ Err (record { code = 3; at = 0 })) × (asked defaults 4 [] ≡ Err (record { code = 4; at = 0 }))))
+unfolding asked options_asked options_numbered wrong_option defaults default_options
+asked_for = (refl, (refl, (refl, refl)))
+
+-- enum labels_code
+codes_of_faults : map code_of (NoData ∷ NotADigit 9 ∷ WrongNumberOfDigits 9 ∷ WrongCheckDigit 9 8 ∷ DataTooLong
+    ∷ NotAscii 9 ∷ DoesNotFit L ∷ LineTooLong ∷ UnknownSymbology ∷ UnknownSetting 9 ∷ BadValue 9 ∷ BadEscape 9 ∷ [])
+    ≡ 4 ∷ 5 ∷ 6 ∷ 7 ∷ 8 ∷ 9 ∷ 10 ∷ 11 ∷ 3 ∷ 12 ∷ 12 ∷ 13 ∷ []
+codes_of_faults = refl
+
+places_of_faults : map place_of (NotADigit 9 ∷ NotAscii 9 ∷ BadEscape 9 ∷ UnknownSetting 9 ∷ BadValue 9 ∷ NoData ∷ [])
+    ≡ 9 ∷ 9 ∷ 9 ∷ 9 ∷ 9 ∷ 0 ∷ []
+places_of_faults = refl
+
+-- ---- lines
+
+lines_asked : (map has_LF ([] ∷ codes "qr" ∷ codes "q\n" ∷ []) ≡ false ∷ false ∷ true ∷ [])
+    × ((line_asked defaults (codes "qr A") ≡ Ok default_options)
+    × ((line_asked defaults (codes "qr A\n") ≡ Err (record { code = 15; at = 0 }))
+    × (line_asked (record defaults { mask = 9 }) (codes "\n") ≡ Err (record { code = 2; at = 6 }))))
+unfolding line_asked options_asked options_numbered wrong_option defaults default_options
+lines_asked = (refl, (refl, (refl, refl)))
+
+-- ---- modules
+
+-- two rows of nine dots: the first and the last of the upper one are dark, and the last but one of the lower one
+dots : Picture
+dots = record { width = 9; height = 2; dark = λ x y. if y == 0 then x == 0 || x == 8 else x == 7 }
+
+rows_of_modules : modules_of dots ≡ (true ∷ replicate 7 false) ++ (true ∷ replicate 7 false) ++ (true ∷ false ∷ [])
+unfolding dots
+rows_of_modules = refl
+
+-- a linear symbol has one row of modules, and its picture as many as asked for; a QR symbol is a square
+heights : (rows_put Qr 21 ≡ 21) × ((rows_put Ean8 50 ≡ 1) × ((height_told Qr 21 50 ≡ 21) × (height_told Ean8 67 50 ≡ 50)))
+heights = (refl, (refl, (refl, refl)))
+
+one_of_the_rows : ((with_rows_put (record { symbology = Qr; full = []; modules = dots })).modules.height ≡ 2)
+    × ((with_rows_put (record { symbology = Ean8; full = []; modules = dots })).modules.height ≡ 1)
+unfolding dots
+one_of_the_rows = (refl, refl)
+
+one_row_high : (one_row default_options.label).height ≡ 1
+unfolding default_options
+one_row_high = refl
+
+-- nothing told of a symbol, and each number by itself
+nothing : SymbolInfo
+nothing = record {
+  symbology = 0;
+  width = 0;
+  rows = 0;
+  height = 0;
+  left = 0;
+  right = 0;
+  top = 0;
+  bottom = 0;
+  version = 0;
+  level = 0;
+  mask = 0;
+  reserved = replicate 5 0;
+  data_length = 0;
+}
+
+nothing_told : (is_nothing nothing ≡ true) × (map is_nothing (record nothing { symbology = 1 }
+    ∷ record nothing { width = 1 } ∷ record nothing { rows = 1 } ∷ record nothing { height = 1 }
+    ∷ record nothing { left = 1 } ∷ record nothing { right = 1 } ∷ record nothing { top = 1 } ∷ record nothing { bottom = 1 }
+    ∷ record nothing { version = 1 } ∷ record nothing { level = 1 } ∷ record nothing { mask = 1 }
+    ∷ record nothing { reserved = 1 ∷ [] } ∷ record nothing { data_length = 1 } ∷ []) ≡ replicate 13 false)
+unfolding is_nothing nothing
+nothing_told = (refl, refl)
+
+-- ---- bits
+
+-- a row in which this dot alone is dark
+only : ℕ → List Bool
+only place = map (λ x. x == place) (0 ∷ 1 ∷ 2 ∷ 3 ∷ 4 ∷ 5 ∷ 6 ∷ 7 ∷ 8 ∷ [])
+
+dots_as_numbers : map (dot_at (true ∷ false ∷ [])) (0 ∷ 1 ∷ 2 ∷ []) ≡ 1 ∷ 0 ∷ 0 ∷ []
+dots_as_numbers = refl
+
+-- pbm(5): the first dot is the highest bit, and a row is filled up with 0
+dots_as_bytes : (map (λ place. byte_at (only place) 0) (0 ∷ 1 ∷ 2 ∷ 3 ∷ 4 ∷ 5 ∷ 6 ∷ 7 ∷ 8 ∷ [])
+    ≡ 128 ∷ 64 ∷ 32 ∷ 16 ∷ 8 ∷ 4 ∷ 2 ∷ 1 ∷ 0 ∷ [])
+    × ((byte_at (replicate 9 true) 0 ≡ 255) × ((byte_at (replicate 9 true) 8 ≡ 128)
+    × ((bytes_of (only 0) 2 ≡ 128 ∷ 0 ∷ []) × (bytes_of (only 8) 2 ≡ 0 ∷ 128 ∷ []))))
+unfolding only
+dots_as_bytes = (refl, (refl, (refl, (refl, refl))))
+
+sizes_of_rows : (map (λ width. row_size (record dots { width = width })) (7 ∷ 8 ∷ 9 ∷ 16 ∷ 17 ∷ []) ≡ 1 ∷ 1 ∷ 2 ∷ 2 ∷ 3 ∷ [])
+    × (map (λ stride. row_step stride 2) (0 ∷ 1 ∷ 2 ∷ 3 ∷ []) ≡ 2 ∷ 1 ∷ 2 ∷ 3 ∷ [])
+unfolding dots
+sizes_of_rows = (refl, refl)
+
+-- two bytes a row, three bytes apart: the third is as it was
+rows_of_bits : (put_bit_rows dots 3 (replicate 6 9) 2 ≡ 128 ∷ 128 ∷ 9 ∷ 1 ∷ 0 ∷ 9 ∷ [])
+    × ((map (λ height. bits_size (record dots { height = height }) 3) (1 ∷ 2 ∷ 3 ∷ []) ≡ 2 ∷ 5 ∷ 8 ∷ [])
+    × ((map (λ room. bits_fit dots 3 (replicate room 0)) (4 ∷ 5 ∷ 6 ∷ []) ≡ false ∷ true ∷ true ∷ [])
+    × (map (λ stride. bits_fit dots stride (replicate 9 0)) (1 ∷ 2 ∷ 8 ∷ []) ≡ false ∷ true ∷ false ∷ [])))
+unfolding put_bit_rows dots
+rows_of_bits = (refl, (refl, (refl, refl)))
+
+-- ---- reading
+
+-- the numbers of a region, a colour that is none, and a spare word
+region : CallRegion
+region = record { stride = 3; left = 1; top = 2; width = 4; height = 5; dark = 1; reserved = replicate 3 0 }
+
+regions : (region_numbered region ≡ Some (record { stride = 3; left = 1; top = 2; width = 4; height = 5; dark = true }))
+    × (map region_numbered (record region { dark = 2 } ∷ record region { reserved = 0 ∷ 1 ∷ [] } ∷ []) ≡ None ∷ None ∷ [])
+unfolding region
+regions = (refl, refl)
+
+-- no region, and one that is not within the bits
+outside : (bits_as None [] ≡ Err 2) × (bits_as (region_numbered region) [] ≡ Err 2)
+unfolding region
+outside = (refl, refl)
+
+-- `ean8 7351353` in its quiet zone, seven light modules on each side, as GNU barcode 0.99 draws it
+ean8 : List ℕ
+ean8 = codes "000000010101110110111101011000100110010101010000101001110100001010001001010000000"
+
+dots_read : (read_asked 1 1 81 1 ean8 ≡ Ok (Some (codes "73513537"))) × ((read_asked 1 0 81 1 ean8 ≡ Err 2)
+    × ((read_asked 5 1 81 1 ean8 ≡ Err 3) × (read_asked 5 0 81 1 ean8 ≡ Err 2)))
+unfolding read_asked ean8 sample number_set_a
+dots_read = (refl, (refl, (refl, refl)))
+
+modules_read : modules_asked 1 67 1 (map (λ digit. digit - 48) (take 67 (drop 7 ean8))) ≡ Ok (Some (codes "73513537"))
+unfolding modules_asked ean8 number_set_a
+modules_read = refl
