@@ -56,8 +56,8 @@ static void see_code(const char *call, int code, const labels_answer *answer) {
         return;
     if (answer->code != (uint32_t)code || answer->reserved != 0)
         stop(call, "another code in the answer, or a spare word that is not 0");
-    if (answer->at && code != LABELS_NOT_A_DIGIT && code != LABELS_NOT_ASCII && code != LABELS_BAD_SETTING &&
-        code != LABELS_BAD_ESCAPE)
+    if (answer->at && code != LABELS_BAD_OPTION && code != LABELS_NOT_A_DIGIT && code != LABELS_NOT_ASCII &&
+        code != LABELS_BAD_SETTING && code != LABELS_BAD_ESCAPE)
         stop(call, "a place of what has none");
     if (answer->message_length != strlen(answer->message))
         stop(call, "a message without its end");
