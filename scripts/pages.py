@@ -78,10 +78,10 @@ IN_PAGES = (
     ),
     ("docs/PROOF.md", r"operator of ([\d,]+) believed definitions", "believed_rows.py", r"of (\d+) definitions"),
     ("docs/PROOF.md", r"one at a time: ([\d,]+)\s+changes", "believed_rows.py", r"^(\d+) changes"),
-    ("docs/PROOF.md", r"They are ([\d,]+) of the", "believed_rows.py", r"(\d+) of \d+ behind the program"),
-    ("docs/PROOF.md", r"of the ([\d,]+) behind the\s+program", "believed_rows.py", r"of (\d+) behind the program"),
-    ("docs/PROOF.md", r"and ([\d,]+) of the [\d,]+ behind\s+the library", "believed_rows.py", r"(\d+) of \d+ behind the library"),
-    ("docs/PROOF.md", r"and [\d,]+ of the ([\d,]+) behind\s+the library", "believed_rows.py", r"of (\d+) behind the library"),
+    ("docs/PROOF.md", r"They are ([\d,]+) of", "believed_rows.py", r"(\d+) of \d+ behind the program"),
+    ("docs/PROOF.md", r"of ([\d,]+) behind the\s+program", "believed_rows.py", r"of (\d+) behind the program"),
+    ("docs/PROOF.md", r"and ([\d,]+) of\s+\d+\s+behind", "believed_rows.py", r"(\d+) of \d+ behind the library"),
+    ("docs/PROOF.md", r"of ([\d,]+) behind the\s+library", "believed_rows.py", r"of (\d+) behind the library"),
 )
 MARKDOWN = MarkdownIt().enable("table")
 # What is written as in a translation: "where" for if (a place has one of the words after it), "alone" for only, "is

@@ -1,8 +1,6 @@
 -- Worked values: the numbers of lib/labels.h, bits as binary PBM has them (pbm(5)), and a symbol that is read.
-use Rattle.std.proofs.Common.{◌≡◌, ℕ, Bool, List, [], ◌∷◌, ◌++◌, ◌-◌, ◌==◌, true, false, None, Some, Option, codes, refl, map, take, drop, replicate}
-use Rattle.std.specs.Prelude.{Result, Ok, Err, if◌then◌else◌, ◌||◌}
-use Rattle.labelcore.specs.OptionValues.{LabelValues}
-use Rattle.labelcore.specs.declared.fault.Fault.{Fault}
+use Rattle.std.proofs.Common.{◌≡◌, ℕ, Bool, List, [], ◌∷◌, ◌++◌, ◌-◌, ◌==◌, true, false, None, Some, codes, refl, map, take, drop, replicate}
+use Rattle.std.specs.Prelude.{Ok, Err, if◌then◌else◌, ◌||◌}
 use Rattle.labelcore.specs.declared.fault.Fault.TheVariants.{NotADigit, WrongNumberOfDigits, WrongCheckDigit}
 use Rattle.labelcore.specs.declared.fault.Fault.TheVariants.{DataTooLong, NotAscii, DoesNotFit, NoData}
 use Rattle.labelcore.specs.declared.fault.Fault.TheVariants.{LineTooLong, UnknownSymbology, UnknownSetting, BadValue}
@@ -14,15 +12,13 @@ use Rattle.qrdata.specs.declared.level.Level.TheVariants.{L, M, Q, H}
 use Rattle.linear.specs.Tables.{number_set_a}
 use Rattle.picture.specs.Picture.{Picture}
 use Rattle.picture.specs.Reading.{sample}
-use Rattle.filter.specs.Symbol.{Symbol}
-use Rattle.reading.specs.declared.bits.BitRegion.{BitRegion}
 use Rattle.capi.specs.Bits.{bits_fit, bits_size, byte_at, bytes_of, dot_at, put_bit_rows, row_size, row_step}
 use Rattle.capi.specs.Calls.{asked, options_asked}
 use Rattle.capi.specs.Line.{has_LF, line_asked, rows_put, with_rows_put}
 use Rattle.capi.specs.Modules.{height_told, is_nothing, modules_of, one_row}
 use Rattle.capi.specs.Numbers.{are_in_range, are_unused, code_of, flag_numbered, format_numbered, level_numbered, mask_numbered}
 use Rattle.capi.specs.Numbers.{options_numbered, place_of, symbology_numbered, wrong_option}
-use Rattle.capi.specs.Read.{bits_as, modules_asked, read_asked, reading_of, region_numbered}
+use Rattle.capi.specs.Read.{bits_as, modules_asked, read_asked, region_numbered}
 use Rattle.capi.specs.declared.numbers.CallOptions.{CallOptions}
 use Rattle.capi.specs.declared.numbers.CallRegion.{CallRegion}
 use Rattle.capi.specs.declared.numbers.SymbolInfo.{SymbolInfo}
