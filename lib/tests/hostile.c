@@ -115,6 +115,7 @@ static void see_bits(const char *call, int code, const char *bits, size_t stride
     if (code != LABELS_OK || !dots)
         return;
     size_t row = (dots->width + 7) / 8;
+    stride = stride ? stride : row;
     if (row > stride || stride * (dots->height - 1) + row > room)
         stop(call, "there was no room");
     for (size_t y = 0; y < dots->height; y++)

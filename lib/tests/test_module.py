@@ -53,15 +53,19 @@ for line in ("ean13 1\\n2", "qr \\n\\n"):
 
 # A line of each symbology and level is drawn as what its name says, by proved code; other names and numbers are none.
 NAMES = """
-import liblabels
+import ctypes, liblabels
 from liblabels._binding import LIBRARY
+for call in (LIBRARY.labels_symbology_name, LIBRARY.labels_level_name):
+    call.restype = ctypes.c_char_p
 DATA = {"ean13": "400638133393", "ean8": "7351353", "upca": "03600029145", "code128": "A", "qr": "A"}
 assert liblabels.SYMBOLOGIES == tuple(DATA) and liblabels.LEVELS == ("L", "M", "Q", "H")
 for number, (name, data) in enumerate(DATA.items()):
     assert liblabels.line(f"{name} {data}").symbology == name
+    assert LIBRARY.labels_symbology_name(number) == name.encode()
     assert LIBRARY.labels_symbology_named(name.encode()) == number
 for number, name in enumerate(liblabels.LEVELS):
     assert liblabels.line(f"qr,level={name} A").level == name
+    assert LIBRARY.labels_level_name(number) == name.encode()
     assert LIBRARY.labels_level_named(name.encode()) == number
 for wrong in (b"", b"ean1", b"ean133", b"EAN13", b"l", b"LM", None):
     assert (LIBRARY.labels_symbology_named(wrong), LIBRARY.labels_level_named(wrong)) == (-1, -1), wrong

@@ -149,8 +149,9 @@ class Rows(InCopy):
         self.replace(reading, text.replace("-- the decimal number that", "-- the number that"))
         status, said = self.check()
         self.assertEqual(status, 0, said)
-        said_so = r"^\d{4} changes of \d{3} definitions are refused, \d+ mean the same, sum [\da-f]{8}\n$"
-        self.assertRegex(said, said_so)
+        behind = ", ".join(rf"\d+ of \d+ behind the {name}" for name in ("program", "library"))
+        refused = rf"^\d{{4}} changes of \d{{3}} definitions, {behind}, are refused"
+        self.assertRegex(said, rf"{refused}, \d+ mean the same, sum [\da-f]{{8}}\n$")
 
     def test_changes(self) -> None:
         """Another definition or worked value, a file without a result, a result without a file."""
