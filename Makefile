@@ -78,6 +78,8 @@ install: all install-library
 	    folder=$(DESTDIR)$(DATADIR)/label-tools/labeltools/locale/$$language/LC_MESSAGES; install -d $$folder; \
 	    msgfmt --check-format -o $$folder/label-tools.mo tools/po/$$language.po; \
 	    chmod 644 $$folder/label-tools.mo; done
+	$(PYTHON) tools/help/window_help.py out/help
+	install -D -m 644 -t $(DESTDIR)$(DATADIR)/label-tools/help out/help/*.html
 	install -D -m 644 -t $(DESTDIR)$(DATADIR)/applications tools/data/$(WINDOW).desktop
 	install -D -m 644 -t $(DESTDIR)$(DATADIR)/icons/hicolor/scalable/apps tools/data/$(WINDOW).svg
 	install -D -m 644 -t $(DESTDIR)$(DATADIR)/metainfo tools/data/$(WINDOW).metainfo.xml

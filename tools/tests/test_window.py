@@ -370,11 +370,8 @@ class WindowTest(unittest.TestCase):
     def test_help_opens_the_page_about_the_window(self) -> None:
         with mock.patch.object(application.Gtk, "show_uri_on_window") as shown:
             application.Application().help()
-        path = Gio.File.new_for_uri(shown.call_args[0][1]).get_path()
-        self.assertTrue(Path(path).read_text().startswith("# Printing from a window"))
-        installed = Path("/usr/share/label-tools/labeltools/window/application.py")
-        there = installed.parents[3] / application.PAGES[1].relative_to(application.TOP)
-        self.assertEqual(there, Path("/usr/share/doc/labels/docs/WINDOW.md"))
+        path = Path(Gio.File.new_for_uri(shown.call_args[0][1]).get_path())
+        self.assertEqual(path, support.TOOLS / "help/en.html")
 
     def test_a_table_is_opened_by_the_button(self) -> None:
         opener = mock.Mock()

@@ -24,6 +24,11 @@ _ = _translation.gettext
 ngettext = _translation.ngettext
 
 
+def language() -> str:
+    """Returns the language of the texts, such as `de`; `en` if they are not translated."""
+    return str(_translation.info().get("language", "en"))
+
+
 def is_translated() -> bool:
     """Returns whether there are texts in the language of the user."""
     return isinstance(_translation, gettext.GNUTranslations)

@@ -8,6 +8,7 @@ from typing import Any
 from labeltools.common.command_line import Parser
 from labeltools.common.messages import ToolError
 from labeltools.common.text import Text
+from labeltools.common.words import language
 from labeltools.window.gtk import GLib, Gio, Gtk
 from labeltools.window.window import Window
 
@@ -20,9 +21,8 @@ KEYS = {
     "app.help": "F1",
     "app.quit": "<Primary>q",
 }
-# the page about the window: beside the sources, and where it is installed
-TOP = Path(__file__).resolve().parents[3]
-PAGES = (TOP / "docs/WINDOW.md", TOP / "doc/labels/docs/WINDOW.md")
+# the help, a page of HTML for each language, as it is installed
+HELP = Path(__file__).resolve().parents[2] / "help"
 
 
 class Application(Gtk.Application):
@@ -61,14 +61,13 @@ class Application(Gtk.Application):
         return window
 
     def help(self) -> None:
-        """Opens the page about the window."""
-        page = next((page for page in PAGES if page.exists()), None)
+        """Opens the help in the language of the window, with the browser of the desktop."""
+        page = HELP / f"{language()}.html"
         window = self.get_active_window()
         try:
-            uri = page.as_uri() if page else "man:label-window"
-            Gtk.show_uri_on_window(window, uri, Gtk.get_current_event_time())
+            Gtk.show_uri_on_window(window, page.as_uri(), Gtk.get_current_event_time())
         except GLib.Error as error:
-            window.show_problem(ToolError(Text("{}: {}", page or "man:label-window", error)))
+            window.show_problem(ToolError(Text("{}: {}", page, error)))
 
     def end(self) -> None:
         """Closes all windows, which ends the program."""
