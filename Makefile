@@ -20,7 +20,9 @@ COMPLETED := $(filter-out label-window,$(TOOLS))
 MODULES := $(shell cd tools && find labeltools -name '*.py' -o -name '*.ui')
 LANGUAGES := $(patsubst tools/po/%.po,%,$(wildcard tools/po/*.po))
 WINDOW = org.labels.Window
-DOCUMENTS := README.md $(wildcard docs/*.md docs/pictures/* designs/* examples/*)
+# The pages, and the programs that they call.
+DOCUMENTS := README.md $(wildcard docs/*.md docs/pictures/* designs/* examples/*) lib/examples/read.py \
+    tools/tests/printers.py
 PYTHON = /usr/bin/python3
 library = $(MAKE) -C lib OUT=$(CURDIR)/out/lib PROVED=$(abspath $(PROVED)) $(1)
 link = ln -sfn $(1) $(DESTDIR)$(2)
@@ -83,8 +85,7 @@ install: all install-library
 	install -D -m 644 -t $(DESTDIR)$(DATADIR)/applications tools/data/$(WINDOW).desktop
 	install -D -m 644 -t $(DESTDIR)$(DATADIR)/icons/hicolor/scalable/apps tools/data/$(WINDOW).svg
 	install -D -m 644 -t $(DESTDIR)$(DATADIR)/metainfo tools/data/$(WINDOW).metainfo.xml
-	set -e; for file in $(DOCUMENTS); do \
-	    install -D -m 644 $$file $(DESTDIR)$(DATADIR)/doc/labels/$$file; done
+	$(PYTHON) scripts/installed.py $(DESTDIR)$(DATADIR)/doc/labels $(DOCUMENTS)
 	install -D -m 644 -t $(DESTDIR)$(DATADIR)/man/man1 man/*.1
 	sed -i 's|/usr/share/doc|$(DATADIR)/doc|' $(DESTDIR)$(DATADIR)/man/man1/label*.1
 	install -D -m 644 completions/labels.bash $(DESTDIR)$(DATADIR)/bash-completion/completions/labels
@@ -93,8 +94,8 @@ install: all install-library
 	set -e; for tool in $(COMPLETED); do \
 	    $(call link,labels,$(DATADIR)/bash-completion/completions/$$tool); \
 	    $(call link,labels.fish,$(DATADIR)/fish/vendor_completions.d/$$tool.fish); done
-	@[ -n '$(DESTDIR)' ] || echo 'For programs that use the library: export LD_LIBRARY_PATH=$(LIBDIR) \
-	    PKG_CONFIG_PATH=$(LIBDIR)/pkgconfig PYTHONPATH=$(PYTHONDIR)' | tr -s ' \t'
+	@[ -n '$(DESTDIR)' ] || echo For programs that use the library: export LD_LIBRARY_PATH=$(LIBDIR) \
+	    PKG_CONFIG_PATH=$(LIBDIR)/pkgconfig PYTHONPATH=$(PYTHONDIR)
 
 install-library: library
 	$(call library,install DESTDIR=$(DESTDIR) PREFIX=$(PREFIX) LIBDIR=$(LIBDIR) PYTHONDIR=$(PYTHONDIR))

@@ -116,6 +116,17 @@ class Install(InFolder):
                 is_there = Path(named).exists() and named.startswith(str(share))
                 self.assertTrue(is_there, f"{name}: {named}")
 
+    def test_pages_link_what_is_there(self) -> None:
+        make("install", f"PREFIX={self.folder}")
+        pages = [*(self.folder / "share/doc/labels").rglob("*.md")]
+        links = [
+            page.parent / link
+            for page in pages
+            for link in re.findall(r"\]\(([^()#:]+)", page.read_text(encoding="utf-8"))
+        ]
+        self.assertEqual([link for link in links if not link.exists()], [])
+        self.assertGreater(len(links), 50)
+
     def test_what_was_installed_goes(self) -> None:
         mine = self.folder / "share/man/man1/mine.1"
         mine.parent.mkdir(parents=True)
