@@ -81,7 +81,7 @@ install: all install-library
 	    msgfmt --check-format -o $$folder/label-tools.mo tools/po/$$language.po; \
 	    chmod 644 $$folder/label-tools.mo; done
 	$(PYTHON) tools/help/window_help.py out/help
-	install -D -m 644 -t $(DESTDIR)$(DATADIR)/label-tools/help out/help/*.html
+	set -e; cd out/help; for page in */*/*.html; do install -D -m 644 $$page $(DESTDIR)$(DATADIR)/help/$$page; done
 	install -D -m 644 -t $(DESTDIR)$(DATADIR)/applications tools/data/$(WINDOW).desktop
 	install -D -m 644 -t $(DESTDIR)$(DATADIR)/icons/hicolor/scalable/apps tools/data/$(WINDOW).svg
 	install -D -m 644 -t $(DESTDIR)$(DATADIR)/metainfo tools/data/$(WINDOW).metainfo.xml

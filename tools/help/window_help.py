@@ -1,6 +1,6 @@
 #!/usr/bin/python3
 """Makes the help of label-window, a page of HTML for each language, from docs/WINDOW.md and its
-translations beside this file: window_help.py FOLDER
+translations beside this file: window_help.py FOLDER, such as /usr/share/help
 """
 
 import base64
@@ -27,7 +27,7 @@ li {{ margin: 0.5em 0 }}
 
 def pages() -> dict[str, str]:
     """Returns the text of the page in each language."""
-    paths = {"en": ENGLISH, **{path.stem: path for path in sorted(HERE.glob("??.md"))}}
+    paths = {"C": ENGLISH, **{path.stem: path for path in sorted(HERE.glob("??.md"))}}
     return {language: path.read_text(encoding="utf-8") for language, path in paths.items()}
 
 
@@ -42,15 +42,16 @@ def html_of(language: str, text: str) -> str:
             image.attrs["src"] = f"data:image/png;base64,{base64.b64encode(picture).decode()}"
     title = text.split("\n", 1)[0].removeprefix("# ")
     body = markdown.renderer.render(tokens, markdown.options, {})
-    return PAGE.format(language=language, title=title, body=body)
+    return PAGE.format(language=language.replace("C", "en"), title=title, body=body)
 
 
 def main() -> None:
     """Writes a file for each language into a folder."""
     folder = Path(sys.argv[1])
-    folder.mkdir(parents=True, exist_ok=True)
     for language, text in pages().items():
-        (folder / f"{language}.html").write_text(html_of(language, text), encoding="utf-8")
+        page = folder / language / "label-window/index.html"
+        page.parent.mkdir(parents=True, exist_ok=True)
+        page.write_text(html_of(language, text), encoding="utf-8")
 
 
 if __name__ == "__main__":

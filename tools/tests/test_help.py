@@ -61,11 +61,11 @@ def unknown_names(language: str, page: str) -> Iterator[str]:
 class Help(unittest.TestCase):
     def test_each_language_has_the_page(self) -> None:
         pages = window_help.pages()
-        languages = {"en", *(path.stem for path in (support.TOOLS / "po").glob("*.po"))}
+        languages = {"C", *(path.stem for path in (support.TOOLS / "po").glob("*.po"))}
         self.assertEqual({*pages}, languages)
         for page in pages.values():
             for part in ("^## ", r"^\d\. ", r"^!\["):
-                counts = {len(re.findall(part, one, re.M)) for one in (page, pages["en"])}
+                counts = {len(re.findall(part, one, re.M)) for one in (page, pages["C"])}
                 self.assertEqual(len(counts), 1, part)
 
     def test_controls_are_named_as_the_screen_does(self) -> None:
@@ -77,7 +77,7 @@ class Help(unittest.TestCase):
         with tempfile.TemporaryDirectory() as folder:
             subprocess.run([SOURCE, folder], check=True)
             for language, page in window_help.pages().items():
-                html = Path(folder, f"{language}.html").read_text(encoding="utf-8")
+                html = Path(folder, language, "label-window/index.html").read_text(encoding="utf-8")
                 self.assertIn(f"<h1>{page[2:].splitlines()[0]}</h1>", html)
                 links = Links(html).found
                 self.assertEqual([one[:22] for one in links], ["data:image/png;base64,"])

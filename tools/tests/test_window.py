@@ -371,7 +371,7 @@ class WindowTest(unittest.TestCase):
         with mock.patch.object(application.Gtk, "show_uri_on_window") as shown:
             application.Application().help()
         path = Path(Gio.File.new_for_uri(shown.call_args[0][1]).get_path())
-        self.assertEqual(path, support.TOOLS / "help/en.html")
+        self.assertEqual(path, support.TOP / "help/C/label-window/index.html")
 
     def test_a_table_is_opened_by_the_button(self) -> None:
         opener = mock.Mock()

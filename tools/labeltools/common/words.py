@@ -25,8 +25,8 @@ ngettext = _translation.ngettext
 
 
 def language() -> str:
-    """Returns the language of the texts, such as `de`; `en` if they are not translated."""
-    return str(_translation.info().get("language", "en"))
+    """Returns the language of the texts, such as `de`; `C` if they are not translated."""
+    return str(_translation.info().get("language", "C"))
 
 
 def is_translated() -> bool:

@@ -22,7 +22,7 @@ KEYS = {
     "app.quit": "<Primary>q",
 }
 # the help, a page of HTML for each language, as it is installed
-HELP = Path(__file__).resolve().parents[2] / "help"
+HELP = Path(__file__).resolve().parents[3] / "help"
 
 
 class Application(Gtk.Application):
@@ -62,7 +62,7 @@ class Application(Gtk.Application):
 
     def help(self) -> None:
         """Opens the help in the language of the window, with the browser of the desktop."""
-        page = HELP / f"{language()}.html"
+        page = HELP / language() / "label-window/index.html"
         window = self.get_active_window()
         try:
             Gtk.show_uri_on_window(window, page.as_uri(), Gtk.get_current_event_time())
