@@ -85,7 +85,7 @@ install: all install-library
 	install -D -m 644 -t $(DESTDIR)$(DATADIR)/applications tools/data/$(WINDOW).desktop
 	install -D -m 644 -t $(DESTDIR)$(DATADIR)/icons/hicolor/scalable/apps tools/data/$(WINDOW).svg
 	install -D -m 644 -t $(DESTDIR)$(DATADIR)/metainfo tools/data/$(WINDOW).metainfo.xml
-	$(PYTHON) scripts/installed.py $(DESTDIR)$(DATADIR)/doc/labels $(DOCUMENTS)
+	$(PYTHON) tools/help/installed_pages.py $(DESTDIR)$(DATADIR)/doc/labels $(DOCUMENTS)
 	install -D -m 644 -t $(DESTDIR)$(DATADIR)/man/man1 man/*.1
 	sed -i 's|/usr/share/doc|$(DATADIR)/doc|' $(DESTDIR)$(DATADIR)/man/man1/label*.1
 	install -D -m 644 completions/labels.bash $(DESTDIR)$(DATADIR)/bash-completion/completions/labels
