@@ -1,6 +1,7 @@
-"""A scheduler of CUPS for the tests: cupsd on a port of its own, whose queues print into files.
+"""A scheduler of CUPS for the tests: cupsd at a socket of its own, whose queues print into files,
+and a driverless printer.
 
-Its drivers stand for the kinds that are in use, each of which says its dots in a way of its own.
+Its drivers stand for the kinds that are in use, each of which says its resolution in another way.
 """
 
 import os
@@ -17,7 +18,7 @@ from jobs import Dots
 
 CUPSD = "/usr/sbin/cupsd"
 SAMPLES = "/usr/share/cups/drv/sample.drv"
-SETTINGS = """Listen 127.0.0.1:{port}
+SETTINGS = """Listen {socket}
 DefaultAuthType None
 WebInterface No
 Browsing Off
@@ -30,6 +31,8 @@ Allow all
 </Limit>
 </Policy>
 """
+QUIET: Any = {"stdout": subprocess.DEVNULL, "stderr": subprocess.DEVNULL}
+WITH_TEST = ("setpriv", "--pdeathsig", "TERM")  # ends a program with the one that started it
 FILES = "ServerRoot RequestRoot CacheDir StateDir TempDir".split()
 LOGS = "AccessLog ErrorLog PageLog".split()
 DRIVER = """#include <font.defs>
@@ -58,21 +61,39 @@ def option(name: str, **choices: str) -> str:
     return "\n".join(lines)
 
 
+def default(resolution: str) -> str:
+    """A driver's word that says its resolution, and no option for it."""
+    return f'Attribute "DefaultResolution" "" "{resolution}"\n'
+
+
 # by the names of queues
 KINDS = {
-    # PostScript printers and gs drivers of foomatic, whose words have both numbers
-    "foomatic": option("Resolution", _300x300dpi="300 300", _600x600dpi="600 600"),
-    # a driverless printer: CUPS itself makes such a driver from what the printer says
-    "driverless": 'Attribute "DefaultResolution" "" "600dpi"\n'
-    + option("cupsPrintQuality", Normal="600 600", Draft="300 300"),
+    # PostScript printers and drivers of foomatic, whose words have both numbers
+    "both": option("Resolution", _300x300dpi="300 300", _600x600dpi="600 600"),
+    # drivers of CUPS, and of Brother
+    "plain": option("Resolution", _300dpi="300 300", _600dpi="600 600"),
+    # what CUPS makes of what a driverless printer says
+    "quality": default("600dpi") + option("cupsPrintQuality", Normal="600 600", Draft="300 300"),
     # HP's own: no resolution, but modes
     "hplip": option("OutputMode", Normal="300 300", Best="600 600"),
-    # Gutenprint: the name is not what is printed
-    "gutenprint": option("Resolution", _361x360dpi="720 360", _720dpi="720 720"),
+    # Gutenprint: the name is not what is printed, and the quality has the last word
+    "name": option("Resolution", _361x360dpi="720 360", _720dpi="720 720"),
+    "overruled": option("Resolution", _300dpi="300 300", _600dpi="600 600").replace("10", "5")
+    + "\n"
+    + option("StpQuality", Standard="300 300", High="600 600"),
     "fine": option("Resolution", _1200dpi="1200 1200"),
-    # foomatic with modes: only the default is said
-    "modes": 'Attribute "DefaultResolution" "" "600dpi"\n' + option("PrintoutMode", Normal=""),
+    "coarse": option("Resolution", _203dpi="203 203"),
+    # a printer of needles, whose dots are no squares
+    "needles": option("Resolution", _240x216dpi="240 216"),
+    # HP's for PostScript: only the default is said
+    "default": default("600dpi") + option("InputSlot", Auto=""),
+    # foomatic with modes: that default is not what is printed
+    "foomatic": 'Attribute "FoomaticIDs" "" "HP-LaserJet hpijs"\n'
+    + default("600dpi")
+    + option("PrintoutMode", Normal=""),
     "silent": option("Quality", Normal=""),
+    # a printer that takes PDF
+    "pdf": "Filter application/pdf 0 gziptoany\n" + default("600dpi") + option("Tray", Auto=""),
 }
 
 
@@ -87,16 +108,14 @@ class Scheduler:
         for name in (*FILES, "ServerRoot/ppd"):
             (self.folder / name).mkdir()
         (self.folder / "TempDir").chmod(0o1777)
-        with socket.socket() as free:
-            free.bind(("127.0.0.1", 0))
-            self.name = f"127.0.0.1:{free.getsockname()[1]}"
-        settings = SETTINGS.format(port=self.name.partition(":")[2])
-        (self.folder / "cupsd.conf").write_text(settings)
+        self.name = f"{self.folder}/socket"  # which nobody else can have, unlike a port
+        (self.folder / "cupsd.conf").write_text(SETTINGS.format(socket=self.name))
         lines = [f"{name} {self.folder}/{name}" for name in (*FILES, *LOGS)]
         (self.folder / "cups-files.conf").write_text("\n".join([*lines, "FileDevice Yes", ""]))
         words = [CUPSD, "-f", "-c", f"{self.folder}/cupsd.conf"]
         words += ["-s", f"{self.folder}/cups-files.conf"]
-        self.process = subprocess.Popen(words, stderr=subprocess.DEVNULL)
+        self.process = subprocess.Popen([*WITH_TEST, *words], **QUIET)
+        self.printer: Any = None  # that is driverless
         self.before = os.environ.get("CUPS_SERVER")
         os.environ["CUPS_SERVER"] = self.name
         self.wait(lambda: not subprocess.run(["lpstat", "-r"], capture_output=True).returncode)
@@ -127,26 +146,89 @@ class Scheduler:
         words += ["-P", f"{self.folder}/{driver}.ppd"]
         subprocess.run(words, check=True, capture_output=True)
 
+    def add_driverless(self, name: str) -> None:
+        """Adds a queue without a driver's file for a printer that takes PWG raster."""
+        support.needs("ippeveprinter", "dbus-run-session")
+        (self.folder / name).mkdir()
+        bus = 'DBUS_SYSTEM_BUS_ADDRESS=$DBUS_SESSION_BUS_ADDRESS exec "$@"'
+        words = [
+            "dbus-run-session",
+            "--",
+            "sh",
+            "-c",
+            bus,
+            "sh",
+            "ippeveprinter",
+            "-k",
+            "-r",
+            "off",
+        ]
+        words += ["-n", "localhost", "-f", "image/pwg-raster", "-d", f"{self.folder}/{name}"]
+        port = 0
+        while not port or self.printer.poll() is not None:  # another program may take the port
+            with socket.socket() as free:
+                free.bind(("localhost", 0))
+                port = free.getsockname()[1]
+            self.printer = subprocess.Popen([*words, "-p", str(port), name], **QUIET)
+            self.wait(lambda: self.printer.poll() is not None or is_open(port))
+        device = f"ipp://localhost:{port}/ipp/print"
+        words = ["lpadmin", "-p", name, "-E", "-v", device, "-m", "everywhere"]
+        subprocess.run(words, check=True, capture_output=True)
+
     def printed(self, name: str) -> bytes:
         """What arrived at a queue, once its jobs are done."""
         self.wait(lambda: not subprocess.run(["lpstat", "-o"], capture_output=True).stdout)
-        return (self.folder / f"{name}.out").read_bytes()
+        place = self.folder / name
+        path = max(place.iterdir()) if place.is_dir() else place.with_suffix(".out")
+        return path.read_bytes()
 
     def stop(self) -> None:
         """Ends the scheduler."""
-        self.process.terminate()
-        self.process.wait()
+        for process in filter(None, (self.printer, self.process)):
+            process.terminate()
+            process.wait()
         self.place.cleanup()
         os.environ.pop("CUPS_SERVER")
         if self.before is not None:
             os.environ["CUPS_SERVER"] = self.before
 
 
+def is_open(port: int) -> bool:
+    """Whether a program listens at a port."""
+    with socket.socket() as line:
+        return line.connect_ex(("localhost", port)) == 0
+
+
 def raster_of(job: bytes) -> Tuple[Tuple[int, int], Dots]:
-    """The dots an inch across and down, and the dots of the first page, of CUPS raster with a bit
-    for each dot.
+    """The dots an inch across and down, and the dots of the first page: of CUPS raster with a bit
+    for each dot, or of PWG raster with a byte for each, in which 0 is black.
     """
-    header = numpy.frombuffer(job, dtype="<u4", offset=4, count=HEADER // 4)
+    is_pwg = job.startswith(b"RaS2")
+    header = numpy.frombuffer(job, dtype=">u4" if is_pwg else "<u4", count=1 + HEADER // 4)[1:]
     across, down, width, height, size = (int(header[at]) for at in (69, 70, 93, 94, 98))
-    rows = numpy.frombuffer(job, dtype=numpy.uint8, offset=4 + HEADER, count=size * height)
-    return (across, down), numpy.unpackbits(rows.reshape(height, size), axis=1)[:, :width]
+    if is_pwg:
+        rows = unpacked(job[4 + HEADER :], size, height)
+        return (across, down), (rows < 128).astype(numpy.uint8)
+    packed = numpy.frombuffer(job, dtype=numpy.uint8, offset=4 + HEADER, count=size * height)
+    return (across, down), numpy.unpackbits(packed.reshape(height, size), axis=1)[:, :width]
+
+
+def unpacked(data: bytes, size: int, height: int) -> Dots:
+    """The rows of PWG raster: each with how often it comes again, and runs of bytes."""
+    rows = numpy.zeros((height, size), dtype=numpy.uint8)
+    at = done = 0
+    while done < height:
+        again = data[at] + 1
+        at += 1
+        row = b""
+        while len(row) < size:
+            length = data[at]
+            if length < 128:
+                row += data[at + 1 : at + 2] * (length + 1)
+                at += 2
+            else:
+                row += data[at + 1 : at + 258 - length]
+                at += 258 - length
+        rows[done : done + again] = numpy.frombuffer(row, dtype=numpy.uint8)
+        done += again
+    return rows

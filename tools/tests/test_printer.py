@@ -1,6 +1,7 @@
 """label-print and CUPS: the line to type, --print, and the edges of a page."""
 
 import os
+import re
 import subprocess
 import tempfile
 import unittest
@@ -11,14 +12,15 @@ from unittest import mock
 import jobs
 import support
 from labeltools.printing.job import PrintOptions, planned
-from labeltools.printing.cups import lp_words, queue_of, queues
+from labeltools.printing.cups import SentJob, lp_words, queue_of, queues
 from drivers import pages_of_pcl
 from laying import laid_out, look
 from printers import Printer
-from scheduler import KINDS, Scheduler, raster_of
+from scheduler import Scheduler, raster_of
 from test_through_cups import LINES as FIVE
 from test_through_cups import Bars, Queue, bars_of, shift_of, with_end
 
+DPI = (203, 300, 360, 600)
 LINES = support.file_of(
     [(f"ean13 {support.ean13(400638000000 + number)}", {"title": "Seife"}) for number in range(3)]
 )
@@ -80,19 +82,26 @@ class Queues(unittest.TestCase):
 
     scheduler: Scheduler
     labels: Printer
-    # what each says: its own dots; those of labels on sheets, and on rolls; the word of 600
+    # what each says: its own dots; those of labels on sheets, and on rolls; what is asked for
     SAID = {
-        "foomatic": (300, 600, 300, "600x600dpi"),
-        "driverless": (600, 600, 600, None),
+        "both": (300, 600, 300, "600x600dpi"),
+        "plain": (300, 600, 300, "600dpi"),
+        "quality": (600, 600, 600, None),
         "hplip": (300, 300, 300, None),
-        "gutenprint": (360, 360, 360, None),
+        "name": (360, 360, 360, None),
+        "overruled": (300, 300, 300, None),
         "fine": (1200, 600, 1200, None),
-        "modes": (600, 600, 600, None),
+        "coarse": (203, 203, 203, None),
+        "needles": (0, 600, 0, None),
+        "default": (600, 600, 600, None),
+        "foomatic": (0, 600, 0, None),
         "silent": (0, 600, 0, None),
+        "home": (600, 600, 600, None),
         "generpcl": (300, 600, 300, "600dpi"),
         "zebra": (203, 600, 203, "600dpi"),
         "raw": (0, 600, 0, None),
     }
+    SHEET = ("--stock", "Avery L7160")
 
     @classmethod
     def setUpClass(cls) -> None:
@@ -104,7 +113,10 @@ class Queues(unittest.TestCase):
         for name in cls.SAID:
             is_label_printer = name in ("raw", "zebra")
             device = cls.labels.name.replace("tcp", "socket") if is_label_printer else ""
-            cls.scheduler.add(name, "" if name == "raw" else name, device)
+            if name == "home":
+                cls.scheduler.add_driverless(name)
+            else:
+                cls.scheduler.add(name, "" if name == "raw" else name, device)
 
     def printed(self, *arguments: str) -> "support.Finished[bytes]":
         """Runs label-print with five labels."""
@@ -117,38 +129,38 @@ class Queues(unittest.TestCase):
             queue = queue_of(name)
             found = queue.dpi, queue.dpi_for(True), queue.dpi_for(False)
             self.assertEqual(found, (dpi, on_sheets, on_rolls), name)
-            self.assertEqual(bool(queue.doubt), not dpi, name)
             if on_sheets == 600:
                 self.assertEqual(queue.options(sheet).get("Resolution"), word, name)
+                self.assertEqual(bool(queue.doubt(sheet)), not dpi, name)
 
     def test_what_is_chosen_for_a_job(self) -> None:
         self.assertEqual(queue_of("hplip", {"OutputMode": "Best"}).dpi, 600)
-        self.assertEqual(queue_of("driverless", {"cupsPrintQuality": "Draft"}).dpi, 300)
+        self.assertEqual(queue_of("overruled", {"StpQuality": "High"}).dpi, 600)
         self.assertEqual(queue_of("generpcl", {"Resolution": "600dpi", "PageSize": "A4"}).dpi, 600)
 
     def test_labels_arrive_dot_for_dot(self) -> None:
-        sheet = ("--stock", "Avery L7160")
-        for name, (_, dpi, _, _) in self.SAID.items():
-            if name not in KINDS:
+        """But of queues of which nothing is known: what these print has a remark."""
+        found = {dpi: [*bars_of(Queue("", self.SHEET, "A4", pages_of_pcl, ()), dpi)] for dpi in DPI}
+        for name, (own, dpi, _, _) in self.SAID.items():
+            if name in ("generpcl", "zebra", "raw"):
                 continue
             with self.subTest(queue=name):
-                done = self.printed(*sheet, "--print", name)
+                done = self.printed(*self.SHEET, "--print", name)
                 (said,) = support.messages(done)
                 self.assertRegex(said, f"5 labels sent to {name}, at {dpi} dpi: job [0-9]+")
-                self.assertEqual("scan a label" in said, name == "silent")
+                self.assertEqual("scan a label" in said, not own)
                 (across, down), page = raster_of(self.scheduler.printed(name))
-                if name in ("silent", "modes", "driverless"):
-                    continue
-                self.assertEqual((across % dpi, down % dpi), (0, 0))
-                for bars in bars_of(Queue("", sheet, "A4", pages_of_pcl, ()), dpi):
-                    self.assertIsNotNone(shift_of(page, larger(bars, across // dpi, down // dpi)))
+                if own:
+                    self.assertEqual((across % dpi, down % dpi), (0, 0))
+                    for bars in found[dpi]:
+                        wanted = larger(bars, across // dpi, down // dpi)
+                        self.assertIsNotNone(shift_of(page, wanted), bars.top)
 
     def test_a_driver_gets_its_own_word(self) -> None:
-        done = self.printed("--stock", "Avery L7160", "--print", "generpcl")
+        done = self.printed(*self.SHEET, "--print", "generpcl")
         self.assertIn(b"at 600 dpi", done.stderr)
         pages = [with_end(page) for page in pages_of_pcl(self.scheduler.printed("generpcl"))]
-        sheet = Queue("", ("--stock", "Avery L7160"), "A4", pages_of_pcl, ())
-        for bars in bars_of(sheet, 600):
+        for bars in bars_of(Queue("", self.SHEET, "A4", pages_of_pcl, ()), 600):
             self.assertIsNotNone(shift_of(pages[0], bars))
 
     def test_a_job_for_the_printer_itself(self) -> None:
@@ -164,12 +176,27 @@ class Queues(unittest.TestCase):
         done = self.printed(*words, "--print", "raw")
         self.assertIn(b"--to zpl needs --dpi", done.stderr)
 
+    def test_a_queue_that_does_not_print_says_so(self) -> None:
+        def printed(*command: str) -> str:
+            subprocess.run([*command, "plain"], check=True)
+            return self.printed(*self.SHEET, "--print", "plain").stderr.decode()
+
+        self.assertRegex(printed("cupsdisable"), "at 600 dpi: job [0-9]+; plain: it is paused\n$")
+        sent = SentJob("plain", int(re.findall("job ([0-9]+)", printed("cupsdisable"))[0]))
+        self.assertEqual(sent.state().trouble, "plain: it is paused")
+        subprocess.run(["cancel", "-a", "plain"], check=True)
+        state = sent.state()
+        self.assertEqual((state.trouble, state.is_over), (f"job {sent.number} was cancelled", True))
+        self.assertNotIn("paused", printed("cupsenable"))
+        self.assertIn('plain: Destination "plain" is not accepting jobs', printed("cupsreject"))
+        subprocess.run(["cupsaccept", "plain"], check=True)
+
     def test_what_cannot_be_printed(self) -> None:
         roll = ("--paper", "60x40")
         for words, status, said in (
             ((*roll, "--dpi", "180", "--print", "zebra"), 2, "at 203 or 300 or 600 dpi, and the"),
             ((*roll, "--dpi", "101", "--to", "zpl", "--print", "zebra"), 2, "leave out --dpi"),
-            ((*roll, "--print", "nobody"), 1, "there is no queue nobody: the queues are driverl"),
+            ((*roll, "--print", "nobody"), 1, "there is no queue nobody: the queues are both, "),
             ((*roll, "--dpi", "203", "--to", "png", "--print", "zebra"), 2, "do not take png"),
             ((*roll, "--print", "zebra", "--each", "x/%d.pdf"), 2, "not allowed with"),
         ):
@@ -194,6 +221,37 @@ def larger(bars: Bars, across: int, down: int) -> Bars:
     """Bars of which each dot is several of the printer's."""
     dots = bars.dots.repeat(across, axis=1).repeat(down, axis=0)
     return Bars(bars.page, bars.left * across, bars.top * down, dots)
+
+
+class Devices(unittest.TestCase):
+    """A printer on USB is a file of the system; here a file stands for it."""
+
+    WORDS = ("--paper", "60x40", "--dpi", "203", "--to", "zpl")
+
+    def test_it_gets_the_labels_one_by_one_and_none_twice(self) -> None:
+        plain = support.printed(*self.WORDS, input=LINES).stdout
+        with tempfile.TemporaryDirectory() as folder:
+            device = Path(folder, "lp0")
+            device.touch()
+            words = (*self.WORDS, "--print", str(device))
+            done = support.printed(*words, input=LINES)
+            self.assertEqual(support.messages(done)[-1], f"label-print: 3 labels taken by {device}")
+            self.assertEqual(device.read_bytes(), plain)
+            for taken in (3, 0):
+                done = support.printed(*words, "--journal", f"{folder}/journal", input=LINES)
+                self.assertIn(f"label-print: {taken} labels taken by", support.messages(done)[-1])
+            self.assertEqual(device.read_bytes(), plain * 2)
+
+    def test_what_is_not_there_or_full(self) -> None:
+        with tempfile.TemporaryDirectory() as folder:
+            for device, said in (
+                (f"{folder}/lp0", "row 2 and what follows it were not sent; is it on, and connec"),
+                ("/dev/full", "No space left on device: it took 0 labels whole"),
+            ):
+                done = support.printed(*self.WORDS, "--print", device, input=LINES)
+                self.assertEqual(done.returncode, 1)
+                self.assertIn(said, done.stderr.decode())
+            self.assertEqual(os.listdir(folder), [])
 
 
 class Edges(unittest.TestCase):

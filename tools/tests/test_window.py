@@ -17,9 +17,11 @@ from unittest import mock
 
 import cairo
 import support
-from labeltools.printing.cups import Queue
+from labeltools.common.messages import ToolError
+from labeltools.common.text import NOTHING
+from labeltools.printing.cups import JobState, Queue
 from printers import Printer
-from scheduler import Scheduler, raster_of
+from scheduler import WITH_TEST, Scheduler, raster_of
 
 TOOLS = Path(__file__).resolve().parent.parent
 TABLE = """Nr;EAN;Name;Price;Stock;Labels
@@ -29,7 +31,7 @@ TABLE = """Nr;EAN;Name;Price;Stock;Labels
 4;96385074;Gum, and a title that is longer than any label;1,20 €;8;1
 """
 PROGRAMS = ("Xvfb", "pdftoppm", "msgfmt")
-WAIT = 300.0  # seconds for work, on a busy machine too
+WAIT = 40.0  # seconds for work, on a busy machine too
 BEAT = 10  # milliseconds between two heart beats
 LONGEST_WORK = 0.5  # processor seconds without a heart beat
 LONGEST_WAIT = 10.0  # seconds without one
@@ -40,6 +42,7 @@ screen: Any = None
 scheduler: Any = None
 folder: Any = None
 application: Any = None
+dialog: Any = None
 menu: Any = None
 window: Any = None
 Gio: Any = None
@@ -51,12 +54,22 @@ def setUpModule() -> None:
     """Starts a screen; GTK is loaded when there is one."""
     support.labels_program()
     support.needs(*PROGRAMS)
-    global screen, scheduler, folder, application, menu, window, Gio, GLib, Gtk
+    global screen, scheduler, folder
     support.needs_module("cups")
     scheduler = Scheduler()  # GTK finds it where it looks for printers
     folder = tempfile.TemporaryDirectory()
     reading, writing = os.pipe()
-    words = ["Xvfb", "-displayfd", str(writing), "-screen", "0", "1280x900x24", "-nolisten", "tcp"]
+    words = [
+        *WITH_TEST,
+        "Xvfb",
+        "-displayfd",
+        str(writing),
+        "-screen",
+        "0",
+        "1280x900x24",
+        "-nolisten",
+        "tcp",
+    ]
     screen = subprocess.Popen(words, pass_fds=[writing], stderr=subprocess.DEVNULL)
     os.close(writing)
     with os.fdopen(reading) as file:
@@ -66,10 +79,16 @@ def setUpModule() -> None:
     os.environ.update(GDK_BACKEND="x11", LANGUAGE="en")
     # a bus that GLib starts for this screen ends with it, and then ends this process
     os.environ["DBUS_SESSION_BUS_ADDRESS"] = "disabled:"
+    load()
+
+
+def load() -> None:
+    """Loads the window, where there is a screen."""
+    global application, dialog, menu, window, Gio, GLib, Gtk
     sys.path.insert(0, str(TOOLS))
-    application, menu, window, gtk = (
+    application, dialog, menu, window, gtk = (
         import_module(f"labeltools.window.{name}")
-        for name in ("application", "menu", "window", "gtk")
+        for name in ("application", "dialog", "menu", "window", "gtk")
     )
     Gio, GLib, Gtk = gtk.Gio, gtk.GLib, gtk.Gtk
     Gtk.init([])
@@ -142,6 +161,48 @@ def settle_until(is_done: Callable[[], Any]) -> None:
         time.sleep(BEAT / 1000)
 
 
+def inside(widget: Any) -> Any:
+    """Yields a widget, and all that are in it."""
+    yield widget
+    if isinstance(widget, Gtk.Container):
+        for one in widget.get_children():
+            yield from inside(one)
+
+
+def answer_dialog(printer: str, response: Any = None) -> Any:
+    """Chooses a printer in the dialog of the desktop once that has it, and presses a button, Print
+    by itself; returns whether to look again.
+    """
+    for dialog in Gtk.Window.list_toplevels():
+        if type(dialog).__name__ != "GtkPrintUnixDialog":
+            continue
+        found = [*inside(dialog)]
+        printers = next(one for one in found if isinstance(one, Gtk.TreeView))
+        for row in printers.get_model():
+            if row[1] == printer:
+                printers.get_selection().select_iter(row.iter)
+        button = dialog.get_widget_for_response(response or Gtk.ResponseType.OK)
+        if button.get_sensitive() and printers.get_selection().get_selected()[1]:
+            button.clicked()
+            return False
+    return True
+
+
+def print_once(table: str, printer: str) -> None:
+    """Opens a table in a window, prints it by clicks, and shows what the window answers."""
+    load()
+    one = window.Window()
+    one.present()
+    one.open(Path(table))
+    end = time.monotonic() + WAIT
+    GLib.timeout_add(BEAT, answer_dialog, printer)
+    while not one.done.get_visible() and time.monotonic() < end:
+        settle(BEAT / 1000)
+        if one.print_button.is_sensitive() and one.talk.is_stopped:
+            one.print_button.clicked()
+    print(one.said.get_text())
+
+
 def command(*words: Any, data: Any = None) -> Any:
     """What a command of the tools writes."""
     ran = subprocess.run([TOOLS / words[0], *words[1:]], input=data, capture_output=True)
@@ -179,7 +240,7 @@ class WindowTest(unittest.TestCase):
         sys.excepthook = lambda *error: self.raised.append(error)  # GTK goes on after an error
         self.addCleanup(setattr, sys, "excepthook", hook)
         self.folder = Path(tempfile.mkdtemp(dir=folder.name))
-        memory = mock.patch("labeltools.window.shop.MEMORY", self.folder / "labels/window.json")
+        memory = mock.patch("labeltools.window.memory.FOLDER", self.folder / "labels")
         memory.start()
         self.addCleanup(memory.stop)
         self.table = self.folder / "articles.csv"
@@ -259,23 +320,38 @@ class WindowTest(unittest.TestCase):
         roll = ("--paper", "60x40", "--to", "zpl", "--dpi", "203")
         self.assertEqual(self.saved("labels.zpl"), self.by_commands(*roll))
 
-    def test_prints_the_dots_of_the_command(self) -> None:
+    def answered(self, printer: str) -> Any:
+        """What the window says once it has printed on a printer that is chosen in the dialog."""
+        self.window.done.hide()
+        self.window.info.hide()
+        GLib.timeout_add(BEAT, answer_dialog, printer)
+        self.window.print_button.clicked()
+        self.until(lambda: self.window.done.get_visible() or self.problem())
+        return self.window.said.get_text() or self.problem()
+
+    def test_prints_the_file_that_the_command_prints(self) -> None:
+        """A printer that takes PDF gets the file as it is."""
+        scheduler.add("pdf", "pdf")
         self.open()
-        path = self.folder / "printed.pdf"
-        operation = self.window.operation()
-        operation.set_export_filename(str(path))
-        operation.set_allow_async(False)
-        operation.run(Gtk.PrintOperationAction.EXPORT, self.window)
-        settings = operation.get_print_settings()
-        self.assertEqual(settings.get("cups-print-scaling"), "none")
-        other = self.folder / "command.pdf"
-        other.write_bytes(self.by_commands("--stock", "Avery L7160", "--dpi", "600"))
-        dots = []
-        for one in (path, other):
-            drawn = ["pdftoppm", "-r", "300", "-mono", str(one)]
-            dots.append(subprocess.run(drawn, capture_output=True, check=True).stdout)
-        self.assertTrue(dots[0])
-        self.assertEqual(hash(dots[0]), hash(dots[1]))
+        self.assertRegex(self.answered("pdf"), "6 labels sent to pdf, at 600 dpi: job [0-9]+$")
+        page = ("--stock", "Avery L7160", "--dpi", "600")
+        self.assertEqual(scheduler.printed("pdf"), self.by_commands(*page))
+        self.assertEqual(len(self.printed()), 3)
+
+    def test_nothing_is_printed_by_a_preview(self) -> None:
+        scheduler.add("seen", "pdf")
+        self.open()
+        pressed: list[bool] = []
+
+        def press() -> bool:
+            pressed.append(answer_dialog("seen", Gtk.ResponseType.APPLY))
+            return pressed[-1]
+
+        GLib.timeout_add(BEAT, press)
+        self.window.print_button.clicked()
+        self.until(lambda: False in pressed)
+        settle(0.5)
+        self.assertFalse(self.window.done.get_visible())
 
     def test_says_what_is_left_out_and_what_there_is(self) -> None:
         self.open()
@@ -419,29 +495,50 @@ class WindowTest(unittest.TestCase):
         self.assertIn("1001 labels of 3 rows", summary)
 
     def test_a_printer_of_a_language_of_its_own_gets_the_file_as_it_is(self) -> None:
+        """In the network, on USB, or by a queue without a driver."""
         self.open()
         self.change(roll=True, to="zpl", dpi="203")
+        device = self.folder / "lp0"
+        device.touch()
         asked = []
-        with mock.patch.object(window, "queues", return_value=["office", "zebra"]):
-            self.window.ask_queue = lambda *values: asked.append(values)
+        with mock.patch.object(window, "USB", self.folder):
+            self.window.ask_way = lambda *values: asked.append(values)
             self.window.ask_printer()
             self.until(lambda: asked)
         (names,) = asked[0]
-        window.Window.ask_queue(self.window, names)
+        self.assertEqual(names[-1], str(device))
+        window.Window.ask_way(self.window, names)
         printer = Printer().start()
         self.addCleanup(printer.off)
-        roll = ("--paper", "60x40", "--to", "zpl", "--dpi", "203")
-        for name, answer in ((printer.name[6:], Gtk.ResponseType.OK), ("", Gtk.ResponseType.OK)):
-            self.window.network = mock.Mock()
-            self.window.network.run.return_value = answer
-            self.window.address.set_text(name)
-            self.window.ask_address(None)
-            self.until(lambda: self.window.done.get_visible() or self.problem())
-            if name:
-                self.assertEqual(self.window.said.get_text(), f"6 labels taken by {printer.name}")
-                self.assertEqual(b"".join(printer.labels), self.by_commands(*roll))
-                self.window.done.hide()
+        wanted = self.by_commands("--paper", "60x40", "--to", "zpl", "--dpi", "203")
+        self.window.network = mock.Mock()
+        self.window.network.run.return_value = Gtk.ResponseType.OK
+        self.window.address.set_text(printer.name[6:])
+        self.assertEqual(self.said_of(self.window.ask_address, None), f"taken by {printer.name}")
+        self.assertEqual(b"".join(printer.labels), wanted)
+        self.assertEqual(self.said_of(self.window.send, None, str(device)), f"taken by {device}")
+        self.assertEqual(device.read_bytes(), wanted)
+        other = Printer().start()
+        self.addCleanup(other.off)
+        scheduler.add("roll", device=other.name.replace("tcp", "socket"))
+        self.assertIn("sent to roll", self.said_of(self.window.send, None, "roll"))
+        other.wait(3)
+        self.assertEqual(b"".join(other.labels), wanted)
+
+    def test_an_address_that_is_none(self) -> None:
+        self.open()
+        self.window.network = mock.Mock()
+        self.window.network.run.return_value = Gtk.ResponseType.OK
+        self.window.address.set_text("")
+        self.window.ask_address(None)
         self.assertIn("is not as tcp://HOST", self.problem())
+
+    def said_of(self, send: Any, *values: Any) -> Any:
+        """What the window says once it has sent six labels."""
+        self.window.done.hide()
+        send(*values)
+        self.until(lambda: self.window.done.get_visible() or self.problem())
+        return self.window.said.get_text().removeprefix("6 labels ")
 
     def test_a_queue_of_other_dots_gets_no_file_of_dots(self) -> None:
         self.open()
@@ -450,6 +547,16 @@ class WindowTest(unittest.TestCase):
             self.window.send(None, "zebra")
             self.until(self.problem)
         self.assertIn("prints at 300 dpi", self.problem())
+
+    def test_no_printer(self) -> None:
+        """What a shop keeper can do then; a printer in the network needs no CUPS."""
+        self.open()
+        with mock.patch.object(window, "queues", return_value=[]):
+            self.window.ask_printer()
+            self.until(self.problem)
+        self.assertIn("there is no printer\nadd it in the settings", self.problem())
+        with mock.patch.object(window, "queues", side_effect=ToolError(NOTHING)):
+            self.assertEqual(window.printers(True, None), [])
 
     def test_guesses_and_remembers_by_names(self) -> None:
         self.open()
@@ -601,23 +708,23 @@ class WindowTest(unittest.TestCase):
         self.change(design="article")
         self.assertEqual(self.shown()[0], built_in)
 
-    def test_setups_are_named_and_picked_again(self) -> None:
+    def test_presets_are_named_and_picked_again(self) -> None:
         self.open()
         self.change(roll=True, width=50, height=25, to="zpl")
         naming = self.window.naming = mock.Mock()
         naming.run.return_value = Gtk.ResponseType.OK
-        self.window.setup_name.set_text("shelf roll")
-        self.window.lookup_action("keep-setup").activate(None)
+        self.window.preset_name.set_text("shelf roll")
+        self.window.lookup_action("keep-preset").activate(None)
         self.change(sheet=True, to="pdf", width=60)
         self.window.menu.fill()
         self.assertEqual(self.in_menu()[0], "shelf roll")
         before = self.window.labels
-        self.window.lookup_action("setup").activate(GLib.Variant("s", "shelf roll"))
+        self.window.lookup_action("preset").activate(GLib.Variant("s", "shelf roll"))
         self.until(lambda: self.is_made(before))
         chosen = self.window.choices()
         self.assertEqual((chosen["roll"], chosen["width"], chosen["to"]), (True, 50, "zpl"))
         self.assertEqual(self.window.labels.job.plan.sheet.page, (50, 25))
-        self.window.lookup_action("forget-setup").activate(GLib.Variant("s", "shelf roll"))
+        self.window.lookup_action("forget-preset").activate(GLib.Variant("s", "shelf roll"))
         self.window.menu.fill()
         self.assertNotIn("shelf roll", self.in_menu())
 
@@ -642,75 +749,72 @@ class WindowTest(unittest.TestCase):
         self.table.unlink()
         self.assertNotIn(str(self.table), menu.recent_tables())
 
-    def asked(self, queue: Any, **chosen: str) -> Any:
-        """What becomes of a job for a printer that was chosen in the dialog."""
-        operation = mock.Mock()
-        settings = Gtk.PrintSettings()
-        for name, value in chosen.items():
-            settings.set(name.replace("_", "-"), value)
-        operation.get_print_settings.return_value = settings
-        self.window.info.hide()
-        with mock.patch.object(window, "queue_of", return_value=queue) as queue_of:
-            self.window.check_printer(operation, None)
-        return operation, queue_of
-
     def test_a_printer_of_other_dots_gets_labels_for_these(self) -> None:
+        """They are looked at first; what is chosen in the dialog counts."""
+        scheduler.add("name", "name")
         self.open()
-        operation, _ = self.asked(Queue("office", 360, {}), printer="office")
-        self.assertTrue(operation.cancel.called)
-        self.until(self.problem)
-        self.assertIn("office prints at 360 dpi: the labels are drawn for it", self.problem())
+        self.answered("name")
+        self.assertIn("name prints at 360 dpi: the labels are drawn for it", self.problem())
         self.until(lambda: self.window.has_labels)
         self.assertEqual(self.window.dpi.get_active_id(), "360")
         self.assertEqual(self.window.labels.job.plan.dpi, 360)
-        chosen = {"cups_Quality": "Best", "printer": "office"}
-        operation, queue_of = self.asked(Queue("office", 720, {}), **chosen)
-        self.assertEqual(queue_of.call_args.args, ("office", {"Quality": "Best"}))
-        self.assertFalse(operation.cancel.called)
-        to_file = {"printer": "office", "output_uri": "file:///labels.pdf"}
-        others: list[dict[str, str]] = [to_file, {}]
-        for chosen in others:
-            operation, queue_of = self.asked(Queue("office", 203, {}), **chosen)
-            self.assertFalse(queue_of.called or operation.cancel.called)
+        self.assertIn("sent to name, at 360 dpi", self.answered("name"))
+        self.assertEqual(raster_of(scheduler.printed("name"))[0], (720, 360))
+        settings = Gtk.PrintSettings()
+        for name, value in (
+            *(("cups-Quality", "Best"), ("n-copies", "2"), ("print-pages", "ranges")),
+            *(("page-ranges", "0-1,4"), ("collate", "true"), ("reverse", "true")),
+        ):
+            settings.set(name, value)
+        chosen = {"Quality": "Best", "copies": "2", "page-ranges": "1-2,5-5"}
+        self.assertEqual(dialog.options_of(settings), {**chosen, "outputorder": "reverse"})
 
     def test_a_roll_takes_the_dots_that_its_queue_has_by_itself(self) -> None:
         self.open()
         self.change(roll=True, dpi="600")
         queue = Queue("zebra", 203, {203: "203dpi", 600: "600dpi"})
-        operation, _ = self.asked(queue, printer="zebra")
-        self.assertTrue(operation.cancel.called)
+        self.window.print_on({}, queue)
         self.until(self.problem)
         self.assertEqual(self.window.dpi.get_active_id(), "203")
 
-    def test_says_what_was_sent_where(self) -> None:
+    def test_what_becomes_of_a_job_is_shown(self) -> None:
+        """By CUPS: a queue that is paused, one without paper, and a job that is cancelled."""
+        scheduler.add("paused", "both")
+        subprocess.run(["cupsdisable", "paused"], check=True)
         self.open()
-        operation = self.asked(Queue("office", 0, {}), printer="office")[0]
-        operation.get_status.return_value = Gtk.PrintStatus.FINISHED_ABORTED
-        self.window.on_sent(operation)  # it was cancelled
-        self.assertEqual((self.window.done.get_visible(), self.problem()), (False, ""))
-        self.window.printing = operation
-        self.window.on_sent(operation)
-        self.assertEqual(self.problem(), "nothing was sent to office")
-        operation.get_status.return_value = Gtk.PrintStatus.FINISHED
-        self.window.on_sent(operation)
-        said, doubt = self.window.said.get_text().split("\n")
-        self.assertEqual(said, "6 labels sent to office")
-        self.assertIn("office does not say its resolution", doubt)
-        self.assertEqual(len(self.printed_codes()), 3)
+        with mock.patch.object(window, "WATCH", BEAT):
+            said = self.answered("paused")
+            self.assertRegex(said, "^6 labels sent to paused, at 600 dpi: job [0-9]+")
+            self.until(lambda: "paused: it is paused" in self.window.said.get_text())
 
-    def printed_codes(self) -> Any:
-        return [record.data for record in self.window.table.printed_records()]
+            subprocess.run(["cancel", "-a", "paused"], check=True)
+            self.until(lambda: "was cancelled" in self.window.said.get_text())
+        state = JobState(NOTHING, "The printer is not responding.", True)
+        future: Any = mock.Mock(exception=lambda: None, result=lambda: state)
+        self.window.show_state(None, "6 labels sent", "", future)
+        self.assertIn("not responding", self.window.said.get_text())
 
-    def test_a_queue_of_cups_gets_the_word_of_its_driver(self) -> None:
-        """By GTK, which tells a job what was chosen before it asks what the labels have."""
-        self.open()
-        scheduler.add("office", "foomatic")
-        settings = Gtk.PrintSettings()
-        settings.set_printer("office")
-        self.window.print_at(settings)
-        self.until(lambda: self.window.done.get_visible())
-        self.assertEqual(self.window.said.get_text(), "6 labels sent to office")
-        self.assertEqual(raster_of(scheduler.printed("office"))[0], (600, 600))
+    def test_from_a_table_to_a_driverless_printer_in_three_languages(self) -> None:
+        """By clicks alone, and with an answer."""
+        scheduler.add_driverless("home")
+        for language, answer in (
+            ("en", "6 labels sent to home, at 600 dpi: job "),
+            ("de", "6 Etiketten an home gesendet, mit 600 dpi: Auftrag "),
+            ("fr", "6 étiquettes envoyées à home, à 600 dpi : travail "),
+        ):
+            path = self.folder / f"locale/{language}/LC_MESSAGES"
+            path.mkdir(parents=True)
+            if language != "en":
+                words = ["msgfmt", "-o", str(path / "label-tools.mo")]
+                subprocess.run([*words, str(TOOLS / f"po/{language}.po")], check=True)
+            code = f"import test_window; test_window.print_once({str(self.table)!r}, 'home')"
+            variables = {"LANGUAGE": language, "LC_ALL": "C.UTF-8", "XDG_CONFIG_HOME": str(path)}
+            variables["LABELS_LOCALE"] = str(self.folder / "locale")
+            words = [sys.executable, "-c", code]
+            environment = {**os.environ, **variables}
+            ran = subprocess.run(words, env=environment, capture_output=True, text=True, check=True)
+            self.assertEqual(ran.stdout.splitlines()[0].rstrip("0123456789"), answer)
+            self.assertEqual(raster_of(scheduler.printed("home"))[0], (600, 600))
 
     def test_a_file_is_read_next_week_as_this_week(self) -> None:
         """Its encoding is kept for its name: without it the names cannot be read."""
@@ -1001,7 +1105,7 @@ class WindowTest(unittest.TestCase):
         self.assertGreater(len(controls), 20)
         self.assertEqual([str(one) for one, name in controls if not name], [])
         aloud = list(read_aloud(self.window))
-        self.assertIn("any printer", aloud)
+        self.assertIn("office printer, or one with a driver", aloud)
         self.assertEqual([one for one in aloud if one in self.ids()], [])
         width, _ = self.window.get_preferred_width()
         height, _ = self.window.get_preferred_height()

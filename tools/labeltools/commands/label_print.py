@@ -11,7 +11,7 @@ import time
 from contextlib import suppress
 from dataclasses import replace
 from pathlib import Path
-from typing import Any, Callable, Iterable, Optional, Sequence
+from typing import Any, Callable, Iterable, Mapping, Optional, Sequence
 
 from labeltools.common.text import Text, counted, joined
 from labeltools.paper.area import DESIGNS
@@ -31,6 +31,7 @@ from labeltools.printing.journal import Journal
 from labeltools.layout.layout import LaidOut
 from labeltools.lines.file import LineRecord
 from labeltools.common.messages import BAD_ARGUMENTS, ToolError, sentence, write_message
+from labeltools.printing.device import Device, is_device
 from labeltools.printing.network import NetworkPrinter, SCHEME, address_of
 from labeltools.designs.design import is_file
 from labeltools.printing.press import Press, PrintJob, Prints, once
@@ -43,7 +44,8 @@ from labeltools.printing.job import (
     planned,
     prepared,
 )
-from labeltools.printing.cups import Queue, lp_words, print_by, queue_of, typed
+from labeltools.printing.cups import NOTHING_CHOSEN, Queue, SentJob, lp_words, print_by, queue_of
+from labeltools.printing.cups import typed
 from labeltools.common.report import places_text, report
 from labeltools.printing.selection import ROWS, selection_of
 from labeltools.printing.sending import OUTPUT, Outlet, Sender, StandardOutput, doubts
@@ -263,7 +265,7 @@ def add_output_options(parser: Parser) -> None:
     add("--dpi", metavar="N", type=count, help=dpi)
     out = group.add_mutually_exclusive_group().add_argument
     out("--each", metavar="NAME", help="a file for each label: %%d is its number, %%s its data")
-    queue = "print on this queue of CUPS, or on tcp://HOST, instead of standard output"
+    queue = "print on this queue of CUPS, tcp://HOST or /dev/usb/lp0, not to standard output"
     out("--print", metavar="QUEUE", type=printer_of, dest="queue", help=queue)
     journal = "write each label into this file before it is sent; what is there is not sent again"
     add("--journal", metavar="FILE", type=filled, help=journal)
@@ -333,20 +335,35 @@ def write_files(press: Press, items: Iterable[LaidOut], paths: Iterable[Path]) -
         press.talk.go_on(number, 0)
 
 
-def print_on(press: Press, prints: Prints, queue: Queue) -> Text:
-    """Prints labels on a queue of CUPS and returns what was sent where."""
+def print_on(
+    press: Press, prints: Prints, queue: Queue, chosen: Mapping[str, str] = NOTHING_CHOSEN
+) -> tuple[SentJob, Text]:
+    """Prints labels on a queue of CUPS, with options that are chosen for it; returns the job, and
+    what is said of it.
+    """
     with press.spooled(prints) as whole:
-        number = print_by(press.job, queue, whole)
+        job = print_by(press.job, queue, whole, chosen)
     labels = counted("{} label", "{} labels", len(prints))
-    text = Text("{} sent to {}, at {} dpi: job {}", labels, queue.name, press.job.plan.dpi, number)
-    return joined("; ", filter(None, (text, queue.doubt)))
+    dpi = press.job.plan.dpi
+    text = Text("{} sent to {}, at {} dpi: job {}", labels, queue.name, dpi, job.number)
+    return job, joined("; ", filter(None, (text, queue.doubt(press.job))))
+
+
+def is_direct(printer: str) -> bool:
+    """Returns whether a printer takes labels one by one, and is no queue of CUPS."""
+    return printer.startswith(SCHEME) or is_device(printer)
+
+
+def direct_outlet(printer: str) -> Outlet:
+    """Returns the way to a printer in the network, or one that is a file."""
+    if printer.startswith(SCHEME):
+        return NetworkPrinter(printer)
+    return Device(printer)
 
 
 def send_to(press: Press, prints: Prints, name: str) -> Text:
-    """Sends labels one by one to a printer in the network, and returns what it took; raises
-    `ToolError`.
-    """
-    sender = Sender(NetworkPrinter(name))
+    """Sends labels one by one to a printer, and returns what it took; raises `ToolError`."""
+    sender = Sender(direct_outlet(name))
     sender.send_until((), press, prints)
     return Text("{} taken by {}", counted("{} label", "{} labels", sender.taken), name)
 
@@ -397,17 +414,20 @@ def check_arguments(arguments: argparse.Namespace, job: PrintJob) -> None:
     """Raises `ToolError` where arguments do not go together."""
     form = job.form
     queue: str = arguments.queue or ""
-    is_network = queue.startswith(SCHEME)
+    is_one_by_one = is_direct(queue)
     wants = "--journal" if arguments.journal else "--stream" if arguments.is_stream else ""
-    if (is_network or wants) and not form.is_roll:
+    if (is_one_by_one or wants) and not form.is_roll:
         what = Text("{} needs labels one by one", wants or queue)
         raise ToolError(what, Text("give --to zpl or escpos"), BAD_ARGUMENTS)
     if wants and arguments.each:
         what = Text("{} and --each do not go together", wants)
         raise ToolError(what, status=BAD_ARGUMENTS)
-    if wants and queue and not is_network:
+    if wants and queue and not is_one_by_one:
         what = Text("{}: {} is a queue of CUPS", wants, queue)
-        hint = Text("CUPS prints a broken run again from its beginning; give --print tcp://HOST")
+        hint = Text(
+            "CUPS prints a broken run again from its beginning; give --print tcp://HOST or "
+            "/dev/usb/lp0"
+        )
         raise ToolError(what, hint, BAD_ARGUMENTS)
     if arguments.again and not (arguments.journal and chosen_by(arguments)):
         what = Text("--again needs --journal and rows or codes")
@@ -430,7 +450,7 @@ def sender_of(arguments: argparse.Namespace, records: Sequence[LineRecord] = ())
     queue: str = arguments.queue or ""
     outlet: Outlet = StandardOutput(is_synced=arguments.journal is not None)
     if queue:
-        outlet = NetworkPrinter(queue)
+        outlet = direct_outlet(queue)
     journal = Journal(arguments.journal, outlet.name) if arguments.journal else None
     if journal is not None:
         check_journal(arguments, journal)
@@ -525,7 +545,7 @@ def make_streams_wait() -> None:
 
 def is_single(arguments: argparse.Namespace) -> bool:
     """Returns whether labels are sent one by one."""
-    return bool(arguments.journal or (arguments.queue or "").startswith(SCHEME))
+    return bool(arguments.journal or is_direct(arguments.queue or ""))
 
 
 def check_output(arguments: argparse.Namespace, job: PrintJob, queue: Optional[Queue]) -> None:
@@ -553,7 +573,8 @@ def give_out(
     elif is_single(arguments):
         return send_each(arguments, press, found)
     elif queue is not None:
-        write_message(TOOL, print_on(press, prints, queue))
+        sent, text = print_on(press, prints, queue)
+        write_message(TOOL, joined("; ", filter(None, (text, sent.state().trouble))))
     else:
         write(press, prints, chosen_by(arguments), lines_of(arguments, found))
         if arguments.summary or sys.stderr.isatty():

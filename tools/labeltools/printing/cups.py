@@ -1,19 +1,20 @@
-"""Prints on queues of CUPS, by its library (python3-cups): the dots an inch that a queue has, and a
-job that it prints dot for dot.
+"""Prints on queues of CUPS through its library (python3-cups): at which resolution a queue prints,
+and a job that it prints dot for dot.
 """
 
 import os
 import re
-from collections.abc import Mapping
+from collections.abc import Iterator, Mapping
+from contextlib import contextmanager
 from dataclasses import dataclass
 from importlib import import_module
 from typing import IO, Any
 
 from labeltools.common.messages import BAD_ARGUMENTS, ToolError
-from labeltools.printing.press import PrintJob
-from labeltools.printing.job import DRAWING_DPI
-from labeltools.paper.stock import Size
 from labeltools.common.text import NOTHING, Text
+from labeltools.paper.stock import Size
+from labeltools.printing.job import DRAWING_DPI
+from labeltools.printing.press import PrintJob
 
 # sizes of paper that CUPS has names of, in millimetres
 NAMED = {
@@ -25,18 +26,38 @@ NAMED = {
     "Legal": (215.9, 355.6),
 }
 NEAR = 0.3  # millimetres by which a page may differ from a paper with a name
-PACKAGE = Text("apt-get install python3-cups")
-DPI = re.compile(r"(\d+)(?:x(\d+))?dpi")  # as drivers write it
-TOLD = re.compile(r"HWResolution *\[ *(\d+) +(\d+)")  # in the code by which a driver is told
+DPI = re.compile(r"^(\d+)(?:x(\d+))?dpi")  # as drivers write it
+TOLD = re.compile(r"HWResolution\s*\[\s*(\d+)\S*\s+(\d+)")  # in the code that drivers run
 SECTIONS = range(6)  # of that code
+RESOLUTION = "Resolution"  # the option of drivers
 RAW = {"raw": "true"}
 NOTHING_CHOSEN: Mapping[str, str] = {}
+PAPER = ("PageSize", "PageRegion")  # options of drivers that the paper of the labels decides
+PACKAGE = Text("apt-get install python3-cups")
+NO_QUEUE = Text(
+    "add it in the settings of printers; one on USB is --print /dev/usb/lp0, one in the network is "
+    "--print tcp://HOST"
+)
+# what IPP calls a reason not to print, without its end; CUPS has other ones in words of its own
+ENDING = re.compile("-(error|warning|report)$")
+REASONS = {
+    "paused": Text("it is paused"),
+    "media-empty": Text("it has no paper"),
+    "media-needed": Text("it needs paper"),
+    "media-jam": Text("the paper is jammed"),
+    "cover-open": Text("a cover is open"),
+    "door-open": Text("a door is open"),
+    "toner-empty": Text("it has no toner"),
+    "marker-supply-empty": Text("it has no ink or toner"),
+    "offline": Text("it is off, or not connected"),
+}
+HELD, CANCELLED, ABORTED, COMPLETED = 4, 7, 8, 9  # states of a job in IPP
 
 
 @dataclass(frozen=True)
 class Queue:
-    """A queue of CUPS: its name, the dots an inch that it prints where nothing is said, 0 where it
-    does not say them, and the words of its driver for each number of dots.
+    """A queue of CUPS: its name, the dots an inch that it prints if nothing is asked for (0: not
+    known), and the word of its driver for each resolution.
     """
 
     name: str
@@ -44,16 +65,18 @@ class Queue:
     words: Mapping[int, str]
 
     def dpi_for(self, is_sheet: bool) -> int:
-        """Returns the dots an inch of labels that are printed here, 0 where nobody knows: on sheets
-        those of drawings where the driver has them, since narrow labels need them; else those of
-        the queue, as on rolls, where only the keeper of the queue knows what printer hangs there.
+        """Returns the dots an inch of labels that are printed here, 0 if they are not known. Sheets
+        take those of drawings if the driver has them, since narrow labels need them. Rolls take
+        those of the queue: only who has set it up knows which printer is connected.
         """
-        has_them = not self.dpi or any(dots % DRAWING_DPI == 0 for dots in (self.dpi, *self.words))
-        return DRAWING_DPI if is_sheet and has_them else self.dpi
+        known = {self.dpi, *self.words} - {0}
+        if is_sheet and (not known or any(dots % DRAWING_DPI == 0 for dots in known)):
+            return DRAWING_DPI
+        return self.dpi or max(known, default=0)
 
     def options(self, job: PrintJob) -> dict[str, str]:
-        """Returns the options of CUPS by which a job is printed dot for dot; raises `ToolError`
-        where the queue has not its dots. Each dot may be several of the printer's.
+        """Returns the options of CUPS by which a job is printed dot for dot; raises `ToolError` if
+        the queue does not have its resolution. Each dot may be several of the printer's.
         """
         dpi = job.plan.dpi
         if job.form.is_roll:
@@ -61,11 +84,12 @@ class Queue:
                 raise self.refusal(dpi)
             return RAW
         options = {"media": media_of(job.plan.sheet.page), "print-scaling": "none"}
-        if self.dpi % dpi:
+        if not self.dpi or self.dpi % dpi:
             words = [word for dots, word in sorted(self.words.items()) if dots % dpi == 0]
-            if not words:
+            if words:
+                options[RESOLUTION] = words[0]
+            elif self.dpi:
                 raise self.refusal(dpi)
-            options["Resolution"] = words[0]
         return options
 
     def refusal(self, dpi: int) -> ToolError:
@@ -74,26 +98,73 @@ class Queue:
         what = Text("the queue {} prints at {} dpi, and the labels have {}", self.name, found, dpi)
         return ToolError(what, Text("leave out --dpi, or give one of these"), BAD_ARGUMENTS)
 
-    @property
-    def doubt(self) -> Text | None:
-        """What is said of a queue that does not say its dots, once something was printed there."""
-        if self.dpi:
-            return None
+    def doubt(self, job: PrintJob) -> Text:
+        """Returns what is reported of a job if it is not known at which resolution it is printed,
+        or nothing.
+        """
+        if self.dpi or job.form.is_roll or RESOLUTION in self.options(job):
+            return NOTHING
         return Text("{} does not say its resolution: scan a label before you use them", self.name)
 
 
+@dataclass(frozen=True)
+class JobState:
+    """What becomes of a job: what keeps it from paper, which may be nothing; what CUPS last said of
+    it, in its own words; and whether it is over.
+    """
+
+    trouble: Text
+    said: str
+    is_over: bool
+
+
+@dataclass(frozen=True)
+class SentJob:
+    """A job that CUPS has taken: its queue and its number."""
+
+    queue: str
+    number: int
+
+    def state(self) -> JobState:
+        """Returns what CUPS reports of the job now; raises `ToolError`."""
+        with refusals(self.queue) as cups:
+            job = cups.getJobAttributes(self.number)
+            reasons = cups.getPrinterAttributes(self.queue)["printer-state-reasons"]
+        state = job["job-state"]
+        said = job.get("job-printer-state-message", "")
+        if state == CANCELLED:
+            return JobState(Text("job {} was cancelled", self.number), said, True)
+        if state == ABORTED:
+            return JobState(Text("CUPS gave job {} up: {}", self.number, said), said, True)
+        if state == COMPLETED:
+            return JobState(NOTHING, said, True)
+        found = [REASONS[name] for name in map(name_of, reasons) if name in REASONS]
+        if state == HELD:
+            found.append(Text("job {} is held: {}", self.number, said))
+        return JobState(Text("{}: {}", self.queue, found[0]) if found else NOTHING, said, False)
+
+
+def name_of(reason: str) -> str:
+    """Returns a reason of IPP without how bad it is.
+
+    >>> name_of("media-empty-error"), name_of("paused")
+    ('media-empty', 'paused')
+    """
+    return ENDING.sub("", reason)
+
+
 def queue_of(name: str, chosen: Mapping[str, str] = NOTHING_CHOSEN) -> Queue:
-    """Returns what a queue says, with what is chosen of its driver for a job; raises `ToolError`
-    where there is no such queue, or no CUPS.
+    """Returns what a queue says, with the options of its driver that are chosen for a job; raises
+    `ToolError` if there is no such queue, or no CUPS.
     """
     cups = library()
     try:
         path = connection().getPPD(name)
-    except cups.IPPError as error:  # it has no driver, or is made when something is printed
+    except cups.IPPError as error:  # it has no driver, or CUPS makes it for the first job
         names = queues()
         if name in names:
             return Queue(name, 0, {})
-        hint = Text("the queues are {}", ", ".join(names)) if names else NOTHING
+        hint = Text("the queues are {}", ", ".join(names)) if names else NO_QUEUE
         raise ToolError(Text("there is no queue {}", name), hint) from error
     try:
         driver = cups.PPD(path)
@@ -102,27 +173,39 @@ def queue_of(name: str, chosen: Mapping[str, str] = NOTHING_CHOSEN) -> Queue:
     driver.markDefaults()
     for option, value in chosen.items():
         driver.markOption(option, value)
-    resolution = driver.findOption("Resolution")
-    choices = resolution.choices if resolution else []
-    marked = [choice["choice"] for choice in choices if choice["marked"]]
-    default = driver.findAttr("DefaultResolution")
-    own = dots_of(marked[0] if marked else default.value if default else "")
-    # names such as Gutenprint's 361x360dpi are not what is printed, which the code says
-    told = TOLD.findall("".join(driver.emitString(section, 0) or "" for section in SECTIONS))
-    words = {dots_of(choice["choice"]): choice["choice"] for choice in reversed(choices)}
+    own = dpi_of(driver)
+    words = {}
+    resolution = driver.findOption(RESOLUTION)
+    for choice in reversed(resolution.choices if resolution else []):
+        driver.markOption(RESOLUTION, choice["choice"])
+        words[dpi_of(driver)] = choice["choice"]
     words.pop(0, None)
-    return Queue(name, min(map(int, told[-1])) if told else own, words)
+    return Queue(name, own, words)
 
 
-def dots_of(word: str) -> int:
-    """Returns the dots an inch of a driver's word, the fewer of those across and down, since these
-    are multiples of each other; 0 where it is no such word.
+def dpi_of(driver: Any) -> int:
+    """Returns the dots an inch that a driver prints with the options that are marked, the fewer of
+    those across and down; 0 if it does not say them, or if one is no multiple of the other.
 
-    >>> dots_of("600dpi"), dots_of("1200x600dpi"), dots_of("Draft")
-    (600, 600, 0)
+    The code of the options counts more than their names: an option for the quality often has the
+    last word, and names such as Gutenprint's 361x360dpi are not what is printed.
     """
-    match = DPI.fullmatch(word)
-    return min(int(number) for number in match.groups() if number) if match else 0
+    code = "".join(driver.emitString(section, 0) or "" for section in SECTIONS)
+    found = TOLD.findall(code) or DPI.findall(resolution_of(driver))
+    sides = sorted(int(side) for side in found[-1] if side) if found else [0]
+    return 0 if sides[0] == 0 or sides[-1] % sides[0] else sides[0]
+
+
+def resolution_of(driver: Any) -> str:
+    """Returns the name of the resolution that is marked, or else the one that a driver says it has.
+    Those of foomatic all say 600dpi there, whatever they print.
+    """
+    option = driver.findOption(RESOLUTION)
+    marked = [choice["choice"] for choice in option.choices if choice["marked"]] if option else []
+    default = driver.findAttr("DefaultResolution")
+    if marked or driver.findAttr("FoomaticIDs") or not default:
+        return "".join(marked)
+    return str(default.value)
 
 
 def lp_words(job: PrintJob, queue: str) -> list[str] | None:
@@ -159,20 +242,30 @@ def typed(job: PrintJob, queue: str) -> str:
 
 
 def queues() -> list[str]:
-    """Returns the queues of CUPS; raises `ToolError` where CUPS is not there."""
+    """Returns the queues of CUPS; raises `ToolError` if CUPS is not there."""
     return sorted({name for name, instance in connection().getDests() if name and not instance})
 
 
-def print_by(job: PrintJob, queue: Queue, file: IO[bytes]) -> int:
-    """Prints a file that a job has written and returns the number that CUPS gives it; raises
-    `ToolError` where CUPS does not take it.
+def print_by(
+    job: PrintJob, queue: Queue, file: IO[bytes], chosen: Mapping[str, str] = NOTHING_CHOSEN
+) -> SentJob:
+    """Prints a file that a job has written, with options that are chosen for it, and returns the
+    job of CUPS; raises `ToolError` if CUPS does not take it.
     """
     path = f"/proc/self/fd/{file.fileno()}"
+    others = {name: value for name, value in chosen.items() if name not in PAPER}
+    options = {**others, **queue.options(job)}
+    with refusals(queue.name) as cups:
+        return SentJob(queue.name, int(cups.printFile(queue.name, path, "labels", options)))
+
+
+@contextmanager
+def refusals(queue: str) -> Iterator[Any]:
+    """Gives a connection to CUPS; raises `ToolError` if it refuses something for a queue."""
     try:
-        return int(connection().printFile(queue.name, path, "labels", queue.options(job)))
+        yield connection()
     except library().IPPError as error:
-        what = Text("CUPS does not print on {}: {}", queue.name, error.args[1])
-        raise ToolError(what) from error
+        raise ToolError(Text("CUPS refuses for {}: {}", queue, error.args[1])) from error
 
 
 def connection() -> Any:

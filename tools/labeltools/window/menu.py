@@ -1,10 +1,10 @@
-"""The menu of the window: setups, tables that were opened before, the command, help, the end."""
+"""The menu of the window: presets, tables that were opened before, the command, help, the end."""
 
 from pathlib import Path
 from typing import Any
 
-from labeltools.window import setups
 from labeltools.window.gtk import GLib, Gio, Gtk
+from labeltools.window.memory import PRESETS
 from labeltools.common.words import _
 
 MOST_RECENT = 8
@@ -18,8 +18,8 @@ class Menu:
         self.model = Gio.Menu()
         text = GLib.VariantType.new("s")
         for name, called in (
-            ("setup", window.use_setup),
-            ("forget-setup", setups.forget),
+            ("preset", window.use_preset),
+            ("forget-preset", PRESETS.forget),
             ("recent", lambda path: window.open(Path(path))),
         ):
             action = Gio.SimpleAction.new(name, text)
@@ -30,12 +30,12 @@ class Menu:
     def fill(self) -> None:
         """Fills the menu with what there is now."""
         self.model.remove_all()
-        names = list(setups.kept())
-        kept = section("setup", {name: name for name in names})
-        kept.append(_("Keep as a setup…"), "win.keep-setup")
+        names = {name: name for name in PRESETS.all()}
+        kept = section("preset", names)
+        kept.append(_("Save as a preset…"), "win.keep-preset")
         if names:
-            kept.append_submenu(_("Forget"), section("forget-setup", {one: one for one in names}))
-        self.model.append_section(_("Setups"), kept)
+            kept.append_submenu(_("Delete"), section("forget-preset", names))
+        self.model.append_section(_("Presets"), kept)
         recent = {path: Path(path).name for path in recent_tables()}
         if recent:
             self.model.append_section(_("Tables opened before"), section("recent", recent))

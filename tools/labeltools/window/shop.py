@@ -3,11 +3,9 @@ of them, and what was chosen the last time.
 """
 
 import hashlib
-import json
-import os
 import shlex
 import time
-from collections.abc import Mapping, Sequence, Set
+from collections.abc import Iterator, Mapping, Sequence, Set
 from contextlib import suppress
 from pathlib import Path
 from typing import Any
@@ -19,17 +17,17 @@ from labeltools.lines.engine import option_words
 from labeltools.tables.guess import guess_of
 from labeltools.lines.file import LineRecord, first_remark, label_lines, last_remark, read_lines
 from labeltools.common.messages import Cancelled, Place, ToolError, quoted
-from labeltools.printing.press import once
 from labeltools.printing.job import Prepared, labels_of, planned
 from labeltools.common.report import LeftOut
+from labeltools.tables.money import NotMoney, parse
+from labeltools.tables.prices import PricePattern
 from labeltools.tables.table import Lines, lines_of_table
+from labeltools.window import memory
+from labeltools.window.memory import FILES, TABLES
 
-CONFIG = os.environ.get("XDG_CONFIG_HOME") or Path.home() / ".config"
-MEMORY = Path(CONFIG, "labels", "window.json")
 COLUMNS = ("code", "title", "text", "text-2", "price", "unit-price", "old-price", "copies")
 PAPER = ("sheet", "roll", "stock", "width", "height", "design", "to", "dpi", "address")
-FILES = "files.json"  # the words by which files were read
-MOST_FILES = 200
+PATTERNS = ("0,00 €", "€0.00", "£0.00", "$0.00", "CHF 0.00", "0,00 kr", "0,00 zł")  # of prices
 Choices = Mapping[str, Any]  # by the names of the options
 
 
@@ -38,7 +36,8 @@ class Talk:
     it any more.
     """
 
-    def __init__(self) -> None:
+    def __init__(self, doing: str = "") -> None:
+        self.doing = doing  # what is shown while it is not known how much there is to do
         self.notes: list[LeftOut] = []
         self.done = 0  # of the work
         self.total = 0  # of it, where that is known
@@ -79,7 +78,7 @@ class Table:
         """
         _, self.data = read_input(str(path))
         self.path = path
-        before = words_of_files().get(path.name, "") if text is None else ""
+        before = FILES.all().get(path.name, "") if text is None else ""
         try:
             self.read(before or text or "", header, talk)
         except ToolError:
@@ -90,7 +89,8 @@ class Table:
         if text is None and kept and kept != self.text and isinstance(kept, str):
             with suppress(ToolError):
                 self.read(kept, header, talk)
-        self.paper = {name: value for name, value in last().items() if name in PAPER}
+        last: Choices = next(reversed(TABLES.all().values()), {})
+        self.paper = {name: value for name, value in last.items() if name in PAPER}
 
     def read(self, text: str, header: int | None, talk: Talk) -> None:
         """Guesses the columns of the table as words read it, and finds what is kept for these."""
@@ -100,7 +100,7 @@ class Table:
         self.guess = guess_of(self.data, self.path.name, options, talk)
         self.text = text
         self.key = "\n".join(self.guess.names) if any(self.guess.names) else ""
-        self.kept = remembered().get(self.key, {}) if self.key else {}
+        self.kept = TABLES.all().get(self.key, {}) if self.key else {}
 
     def labels(self, choices: Choices, talk: Talk) -> Prepared:
         """Returns the labels that are chosen; raises `ToolError` and `OSError`."""
@@ -140,7 +140,7 @@ class Table:
     def printed(self) -> Path:
         """The lines that went out the last time, of a table with the same names."""
         mark = hashlib.sha256(self.key.encode()).hexdigest()[:16]
-        return MEMORY.with_name(f"{mark}.lines")
+        return memory.FOLDER / f"{mark}.lines"
 
     def printed_on(self) -> str:
         """Returns the day on which labels of such a table went out; empty where none did."""
@@ -174,10 +174,21 @@ class Table:
         since two tables without names have nothing in common. The words by which the file was read
         are kept for its name, too: without its sheet or encoding it would not open.
         """
-        remember(self.key, choices)
-        others = {name: words for name, words in words_of_files().items() if name != self.path.name}
-        kept = {**others, self.path.name: choices["for-table"]} if choices["for-table"] else others
-        write(MEMORY.with_name(FILES), dict(list(kept.items())[-MOST_FILES:]))
+        TABLES.keep(self.key, choices)
+        if words := choices["for-table"]:
+            FILES.keep(self.path.name, words)
+        else:
+            FILES.forget(self.path.name)
+
+    def price_patterns(self, column: str) -> Iterator[tuple[str, str]]:
+        """Yields how the prices of a column may be printed: the first of them as it would be, and
+        its pattern, which is empty for that as it is.
+        """
+        example = self.guess.examples[int(column) - 1] if column else ""
+        yield example, ""
+        for pattern in PATTERNS:
+            with suppress(NotMoney):
+                yield PricePattern.of(pattern).write(parse(example)), pattern
 
 
 def file_of(records: Sequence[LineRecord]) -> bytes:
@@ -188,7 +199,7 @@ def file_of(records: Sequence[LineRecord]) -> bytes:
 
 def table_words(choices: Choices) -> list[str]:
     """Returns the words of label-table, but for the file; raises `ToolError`."""
-    options = {name: choices[name] for name in (*COLUMNS, "symbology", "header-row")}
+    options = {name: choices[name] for name in (*COLUMNS, "symbology", "price-as", "header-row")}
     options["no-header"] = not choices["header-row"]
     second = words_of({"text": options.pop("text-2")})
     return [*words_of(options), *second, *option_words(choices["for-table"])]
@@ -201,46 +212,3 @@ def print_words(choices: Choices) -> list[str]:
         options["paper"] = f"{choices['width']:g}x{choices['height']:g}"
         del options["stock"], options["first"]
     return [*words_of(options), *option_words(choices["for-print"])]
-
-
-def compare(labels: Prepared, talk: Talk) -> None:
-    """Draws each label once as it is printed, and compares it with its line; raises `ToolError`
-    where it is another one.
-    """
-    for drawn in labels.press(talk).documents(once(labels.labels)):
-        drawn.close()
-
-
-def words_of_files() -> dict[str, str]:
-    """Returns the words by which tables were read, by the names of their files."""
-    with suppress(OSError, ValueError, AttributeError):
-        found = json.loads(MEMORY.with_name(FILES).read_text(encoding="utf-8")).items()
-        return {name: words for name, words in found if isinstance(words, str)}
-    return {}
-
-
-def remembered() -> dict[str, Choices]:
-    """Returns what was chosen, by the names of columns; nothing where that is not understood."""
-    with suppress(OSError, ValueError, AttributeError):
-        found = json.loads(MEMORY.read_text(encoding="utf-8")).items()
-        return {names: kept for names, kept in found if isinstance(kept, dict)}
-    return {}
-
-
-def last() -> Choices:
-    """Returns what was chosen the last time, for whatever table."""
-    return next(reversed(remembered().values()), {})
-
-
-def remember(names: str, choices: Choices) -> None:
-    """Keeps what was chosen."""
-    others = {other: kept for other, kept in remembered().items() if other != names}
-    kept = {**others, names: choices}  # the last one at the end
-    write(MEMORY, kept)
-
-
-def write(path: Path, kept: Mapping[str, Any]) -> None:
-    """Writes what is kept; a folder that takes no file is no reason to stop."""
-    with suppress(OSError):
-        path.parent.mkdir(parents=True, exist_ok=True)
-        path.write_text(json.dumps(kept, indent=1), encoding="utf-8")

@@ -7,43 +7,46 @@ import shlex
 from collections.abc import Callable, Sequence
 from concurrent.futures import Future, ThreadPoolExecutor
 from contextlib import suppress
-from functools import lru_cache, partial
+from functools import partial
 from pathlib import Path
 from typing import Any
 
 from labeltools.common.text import Text, counted, translated
 from labeltools.paper.area import ARTICLE, MILLIMETRES
 from labeltools.drawing.forms import PBM, SVG
-from labeltools.drawing.pdf import POINTS
 from labeltools.common.messages import Offers, ToolError, of_system
-from labeltools.window import setups
+from labeltools.window import hints
+from labeltools.window.dialog import ask_printer
 from labeltools.window.gtk import GLib, Gdk, Gio, Gtk, Pango
+from labeltools.window.memory import PRESETS
 from labeltools.window.menu import Menu, add_recent
 from labeltools.designs.design import is_file
 from labeltools.window.preview import Preview
 from labeltools.printing.network import SCHEME, address_of
-from labeltools.commands.label_print import check_count, print_on, send_to
+from labeltools.commands.label_print import check_count, is_direct, print_on, send_to
 from labeltools.printing.job import Prepared
-from labeltools.printing.cups import media_of, queue_of, queues
-from labeltools.window.shop import COLUMNS, Choices, Table, Talk, compare
+from labeltools.printing.cups import JobState, Queue, SentJob, queue_of, queues
+from labeltools.window.shop import COLUMNS, PAPER, Choices, Table, Talk
 from labeltools.paper.stock import list_stock
 from labeltools.common.words import _
 
 FILE = Path(__file__).with_name("window.ui")
 # the controls by the names of options, and the property of each that has what is chosen
 CONTROLS = {
-    **dict.fromkeys((*COLUMNS, "symbology", "design", "to", "dpi"), "active-id"),
+    **dict.fromkeys((*COLUMNS, "symbology", "price-as", "design", "to", "dpi"), "active-id"),
     **dict.fromkeys(("stock", "for-table", "for-print", "address"), "text"),
     **dict.fromkeys(("header-row", "first", "width", "height"), "value"),
     **dict.fromkeys(("sheet", "roll", "new-only"), "active"),
 }
-A_FILE = "file"  # the choice of a design of one's own
-OF_DRIVER = "cups-"  # what the names of choices begin with that a driver understands
+A_FILE = "file"  # the choice of a design in a file
+PRESET = (*PAPER, "for-print")  # what a preset has
+USB = Path("/dev/usb")  # has the printers on USB
 MANY = 1000  # labels above it are asked for before they are printed
 MOST_NOTES = 2000
 DOT = 2  # pixels of a dot, where dots are looked at
 SCREEN = 96 / MILLIMETRES  # pixels of a millimetre of a monitor that does not say its size
 PATIENCE = 500  # milliseconds after which work is shown, and how far it is from then on
+WATCH = 2000  # milliseconds between two looks at a job of CUPS
 USUAL_DPI = {"zpl": "203", "escpos": "203"}  # of the printers of these languages
 LETTERS = 14  # that a choice shows at least
 LEAST_WRAP = 150  # pixels in which reasons are wrapped
@@ -62,10 +65,39 @@ class Choice(Gtk.ComboBox):
 
     def __init__(self, **properties: Any) -> None:
         super().__init__(**properties)
+        self.set_visible(True)
+        self.set_hexpand(True)
         letters = Gtk.CellRendererText(ellipsize=Pango.EllipsizeMode.END, width_chars=LETTERS)
         self.pack_start(letters, True)
         self.add_attribute(letters, "text", 0)
         self.set_id_column(1)
+
+
+class Caption(Gtk.Label):
+    """The name of a control, beside it."""
+
+    __gtype_name__ = "LabelsCaption"
+
+    def __init__(self, **properties: Any) -> None:
+        super().__init__(**properties)
+        self.set_visible(True)
+        self.set_use_underline(True)
+        self.set_xalign(1)
+
+
+class Heading(Gtk.Label):
+    """What a group of controls is about, above it."""
+
+    __gtype_name__ = "LabelsHeading"
+
+    def __init__(self, **properties: Any) -> None:
+        super().__init__(**properties)
+        self.set_visible(True)
+        self.set_xalign(0)
+        self.set_margin_top(10)
+        bold = Pango.AttrList()
+        bold.insert(Pango.attr_weight_new(Pango.Weight.BOLD))
+        self.set_attributes(bold)
 
 
 @Gtk.Template(filename=str(FILE))
@@ -77,12 +109,14 @@ class Window(Gtk.ApplicationWindow):
     __gtype_name__ = "LabelsWindow"
     # the choices of the table
     code, symbology, title, text, text_2, more = (child() for _ in range(6))
-    price, unit_price, old_price, copies, header_row, new_only = (child() for _ in range(6))
+    price, price_as, unit_price, old_price, copies = (child() for _ in range(5))
+    header_row, new_only = (child() for _ in range(2))
     # those of the labels
     sheet, stock, first, roll, width, height, design = (child() for _ in range(7))
     to, dpi, for_table, for_print = (child() for _ in range(4))
     # their lists
-    columns, sheets, designs, resolutions, notes, completion = (child() for _ in range(6))
+    columns, patterns, sheets, designs, resolutions = (child() for _ in range(5))
+    notes, completion = (child() for _ in range(2))
     # what is shown
     head, stack, result, guessed, below = (child() for _ in range(5))
     paper, desk, view, number, of, count, left_out, left_out_list = (child() for _ in range(8))
@@ -90,7 +124,7 @@ class Window(Gtk.ApplicationWindow):
     # what is said
     info, problem, offers, done, said, working, progress = (child() for _ in range(7))
     # dialogs and menus
-    opener, design_opener, saver, many, naming, setup_name = (child() for _ in range(6))
+    opener, design_opener, saver, many, naming, preset_name = (child() for _ in range(6))
     network, address, menu_button = (child() for _ in range(3))
     open_button, save_button, print_button = map(child, ("open", "save", "print"))
 
@@ -109,7 +143,7 @@ class Window(Gtk.ApplicationWindow):
                 ("save", self.ask_file),
                 ("print", self.ask_printer),
                 ("command", self.show_command),
-                ("keep-setup", self.ask_setup),
+                ("keep-preset", self.ask_preset),
             )
         }
         self.menu = Menu(self)
@@ -123,10 +157,10 @@ class Window(Gtk.ApplicationWindow):
         self.last_design = ARTICLE.name
         self.table: Table | None = None
         self.has_labels = False  # that are chosen
-        self.printing: Any = None  # the job that is being sent: without this GTK would drop it
-        self.doubt: Text | None = None  # about its printer
+        names = {option: self.name_of(control) for option, control in hints.CONTROLS.items()}
+        self.hints = hints.Hints(names)
         self.let_out(False)
-        self.offer_sheets()
+        self.completion.set_match_func(lambda *_: True)
         self.drag_dest_set(Gtk.DestDefaults.ALL, [], Gdk.DragAction.COPY)
         self.drag_dest_add_uri_targets()
 
@@ -146,20 +180,26 @@ class Window(Gtk.ApplicationWindow):
         """Returns the control of an option by its name."""
         return getattr(self, name.replace("-", "_"))
 
-    def offer_sheets(self) -> None:
-        """Offers the sheets that label-print lists for what is typed."""
-        with suppress(ToolError):  # glabels, which has the sheets, is not there
-            for line in list_stock(""):
-                self.sheets.append([line.partition(": ")[0], line])
-        listed = lru_cache(1)(lambda typed: set(list_stock(typed)))
-        self.completion.set_match_func(
-            lambda _self, typed, row: self.sheets[row][1] in listed(typed)
-        )
+    def name_of(self, control: str) -> str:
+        """Returns the name of a control, as it is shown beside it."""
+        return str(self.control(control).list_mnemonic_labels()[0].get_text())
 
-    def start(self, work: Callable[[Talk], Any], then: Callable[[Any], object]) -> None:
+    @Gtk.Template.Callback()
+    def offer_sheets(self, entry: Any) -> None:
+        """Offers the sheets that label-print lists for what is typed, first those that begin so."""
+        typed = entry.get_text()
+        self.sheets.clear()
+        with suppress(ToolError):  # glabels, which has the sheets, is not there
+            lines = list_stock(typed) if len(typed) > 1 else ()
+            for line in sorted(lines, key=lambda line: not line.lower().startswith(typed.lower())):
+                self.sheets.append([line.partition(": ")[0], line])
+
+    def start(
+        self, work: Callable[[Talk], Any], then: Callable[[Any], object], doing: str = ""
+    ) -> None:
         """Does work, and then something with what came of it; nothing goes out until then."""
         self.on_stop()
-        self.talk = Talk()
+        self.talk = Talk(doing)
         self.info.hide()
         self.done.hide()
         self.let_out(False)
@@ -182,13 +222,16 @@ class Window(Gtk.ApplicationWindow):
         """Shows how far work is; returns whether it goes on."""
         if not talk.is_stopped:
             self.working.show()
-            self.progress.set_fraction(talk.done / talk.total if talk.total else 0.0)
+            if talk.total:
+                self.progress.set_fraction(talk.done / talk.total)
+            else:
+                self.progress.pulse()
             self.progress.set_text(progress_text(talk))
         return not talk.is_stopped
 
     def show_problem(self, problem: ToolError) -> None:
         """Says why something cannot be done, and offers what helps."""
-        self.problem.set_text(said(problem.what, problem.hint))
+        self.problem.set_text(self.hints.text(problem.what, problem.hint))
         self.offer(problem.offers)
         self.info.show()
 
@@ -240,7 +283,8 @@ class Window(Gtk.ApplicationWindow):
         self.result.hide()
         self.head.set_subtitle(path.name)
         self.stack.set_visible_child_name("work")
-        self.start(partial(Table, path, text, header), self.fill)
+        doing = _("reading {file}…").format(file=path.name)
+        self.start(partial(Table, path, text, header), self.fill, doing)
 
     def fill(self, table: Table) -> None:
         """Fills the choices of columns for a table."""
@@ -257,22 +301,28 @@ class Window(Gtk.ApplicationWindow):
         # a table that is read again, by other words, keeps what is chosen
         is_same = (table.path, guess.names) == self.chosen[:2]
         others = {**table.paper, "for-print": "", **table.kept, "first": 1}
-        self.take({"symbology": guess.symbology, **(self.chosen[2] if is_same else others)})
+        own = self.chosen[2] if is_same else others
+        self.take({"symbology": guess.symbology, **own})
+        self.offer_patterns(table)
+        self.take({"price-as": own.get("price-as", "")})
         self.text_2.set_visible(self.choices()["text-2"])
         self.words = table.text
         self.take({"for-table": self.words})
         self.take({"header-row": guess.header})
         self.guessed.set_visible(not table.kept)
-        since = table.printed_on()
+        self.offer_new_only(table.printed_on())
+        self.path = table.path
+        self.table = table
+        add_recent(table.path)
+        self.make()
+
+    def offer_new_only(self, since: str) -> None:
+        """Offers what is new since a day, which is empty if nothing was printed."""
         text = _("Only what is _new or changed since {date}").format(date=since)
         self.new_only.set_label(text)
         self.new_only.set_visible(since)
         if not since:
             self.take({"new-only": False})
-        self.path = table.path
-        self.table = table
-        add_recent(table.path)
-        self.make()
 
     def take(self, choices: Choices) -> None:
         """Takes choices, but for what somebody has written into the file of them."""
@@ -296,7 +346,24 @@ class Window(Gtk.ApplicationWindow):
             self.has_labels = False
             self.chosen = self.table.path, self.table.guess.names, self.choices()
             work = partial(self.table.labels, self.choices())
-            self.start(work, partial(self.show_labels, self.table))
+            doing = _("reading {file}…").format(file=self.table.path.name)
+            self.start(work, partial(self.show_labels, self.table), doing)
+
+    @Gtk.Template.Callback()
+    def on_price(self, _price: Any) -> None:
+        """Makes the labels with the prices of another column, which are printed as they are."""
+        table, self.table = self.table, None
+        if table is not None:
+            self.offer_patterns(table)
+        self.table = table
+        self.make()
+
+    def offer_patterns(self, table: Table) -> None:
+        """Offers how the prices of the column may be printed."""
+        self.patterns.clear()
+        for shown, pattern in table.price_patterns(self.choices()["price"] or ""):
+            self.patterns.append([shown, pattern])
+        self.take({"price-as": ""})
 
     @Gtk.Template.Callback()
     def on_more(self, _button: Any) -> None:
@@ -372,7 +439,7 @@ class Window(Gtk.ApplicationWindow):
         self.notes.clear()
         for note in table.notes[:MOST_NOTES]:
             row = str(note.place.number) if note.place else ""
-            self.notes.append([row, note.data, said(note.reason, note.hint)])
+            self.notes.append([row, note.data, self.hints.text(note.reason, note.hint)])
         text = translated(counted("{} row is left out", "{} rows are left out", table.left_out))
         self.left_out.set_text(text if table.left_out else _("Please look at this"))
         self.below.set_visible(table.notes)
@@ -489,37 +556,6 @@ class Window(Gtk.ApplicationWindow):
         self.said.set_text(text)
         self.done.show()
 
-    def print(self, _none: None) -> None:
-        """Prints by the dialog of the desktop."""
-        self.printing = self.operation()
-        self.printing.run(Gtk.PrintOperationAction.PRINT_DIALOG, self)
-
-    def print_at(self, settings: Any) -> None:
-        """Prints as a dialog was answered."""
-        self.printing = self.operation()
-        self.printing.set_print_settings(settings)
-        self.printing.run(Gtk.PrintOperationAction.PRINT, self)
-
-    def cancel(self, operation: Any) -> None:
-        """Ends a job before anything of it is sent."""
-        self.printing = None
-        operation.cancel()
-
-    def on_sent(self, operation: Any) -> None:
-        """Says what was sent where, or that nothing was. GTK says "done" where pages are drawn, and
-        not sent yet.
-        """
-        status = operation.get_status()
-        settings = operation.get_print_settings()
-        file = settings.get("output-uri")
-        name = Path(file).name if file else settings.get_printer()
-        if status == Gtk.PrintStatus.FINISHED_ABORTED and operation is self.printing:
-            self.show_problem(ToolError(Text("nothing was sent to {}", name)))
-        elif status == Gtk.PrintStatus.FINISHED:
-            count = len(self.labels.prints)
-            text = counted("{} label sent to {}", "{} labels sent to {}", count, name)
-            self.say("\n".join(map(translated, filter(None, (text, self.doubt)))))
-
     def keep_printed(self) -> None:
         """Keeps which labels went out."""
         if self.table is not None:
@@ -531,18 +567,61 @@ class Window(Gtk.ApplicationWindow):
             self.table.keep(self.choices())
 
     def ask_printer(self) -> None:
-        """Prints: by the dialog of the desktop, or for ZPL and ESC/POS the file at a queue."""
-        labels = self.labels
-        if not self.is_meant():
-            return
-        self.keep()
-        if labels.job.form.is_roll:
-            self.start(lambda _talk: queues(), self.ask_queue)
-        else:
-            self.start(partial(compare, labels), self.print)
+        """Asks for a printer, and prints."""
+        if self.is_meant():
+            self.keep()
+            is_roll = self.labels.job.form.is_roll
+            self.start(partial(printers, is_roll), self.ask_way if is_roll else self.ask_queue)
 
-    def ask_queue(self, names: list[str]) -> None:
-        """Asks for a queue for the file of a printer's own language."""
+    def ask_queue(self, _names: Any) -> None:
+        """Asks for a queue, and its options, by the dialog of the desktop."""
+        ask_printer(self, self.labels.job.plan.sheet.page, self.find_queue)
+
+    def find_queue(self, name: str, chosen: dict[str, str]) -> None:
+        """Prints on a queue, once it is known what it prints with the options that are chosen."""
+        self.start(lambda _talk: queue_of(name, chosen), partial(self.print_on, chosen))
+
+    def print_on(self, chosen: dict[str, str], queue: Queue) -> None:
+        """Prints what label-print prints: each label is compared before. If the printer has another
+        resolution, the labels are made for that, to be looked at.
+        """
+        labels = self.labels
+        job = labels.job
+        dpi = queue.dpi_for(not job.plan.sheet.is_single) or job.plan.dpi
+        if job.form.is_drawn and dpi % job.plan.dpi:
+            self.make_for(queue.name, dpi)
+            return
+
+        def work(talk: Talk) -> tuple[SentJob, Text]:
+            return print_on(labels.press(talk), labels.prints, queue, chosen)
+
+        self.start(work, self.on_sent)
+
+    def on_sent(self, sent: tuple[SentJob, Text]) -> None:
+        """Says what was sent where, and from then on what becomes of it."""
+        job, text = sent
+        self.say(translated(text))
+        self.watch(job, self.said.get_text(), "")
+
+    def watch(self, job: SentJob, sent: str, before: str) -> None:
+        """Looks at a job, and shows what CUPS reports of it if that is other than before."""
+        future = self.thread.submit(job.state)
+        future.add_done_callback(partial(GLib.idle_add, self.show_state, job, sent, before))
+
+    def show_state(self, job: SentJob, sent: str, before: str, future: "Future[JobState]") -> None:
+        """Shows what CUPS reports of a job, and looks again until it is over."""
+        if future.exception() is not None or not self.get_visible():
+            return
+        state = future.result()
+        text = translated(state.trouble) or state.said
+        if text != before:
+            self.said.set_text("\n".join(filter(None, (sent, text))))
+            self.done.show()
+        if not state.is_over:
+            GLib.timeout_add(WATCH, self.watch, job, sent, text)
+
+    def ask_way(self, names: list[str]) -> None:
+        """Asks for a printer for the file of a printer's own language."""
         menu = Gtk.Menu()
         for name in names:
             item = Gtk.MenuItem(label=name, visible=True)
@@ -554,17 +633,17 @@ class Window(Gtk.ApplicationWindow):
         south = Gdk.Gravity.SOUTH_WEST
         menu.popup_at_widget(self.print_button, south, Gdk.Gravity.NORTH_WEST, None)
 
-    def send(self, _item: Any, queue: str) -> None:
-        """Sends what label-print writes to a queue: each label is compared before."""
+    def send(self, _item: Any, printer: str) -> None:
+        """Sends what label-print sends to a printer: each label is compared before."""
         labels = self.labels
 
         def work(talk: Talk) -> Text:
-            press = labels.press(talk)
-            if queue.startswith(SCHEME):
-                return send_to(press, labels.prints, queue)
-            return print_on(press, labels.prints, queue_of(queue))
+            return send_to(labels.press(talk), labels.prints, printer)
 
-        self.start(work, lambda text: self.say(translated(text)))
+        if is_direct(printer):
+            self.start(work, lambda text: self.say(translated(text)))
+        else:
+            self.find_queue(printer, {})
 
     def ask_address(self, item: Any) -> None:
         """Asks where a printer is in the network, and sends to it."""
@@ -579,63 +658,6 @@ class Window(Gtk.ApplicationWindow):
             else:
                 self.keep()
                 self.send(item, name)
-
-    def operation(self) -> Any:
-        """Returns what prints each page in its own size: no scaling, no margins of the printer."""
-        pages = Preview(self.labels, self.labels.job.form)
-        dpi = self.labels.job.plan.dpi
-
-        def draw(_operation: Any, context: Any, number: int) -> None:
-            canvas = context.get_cairo_context()
-            canvas.scale(POINTS / dpi, POINTS / dpi)
-            pages.press.draw(canvas, pages.press.page(number, pages.prints))
-
-        points = [side * POINTS / MILLIMETRES for side in pages.size]
-        setup = Gtk.PageSetup()
-        setup.set_paper_size(Gtk.PaperSize.new_from_ppd(media_of(pages.size), _("Labels"), *points))
-        settings = Gtk.PrintSettings()
-        settings.set("cups-print-scaling", "none")
-        operation = Gtk.PrintOperation(
-            default_page_setup=setup,
-            print_settings=settings,
-            use_full_page=True,
-            unit=Gtk.Unit.POINTS,
-            n_pages=pages.count,
-            job_name=self.head.get_subtitle(),
-            allow_async=True,
-            show_progress=True,
-        )
-        operation.connect("begin-print", self.check_printer)
-        operation.connect("draw-page", draw)
-        operation.connect("status-changed", self.on_sent)
-        return operation
-
-    def check_printer(self, operation: Any, _context: Any) -> None:
-        """Tells the printer that was chosen which dots the labels have. Where it has other ones,
-        nothing is printed: the labels are made with these. A file has any.
-        """
-        settings = operation.get_print_settings()
-        name = settings.get_printer()
-        self.doubt = None
-        if not name or settings.get("output-uri"):
-            return
-        try:
-            queue = queue_of(name, chosen_in(settings))
-        except ToolError as error:
-            self.cancel(operation)
-            self.show_problem(error)
-            return
-        self.doubt = queue.doubt
-        job = self.labels.job
-        dpi = queue.dpi_for(not job.plan.sheet.is_single) or job.plan.dpi
-        if dpi % job.plan.dpi:
-            self.cancel(operation)
-            self.make_for(name, dpi)
-        elif resolution := queue.options(job).get("Resolution"):
-            self.cancel(operation)  # what the dialog told the printer cannot be changed here
-            settings = settings.copy()
-            settings.set(f"{OF_DRIVER}Resolution", resolution)
-            GLib.idle_add(self.print_at, settings)
 
     def make_for(self, printer: str, dpi: int) -> None:
         """Makes the labels with the dots of a printer, to be looked at before they are printed."""
@@ -655,36 +677,36 @@ class Window(Gtk.ApplicationWindow):
         """Shows the line that does the same in a shell."""
         self.line.popup()
 
-    def ask_setup(self) -> None:
+    def ask_preset(self) -> None:
         """Asks for a name for the paper and the printer, and keeps them by it."""
         answer = self.naming.run()
         self.naming.hide()
-        name = self.setup_name.get_text().strip()
+        name = self.preset_name.get_text().strip()
         if answer == Gtk.ResponseType.OK and name:
-            setups.keep(name, self.choices())
+            choices = self.choices()
+            PRESETS.keep(name, {option: choices[option] for option in PRESET})
 
-    def use_setup(self, name: str) -> None:
-        """Takes the paper and the printer of a setup."""
+    def use_preset(self, name: str) -> None:
+        """Takes the paper and the printer of a preset."""
         path, self.path = self.path, None
-        self.take(setups.kept().get(name, {}))
+        self.take(PRESETS.all().get(name, {}))
         self.path = path
         self.make()
 
 
-def said(what: Text, hint: Text) -> str:
-    """Returns a reason, and below it what to do."""
-    return "\n".join(translated(text) for text in (what, hint) if text)
-
-
-def chosen_in(settings: Any) -> dict[str, str]:
-    """Returns what was chosen of the driver in the dialog of the desktop, by its names."""
-    found: dict[str, str] = {}
-    settings.foreach(lambda name, value: found.setdefault(name, value))
-    return {
-        name.removeprefix(OF_DRIVER): value
-        for name, value in found.items()
-        if name.startswith(OF_DRIVER)
-    }
+def printers(is_roll: bool, _talk: Talk) -> list[str]:
+    """Returns the printers that the system knows: for a printer's own language also those on USB.
+    Raises `ToolError` if there is none, but that one may be in the network.
+    """
+    if not is_roll:
+        if names := queues():
+            return names
+        hint = Text("add it in the settings of the desktop, under printers")
+        raise ToolError(Text("there is no printer"), hint)
+    found = sorted(map(str, USB.glob("lp*")))
+    with suppress(ToolError):  # CUPS is not there
+        return [*queues(), *found]
+    return found
 
 
 def lacking(window: Any) -> list[str]:
@@ -694,9 +716,9 @@ def lacking(window: Any) -> list[str]:
 
 
 def progress_text(talk: Talk) -> str:
-    """Returns how much of the work is done; empty where that is not known."""
+    """Returns how much of the work is done, or else what is done, with a count if there is one."""
     if not talk.total:
-        return ""
+        return f"{talk.doing} {talk.done:n}" if talk.done else talk.doing
     done, total = (f"{number:n}" for number in (talk.done, talk.total))
     return _("{done} of {all}").format(done=done, all=total)
 

@@ -1,0 +1,52 @@
+"""What the window keeps for the next time, in files of JSON."""
+
+import json
+import os
+from contextlib import suppress
+from pathlib import Path
+from typing import Any
+
+CONFIG = os.environ.get("XDG_CONFIG_HOME") or Path.home() / ".config"
+FOLDER = Path(CONFIG, "labels")
+MOST = 200  # values in a file
+
+
+class Memory:
+    """Values by their names, the newest at the end, in a file; the oldest goes if there are too
+    many. What somebody has written into the file and is of another type does not count.
+    """
+
+    def __init__(self, file: str, kind: type) -> None:
+        self.file = file
+        self.kind = kind
+
+    def all(self) -> dict[str, Any]:
+        """Returns what is kept; nothing if the file cannot be read."""
+        with suppress(OSError, ValueError, AttributeError):
+            found = json.loads((FOLDER / self.file).read_text(encoding="utf-8")).items()
+            return {name: value for name, value in found if isinstance(value, self.kind)}
+        return {}
+
+    def keep(self, name: str, value: Any) -> None:
+        """Keeps a value, in place of an older one of its name."""
+        self.write({**self.without(name), name: value})
+
+    def forget(self, name: str) -> None:
+        """Forgets a value."""
+        self.write(self.without(name))
+
+    def without(self, name: str) -> dict[str, Any]:
+        """Returns all values but one."""
+        return {other: value for other, value in self.all().items() if other != name}
+
+    def write(self, values: dict[str, Any]) -> None:
+        """Writes all values; a folder that takes no file is no reason to stop."""
+        with suppress(OSError):
+            FOLDER.mkdir(parents=True, exist_ok=True)
+            kept = dict(list(values.items())[-MOST:])
+            (FOLDER / self.file).write_text(json.dumps(kept, indent=1), encoding="utf-8")
+
+
+TABLES = Memory("window.json", dict)  # what was chosen, by the names of columns
+FILES = Memory("files.json", str)  # the words by which files were read, by their names
+PRESETS = Memory("setups.json", dict)  # papers and printers, by names such as "shelf roll"
