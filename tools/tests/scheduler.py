@@ -10,7 +10,7 @@ import subprocess
 import tempfile
 import time
 from pathlib import Path
-from typing import Any, Tuple
+from typing import Any, List, Tuple
 
 import numpy
 import support
@@ -31,8 +31,7 @@ Allow all
 </Limit>
 </Policy>
 """
-QUIET: Any = {"stdout": subprocess.DEVNULL, "stderr": subprocess.DEVNULL}
-WITH_TEST = ("setpriv", "--pdeathsig", "TERM")  # ends a program with the one that started it
+WITH_TEST = ("setpriv", "--pdeathsig", "KILL")  # ends a program with the one that started it
 FILES = "ServerRoot RequestRoot CacheDir StateDir TempDir".split()
 LOGS = "AccessLog ErrorLog PageLog".split()
 DRIVER = """#include <font.defs>
@@ -114,17 +113,24 @@ class Scheduler:
         (self.folder / "cups-files.conf").write_text("\n".join([*lines, "FileDevice Yes", ""]))
         words = [CUPSD, "-f", "-c", f"{self.folder}/cupsd.conf"]
         words += ["-s", f"{self.folder}/cups-files.conf"]
-        self.process = subprocess.Popen([*WITH_TEST, *words], **QUIET)
-        self.printer: Any = None  # that is driverless
+        self.processes: List[Any] = []
+        self.start(*words)
         self.before = os.environ.get("CUPS_SERVER")
         os.environ["CUPS_SERVER"] = self.name
         self.wait(lambda: not subprocess.run(["lpstat", "-r"], capture_output=True).returncode)
+
+    def start(self, *words: str, **variables: str) -> Any:
+        """Starts a program that ends with this one."""
+        how: Any = {"env": {**os.environ, **variables}, "stderr": subprocess.DEVNULL}
+        process = subprocess.Popen([*WITH_TEST, *words], stdout=subprocess.PIPE, **how)
+        self.processes.append(process)
+        return process
 
     def wait(self, is_done: Any) -> None:
         """Waits until something is done."""
         end = time.monotonic() + support.SECONDS
         while not is_done():
-            if time.monotonic() > end or self.process.poll() is not None:
+            if time.monotonic() > end or self.processes[0].poll() is not None:
                 raise TimeoutError((self.folder / "ErrorLog").read_text()[-2000:])
             time.sleep(0.05)
 
@@ -148,29 +154,20 @@ class Scheduler:
 
     def add_driverless(self, name: str) -> None:
         """Adds a queue without a driver's file for a printer that takes PWG raster."""
-        support.needs("ippeveprinter", "dbus-run-session")
+        support.needs("ippeveprinter", "dbus-daemon")
         (self.folder / name).mkdir()
-        bus = 'DBUS_SYSTEM_BUS_ADDRESS=$DBUS_SESSION_BUS_ADDRESS exec "$@"'
-        words = [
-            "dbus-run-session",
-            "--",
-            "sh",
-            "-c",
-            bus,
-            "sh",
-            "ippeveprinter",
-            "-k",
-            "-r",
-            "off",
-        ]
-        words += ["-n", "localhost", "-f", "image/pwg-raster", "-d", f"{self.folder}/{name}"]
-        port = 0
-        while not port or self.printer.poll() is not None:  # another program may take the port
+        bus = self.start("dbus-daemon", "--session", "--nofork", "--print-address")
+        address = {"DBUS_SYSTEM_BUS_ADDRESS": bus.stdout.readline().decode().strip()}
+        words = ["ippeveprinter", "-k", "-r", "off", "-n", "localhost", "-f", "image/pwg-raster"]
+        words += ["-d", f"{self.folder}/{name}", name, "-p"]
+        while True:  # another program may take the port
             with socket.socket() as free:
                 free.bind(("localhost", 0))
                 port = free.getsockname()[1]
-            self.printer = subprocess.Popen([*words, "-p", str(port), name], **QUIET)
-            self.wait(lambda: self.printer.poll() is not None or is_open(port))
+            printer = self.start(*words, str(port), **address)
+            self.wait(lambda: printer.poll() is not None or is_open(port))
+            if printer.poll() is None:
+                break
         device = f"ipp://localhost:{port}/ipp/print"
         words = ["lpadmin", "-p", name, "-E", "-v", device, "-m", "everywhere"]
         subprocess.run(words, check=True, capture_output=True)
@@ -179,14 +176,15 @@ class Scheduler:
         """What arrived at a queue, once its jobs are done."""
         self.wait(lambda: not subprocess.run(["lpstat", "-o"], capture_output=True).stdout)
         place = self.folder / name
-        path = max(place.iterdir()) if place.is_dir() else place.with_suffix(".out")
-        return path.read_bytes()
+        jobs = place.iterdir() if place.is_dir() else [place.with_suffix(".out")]
+        return max(jobs, key=os.path.getmtime).read_bytes()
 
     def stop(self) -> None:
         """Ends the scheduler."""
-        for process in filter(None, (self.printer, self.process)):
-            process.terminate()
+        for process in reversed(self.processes):
+            process.kill()
             process.wait()
+            process.stdout.close()
         self.place.cleanup()
         os.environ.pop("CUPS_SERVER")
         if self.before is not None:

@@ -18,7 +18,7 @@ from unittest import mock
 import cairo
 import support
 from labeltools.common.messages import ToolError
-from labeltools.common.text import NOTHING
+from labeltools.common.text import NOTHING, Text
 from labeltools.printing.cups import JobState, Queue
 from printers import Printer
 from scheduler import WITH_TEST, Scheduler, raster_of
@@ -31,7 +31,7 @@ TABLE = """Nr;EAN;Name;Price;Stock;Labels
 4;96385074;Gum, and a title that is longer than any label;1,20 €;8;1
 """
 PROGRAMS = ("Xvfb", "pdftoppm", "msgfmt")
-WAIT = 40.0  # seconds for work, on a busy machine too
+WAIT = 300.0  # seconds for work, on a busy machine too
 BEAT = 10  # milliseconds between two heart beats
 LONGEST_WORK = 0.5  # processor seconds without a heart beat
 LONGEST_WAIT = 10.0  # seconds without one
@@ -195,11 +195,12 @@ def print_once(table: str, printer: str) -> None:
     one.present()
     one.open(Path(table))
     end = time.monotonic() + WAIT
+    while not one.has_labels and time.monotonic() < end:
+        settle(BEAT / 1000)
     GLib.timeout_add(BEAT, answer_dialog, printer)
+    one.print_button.clicked()
     while not one.done.get_visible() and time.monotonic() < end:
         settle(BEAT / 1000)
-        if one.print_button.is_sensitive() and one.talk.is_stopped:
-            one.print_button.clicked()
     print(one.said.get_text())
 
 
@@ -869,6 +870,18 @@ class WindowTest(unittest.TestCase):
         talk.go_on(0, 0)
         self.assertEqual(window.progress_text(talk), "")
 
+    def test_reading_is_shown_with_a_count(self) -> None:
+        """How many rows a table has is not known."""
+        self.window.start(
+            lambda talk: settle_until(lambda: talk.is_stopped), bool, "reading a.csv…"
+        )
+        self.window.talk.go_on(0, 0)
+        self.until(self.window.working.get_visible)
+        self.assertEqual(self.window.progress.get_text(), "reading a.csv…")
+        self.window.talk.go_on(1200, 0)
+        self.until(lambda: self.window.progress.get_text() == "reading a.csv… 1200")
+        self.window.on_stop()
+
     def test_stop_while_a_table_is_read_says_so(self) -> None:
         self.window.start(lambda talk: settle_until(lambda: talk.is_stopped), bool)
         self.window.stack.set_visible_child_name("work")
@@ -889,6 +902,49 @@ class WindowTest(unittest.TestCase):
             self.window.on_sheet(entry)
             self.assertTrue(make.called)
         self.assertIs(self.window.labels, before)
+
+    def test_sheets_that_begin_with_what_is_typed_come_first(self) -> None:
+        self.window.stock.set_text("Herma 44")
+        begin = [row[0].startswith("Herma 44") for row in self.window.sheets]
+        self.assertEqual(begin, sorted(begin, reverse=True))
+        self.assertEqual(len(set(begin)), 2)
+
+    def test_messages_name_controls(self) -> None:
+        """An option without a control is typed: it is named, with its value."""
+        text = self.window.hints.text
+        self.assertEqual(
+            text(
+                Text("--stock X: no such sheet"),
+                Text("the names are in row 3: give --header-row 3"),
+            ),
+            "“Sheet” X: no such sheet\nthe names are in row 3: give “Row of the names” 3",
+        )
+        for hint, typed in (
+            ("otherwise give --decimal , or .", "--decimal ,"),
+            ("give --hidden to print them", "--hidden"),
+            ("give --sheet 'May 2026'", "--sheet 'May 2026'"),
+        ):
+            self.assertEqual(text(Text(hint)), f"{hint}\nFurther options: {typed}")
+        self.assertEqual([name for name, one in self.window.hints.names.items() if not one], [])
+
+    def test_prices_of_a_spreadsheet_get_a_currency(self) -> None:
+        """It is reported that they have none, and chosen from what the column has."""
+        self.table.write_text(TABLE.replace(" €", ""))
+        self.open()
+        self.assertIn("3 prices without a currency", self.window.count.get_text())
+        shown = [row[0] for row in self.window.patterns]
+        self.assertEqual(shown[:3], ["0,80", "0,80 €", "€0.80"])
+        self.change(price_as="€0.00")
+        self.assertNotIn("without", self.window.count.get_text())
+        self.assertEqual(self.window.labels.labels[0].label.price, "€0.80")
+        self.saved("labels.pdf")
+        self.open()  # it is kept
+        self.assertEqual(self.window.choices()["price-as"], "€0.00")
+        self.change(price="5")
+        self.assertEqual(self.window.choices()["price-as"], "")
+        self.table.write_text(TABLE.replace("€", "CHF"))
+        self.open()
+        self.assertNotIn("0,80 €", [row[0] for row in self.window.patterns])
 
     def test_reasons_wrap_at_the_edge_of_the_list(self) -> None:
         self.open()

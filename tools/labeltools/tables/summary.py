@@ -9,6 +9,8 @@ from decimal import Decimal
 from labeltools.common.text import Text, counted, joined
 from labeltools.lines.symbologies import SYMBOLOGIES
 
+NUMBER = "0123456789.,'’- \u00a0\u202f–"  # what a price without a currency has
+
 
 @dataclass
 class Totals:
@@ -20,6 +22,7 @@ class Totals:
     lowest: tuple[Decimal, str] | None = None
     highest: tuple[Decimal, str] | None = None
     prices: int = 0
+    bare: int = 0  # prices without a currency
     left_out: int = 0
 
     def add(self, symbology: str, copies: int) -> None:
@@ -31,6 +34,7 @@ class Totals:
     def add_price(self, value: Decimal, text: str) -> None:
         """Counts a price by its value, and as it is printed."""
         self.prices += 1
+        self.bare += not text.strip(NUMBER)
         if self.lowest is None or value < self.lowest[0]:
             self.lowest = (value, text)
         if self.highest is None or value > self.highest[0]:
@@ -55,6 +59,9 @@ def summary(totals: Totals) -> Text:
     parts: list[Text] = [Text("{}: {}", labels, counts or Text("none"))]
     if totals.lowest and totals.highest:
         parts.append(said_of_prices(totals.lowest[1], totals.highest[1], totals.prices, rows))
+    if totals.bare:
+        bare = counted("{} price without a currency", "{} prices without a currency", totals.bare)
+        parts.append(bare)
     if totals.copies - {1}:
         parts.append(Text("copies {} to {}", min(totals.copies), max(totals.copies)))
     if totals.left_out:

@@ -38,6 +38,7 @@ CONTROLS = {
     **dict.fromkeys(("header-row", "first", "width", "height"), "value"),
     **dict.fromkeys(("sheet", "roll", "new-only"), "active"),
 }
+RANGES = {"header-row": (0, 1000), "first": (1, 10_000), "width": (5, 500), "height": (5, 500)}
 A_FILE = "file"  # the choice of a design in a file
 PRESET = (*PAPER, "for-print")  # what a preset has
 USB = Path("/dev/usb")  # has the printers on USB
@@ -58,6 +59,27 @@ def child(name: str = "") -> Any:
     return Gtk.Template.Child(name or None)
 
 
+class List(Gtk.ListStore):
+    """The rows of a choice: a text, and an id behind it."""
+
+    __gtype_name__ = "LabelsList"
+
+    def __init__(self) -> None:
+        super().__init__(str, str)
+
+
+class Number(Gtk.SpinButton):
+    """A whole number."""
+
+    __gtype_name__ = "LabelsNumber"
+
+    def __init__(self, **properties: Any) -> None:
+        super().__init__(**properties)
+        self.set_width_chars(3)
+        self.set_increments(1, 10)
+        self.set_range(0, 10_000)
+
+
 class Choice(Gtk.ComboBox):
     """A choice from a list whose rows have a text, and an id behind it."""
 
@@ -65,7 +87,6 @@ class Choice(Gtk.ComboBox):
 
     def __init__(self, **properties: Any) -> None:
         super().__init__(**properties)
-        self.set_visible(True)
         self.set_hexpand(True)
         letters = Gtk.CellRendererText(ellipsize=Pango.EllipsizeMode.END, width_chars=LETTERS)
         self.pack_start(letters, True)
@@ -80,7 +101,6 @@ class Caption(Gtk.Label):
 
     def __init__(self, **properties: Any) -> None:
         super().__init__(**properties)
-        self.set_visible(True)
         self.set_use_underline(True)
         self.set_xalign(1)
 
@@ -92,7 +112,6 @@ class Heading(Gtk.Label):
 
     def __init__(self, **properties: Any) -> None:
         super().__init__(**properties)
-        self.set_visible(True)
         self.set_xalign(0)
         self.set_margin_top(10)
         bold = Pango.AttrList()
@@ -160,6 +179,12 @@ class Window(Gtk.ApplicationWindow):
         names = {option: self.name_of(control) for option, control in hints.CONTROLS.items()}
         self.hints = hints.Hints(names)
         self.let_out(False)
+        for name, (lowest, highest) in RANGES.items():
+            self.control(name).set_range(lowest, highest)
+        for part in (self.head, self.get_child()):
+            part.show_all()
+        for part in (self.info, self.done, self.guessed, self.result, self.working):
+            part.foreach(Gtk.Widget.show_all)  # but not the part itself
         self.completion.set_match_func(lambda *_: True)
         self.drag_dest_set(Gtk.DestDefaults.ALL, [], Gdk.DragAction.COPY)
         self.drag_dest_add_uri_targets()
