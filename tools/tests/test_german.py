@@ -261,7 +261,7 @@ class German(unittest.TestCase):
         )
         self.assertEqual(
             said[-1],
-            "label-table: 1 Etikett von 1 Zeile: 1 EAN-13; Preis 2,50; 2 Zeilen ausgelassen",
+            "label-table: 1 Etikett von 1 Zeile: 1 EAN-13; Preis 2,50; 1 Preis ohne Währung; 2 Zeilen ausgelassen",
         )
         self.assertNotIn("row", ran.stderr)
         self.assertIn('"row":4', ran.stdout)
