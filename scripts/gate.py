@@ -22,6 +22,7 @@ import signal
 import subprocess
 import sys
 import time
+from typing import NoReturn
 
 import sources
 
@@ -86,20 +87,32 @@ def run(step: str) -> tuple[int, str]:
         return process.returncode, said.read() + fault
 
 
+def stop(number: int, _: object) -> NoReturn:
+    """Ends the run by a signal, and so the step that is on its way, which is in a session of its own."""
+    sys.exit(128 + number)
+
+
+def heed_signals() -> None:
+    """Has signals end the run, but those that are ignored, as under nohup."""
+    for number in (signal.SIGTERM, signal.SIGHUP):
+        if signal.getsignal(number) == signal.SIG_DFL:
+            signal.signal(number, stop)
+
+
 def processor_seconds() -> float:
     """The processor time of this process and of those that it waited for, user and system together."""
     return sum(os.times()[:4])
 
 
 def main() -> int:
-    words = [word for word in sys.argv[1:] if word != "--write"]
-    asked = tuple(words)
+    asked = tuple(word for word in sys.argv[1:] if word != "--write")
     parts: dict[tuple[str, ...], tuple[str, ...]] = {("all",): ALL, ("quick",): QUICK, ("built",): BUILT}
     steps = parts.get(asked, asked)
     if not steps or not {*steps} <= {*ALL}:
         is_asked = asked in (("-h",), ("--help",))
         print(__doc__, file=sys.stdout if is_asked else sys.stderr)
         return 0 if is_asked else 2
+    heed_signals()
     kept = dict(
         line.split(": ", 1)
         for line in sources.read(f"{sources.TOP}/{COUNTS}").splitlines()
@@ -107,11 +120,11 @@ def main() -> int:
     )
     failed = sorted(f"{step}, which is no step" for step in {*kept} - {*ALL})
     print(*failed, sep="\n", end="\n" * bool(failed))
-    for number, step in enumerate(steps, 1):
+    for count, step in enumerate(steps, 1):
         start, used = time.monotonic(), processor_seconds()
         status, said = run(step)
         last = VARIES.sub("", said.rstrip("\n").split("\n")[-1])
-        if len(words) < len(sys.argv[1:]) and status == 0:
+        if len(asked) < len(sys.argv[1:]) and status == 0:
             kept[step] = last
         fault = f"status {status}" if status else f"kept is: {kept.get(step, 'no line')}" * (kept.get(step) != last)
         failed += [step] if fault else []
@@ -120,13 +133,13 @@ def main() -> int:
         print(f"{'FAILED' if fault else 'ok'}: {step}, {taken}", flush=True)
         if fault and step in NEEDED or failed and NEEDED.get(step):
             break
-    if len(words) < len(sys.argv[1:]):
+    if len(asked) < len(sys.argv[1:]):
         head = "# The last line of each step of the gate: `scripts/gate.py --write STEP` makes it anew.\n"
         sources.write(
             f"{sources.TOP}/{COUNTS}", head + "".join(f"{step}: {kept[step]}\n" for step in ALL if step in kept)
         )
     print(f"{processor_seconds() / 60:.1f} processor minutes")
-    print(f"{max(number - len(failed), 0)} passed, {len(failed)} failed")
+    print(f"{max(count - len(failed), 0)} passed, {len(failed)} failed")
     return (status or 1 if step == PROOFS else 1) if failed else 0
 
 

@@ -8,9 +8,11 @@ import importlib.util
 import os
 import re
 import shutil
+import signal
 import subprocess
 import sys
 import tempfile
+import time
 import unittest
 from typing import Any
 from unittest import mock
@@ -379,6 +381,19 @@ class Gate(InFolder):
         with mock.patch.object(gate, "LONGEST", 3.0), mock.patch.object(gate.sources, "TOP", self.folder):
             status, said = gate.run("hangs.py")
         self.assertEqual((status, said.split("\n")[-2]), (-9, "it took longer than 3 seconds, and was ended"))
+
+    def test_a_signal_ends_the_step_too(self) -> None:
+        write(self.path("scripts/lints.py"), "import time\nprint('begun', flush=True)\ntime.sleep(9999)\n")
+        write(self.path("scripts/counts.txt"), "")
+        for name in ("gate.py", "sources.py"):
+            shutil.copy(os.path.join(SCRIPTS, name), self.path("scripts", name))
+        with subprocess.Popen([PYTHON, self.path("scripts/gate.py"), "lints.py"], stdout=subprocess.PIPE) as gate:
+            while not os.path.exists(self.path("out/step.txt")) or not read(self.path("out/step.txt")):
+                time.sleep(0.01)
+            children = read(f"/proc/{gate.pid}/task/{gate.pid}/children").split()
+            gate.terminate()
+            self.assertEqual(gate.wait(), 128 + signal.SIGTERM)
+        self.assertEqual([os.path.exists(f"/proc/{child}") for child in children], [False])
 
     def test_start(self) -> None:
         for words, variables, changed, status, said in STARTS:
