@@ -214,7 +214,8 @@ class Guesses(unittest.TestCase):
                 support.messages(support.run("label-table", path))[-1],
             )
             path.write_text("Name;Ort\nUlla;Ulm\n")
-            self.assertNotIn("try", support.messages(support.run("label-table", path))[-1])
+            said = support.messages(support.run("label-table", path))[-1]
+            self.assertTrue(said.endswith("required: --code; try label-table --help"), said)
             done = support.run("label-table", Path(folder, "none.csv"))
             self.assertIn("No such file", support.messages(done)[-1])
 
