@@ -196,6 +196,21 @@ class Frames(unittest.TestCase):
         for item in laid.labels:
             look(self, laid, item)
 
+    def test_one_long_title_makes_no_others_small(self) -> None:
+        """It is cut: the others are a third of the price, with no empty line below them."""
+        usual = [
+            {"title": f"Bleistift, weich, {number}B", "price": "0,80 €"} for number in range(7)
+        ]
+        long = {"title": "Heft „Größe A5“, kariert, 32 Blatt mit Rand", "price": "1,10 €"}
+        laid = laid_out(filed(*usual, long), (63.5, 38.1), 300)
+        frame = laid.labels[0].layout.frame
+        self.assertGreaterEqual(3.1 * frame.sizes["title"], frame.sizes["price"])
+        self.assertEqual(frame.lines, 1)
+        self.assertEqual(
+            [remark.text for remark in laid.prepared.remarks],
+            ["row 9: shortened to fit, with an ellipsis"],
+        )
+
     def test_a_wide_price_among_many_equal_labels(self) -> None:
         """What nine of ten labels have counts, not what nine of ten different labels have."""
         usual = [{"price": "2,95 €"}] * 40

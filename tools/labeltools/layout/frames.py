@@ -9,10 +9,10 @@ There are four arrangements of these parts:
     below   title, text, price, details and code in the middle, one below another
     beside  the code at the left over the whole height, all words at its right
 
-Of the frames that fit, the one with the largest price is taken; without a price that with the
-largest title and code. All sizes follow the size of the label, which is the root of its area. What
-is demanded goes down in four levels, and the first that has a frame counts. Lengths are in dots,
-those of texts in sizes of their letters.
+Of the frames that fit, the one with the largest price is taken, whose titles are a third of it
+if there is room; without a price that with the largest title and code. All sizes follow the size of
+the label, which is the root of its area. What is demanded goes down in four levels, and the first
+that has a frame counts. Lengths are in dots, those of texts in sizes of their letters.
 """
 
 import math
@@ -31,7 +31,9 @@ GAP_PART = 1 / 36
 DETAILS_PART = 1.15  # letters of details as a part of those of texts
 # letters of titles as parts of those of texts, the largest first: without a price and with one
 TITLES_ALONE = (2.4, 2.0, 1.7, 1.4, 1.2, 1.0)
-TITLES_WITH_PRICE = (1.4, 1.2, 1.0)
+TITLES_WITH_PRICE = (2.4, 2.0, 1.7, 1.4, 1.2, 1.1, 1.0)
+PRICE_OF_TITLE = 3.0  # a larger price, in titles, is worth no more
+FEW = range(6, 10)  # labels of which one long title may be cut, so that the others are larger
 TEXT_OF_TITLE = 0.6  # texts below titles without a price, as a part of these
 # millimetres: the least gap, the smallest letters of texts, titles and prices
 LEAST_GAP = 0.6
@@ -187,7 +189,7 @@ class JointNeeds:
 
     area: Area
     needs: Mapping[Need, int]
-    lines_found: dict[tuple[int, int], int] = field(default_factory=dict)
+    lines_found: dict[tuple[int, int], Counter[float]] = field(default_factory=dict)
 
     def __post_init__(self) -> None:
         area = self.area
@@ -220,17 +222,24 @@ class JointNeeds:
         """Whether there is anything but codes."""
         return bool(self.titles or self.lines or self.price or any(self.details))
 
-    def title_lines(self, size: int, room: int) -> int:
-        """Returns about how many lines the titles of nine of ten labels take."""
+    def title_lines(self, size: int, room: int, is_sparing: bool) -> tuple[int, float]:
+        """Returns about how many lines the titles of nine of ten labels take, or of all but one if
+        it is sparing, and the part of the labels whose titles take no more.
+        """
         if not self.titles:
-            return 0
+            return 0, 1.0
         key = size, room
         if key not in self.lines_found:
             counts: Counter[float] = Counter()
             for title, labels in self.titles.items():
                 counts[lines_of(title, size / room)] += labels
-            self.lines_found[key] = int(ninth_of_ten(counts))
-        return self.lines_found[key]
+            self.lines_found[key] = counts
+        counts = self.lines_found[key]
+        lines = ninth_of_ten(counts)
+        if is_sparing:
+            lines = ninth_of_ten(counts - Counter({max(counts): 1}))
+        whole = sum(labels for taken, labels in counts.items() if taken <= lines)
+        return int(lines), whole / counts.total()
 
     def lowest_bars(self, module: int, part: float) -> int:
         """Returns the height of the lowest bars that are allowed, a part of their width."""
@@ -352,9 +361,10 @@ def rounds_of(demand: JointNeeds) -> list[list[int]]:
 def frames_of(demand: JointNeeds, level: Level, wishes: Iterable[int]) -> Iterable[Frame]:
     """Yields the frames on a level: of each arrangement, size of titles and module."""
     parts = demand.title_parts
-    for kind, part, module in product(ARRANGEMENTS, parts, wishes):
+    sparing = (False, True) if demand.titles.total() in FEW else (False,)
+    for kind, part, module, is_sparing in product(ARRANGEMENTS, parts, wishes, sparing):
         title = max(demand.area.dots(LEAST_TITLE), round(demand.text_size * part))
-        attempt = Attempt(demand, level, kind, title, part == parts[-1], module)
+        attempt = Attempt(demand, level, kind, title, part == parts[-1], is_sparing, module)
         if frame := attempt.frame():
             yield frame
 
@@ -378,12 +388,13 @@ class Rooms:
 
 @dataclass(frozen=True)
 class Heading:
-    """Title and text: the lines of titles and whether most are whole; the letters and the height of
+    """Title and text: the lines of titles, whether most are whole, the part that is; the letters and the height of
     texts, whether these are beside the code; the height above price and code.
     """
 
     lines: int
     is_whole: bool
+    whole: float
     text: int
     text_height: int
     is_foot_text: bool
@@ -402,7 +413,7 @@ class Line:
 @dataclass(frozen=True)
 class Attempt:
     """One arrangement of the parts of labels, with titles of one size and one module, on one level
-    of demands.
+    of demands; one long title may be cut where it is sparing.
     """
 
     demand: JointNeeds
@@ -410,6 +421,7 @@ class Attempt:
     kind: str
     title: int
     is_smallest: bool
+    is_sparing: bool
     module: int
 
     def frame(self) -> Optional[Frame]:
@@ -487,7 +499,7 @@ class Attempt:
         most = self.level.high if area.width < SQUARE * area.height else self.level.wide
         if self.kind == "beside" and not demand.price:
             most += 1
-        wanted = demand.title_lines(self.title, rooms.words)
+        wanted, whole = demand.title_lines(self.title, rooms.words, self.is_sparing)
         lines = min(wanted, most)
         text = demand.text_size
         if not demand.price:
@@ -499,7 +511,7 @@ class Attempt:
             text = small if is_foot_text else text
         text_height = math.ceil(demand.lines * LINE * text)
         height = math.ceil(lines * LINE * self.title) + (0 if is_foot_text else text_height)
-        return Heading(lines, wanted <= most, text, text_height, is_foot_text, height)
+        return Heading(lines, wanted <= most, whole, text, text_height, is_foot_text, height)
 
     def details(self, rooms: Rooms) -> Line:
         """Returns old price and unit price, on a line or on two."""
@@ -540,7 +552,7 @@ class Attempt:
         """Returns the frame of boxes. A narrower module and cut titles have to be worth it."""
         demand = self.demand
         bars = min(rooms.bars, boxes["code"].height - rooms.digits) if demand.bars else 0
-        score = price.size * math.sqrt(self.title)
+        score = min(price.size, PRICE_OF_TITLE * self.title) * math.sqrt(self.title)
         if not demand.price:
             is_below = self.kind == "below"
             score = self.title + 0.1 * boxes["code"].height + demand.text_size * is_below
@@ -560,7 +572,7 @@ class Attempt:
             text_lines=demand.lines,
             details_lines=details.lines,
             is_whole=head.is_whole,
-            score=score * self.module * (1.0 if head.is_whole else 0.5),
+            score=score * self.module * head.whole**2 * (1.0 if head.is_whole else 0.5),
         )
 
 
