@@ -388,8 +388,8 @@ class Rooms:
 
 @dataclass(frozen=True)
 class Heading:
-    """Title and text: the lines of titles, whether most are whole, the part that is; the letters and the height of
-    texts, whether these are beside the code; the height above price and code.
+    """Title and text: the lines of titles, whether most are whole, the part that is; the letters
+    and the height of texts, whether these are beside the code; the height above price and code.
     """
 
     lines: int
