@@ -340,8 +340,8 @@ FAULTS = {
     "a quiet zone a module short": Fault(
         "labeltools.lines.engine.Engine.draw", without_zone, FORMS
     ),
-    "a title over the code": Fault(PEN + "Pen.texts", moved_text(False, 0, 110), DOTS),
-    "a price over the code": Fault(PEN + "Pen.texts", moved_text(True, -150, 40), DOTS),
+    "a title over the code": Fault(PEN + "Pen.texts", moved_text(False, 0, 110), FORMS),
+    "a price over the code": Fault(PEN + "Pen.texts", moved_text(True, -150, 40), FORMS),
     "digits over the code": Fault(
         PEN + "Pen.draw_data",
         changed(pen.Pen.draw_data, corner=lambda corner: (corner[0], corner[1] - 30)),

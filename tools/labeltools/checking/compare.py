@@ -20,7 +20,7 @@ from labeltools.lines.engine import Engine, LABELS_FAILED, Refused, bytes_a_row
 from labeltools.layout.frames import Box
 from labeltools.layout.layout import LaidOut, short
 from labeltools.lines.file import LineRecord
-from labeltools.common.messages import Talk, ToolError
+from labeltools.common.messages import FAULT, Talk, ToolError
 from labeltools.designs.layout import OwnSymbol, symbols_of
 from labeltools.designs.places import PARTS, Place, key_of
 from labeltools.common.text import Text
@@ -35,7 +35,6 @@ GUARDS = {
     "upca": ((0, 10), (45, 50), (85, 95)),
 }
 KNOWN = 4096  # places of symbols that are kept: most pages share them
-FAULT = Text("this is a fault of label-print: nothing of it has gone out; report it")
 
 
 class Different(Exception):

@@ -18,13 +18,15 @@ from typing import (
 import cairo
 
 from labeltools.paper.area import Dots
-from labeltools.lines.engine import Modules, bytes_a_row
+from labeltools.lines.engine import LABELS_FAILED, Modules, bytes_a_row
 from labeltools.layout.fitting import Fitted, Fitter, LEFT, MIDDLE, RIGHT, Style
 from labeltools.layout.frames import Box, Frame, LINE
 from labeltools.layout.layout import LaidOut, Layout, PrintLabel
 from labeltools.layout.letters import Fonts, Letters
 from labeltools.designs.design import is_light
 from labeltools.designs.layout import OwnSymbol, symbols_of
+from labeltools.common.messages import FAULT, ToolError
+from labeltools.common.text import Text
 from labeltools.designs.places import Colour
 from labeltools.layout.pango import PangoCairo, plain_options
 from labeltools.lines.symbologies import SYMBOLOGIES, Span, Symbology
@@ -131,7 +133,7 @@ class Pen:
 
     def draw(self, canvas: Any, page: Page, turn: int = 0) -> None:
         """Draws labels in the areas that begin at their places, turned to the right where the width
-        of the areas on the paper is given.
+        of the areas on the paper is given. Raises `ToolError` for a text that is over a code.
         """
         whole = canvas.get_matrix()
         if turn:
@@ -139,12 +141,16 @@ class Pen:
             page = [(item, (top, -left)) for item, (left, top) in page]
         self.draw_below(canvas, page, bool(turn))
         runs: Runs = defaultdict(list)
-        codes = [(symbol, place) for item, place in page for symbol in symbols_of(item)]
+        labels = [(item, place, symbols_of(item)) for item, place in page]
+        codes = [(symbol, place) for _, place, symbols in labels for symbol in symbols]
         for symbol, place in codes:
             if "digits" in symbol.boxes:
                 self.draw_digits(canvas, symbol, place, runs)
-        for item, place in page:
+        for item, place, symbols in labels:
             for text in self.texts(item):
+                if any([is_over(text.box, symbol) for symbol in symbols]):
+                    what = Text("{}: a text is over its code", item.label.record.place.text)
+                    raise ToolError(what, FAULT, LABELS_FAILED)
                 self.draw_text(canvas, text, place)
         self.show_runs(canvas, runs)
         turned = canvas.get_matrix()
@@ -483,6 +489,29 @@ def boxes_of(bars: Box, module: int, symbology: str) -> tuple[Box, ...]:
         for longer, span in zip(repeat(GUARD * module), SYMBOLOGIES[symbology].guards)
     )
     return bars, *guards
+
+
+def is_over(text: Box, symbol: OwnSymbol) -> bool:
+    """Returns whether a text in a box of a label is over a symbol of it."""
+    return meets(text, white_of(symbol), symbol.box, symbol.place.quarters)
+
+
+@lru_cache(KNOWN)
+def meets(text: Box, boxes: tuple[Box, ...], room: Box, quarters: int) -> bool:
+    """Returns whether a text is over one of some boxes in a room of its label that is turned to the
+    right by some quarters.
+    """
+    wide, high = room.width, room.height
+    if quarters % 2:
+        wide, high = high, wide
+    for box in boxes:
+        left, top, right, low = box.left, box.top, box.right, box.bottom
+        for down in (high, wide, high)[:quarters]:
+            left, top, right, low = down - low, left, down - top, right
+        across = text.left < room.left + right and room.left + left < text.right
+        if across and text.top < room.top + low and room.top + top < text.bottom:
+            return True
+    return False
 
 
 def bits_of(row: bytes) -> str:

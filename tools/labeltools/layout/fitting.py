@@ -1,7 +1,7 @@
 """Fits texts into boxes by Pango, for all designs. Lengths are in dots."""
 
 import re
-from functools import cache
+from functools import cache, lru_cache
 from typing import Any, Hashable, NamedTuple, Optional
 
 import cairo
@@ -19,6 +19,7 @@ SIDE = 16  # lines have this part of the size of letters as room at their sides
 STEP = 20
 FINE_STEP = 40
 KEPT = 1536  # texts that are kept as they are laid out
+LINES_KEPT = 32_768  # of which is known how many rows they take
 SPACE = 0.4  # more than the width of a space in dots
 # by how much letters may be wider than they are measured: in dots, and else
 HINTED = 1.04
@@ -71,6 +72,7 @@ class Fitter:
         self.context = pango_context(options, is_dots)
         self.blank = cache(self.new_blank)
         self.line = cache(self.new_line)
+        self.rows_of = lru_cache(LINES_KEPT)(self.new_rows_of)
         self.kept: Kept[Hashable, Fitted] = Kept(KEPT)
 
     def found(self, text: str, style: Style, width: int, height: int) -> Fitted:
@@ -119,7 +121,7 @@ class Fitter:
             return False
         return self.rows_of(text, style, width) == 1
 
-    def rows_of(self, line: str, style: Style, width: int) -> int:
+    def new_rows_of(self, line: str, style: Style, width: int) -> int:
         """Returns how many rows a line takes by the widths of its words, which is quick to see; 0
         where that is not certain.
         """
