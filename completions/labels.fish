@@ -42,7 +42,7 @@ complete -c label-table -l header-row -x -d 'this row has the names of the colum
 complete -c label-print -s h -l help -d 'show this help message and exit'
 complete -c label-print -l version -d 'print the version'
 complete -c label-print -l stock -x -d 'the sheet of labels by its name, such as Avery L7160 or l7160'
-complete -c label-print -l list-stock -x -d 'list the sheets that have these words or this size'
+complete -c label-print -l list-stock -x -d 'list the sheets that have these words or this size, or all'
 complete -c label-print -l paper -x -d 'one label on each page of this size, as on a roll'
 complete -c label-print -l cell -x -d 'a grid, with --columns and --rows'
 complete -c label-print -l columns -x -d 'cells side by side'

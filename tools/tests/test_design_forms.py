@@ -31,7 +31,8 @@ def setUpModule() -> None:
 def printed(name: str, form: str, dpi: int) -> jobs.Dots:
     """The dots of the label of a design, as a program reads them in a form."""
     design = ("--design", str(designs.FOLDER / f"{name}.svg"))
-    words = ("--dpi", str(dpi), "--to", form, "--dots", "9999")
+    wide = ("--dots", "9999") if form == "escpos" else ()
+    words = ("--dpi", str(dpi), "--to", form, *wide)
     done = support.printed(*design, *words, input=designs.lines_of([designs.SHIPPED[name]]))
     if done.returncode or done.stderr:
         raise AssertionError(done.stderr.decode())

@@ -40,7 +40,8 @@ def setUpModule() -> None:
 def printed(data: bytes, form: str, dpi: int, *arguments: str) -> bytes:
     """What label-print makes of a file of one label."""
     size = f"{PAPER[0]:g}x{PAPER[1]:g}"
-    roll = ("--paper", size, "--dpi", str(dpi), "--to", form, "--dots", "9999")
+    wide = ("--dots", "9999") if form == "escpos" else ()
+    roll = ("--paper", size, "--dpi", str(dpi), "--to", form, *wide)
     done = support.printed(*roll, *arguments, input=data)
     if done.returncode:
         raise AssertionError(done.stderr.decode())

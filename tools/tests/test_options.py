@@ -183,6 +183,27 @@ class Cells(unittest.TestCase):
         self.assertFalse(other[0][:half].any())
         done = support.printed(*self.GRID, "--first", "5", input=support.file_of(SHELF))
         self.assertEqual((done.returncode, done.stdout), (2, b""))
+        done = support.printed("--paper", "60x40", "--first", "3", input=support.file_of(SHELF))
+        self.assertEqual(done.stderr, b"label-print: --first 3: a page has 1 label\n")
+
+    def test_a_design_by_its_name(self) -> None:
+        """One of those that come with the tools is found without its folder."""
+        lines = support.file_of(SHELF)
+        done = support.printed("--design", "shelf-60x40.svg", input=lines)
+        self.assertTrue(done.stdout.startswith(b"%PDF"), done.stderr)
+
+    def test_a_terminal(self) -> None:
+        """A drawing is not written there."""
+        own, terminal = os.openpty()
+        tool = str(support.TOOLS / "label-print")
+        lines = support.file_of(SHELF)
+        done = subprocess.run(
+            [tool, "--paper", "60x40"], input=lines, stdout=terminal, stderr=subprocess.PIPE
+        )
+        self.assertEqual(done.returncode, 2)
+        self.assertIn(b"standard output is a terminal: add > labels.pdf", done.stderr)
+        os.close(own)
+        os.close(terminal)
 
     def test_shift_and_edge(self) -> None:
         left, top, right, bottom = jobs.ink_of(self.pages()[0])
@@ -207,6 +228,12 @@ class Cells(unittest.TestCase):
             ("--columns", "9", "--rows", "1", "--cell", "60x40"),
             ("--paper", "60x40", "--labels", "--scale 3"),
             ("--paper", "60x40", "one.lines", "two.lines"),
+            ("--paper", "210x297", "--columns", "3", "--rows", "7"),
+            ("--stock", "l7160", "--gap", "1x0"),
+            ("--paper", "60x40", "--margin", "1x1"),
+            ("--stock", "l7160", "--page", "200x297"),
+            ("--paper", "60x40", "--dots", "384"),
+            ("--paper", "60x40", "--to", "zpl", "--dpi", "203", "--no-cut"),
         ):
             done = support.printed(*bad, input=b"ean8 7351353\n")
             self.assertEqual((done.returncode, done.stdout), (2, b""), bad)

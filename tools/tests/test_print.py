@@ -233,7 +233,8 @@ class Printers(unittest.TestCase):
     def job(self, paper: str, dpi: int, form: str) -> Tuple[List[str], bytes]:
         """The data of the labels for a paper, and the job."""
         labels, options = self.LINES[paper]
-        arguments = ("--paper", paper, "--dpi", str(dpi), "--to", form, "--dots", "9999", *options)
+        wide = ("--dots", "9999") if form == "escpos" else ()
+        arguments = ("--paper", paper, "--dpi", str(dpi), "--to", form, *wide, *options)
         done = support.printed(*arguments, input=support.file_of(labels))
         self.assertEqual(done.returncode, 0, done.stderr)
         return codes_of(labels), done.stdout

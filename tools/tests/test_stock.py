@@ -48,6 +48,8 @@ class Stock(unittest.TestCase):
             (done.returncode, done.stdout),
             (0, b"Herma 4464: 24 of 70.2 by 37.04 mm on 210 by 297 mm\n"),
         )
+        done = support.printed("--list-stock")
+        self.assertGreater(len(done.stdout.splitlines()), 900)
         done = support.printed("--list-stock", "nowhere")
         self.assertEqual((done.returncode, done.stdout.strip()), (1, b""))
         self.assertGreater(len(list(stock.list_stock(""))), 1400)

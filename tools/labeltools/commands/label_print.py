@@ -26,7 +26,7 @@ from labeltools.common.command_line import (
 )
 from labeltools.lines.engine import option_words
 from labeltools.common.files import save, send
-from labeltools.drawing.forms import FORMS
+from labeltools.drawing.forms import ESCPOS, FORMS
 from labeltools.printing.journal import Journal
 from labeltools.layout.layout import LaidOut
 from labeltools.lines.file import LineRecord
@@ -55,7 +55,7 @@ TOOL = "label-print"
 USAGE = """label-print --stock NAME [OPTIONS] [LINES]
        label-print --paper WxH [OPTIONS] [LINES]
        label-print --columns N --rows N --cell WxH [OPTIONS] [LINES]
-       label-print --list-stock WORD"""
+       label-print --list-stock [WORD]"""
 ABOUT = """Prints the lines of label-table, or of labels(1), on sheets of labels, on label
 printers and on receipt printers. Lengths are in millimetres."""
 EXAMPLES = """examples:
@@ -70,6 +70,10 @@ QUIET = 2.0
 BETWEEN = 0.2
 NUMBER = r"-?\d{1,4}(?:\.\d{1,4})?"
 MOST_NAMED = 10  # labels that a summary names
+# options that do something only for a grid, or for receipt printers
+GRID = ("columns", "rows", "page", "margin", "gap")
+RECEIPT = ("dots", "is_cut")
+OPTIONS = {"is_cut": "--no-cut"}
 NUMBERED = re.compile(r"%(0?\d?)d|%s")
 
 
@@ -117,12 +121,19 @@ def edges(argument: str) -> tuple[float, float, float, float]:
 
 
 def design_of(argument: str) -> str:
-    """Returns the name of a design, or the file of a user's own."""
+    """Returns the name of a design, or the file of a user's own, which may be one of those that are
+    installed with this package.
+    """
     if argument not in DESIGNS and not is_file(argument):
         known = ", ".join(DESIGNS)
         what = Text("{!r} is none of {}, or a file such as rack.svg", argument, known)
         raise wrong_argument(what)
-    return argument
+    share = Path(__file__).resolve().parents[3]  # of a checkout, or PREFIX/share
+    folders = (share / "designs", share / "doc/labels/designs")
+    named = [folder / argument for folder in folders if "/" not in argument]
+    if argument in DESIGNS or Path(argument).exists():
+        return argument
+    return next((str(path) for path in named if path.exists()), argument)
 
 
 def rows(argument: str) -> str:
@@ -184,7 +195,8 @@ def add_sheet_options(parser: Parser) -> None:
     one = group.add_mutually_exclusive_group().add_argument
     stock = "the sheet of labels by its name, such as 'Avery L7160' or l7160"
     one("--stock", metavar="NAME", help=stock)
-    one("--list-stock", metavar="WORD", help="list the sheets that have these words or this size")
+    listed = "list the sheets that have these words or this size, or all"
+    one("--list-stock", metavar="WORD", nargs="?", const="", help=listed)
     paper = "one label on each page of this size, as on a roll"
     one("--paper", metavar="WxH", type=size, help=paper)
     cell = "a grid, with --columns and --rows: the size of a cell"
@@ -413,6 +425,10 @@ def options_of(arguments: argparse.Namespace) -> PrintOptions:
 def check_arguments(arguments: argparse.Namespace, job: PrintJob) -> None:
     """Raises `ToolError` where arguments do not go together."""
     form = job.form
+    if not arguments.cell:
+        require_none_of(arguments, GRID, Text("only for a grid of --cell"))
+    if form != ESCPOS:
+        require_none_of(arguments, RECEIPT, Text("only for --to escpos"))
     queue: str = arguments.queue or ""
     is_one_by_one = is_direct(queue)
     wants = "--journal" if arguments.journal else "--stream" if arguments.is_stream else ""
@@ -436,6 +452,14 @@ def check_arguments(arguments: argparse.Namespace, job: PrintJob) -> None:
     if arguments.is_stream and chosen_by(arguments):
         what = Text("--stream prints each line")
         raise ToolError(what, Text("leave out --only"), BAD_ARGUMENTS)
+
+
+def require_none_of(arguments: argparse.Namespace, names: Sequence[str], only: Text) -> None:
+    """Raises `ToolError` where one of some options is given, which would do nothing."""
+    given = [name for name in names if getattr(arguments, name) != getattr(PrintOptions, name)]
+    if given:
+        found = ", ".join(OPTIONS.get(name, f"--{name}") for name in given)
+        raise ToolError(Text("{}: {}", found, only), Text("leave out {}", found), BAD_ARGUMENTS)
 
 
 def lines_of(arguments: argparse.Namespace, found: Prepared) -> Sequence[LineRecord]:
@@ -556,7 +580,9 @@ def check_output(arguments: argparse.Namespace, job: PrintJob, queue: Optional[Q
             raise ToolError(what, Text("give --to pdf, zpl or escpos"), BAD_ARGUMENTS)
         queue.options(job)
     elif arguments.queue is None and arguments.each is None:
-        standard_output()
+        if standard_output().isatty() and not job.form.is_roll:
+            hint = Text("add > labels.{}", job.form.name)
+            raise ToolError(Text("standard output is a terminal"), hint, BAD_ARGUMENTS)
 
 
 def give_out(

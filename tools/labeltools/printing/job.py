@@ -10,7 +10,7 @@ from collections import Counter
 from dataclasses import dataclass, replace
 from typing import Iterable, Mapping, Optional, Sequence
 
-from labeltools.common.text import Text
+from labeltools.common.text import Text, counted
 from labeltools.paper.area import ARTICLE, DESIGNS, Edges, OWN, Wishes
 from labeltools.paper.area import plan_of, white_of, whole_plan_of
 from labeltools.lines.engine import Drawn, run_labels
@@ -192,8 +192,8 @@ def sheet_of(options: PrintOptions, form: Form) -> Sheet:
     is_page = options.each is not None or form.is_roll
     places = ((0.0, 0.0),) if is_page else sheet.places
     if options.first > len(places):
-        what = Text("--first {}: a page has {} labels", options.first, len(places))
-        raise ToolError(what, status=BAD_ARGUMENTS)
+        has = counted("a page has {} label", "a page has {} labels", len(places))
+        raise ToolError(Text("--first {}: {}", options.first, has), status=BAD_ARGUMENTS)
     x, y = options.shift
     shifted = tuple((left + x, top + y) for left, top in places)
     return replace(sheet, page=sheet.cell if is_page else sheet.page, places=shifted)
