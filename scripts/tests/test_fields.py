@@ -1,0 +1,119 @@
+"""Each field of the records that promise what a run does has a wrong body that breaks it, and so has each clause of
+the functions that carry them.
+
+A line `refutes: Runs.ended Filter::finish.status` of a body names what it breaks, and nothing else where that can be.
+The prover refuses the body, so it would see that this field is weakened. What no body can break holds by a law that
+the check proves.
+"""
+
+import glob
+import os
+import re
+import unittest
+from typing import Iterable, Mapping
+
+from support import TOP, read
+
+# The records, and the functions with the clauses that speak of them.
+RECORDS = {
+    "Runs": "filter/specs/Run.antt",
+    "Produces": "filter/specs/Run.antt",
+    "IsAfter": "filter/specs/Filter.antt",
+    "Sends": "filter/specs/Filter.antt",
+    "Shows": "filter/specs/Shown.antt",
+    "IsRead": "filter/specs/Readback.antt",
+    "Finishes": "command/specs/Program.antt",
+}
+FUNCTIONS = {
+    "Filter::feed": "filter/src/filter.rt",
+    "Filter::finish": "filter/src/filter.rt",
+    "run_streams": "filter/src/streams.rt",
+    "program": "command/src/entry.rt",
+}
+# What no body can break, and the law by which it holds: of all options, all bytes, all scripts, and all images that
+# are read as the full data. `IsAlone` is of this last kind.
+LAWS = {
+    "IsAfter.range": "prove_ranges",
+    "IsAfter.bytes": "are_bytes",
+    "Filter::feed.bytes": "are_bytes",
+    "Produces.read": "script_of_text_read",
+    "IsRead.guarded": "IsGuarded-read",
+    "IsRead.guarded_in_pixels": "IsGuardedInPixels-read",
+    "IsRead.alone": "IsAlone-read",
+}
+
+
+def fields_of(name: str, text: str) -> list[str]:
+    """The fields of a record that are statements: those that a later one speaks of are values."""
+    found = re.search(rf"^pub record {name} .*? where\n(.*?)(?:\n\n|\Z)", text, re.M | re.S)
+    assert found, f"there is no record {name}"
+    fields = re.findall(r"^  pub (\w+) : (.*(?:\n    .*)*)", found[1], re.M)
+    said = [" ".join(later for _, later in fields[place + 1 :]) for place in range(len(fields))]
+    return [
+        f"{name}.{field}" for (field, _), later in zip(fields, said) if not re.search(rf"(?<![\w.]){field}\b", later)
+    ]
+
+
+def clauses_of(name: str, text: str) -> list[str]:
+    """The named clauses of a function."""
+    found = re.search(rf"\bfn {name.split('::')[-1]}<(.*?)^ *\{{$", text, re.M | re.S)
+    assert found, f"there is no function {name}"
+    return [f"{name}.{clause}" for clause in re.findall(r"^ *ensures (\w+) \{", found[1], re.M)]
+
+
+def path_of(name: str) -> str:
+    return os.path.join(TOP, "crates", name)
+
+
+def promised() -> list[str]:
+    """All fields and clauses."""
+    fields = [one for name, file in RECORDS.items() for one in fields_of(name, read(path_of(file)))]
+    clauses = [one for name, file in FUNCTIONS.items() for one in clauses_of(name, read(path_of(file)))]
+    return [*fields, *clauses]
+
+
+def refuted(bodies: Mapping[str, str]) -> set[str]:
+    """What wrong bodies name as broken."""
+    lines = [line for text in bodies.values() for line in text.split("\n") if line.startswith("refutes:")]
+    return {name for line in lines for name in line.split()[1:]}
+
+
+def bodies() -> dict[str, str]:
+    """The files of all wrong bodies."""
+    return {path: read(path) for path in glob.glob(path_of("*/wrong-bodies/*.edit"))}
+
+
+def without_a_body(wanted: Iterable[str], given: Mapping[str, str]) -> set[str]:
+    """What has neither a wrong body nor a law, and what is named and is not there."""
+    return {*wanted} ^ (refuted(given) | {*LAWS})
+
+
+class Fields(unittest.TestCase):
+    def test_each_has_a_body_or_a_law(self) -> None:
+        self.assertEqual(without_a_body(promised(), bodies()), set())
+        self.assertEqual(refuted(bodies()) & {*LAWS}, set())
+
+    def test_each_law_is_there(self) -> None:
+        proofs = [*glob.glob(path_of("*/proofs/*.antt")), *glob.glob(path_of("*/src/*.rt"))]
+        texts = "\n".join(read(path) for path in proofs)
+        for law in LAWS.values():
+            self.assertRegex(texts, rf"(?m)^ *pub (fn {law}\(|{law} :)", law)
+
+    def test_one_without_is_seen(self) -> None:
+        """Each, once its lines are gone; a field and a clause more; and a name of nothing."""
+        given = bodies()
+        for name in {*promised()} - {*LAWS}:
+            gone = {
+                path: re.sub(rf"(?<=[ ]){re.escape(name)}(?= |$)", "", text, flags=re.M)
+                for path, text in given.items()
+            }
+            self.assertEqual(without_a_body(promised(), gone), {name})
+        record = read(path_of(RECORDS["Runs"])) + "\n  pub later : OnOk r (out.is_flushed o' ≡ true)\n"
+        self.assertIn("Runs.later", fields_of("Runs", record.replace("\n\n  pub later", "\n  pub later")))
+        function = read(path_of(FUNCTIONS["program"])).replace("ensures shows {", "ensures later {")
+        self.assertIn("program.later", clauses_of("program", function))
+        self.assertIn("Runs.none", without_a_body(promised(), {**given, "": "refutes: Runs.none"}))
+
+
+if __name__ == "__main__":
+    unittest.main()
