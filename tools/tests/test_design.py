@@ -590,6 +590,13 @@ class Drawings(OwnPages):
         self.assertTrue((tinted >= light).all())
         self.assertLess(tinted[beside(light)].mean(), 0.05)  # in the tint 0.44
 
+    def test_letters_at_the_lower_edge_have_no_white_edge(self) -> None:
+        """Its last dots are beyond the label: they are no tint, and the line below stays whole."""
+        body = '<rect id="code" x="2" y="2" width="56" height="18"/><path d="M0 38.2H60V38.7H0Z"/>'
+        place = '<rect data-place="title" x="2" y="30" width="56" height="10"/>'
+        dots = dots_of(self.found(body + place, [("code128 A", {"title": "gggg"})]))
+        self.assertTrue(dots[306, :479].all())
+
     def test_tints_are_dithered_and_what_is_dark_stays_sharp(self) -> None:
         """Each takes as many dots as it is dark, but for white beside what is black."""
         around = '<path d="M0 0H60V19H0Z" fill="{}"/>'

@@ -41,7 +41,9 @@ class Drawing:
 
     def is_tinted(self, ends: Ends) -> bool:
         """Returns whether it has dots of tints there."""
-        return bool(self.tint.crop(ends).getextrema()[0] == 0)
+        left, top, right, bottom = ends
+        there = (left, top, min(right, self.tint.width), min(bottom, self.tint.height))
+        return bool(self.tint.crop(there).getextrema()[0] == 0)  # beyond it a crop is black
 
     def surface(self, size: Dots) -> cairo.ImageSurface:
         """Returns it at the left upper corner of a page."""
