@@ -49,5 +49,5 @@ class Hints:
 @cache
 def takes_value(option: str) -> bool:
     """Returns whether an option of the commands is followed by a value."""
-    usages = (one.command_line().format_usage() for one in (label_table, label_print))
-    return bool(re.search(rf"--{option} [{{A-Z]", " ".join(usages)))
+    texts = (one.command_line().format_help() for one in (label_table, label_print))
+    return bool(re.search(rf"--{option} [{{A-Z]", "\n".join(texts)))
