@@ -90,7 +90,7 @@ ODD = re.compile(
     r"(?<!-)\b(?:where(?! (?:to|it is|it begins|they are)\b)|alone|(?:is|are) said|of one's own|anew|behind the)\b",
     re.I,
 )
-MOST_ODD = 71
+MOST_ODD = 15
 PROSE = (README, "CONTRIBUTING.md", "docs/*.md", "designs/*.md", "man/*", "tools/po/de.po")
 CODE_IN_PROSE = re.compile(r"```.*?```|`[^`\n]*`", re.DOTALL)
 

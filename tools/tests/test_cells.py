@@ -568,7 +568,7 @@ class Texts(CellTest):
         lines = [PENCIL, "30/06/2026"], [SMALL, cell(46200, style=1)], [BOOK, 4]
         data = xlsx(rows(["EAN", "Name"], *lines), formats=["dd/mm/yyyy"])
         titles, said = self.ran(data, *PRICED[:4], "--date-as", "dd.mm.yyyy")
-        wanted = 'row 2 has the text "30/06/2026" where row 3 has a date: '
+        wanted = 'row 2 has the text "30/06/2026", and row 3 has a date: '
         wanted += "are its day and month in the same order?"
         self.assertEqual((titles, said), (["30/06/2026", "27.06.2026", "4"], [wanted]))
 

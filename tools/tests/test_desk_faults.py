@@ -223,7 +223,7 @@ class Rows(Desk):
 
     def test_rows_that_no_table_has(self) -> None:
         for rows in ("9-7", "0-", "0", "2,0-3", "00"):
-            self.said(printed("--only", rows), 2, f"'{rows}' is not as 2,7-9 or 7-")
+            self.said(printed("--only", rows), 2, f"'{rows}': write rows as 2,7-9 or 7-")
         done = printed("--only", "2,2000000")
         self.said(done, 1, "row 2000000: of --only, but not in the input")
         self.assertEqual(len(labels_in(done)), 1)
@@ -355,7 +355,9 @@ class Lanes(Desk):
         other = self.holding()
         with mock.patch("labeltools.printing.journal.STUCK", 0.2):
             done = printed("--journal", self.path)
-        self.said(done, 1, "another lane keeps it for 0 seconds; is it stopped[?] let it go on")
+        self.said(
+            done, 1, "another lane keeps it for 0 seconds; is that process stopped[?] continue it"
+        )
         self.assertEqual(labels_in(done), [])
         assert other.stdin
         other.stdin.close()

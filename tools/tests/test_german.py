@@ -299,7 +299,7 @@ class German(unittest.TestCase):
                 (
                     "label-table",
                     ["--code", "1", "--price-as", "x"],
-                    "Argument --price-as: 'x' ist kein Muster wie '0,00 €'",
+                    "Argument --price-as: 'x' ist kein Format wie '0,00 €'",
                 ),
                 (
                     "label-table",
@@ -314,7 +314,7 @@ class German(unittest.TestCase):
                 (
                     "label-print",
                     ["--columns", "x"],
-                    "Argument --columns: 'x' ist nicht wie 3",
+                    "Argument --columns: 'x': schreiben wie 3",
                 ),
             ):
                 ran = subprocess.run(

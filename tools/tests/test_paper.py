@@ -610,8 +610,8 @@ class Users(unittest.TestCase):
         cells = ("--cell", "1x1", "--columns", "9999", "--rows", "9999", "--page", "9999x9999")
         copies = support.file_of([("ean8 7351353", {"copies": 9999})] * 101)
         for data, arguments, what in (
-            (label, cells, "10,000 are the most"),
-            (copies, self.ROLL, "1,000,000 are the most"),
+            (label, cells, "the maximum is 10,000"),
+            (copies, self.ROLL, "the maximum is 1,000,000"),
         ):
             script = 'ulimit -v 600000 -t 60; exec "$@"'
             command = ["bash", "-c", script, "sh", str(support.TOOLS / "label-print"), *arguments]

@@ -106,7 +106,7 @@ class Stock(unittest.TestCase):
 
 class Grids(unittest.TestCase):
     def test_a_page_of_too_many_cells(self) -> None:
-        with self.assertRaisesRegex(ToolError, "9999 by 9999 cells: 10,000 are the most"):
+        with self.assertRaisesRegex(ToolError, "9999 by 9999 cells: the maximum is 10,000"):
             stock.grid_sheet(Grid((9999.0, 9999.0), (1.0, 1.0), 9999, 9999))
         done = support.printed(
             *("--cell", "1x1", "--columns", "9999", "--rows", "9999", "--page", "9999x9999"),

@@ -400,7 +400,7 @@ class Cells(TableTest):
     def test_cells_that_no_label_can_show(self) -> None:
         title = 'refused: column 1 ("code") has '
         unseen = "which nobody sees"
-        error = "which the spreadsheet writes where it has no value to show"
+        error = "which the spreadsheet writes if it has no value to show"
         wanted = {
             "": 'refused: column 1 ("code") is empty',
             " ": 'refused: column 1 ("code") is empty',
@@ -533,7 +533,7 @@ class Columns(TableTest):
     def test_tables_without_rows(self) -> None:
         self.check("", ["--code", "1"], [], ["standard input is empty: nothing is printed"], 1)
         for table in ("\r\n\r\n", "\ufeff", ";;\n;;\n"):
-            self.check(table, ["--code", "1"], [], ["standard input has empty cells alone"], 1)
+            self.check(table, ["--code", "1"], [], ["standard input has only empty cells"], 1)
         problem = "standard input has no row below row 1, which has the names of the columns"
         self.check("code;name\n;\n", ["--code", "code"], [], [problem], 1)
 
@@ -685,7 +685,7 @@ class Texts(TableTest):
                     table, ["--code", "code", option, "name"], [f"ean13 {PENCIL}"], [problem], 1
                 )
         for cell, problem in (
-            ("#REF!", '"#REF!", which the spreadsheet writes where it has no value to show'),
+            ("#REF!", '"#REF!", which the spreadsheet writes if it has no value to show'),
             ("=B2", '"=B2", a formula: export its value'),
         ):
             problem = f'row 2: column 2 ("name") has {problem}'
@@ -715,7 +715,7 @@ class Texts(TableTest):
             "\u202e02,1": (
                 'has right-to-left override (U+202E) in the cell "<U+202E>02,1", which nobody sees'
             ),
-            "#####": 'has "#####", which the spreadsheet writes where it has no value to show',
+            "#####": 'has "#####", which the spreadsheet writes if it has no value to show',
         }
         for price, problem in wanted.items():
             problem = f'row 2: column 2 ("price") {problem}'
@@ -771,15 +771,15 @@ class Texts(TableTest):
 
     def test_the_end_names_twenty_rows_that_are_left_out(self) -> None:
         table = "code\n" + "x\n" * 30 + f"{SMALL}\n"
-        problem = '"x" is not digits alone: character 1 is "x"'
+        problem = '"x" has other characters than digits: character 1 is "x"'
         problems = [f"row {row}: {problem}" for row in range(2, 32)]
         self.check(table, ["--code", "code"], [f"ean8 {SMALL}"], problems, 1)
 
 
 class Numbers(TableTest):
     LENGTHS = "ean8 has 8, upca has 12, ean13 has 13"
-    LOST = "give --symbology auto, or --fill-zeros where zeros in front are lost"
-    LOST_IN_AUTO = "give --fill-zeros where zeros in front are lost"
+    LOST = "give --symbology auto, or --fill-zeros if leading zeros are lost"
+    LOST_IN_AUTO = "give --fill-zeros if leading zeros are lost"
     NONE = "if the column has no check digits, give --without-check-digit"
     CASE = "a GTIN-14 is drawn as ITF-14, which labels does not draw"
 
@@ -854,7 +854,7 @@ class Numbers(TableTest):
         zeros = ("0", "00000000", "0000000000", "0000000000000")
         wanted = {
             **{
-                cell: f'refused: "{cell}" is zeros alone, which is no article\'s number'
+                cell: f'refused: "{cell}" has only zeros, and is no article\'s number'
                 for cell in zeros
             },
             "600029145": f"refused: 600029145 has 9 digits, {self.LENGTHS}: {self.NONE}",
@@ -895,7 +895,7 @@ class Numbers(TableTest):
             self.check_cells(arguments, {number: f"{symbology} {number}"})
 
     def test_without_check_digit_refuses_a_whole_number(self) -> None:
-        fix = "give --without-check-digit only where no number has one"
+        fix = "give --without-check-digit only if no number has one"
         for symbology, number in (("ean13", PENCIL), ("ean8", SMALL), ("upca", SOAP)):
             count = len(number)
             problem = f"{number} has {count} digits, {symbology} has {count - 1}: {fix}"
@@ -1039,7 +1039,7 @@ class Numbers(TableTest):
             ("４006381333931", 1, "fullwidth digit four (U+FF14)"),
             ("978–0306406157", 4, "en dash (U+2013)"),
         )
-        problem = 'refused: "{}" is not digits alone: character {} is {}'
+        problem = 'refused: "{}" has other characters than digits: character {} is {}'
         self.check_cells(
             [], {cell: problem.format(cell, place, name) for cell, place, name in cells}
         )
@@ -1199,7 +1199,7 @@ class Arguments(TableTest):
             "level=H\n",
             "level",
         ):
-            text = f"--settings {shown(setting)} is not as height=30 or level=Q,mask=2"
+            text = f"--settings {shown(setting)}: write it as height=30 or level=Q,mask=2"
             self.check_usage(["--code", "1", "--symbology", "qr", "--settings", setting], text)
 
     def test_options_of_the_other_kind_of_table(self) -> None:

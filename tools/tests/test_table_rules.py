@@ -188,14 +188,12 @@ class Prices(RulesTest):
     def test_free_text(self) -> None:
         for price in ("auf Anfrage", "gratis", "3 zum Preis von 2"):
             self.assertEqual(self.price(price, "--price-text"), price)
-        problem = "is what a program writes where it has no value"
+        problem = "is what a program writes if it has no value"
         for price in ("1E3", "Loading...", "&euro;3.00"):
             self.assertEqual(self.price(price, "--price-text"), problem)
         for price in ("undefined", "Fehler:502", "#WERT!"):
             found = self.price(price, "--price-text")
-            self.assertRegex(
-                found, "which (a program|the spreadsheet) writes where it has no value"
-            )
+            self.assertRegex(found, "which (a program|the spreadsheet) writes if it has no value")
 
     def test_a_price_is_printed_as_it_is(self) -> None:
         for price in (
@@ -446,7 +444,7 @@ class Codes(RulesTest):
 
     def test_add_ons(self) -> None:
         lengths = "ean8 has 8, upca has 12, ean13 has 13"
-        hint = "if its last {} digits are an add-on, write the first 13 alone"
+        hint = "if its last {} digits are an add-on, write only the first 13"
         for rest in ("12", "54321"):
             problem = (
                 f"row 2: {PENCIL}{rest} has {13 + len(rest)} digits, {lengths}:"
@@ -601,7 +599,9 @@ class Marked(RulesTest):
         arguments = ("--code", "EAN", "--title", "Name", "--new-since", str(older))
         status, messages, labels = self.said(text, *arguments)
         self.assertEqual((status, labels), (1, []))
-        problem = f"{older} has lines that are not of label-table: name the lines that were made"
+        problem = (
+            f"{older} has lines that are not of label-table: give the file that label-table made"
+        )
         self.assertEqual(messages, [f"{problem} of a table"])
 
     def test_only_what_is_new(self) -> None:
@@ -705,7 +705,7 @@ class Workbooks(RulesTest):
             self.said(data, *arguments, "--date-as", "d.m.yyyy")[2][0][0]["text"], ["25.11.2026"]
         )
         self.check_usage(
-            ["--code", "1", "--date-as", "xx"], "argument --date-as: 'xx' is not as 'dd.mm.yyyy'"
+            ["--code", "1", "--date-as", "xx"], "argument --date-as: 'xx': write it as 'dd.mm.yyyy'"
         )
 
     def test_the_language_of_a_format_decides_its_signs(self) -> None:

@@ -236,7 +236,7 @@ class Xlsx(WorkbookTest):
             rows(["EAN"], [36000291452], [cell(36000291452, style=1)]), formats=["000000000000"]
         )
         problem = "row 2: 36000291452 has 11 digits, ean8 has 8, upca has 12, ean13 has 13: "
-        problem += "give --fill-zeros where zeros in front are lost"
+        problem += "give --fill-zeros if leading zeros are lost"
         self.check(data, ["--code", "EAN"], [f"upca {SOAP}"], [problem], 1)
 
     def test_numbers_as_codes(self) -> None:
@@ -286,7 +286,7 @@ class Xlsx(WorkbookTest):
         kind = (
             "has neither a text nor a number, but TRUE, FALSE or the like: enter it again as text"
         )
-        error = 'has "#REF!", which the spreadsheet writes where it has no value to show'
+        error = 'has "#REF!", which the spreadsheet writes if it has no value to show'
         cells = {
             "<c><f>A1</f></c>": f"refused: {no_value}",
             "<c><f>A1</f><v></v></c>": f"refused: {no_value}",
@@ -700,7 +700,7 @@ class Ods(WorkbookTest):
             ),
             ods_cell(
                 "#NV", "string", 'calcext:value-type="error"'
-            ): 'has "#NV", which the spreadsheet writes where it has no value to show',
+            ): 'has "#NV", which the spreadsheet writes if it has no value to show',
             '<table:table-cell table:formula="of:=[.A1]"/>': no_value,
         }
         lines = [text for text in cells.values() if text.startswith("code128")]

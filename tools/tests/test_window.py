@@ -532,7 +532,7 @@ class WindowTest(unittest.TestCase):
         self.window.network.run.return_value = Gtk.ResponseType.OK
         self.window.address.set_text("")
         self.window.ask_address(None)
-        self.assertIn("is not as tcp://HOST", self.problem())
+        self.assertIn("write it as tcp://HOST", self.problem())
 
     def said_of(self, send: Any, *values: Any) -> Any:
         """What the window says once it has sent six labels."""

@@ -160,9 +160,9 @@ class Comparison:
         if (dots.width, dots.height) != (width, height):
             found = Text("{} by {}", dots.width, dots.height)
             its = Text("{} by {}", width, height)
-            raise Different(Text("a page goes out with {} dots and has {}", found, its))
+            raise Different(Text("a page has {} dots in the output instead of {}", found, its))
         if dots.copies != copies:
-            what = Text("{} copies go out, and {} are asked for", dots.copies, copies)
+            what = Text("the output has {} copies instead of {}", dots.copies, copies)
             raise Different(what)
 
     def check_drawn(self, dots: Dots, document: Document) -> None:
@@ -171,7 +171,7 @@ class Comparison:
             return
         pairs = enumerate(zip(dots.rows, rows_in(document.drawn, dots.stride)))
         number = next(number for number, (found, row) in pairs if found != row)
-        what = Text("its dots are wrong as they go out, {:.1f} mm down", number * self.plan.dot)
+        what = Text("its dots are wrong in the output, {:.1f} mm down", number * self.plan.dot)
         high = self.plan.area.height
         there = [item for item, (_, top) in document.pages[0] if top <= number < top + high]
         raise Different(what, there[0].label.record if there else None)
@@ -370,7 +370,7 @@ def wrong(wanted: Wanted, dot: float) -> Different:
     box = wanted.where.picture
     across, down = box.left * dot, box.top * dot
     what = Text(
-        "its code is wrong as it goes out, {:.1f} mm from the left, {:.1f} mm down", across, down
+        "its code is wrong in the output, {:.1f} mm from the left, {:.1f} mm down", across, down
     )
     return Different(what, wanted.record)
 

@@ -225,7 +225,7 @@ def pages_of(data: bytes, dpi: float, codes: Sequence[int]) -> Iterator[DrawnPag
         pdf = Pdf(data, dpi)
         pages = pdf.pages()
         if len(pages) != len(codes):
-            raise NotDecoded(Text("{} pages go out for {}", len(pages), len(codes)))
+            raise NotDecoded(Text("the output has {} pages instead of {}", len(pages), len(codes)))
         for number, count in zip(pages, codes):
             yield pdf.page(number, count) if count else DrawnPage((), ())
     except (ValueError, LookupError, TypeError, zlib.error) as error:

@@ -107,7 +107,7 @@ def reads(example: str, least: float = 0.0, kind: type = float) -> Callable[[str
         match = pattern.fullmatch(argument)
         numbers = [kind(number) for number in match.groups()] if match else []
         if not numbers or min(numbers) < least:
-            raise wrong_argument(Text("{!r} is not as {}", argument, example))
+            raise wrong_argument(Text("{!r}: write it as {}", argument, example))
         return tuple(numbers) if len(numbers) > 1 else numbers[0]
 
     return number
@@ -142,7 +142,7 @@ def rows(argument: str) -> str:
     is_backward = any(int(first) > int(last) for first, last in ranges)
     has_zero = 0 in map(int, re.findall(r"\d+", argument))
     if not ROWS.fullmatch(argument) or is_backward or has_zero:
-        raise wrong_argument(Text("{!r} is not as 2,7-9 or 7-", argument))
+        raise wrong_argument(Text("{!r}: write rows as 2,7-9 or 7-", argument))
     return argument
 
 
@@ -168,7 +168,9 @@ def printer_of(argument: str) -> str:
         except ToolError as error:
             raise wrong_argument(error.what) from error
     elif "://" in name:
-        raise wrong_argument(Text("{!r} is not as tcp://HOST, or a queue of CUPS", argument))
+        raise wrong_argument(
+            Text("{!r}: write it as tcp://HOST, or name a queue of CUPS", argument)
+        )
     return name
 
 
@@ -395,7 +397,7 @@ def check_count(job: PrintJob, prints: Prints, is_each: bool) -> None:
     if count > MOST_LABELS:
         hint = Text("print a part of them by --only")
         raise ToolError(
-            Text("{:,} labels with their copies: {:,} are the most", count, MOST_LABELS), hint
+            Text("{:,} labels with their copies: the maximum is {:,}", count, MOST_LABELS), hint
         )
     if job.form.is_one_page and not is_each and job.pages_of(count) > 1:
         hint = Text("print fewer labels by --only, or a file of each by --each")
@@ -496,7 +498,7 @@ def check_journal(arguments: argparse.Namespace, journal: Journal) -> None:
     if arguments.again and arguments.again not in journal.printers():
         names = ", ".join(sorted(journal.printers())) or Text("nothing")
         what = Text("{} has no label of {}", arguments.journal, arguments.again)
-        raise ToolError(what, Text("--again names a printer of it: {}", names))
+        raise ToolError(what, Text("--again: the journal has these printers: {}", names))
     if not arguments.queue:
         output = standard_output().fileno()
         state = os.fstat(output)

@@ -110,7 +110,7 @@ def condition(text: str) -> tuple[str, str]:
     """Returns the column and the value of an argument."""
     column, sign, value = text.partition("=")
     if not sign or not column:
-        raise wrong_argument(Text("{} is not as COLUMN=VALUE", quoted(text)))
+        raise wrong_argument(Text("{}: write it as COLUMN=VALUE", quoted(text)))
     return column, value
 
 
@@ -233,7 +233,9 @@ def check(parser: Parser, arguments: argparse.Namespace) -> None:
         raise BadArguments(what, proposed(arguments))
     settings = arguments.settings
     if settings is not None and not SETTINGS.fullmatch(settings):
-        parser.error(Text("--settings {} is not as height=30 or level=Q,mask=2", quoted(settings)))
+        parser.error(
+            Text("--settings {}: write it as height=30 or level=Q,mask=2", quoted(settings))
+        )
     delimiter = arguments.delimiter
     if delimiter is not None and not DELIMITER.fullmatch(delimiter):
         parser.error(
@@ -288,7 +290,7 @@ def older_lines(path: str) -> LinesFile:
     """
     lines = read_lines(Path(path).read_bytes(), path)
     if any(record.symbology not in SYMBOLOGIES for record in lines.records):
-        hint = Text("name the lines that were made of a table")
+        hint = Text("give the file that label-table made of a table")
         raise ToolError(Text("{} has lines that are not of label-table", path), hint)
     return lines
 

@@ -189,7 +189,7 @@ def known_words(place: Place, is_symbol: bool) -> Text:
     """Returns what may be behind the name of a symbol, or of a text."""
     if not is_symbol:
         known = [*WORDS, "font=NAME", "size=N", "least=N", "lines=N", *SYMBOLOGIES]
-        return Text("behind the name of a text is one of {}", ", ".join(known))
+        return Text("after the name of a text only these words are allowed: {}", ", ".join(known))
     settings = SYMBOLOGIES[place.symbology].settings if place.symbology else ()
     known = [*WHERE, *SYMBOLOGIES, "module=N", *(f"{one}=N" for one in settings)]
-    return Text("behind the name of a symbol is one of {}", ", ".join(known))
+    return Text("after the name of a symbol only these words are allowed: {}", ", ".join(known))

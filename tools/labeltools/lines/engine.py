@@ -102,7 +102,7 @@ def library() -> Any:
         raise ToolError(Text("the library liblabels is not there: {}", error), INSTALL) from error
     found: str = liblabels.version()
     if found.partition(".")[0] != MAJOR:
-        what = Text("liblabels {} is another than that of these tools", found)
+        what = Text("liblabels is version {}, and these tools are another one", found)
         hint = Text("install the tools and python3-liblabels of one version, {}", MAJOR)
         raise ToolError(what, hint)
     return liblabels

@@ -74,7 +74,7 @@ def grid_sheet(grid: Grid) -> Sheet:
     """
     if grid.columns * grid.rows > MOST_CELLS:
         message = Text(
-            "a page of {} by {} cells: {:,} are the most", grid.columns, grid.rows, MOST_CELLS
+            "a page of {} by {} cells: the maximum is {:,}", grid.columns, grid.rows, MOST_CELLS
         )
         raise ToolError(message, status=BAD_ARGUMENTS)
     across = grid.cell[0] + grid.gap[0]
@@ -104,7 +104,7 @@ def stock_sheet(name: str) -> Sheet:
     if len(found) == 1:
         return sheet_of(found[0])
     reason = Text("no such sheet")
-    hint = Text("--list-stock WORD lists what there is")
+    hint = Text("--list-stock WORD lists the sheets")
     if found:
         reason = Text("several makers have it")
         hint = Text("name one of {}", ", ".join(map(" ".join, found)))

@@ -154,7 +154,7 @@ def dpi_of(options: PrintOptions, form: Form) -> int:
         raise ToolError(Text("--to {} needs --dpi", form.name), hint, BAD_ARGUMENTS)
     dpi = options.dpi or DRAWING_DPI
     if dpi > MOST_DPI:
-        raise ToolError(Text("--dpi {}: {} are the most", dpi, MOST_DPI), status=BAD_ARGUMENTS)
+        raise ToolError(Text("--dpi {}: the maximum is {}", dpi, MOST_DPI), status=BAD_ARGUMENTS)
     return dpi
 
 
@@ -170,7 +170,7 @@ def check_texts(options: PrintOptions) -> None:
 def own_design(options: PrintOptions, sheet: Sheet, edges: Edges) -> OwnDesign:
     """Returns the design that a file is; raises `ToolError` where it is none."""
     if options.height is not None:
-        what = Text("--height is not for a design of one's own")
+        what = Text("--height is not for your own design")
         hint = Text("the places of a design say how high bars are")
         raise ToolError(what, hint, BAD_ARGUMENTS)
     return read_design(options.design, sheet.cell, white_of(sheet, edges), options.turn)

@@ -196,7 +196,7 @@ class Journal:
             while not self.is_free(FAR):
                 if time.monotonic() > end:
                     what = Text("{}: another lane keeps it for {:.0f} seconds", self.path, STUCK)
-                    raise ToolError(what, Text("is it stopped? let it go on, or end it"))
+                    raise ToolError(what, Text("is that process stopped? continue it or end it"))
                 time.sleep(pause)
                 pause = min(2 * pause, LONG)
         except OSError as error:
@@ -282,7 +282,7 @@ class Journal:
         if found is None:
             self.is_lost = True
             what = Text("{}: line {} is no line of a journal", self.path, self.lines)
-            hint = Text("put it right; take it out only where its label is not on paper")
+            hint = Text("correct it; delete it only if its label was not printed")
             raise ToolError(what, hint)
         code, entry = found
         self.entries[code] = entry

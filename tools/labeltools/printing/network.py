@@ -51,7 +51,7 @@ def address_of(name: str) -> tuple[str, int]:
         host.encode("idna")  # as the system asks for it
         if port in PORTS:
             return host, port
-    what = Text("{} is not as tcp://HOST or tcp://HOST:9100", name)
+    what = Text("{}: write it as tcp://HOST or tcp://HOST:9100", name)
     raise ToolError(what, status=BAD_ARGUMENTS)
 
 

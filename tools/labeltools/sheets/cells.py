@@ -293,7 +293,7 @@ def refuse_no_value(text: str) -> None:
     if "+" in bare and IS_ROUNDED_DATA.fullmatch(bare):
         raise RowError(Text("has {}: {}", quoted(text), ROUNDED), ROUNDED_HINT)
     if not bare[:1].isdigit() and is_error(bare):
-        raise RowError(Text("has {}, which a program writes where it has no value", quoted(text)))
+        raise RowError(Text("has {}, which a program writes if it has no value", quoted(text)))
 
 
 def is_error(text: str) -> bool:
@@ -312,7 +312,7 @@ def is_error(text: str) -> bool:
 def no_value(text: str) -> RowError:
     """Returns the error of an error's name."""
     return RowError(
-        Text("has {}, which the spreadsheet writes where it has no value to show", quoted(text))
+        Text("has {}, which the spreadsheet writes if it has no value to show", quoted(text))
     )
 
 

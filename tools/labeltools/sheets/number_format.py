@@ -325,7 +325,7 @@ def date_section(pattern: str) -> Section:
     '25.11.26'
     """
     if not PATTERN_OF_DATES.fullmatch(pattern) or not re.search("[dmy]", pattern):
-        raise ValueError(Text("{!r} is not as 'dd.mm.yyyy'", pattern))
+        raise ValueError(Text("{!r}: write it as 'dd.mm.yyyy'", pattern))
     parts = re.findall("yyyy|yy|dd?|mm?|hh?|ss?|.", pattern)
     return Section(moment=with_minutes([one if one[0] in "ymdhs" else f"'{one}" for one in parts]))
 

@@ -581,6 +581,6 @@ def days_of(moment: str) -> Decimal:
     try:
         found = datetime.fromisoformat(moment)
     except ValueError:
-        raise RowError(Text("has the date {}, which is none", quoted(moment)), TYPED) from None
+        raise RowError(Text("has {}, which is not a valid date", quoted(moment)), TYPED) from None
     past = found - datetime.combine(date.fromordinal(DAY_ZERO.toordinal()), datetime.min.time())
     return Decimal(past.days) + Decimal(past.seconds) / 86400

@@ -119,7 +119,7 @@ def check_data(cell: str) -> None:
     if IS_ROUNDED_DATA.fullmatch(cell):
         raise RowError(Text("{}: {}", quoted(cell), ROUNDED), ROUNDED_HINT)
     if cell.strip().casefold() in NO_VALUES or PROGRAM_ERROR.fullmatch(cell.strip()):
-        raise RowError(Text("{} is what a program writes where it has no value", quoted(cell)))
+        raise RowError(Text("{} is what a program writes if it has no value", quoted(cell)))
     for pattern, what, hint in DRAWN:
         if pattern.fullmatch(cell):
             raise RowError(Text("{} has {}, which would be drawn", quoted(cell), what), hint)
@@ -147,11 +147,11 @@ def digits_in(cell: str, has_check_digit: bool) -> str:
     if IS_ROUNDED.fullmatch(digits):
         raise RowError(Text("{}: {}", quoted(digits), ROUNDED), ROUNDED_HINT)
     if re.fullmatch("0+", digits):
-        raise RowError(Text("{} is zeros alone, which is no article's number", quoted(digits)))
+        raise RowError(Text("{} has only zeros, and is no article's number", quoted(digits)))
     check_isbn(digits)
     if other := re.search("[^0-9]", digits):
         place = Text("character {} is {}", other.start() + 1, named(other.group()))
-        raise RowError(Text("{} is not digits alone", quoted(digits)), place)
+        raise RowError(Text("{} has other characters than digits", quoted(digits)), place)
     return digits
 
 
@@ -216,20 +216,20 @@ def wrong_length(digits: str, asked: Sequence[str], rules: CodeRules) -> RowErro
     lengths = joined(", ", (Text("{} has {}", one, LENGTHS[one] - missing) for one in asked))
     what = counted("{1} has {0} digit, {2}", "{1} has {0} digits, {2}", count, digits[:20], lengths)
     if missing:
-        return RowError(what, Text("give --without-check-digit only where no number has one"))
+        return RowError(what, Text("give --without-check-digit only if no number has one"))
     length, rest = ADD_ONS.get(count, (0, 0))
     if length and is_right(digits[:length]):
         return RowError(
             what,
-            Text("if its last {} digits are an add-on, write the first {} alone", rest, length),
+            Text("if its last {} digits are an add-on, write only the first {}", rest, length),
         )
     if count == 14:
         return RowError(what, Text("a GTIN-14 is drawn as ITF-14, which labels does not draw"))
     if count < EAN13.digits and is_right(digits):
         if rules.symbology == AUTO:
-            return RowError(what, Text("give --fill-zeros where zeros in front are lost"))
+            return RowError(what, Text("give --fill-zeros if leading zeros are lost"))
         return RowError(
-            what, Text("give --symbology auto, or --fill-zeros where zeros in front are lost")
+            what, Text("give --symbology auto, or --fill-zeros if leading zeros are lost")
         )
     if count > EAN13.digits:
         return RowError(what, Text("a code of more digits is --symbology code128"))

@@ -101,7 +101,7 @@ class Noticed:
             if place in self.like_dates:
                 row, text = self.like_dates[place]
                 said = Text(
-                    "row {} has the text {} where row {} has a date", row, quoted(text), date
+                    "row {} has the text {}, and row {} has a date", row, quoted(text), date
                 )
                 talk.say(said, Text("are its day and month in the same order?"))
 

@@ -399,7 +399,7 @@ def text_price(text: str) -> str:
     if not any(sign.isalnum() for sign in bare):
         raise NotMoney(Text("has neither a letter nor a digit"))
     if bare.casefold() in NO_VALUES or ERROR.fullmatch(bare):
-        raise NotMoney(Text("is what a program writes where it has no value"))
+        raise NotMoney(Text("is what a program writes if it has no value"))
     return text.strip()
 
 

@@ -275,7 +275,7 @@ class PricePattern:
         """
         found = PATTERN.fullmatch(text.translate(dict.fromkeys(map(ord, SPACES[:-1]), " ")))
         if not found or (found["group"] or found["hash"]) == found["point"] is not None:
-            raise ValueError(Text("{!r} is no pattern as '0,00 €'", text))
+            raise ValueError(Text("{!r} is no format such as '0,00 €'", text))
         front = text[: len(found["front"])]
         end = text[len(text) - len(found["end"] or "") :]
         check_currencies(text, front, end)

@@ -89,7 +89,7 @@ def head_of(data: bytes, name: str, options: TableOptions, talk: Talk) -> Start:
         what = (
             Text("{} has nothing in row {}", name, wanted)
             if wanted
-            else Text("{} has empty cells alone", name)
+            else Text("{} has only empty cells", name)
         )
         raise ToolError(what)
     if first.problem:

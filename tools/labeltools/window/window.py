@@ -288,7 +288,7 @@ class Window(Gtk.ApplicationWindow):
             self.path = None
             self.head.set_subtitle("")
             self.stack.set_visible_child_name("empty")
-        self.said.set_text(_("Stopped: nothing went out"))
+        self.said.set_text(_("Stopped: nothing was printed"))
         self.done.show()
 
     def open(self, path: Path, header: int | None = None, is_again: bool = False) -> None:
@@ -688,7 +688,7 @@ class Window(Gtk.ApplicationWindow):
         """Makes the labels with the dots of a printer, to be looked at before they are printed."""
         self.take({"dpi": str(dpi)})
         what = Text("{} prints at {} dpi: the labels are drawn for it now", printer, dpi)
-        problem = ToolError(what, Text("look at them, and print again"))
+        problem = ToolError(what, Text("check them, and print again"))
         if self.table is not None:
             work = partial(self.table.labels, self.choices())
             self.start(work, partial(self.show_for_printer, self.table, problem))
