@@ -53,10 +53,8 @@ for line in ("ean13 1\\n2", "qr \\n\\n"):
 
 # A line of each symbology and level is drawn as what its name says, by proved code; other names and numbers are none.
 NAMES = """
-import ctypes, liblabels
+import liblabels
 from liblabels._binding import LIBRARY
-for call in (LIBRARY.labels_symbology_name, LIBRARY.labels_level_name):
-    call.restype = ctypes.c_char_p
 DATA = {"ean13": "400638133393", "ean8": "7351353", "upca": "03600029145", "code128": "A", "qr": "A"}
 assert liblabels.SYMBOLOGIES == tuple(DATA) and liblabels.LEVELS == ("L", "M", "Q", "H")
 for number, (name, data) in enumerate(DATA.items()):

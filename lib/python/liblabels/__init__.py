@@ -272,10 +272,8 @@ def _bitmap(call: Callable[..., int], *asked: object) -> Bitmap | None:
         return None
     if code != _binding.NO_ROOM:
         _expect_drawn(answer)
-    stride = (dots.width + 7) // 8
-    room = stride * dots.height
-    bits = ctypes.create_string_buffer(room)
-    call(*asked, bits, stride, room, ctypes.byref(dots), ctypes.byref(answer))
+    bits = ctypes.create_string_buffer(answer.length)
+    call(*asked, bits, 0, len(bits), ctypes.byref(dots), ctypes.byref(answer))
     _expect_drawn(answer)
     return Bitmap(dots.width, dots.height, bits.raw)
 

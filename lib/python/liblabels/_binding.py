@@ -4,15 +4,15 @@ import ctypes
 import operator
 import os
 import struct
+from collections.abc import Callable, Iterator
 from ctypes import byref
 from functools import lru_cache
+from itertools import count
 from typing import Any
 
 Data = str | bytes | bytearray | memoryview
 
-SYMBOLOGIES = ("ean13", "ean8", "upca", "code128", "qr")
 FORMATS = ("pbm", "ascii")
-LEVELS = ("L", "M", "Q", "H")
 
 # The codes of labels.h that are no refusal.
 OK = 0
@@ -136,11 +136,23 @@ def _load() -> ctypes.CDLL:
     library.labels_bitmap.argtypes = [*options, ctypes.c_int, *data, *bits, *answer, *answer]
     library.labels_bitmap_line.argtypes = [*options, *data, *bits, *answer, *answer]
     library.labels_read_bits.argtypes = [ctypes.POINTER(Region), *data, *answer, *room, *answer]
-    library.labels_version.restype = ctypes.c_char_p
+    for call in (library.labels_version, library.labels_symbology_name, library.labels_level_name):
+        call.restype = ctypes.c_char_p
     return library
 
 
+def _names(name_of: Callable[[int], bytes | None]) -> Iterator[str]:
+    """Yields the names of the numbers from 0 on, up to the first that has none."""
+    for number in count():
+        name = name_of(number)
+        if name is None:
+            return
+        yield name.decode("ascii")
+
+
 LIBRARY = _load()
+SYMBOLOGIES = tuple(_names(LIBRARY.labels_symbology_name))
+LEVELS = tuple(_names(LIBRARY.labels_level_name))
 
 
 def index_of(names: tuple[str, ...], kind: str, name: str) -> int:
