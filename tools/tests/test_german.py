@@ -261,7 +261,7 @@ class German(unittest.TestCase):
         )
         self.assertEqual(
             said[-1],
-            "label-table: 1 Etikett von 1 Zeile: 1 EAN-13; Preis 2,50; 1 Preis ohne Währung; 2 Zeilen ausgelassen",
+            "label-table: 1 Etikett von 1 Zeile: 1 EAN-13; Preis 2,50; 1 Preis ohne Währung; 2 Zeilen übersprungen",
         )
         self.assertNotIn("row", ran.stderr)
         self.assertIn('"row":4', ran.stdout)
@@ -280,7 +280,7 @@ class German(unittest.TestCase):
         self.assertEqual(said[0], f"label-table: ligne 2: {wrong}")
         self.assertIn('colonne 3 ("Preis") a "1E3", qui n\'est pas un prix', said[1])
         self.assertTrue(said[-1].startswith("label-table: 1 étiquette de 1 ligne: 1 EAN-13"))
-        self.assertTrue(said[-1].endswith("2 lignes laissées de côté"))
+        self.assertTrue(said[-1].endswith("2 lignes ignorées"))
         self.assertNotIn("row", ran.stderr)
 
     @support.slow
