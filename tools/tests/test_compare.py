@@ -447,8 +447,8 @@ class Named(unittest.TestCase):
         support.needs("msgfmt")
         message = self.message("zpl", PAIR)
         for language, said in (
-            ("de", "sein Code ist falsch, .* mm von oben$"),
-            ("fr", "son code sort faux, .* mm du haut$"),
+            ("de", "sein Code ist in der Ausgabe falsch, .* mm von oben$"),
+            ("fr", "son code est incorrect dans la sortie, .* mm du haut$"),
         ):
             with self.subTest(language), tempfile.TemporaryDirectory() as folder:
                 path = Path(folder, language, "LC_MESSAGES", "label-tools.mo")
