@@ -31,7 +31,7 @@ complete -c label-table -l links -d 'draw the address that the cell of a code le
 complete -c label-table -l price-as -x -d 'write prices so, such as 0,00 € or ¤ 0.00'
 complete -c label-table -l price-text -d 'prices may be any text, such as on request'
 complete -c label-table -l currency-name -x -d 'a currency that label-table does not know'
-complete -c label-table -l decimal -x -d 'of numbers in .xlsx'
+complete -c label-table -l decimal -x -a 'comma point' -d 'of numbers, comma or point'
 complete -c label-table -l date-as -x -d 'write dates so, such as dd.mm.yyyy'
 complete -c label-table -l sheet -x -d 'the sheet of .xlsx or .ods'
 complete -c label-table -l delimiter -x -d 'between cells of CSV'

@@ -21,7 +21,7 @@ TOOLS = {"label-table": "commands.label_table", "label-print": "commands.label_p
 NAMES = " ".join(["labels", *TOOLS])
 # What takes the name of a file, and what is proposed where a parser takes any number.
 FILES = ("--new-since", "--each", "--journal", "--design")
-PROPOSED = {"--dpi": ("203", "300", "600"), "--decimal": (), "--design": ("article", "shelf")}
+PROPOSED = {"--dpi": ("203", "300", "600"), "--decimal": ("comma", "point"), "--design": ("article", "shelf")}
 OF_HELP = re.compile(r"^ +(?:-h, )?(--[a-z-]+)(?: <(\S+)>)? +(.*)$", re.MULTILINE)
 MADE = "Completion of labels and its tools; completions/make.py makes it.\n"
 BASH = """_labels() {

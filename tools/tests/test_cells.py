@@ -93,11 +93,7 @@ RAISES = 'style:text-position="super 58%"'
 IS_STRUCK = "has letters that are struck through"
 IS_RAISED = "is a number that is raised or lowered"
 IS_CUT = "has digits of two sizes side by side"
-IS_UNSEEN = "has letters that nobody sees: enter it again without them"
-IN_PRICES = 'column 3 ("Price")'
-IS_DOUBTFUL = "has a condition from row 2 on that shows cells as something else"
-IS_WHITE = "has letters from row 2 on that nobody sees, in the colour of the cell"
-ASKED = "are these rows to be printed? --where chooses rows"
+IS_UNSEEN = "has white letters, which nobody sees"
 COLOURS = 'xmlns:fo="urn:oasis:names:tc:opendocument:xmlns:xsl-fo-compatible:1.0"'
 
 
@@ -192,21 +188,6 @@ class Styles(CellTest):
         text = cell("14.99").replace("<c ", '<c s="1" ')
         self.check_price(xlsx(rows(HEAD, [PENCIL, "T", text]), styles=struck), None, IS_STRUCK)
 
-    def test_a_condition_that_strikes_letters_is_said(self) -> None:
-        styles = "<dxfs><dxf><font><b/></font></dxf><dxf><font><strike/></font></dxf></dxfs>"
-        rule = '<conditionalFormatting sqref="{}"><cfRule type="expression" dxfId="{}">'
-        rule += "<formula>$D2=0</formula></cfRule></conditionalFormatting>"
-        said = f"{IN_PRICES} {IS_DOUBTFUL}: {ASKED}"
-        for area, number, is_said in (
-            ("C2:C9", 1, True),
-            ("C2:C9", 0, False),
-            ("C7:C9", 1, False),
-            ("D2:D9", 1, False),
-        ):
-            sheet = rows(HEAD, [PENCIL, "Tea", 14.25])
-            data = xlsx(sheet, styles=styles, after=rule.format(area, number))
-            self.assertEqual(self.ran(data, *PRICED), (["14.25"], [said] * is_said))
-
 
 class Looks(CellTest):
     """Letters that are smaller, that nobody sees, or that a font shows as signs."""
@@ -291,19 +272,20 @@ class Looks(CellTest):
             data = self.of_ods(span, ("T1", "text", looks))
             self.check_price(data, price, "" if price else IS_UNSEEN)
 
-    def test_a_cell_that_nobody_sees_is_said(self) -> None:
+    def test_a_cell_with_white_letters_leaves_its_row_out(self) -> None:
         dark = "<patternFill patternType='solid'><fgColor rgb='FF202020'/></patternFill>"
         white = "<color rgb='FFFFFFFF'/>"
-        for fill, said in (("", [f"{IN_PRICES} {IS_WHITE}: {ASKED}"]), (dark, [])):
+        for fill, price in (("", None), (dark, "12.49")):
             data = self.of_xlsx(("12.49", "-"), font=white, fill=fill)
-            self.assertEqual(self.ran(data, *PRICED), (["12.49"], said))
-        for ground, said in (
-            ("", [f"{IN_PRICES} {IS_WHITE}: {ASKED}"]),
-            ('<style:table-cell-properties {} fo:background-color="#202020"/>', []),
+            self.check_price(data, price, "" if price else IS_UNSEEN)
+        for ground, price in (
+            ("", None),
+            ('<style:table-cell-properties {} fo:background-color="#202020"/>', "12.49"),
         ):
             style = ods_style("ce1", "table-cell", f'{COLOURS} fo:color="#ffffff"')
             style = style.replace("</style:style>", f"{ground.format(COLOURS)}</style:style>")
-            self.assertEqual(self.ran(self.of_ods("12.49", own=style), *PRICED), (["12.49"], said))
+            data = self.of_ods("12.49", own=style)
+            self.check_price(data, price, "" if price else IS_UNSEEN)
 
     def test_a_row_without_height_is_hidden(self) -> None:
         cases: List[Tuple[str, List[str]]] = [("0", []), ("15", ["14.25"])]
@@ -313,58 +295,6 @@ class Looks(CellTest):
             found, said = self.ran(xlsx(lines), *PRICED)
             self.assertEqual(found, [*prices, "14.25"])
             self.assertEqual(["hidden row" in one for one in said], [True] * (not prices))
-
-    def test_a_condition_that_hides_a_number_is_said(self) -> None:
-        said = [f"{IN_PRICES} {IS_DOUBTFUL}: {ASKED}"]
-        red = "<font><color rgb='FFFF0000'/></font>"
-        form = "<numFmt numFmtId='190' formatCode='&quot;from &quot;0'/>"
-        area = '<conditionalFormatting sqref="C2:C9"><cfRule type="{}"{}</cfRule>'
-        for dxf, rule, is_said in (
-            (form, ("cellIs", ' dxfId="0">'), True),
-            (red, ("cellIs", ' dxfId="0">'), False),
-            ("", ("dataBar", '><dataBar showValue="0"/>'), True),
-            ("", ("dataBar", "><dataBar/>"), False),
-        ):
-            after = f"{area.format(*rule)}</conditionalFormatting>"
-            sheet = rows(HEAD, [PENCIL, "Tea", 14.25])
-            data = xlsx(sheet, styles=f"<dxfs><dxf>{dxf}</dxf></dxfs>", after=after)
-            self.assertEqual(self.ran(data, *PRICED), (["14.25"], said * is_said))
-
-    def test_conditions_of_ods_are_said_too(self) -> None:
-        said = [f"{IN_PRICES} {IS_DOUBTFUL}: {ASKED}"]
-        styles = ods_style("Gone", "table-cell", STRIKES) + ods_style("Kept", "table-cell", "")
-        number = ods_cell("14.25", "float", 'office:value="14.25" table:style-name="ce1"')
-        for name in ("Gone", "Kept"):
-            mapped = (
-                f'<style:map style:condition="cell-content()>1" style:apply-style-name="{name}"/>'
-            )
-            own = f'<style:style style:name="ce1" style:family="table-cell">{mapped}</style:style>'
-            data = ods(table(HEAD, [PENCIL, "Tea", number]), styles=styles + own)
-            self.assertEqual(self.ran(data, *PRICED), (["14.25"], said * (name == "Gone")))
-        for area, condition, is_said in (
-            (
-                "Tabelle1.C2:Tabelle1.C9",
-                '<calcext:condition calcext:apply-style-name="Gone"/>',
-                True,
-            ),
-            ("$KW45.$C$2", '<calcext:condition calcext:apply-style-name="Gone"/>', True),
-            (
-                "Tabelle1.C2:Tabelle1.C9",
-                '<calcext:condition calcext:apply-style-name="Kept"/>',
-                False,
-            ),
-            (
-                "Tabelle1.D2:Tabelle1.D9",
-                '<calcext:condition calcext:apply-style-name="Gone"/>',
-                False,
-            ),
-            ("Tabelle1.C2:Tabelle1.C9", '<calcext:data-bar calcext:show-value="false"/>', True),
-        ):
-            end = f'<calcext:conditional-format calcext:target-range-address="{area}">{condition}'
-            end = f"<calcext:conditional-formats>{end}</calcext:conditional-format>"
-            end += "</calcext:conditional-formats>"
-            data = ods(table(HEAD, [PENCIL, "Tea", number], end=end), styles=styles)
-            self.assertEqual(self.ran(data, *PRICED), (["14.25"], said * is_said))
 
 
 class Kinds(CellTest):
@@ -523,15 +453,6 @@ class Texts(CellTest):
             titles, said = self.ran(f"EAN;Name\n{PENCIL};{text}\n".encode(), *PRICED[:4])
             self.assertEqual((titles, said), ([text], []))
 
-    def test_a_sign_as_text_is_said(self) -> None:
-        for sign in ("0", "-", "–", "..."):
-            data = f"EAN;Name\n{PENCIL};Tea\n{SMALL};{sign}\n{SOAP};{sign}\n{BOOK};7\n".encode()
-            titles, said = self.ran(data, *PRICED[:4])
-            wanted = f'row 3 has "{sign}" as text, in column 2 ("Name"): '
-            wanted += "does it stand for an empty cell?"
-            self.assertEqual((titles, said), (["Tea", sign, sign, "7"], [wanted]))
-        self.assertEqual(self.ran(f"EAN;Name\n{PENCIL};▼\n".encode(), *PRICED[:4]), (["▼"], []))
-
     def test_what_a_program_writes_without_a_value(self) -> None:
         for text in ("(NULL)", "[none]", "\\N", "NA", "5,9E+12"):
             data = f"EAN;Name\n{PENCIL};{text}\n{SMALL};Na\n".encode()
@@ -540,54 +461,14 @@ class Texts(CellTest):
             self.assertIn("row 2", said[0])
 
     def test_what_another_program_has_left_is_said_once(self) -> None:
-        for text in (
-            "Gr\\u00fcntee",
-            "Gr%C3%BCntee",
-            "'Earl Grey'",
-            "'+49 Tee",
-            "Tee &amp; Co",
-            "Gr_x00FC_ntee",
-            "Gr=C3=BCntee",
-            '["Tee"]',
-            "{{name}}",
-            '{"de": "Tee"}',
-            'a:1:{s:2:"de";s:3:"Tee";}',
-            "[:de]Tee[:fr]Thé[:]",
-            "Gr?ntee",
-        ):
+        for text in ("Tee &amp; Co", "<b>Tee</b>", "Tee<br/>", "Gr&#252;ntee"):
             data = f"EAN\tName\n{PENCIL}\t{text}\n{SMALL}\t{text}\n".encode()
             titles, said = self.ran(data, *PRICED[:4])
             self.assertEqual((titles, len(said)), ([text, text], 1))
             self.assertTrue(said[0].startswith(f'row 2 has "{text}", as programs write it'))
-        right = ("'t Hof", "50%ige", "Salt & Pepper", "C:\\neu", "5' lang", "Rock 'n' Roll")
-        for text in (*right, "Wer? Wie?", "A=10=B", "{rot}", "[neu] Tee", "max_x2", "x=?"):
+        for text in ("Salt & Pepper", "a < b", "5' lang"):
             data = f"EAN;Name\n{PENCIL};{text}\n".encode()
             self.assertEqual(self.ran(data, *PRICED[:4]), ([text], []))
-
-    def test_texts_among_dates(self) -> None:
-        lines = [PENCIL, "30/06/2026"], [SMALL, cell(46200, style=1)], [BOOK, 4]
-        data = xlsx(rows(["EAN", "Name"], *lines), formats=["dd/mm/yyyy"])
-        titles, said = self.ran(data, *PRICED[:4], "--date-as", "dd.mm.yyyy")
-        wanted = 'row 2 has the text "30/06/2026", and row 3 has a date: '
-        wanted += "are its day and month in the same order?"
-        self.assertEqual((titles, said), (["30/06/2026", "27.06.2026", "4"], [wanted]))
-
-    def test_values_that_look_like_the_one_that_is_asked_for(self) -> None:
-        marks = ["ja", "jа", "", "nein", "Ja", "jaa"]  # the second one has a Cyrillic а
-        codes = [PENCIL, SMALL, BOOK, SOAP, "4006381333948", "4006381333955"]
-        lines = "".join(f"{code};{mark}\n" for code, mark in zip(codes, marks))
-        words = ["--code", "EAN", "--where", "Print=ja"]
-        wanted = 'row 3 has "jа" in column 2 ("Print"), which looks like "ja", and is not printed'
-        done = support.run_here("label-table", *words, input=f"EAN;Print\n{lines}".encode())
-        self.assertEqual(support.messages(done), [f"label-table: {wanted} (2 rows)"])
-        self.assertEqual(len(parts_of(done.stdout)[1]), 2)
-        cells = [cell(2), cell(2, style=1), cell(3)]
-        data = xlsx(
-            rows(["EAN", "Print"], *([code, one] for code, one in zip(codes, cells))),
-            formats=["0.00"],
-        )
-        done = support.run_here("label-table", "--code", "EAN", "--where", "Print=2", input=data)
-        self.assertEqual((len(parts_of(done.stdout)[1]), support.messages(done)), (2, []))
 
 
 class Heads(CellTest):
@@ -686,12 +567,6 @@ class Prices(CellTest):
         found, said = self.priced(["2 €", "2.50 $"], "--price-as", "0.00 ¤")
         self.assertEqual(len(said), 1)
         self.assertIn("several currencies", said[0])
-
-    def test_an_old_price_is_above_the_price(self) -> None:
-        for was, is_said in (("3.00", True), ("2.00", True), ("4.00", False), ("2.00/kg", False)):
-            _, said = self.priced([f"3.00\t{was}"], "--old-price", "Old")
-            wanted = f"row 2 has the old price {was}, which is not above the price 3.00"
-            self.assertEqual(said, [wanted] if is_said else [])
 
     def test_the_general_sign_is_no_currency(self) -> None:
         found, said = self.priced(["2.50 ¤"])

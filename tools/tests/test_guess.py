@@ -1,5 +1,6 @@
 """What the columns of a table are guessed to be for, on tables of many shops, with decoys."""
 
+import shlex
 import tempfile
 import unittest
 from pathlib import Path
@@ -77,7 +78,7 @@ TABLES = (
     (
         "Code article;Jeans;EAN;PU TTC",
         "V12 Denim;Bleu nuit;4006381333931;39,90",
-        "title - code ?price",
+        "?title ?title code ?price",
     ),
     ("Bestellnummer;Artikelnummer;Ware", "4500012345;M-10023;Kugellager", "?code ?code title"),
     (
@@ -209,15 +210,40 @@ class Guesses(unittest.TestCase):
             )
             path.write_text("Ware;Code;SKU;VK\nKugellager;M-10023;S-77120;4,20\n")
             self.assertIn(
-                f"--code may be Code, SKU; try label-table --title Ware --price VK "
-                f"--symbology code128 '{path}'",
+                "--code may be Code, SKU; try "
+                + ", ".join(
+                    f"label-table --code {name} --title Ware --price VK --symbology code128 '{path}'"
+                    for name in ("Code", "SKU")
+                ),
                 support.messages(support.run("label-table", path))[-1],
             )
+            self.check_proposals(Path(folder))
             path.write_text("Name;Ort\nUlla;Ulm\n")
             said = support.messages(support.run("label-table", path))[-1]
             self.assertTrue(said.endswith("required: --code; try label-table --help"), said)
             done = support.run("label-table", Path(folder, "none.csv"))
             self.assertIn("No such file", support.messages(done)[-1])
+
+    def check_proposals(self, folder: Path) -> None:
+        """Racks, lots, short numbers and tickets, and what was given, in two commands."""
+        for text, words, more in (
+            ("Platz;Pfeil\nA-01-01-1;▼\nA-01-01-2;▲\n", "", "--symbology code128"),
+            ("Location\nA1-01\nA1-02\n", "", "--symbology code128"),
+            ("PLU;Artikel;Preis\n101;Gurke;0,99\n102;Tomaten;2,99\n", "", "--price Preis"),
+            ("Ticket;Platz\nFR26-0099123;B14\nFR26-0099124;B15\n", "", "--code Ticket"),
+            ("Ware;Adresse\nHaken;https://example.com/1\n", "", "--symbology qr"),
+            (f"EAN|Name|Preis\n{CODES[0]}|Käse|1,20\n", "--encoding cp1252", "--title Name"),
+            (f"EAN+Name+Preis\n{CODES[0]}+Tee+1,20\n", "--delimiter + --decimal comma", ""),
+            (f"EAN;Text\n{CODES[0]};Tee\n", "--title Text --settings height=20", "--code EAN"),
+        ):
+            path = Path(folder, "table.csv")
+            path.write_text(text, encoding="cp1252" if "cp1252" in words else "utf-8")
+            done = support.run("label-table", *words.split(), path)
+            proposed = support.messages(done)[-1].partition("; try ")[2]
+            self.assertTrue(words in proposed and more in proposed, proposed)
+            done = support.run(*shlex.split(proposed))
+            self.assertEqual((done.returncode, done.stderr), (0, b""), proposed)
+            self.assertEqual(done.stdout.count(b'"row"'), text.count("\n") - 1)
 
 
 # names of columns, and the number of the one that is the price; 0 where only the keeper knows it
@@ -393,6 +419,23 @@ class Codes(unittest.TestCase):
         families = ["Code famille", "F-1001", "F-1001", "F-1002"]
         self.assertEqual(guess([families, ["Référence", *NUMBERS[1]]], 1).columns["code"], 1)
 
+    def test_of_two_texts_the_short_one_is_the_title_or_it_is_asked(self) -> None:
+        texts = ["Tea, green", "Bread, dark", "Soap, hard"]
+        for names, wanted in (
+            ("Kurztext;Langtext", [1]),
+            ("Langtext;Kurztext", [2]),
+            ("Kurzbeschreibung;Beschreibung", [1]),
+            ("Name;Long description", [1]),
+            ("Name;Description", []),
+            ("Bezeichnung 1;Bezeichnung 2", []),
+            ("Aufdruck;Merkmal", []),
+        ):
+            columns = [[name, *texts] for name in names.split(";")]
+            found = guess([["EAN", *CODES], *columns], 1)
+            said = [found.columns["title"]] if "title" in found.columns else []
+            self.assertEqual(said, wanted, names)
+            self.assertEqual(found.doubts.get("title", [1, 2]), [1, 2], names)
+
     def test_numbers_of_articles_are_no_titles(self) -> None:
         columns = [["Item", *NUMBERS[1]], ["UPC", *CODES], ["Desc", "Tea", "Book", "Gum"]]
         self.assertEqual(guess(columns, 1).columns["title"], 2)
@@ -439,6 +482,14 @@ class Prices(unittest.TestCase):
         for name in ("Listeneinkaufspreis", "Leverantörspris", "Personalpreis"):
             found = guess([["EAN", *CODES], [name, *HIGH]], 1)
             self.assertEqual(found.doubts, {"price": [1]}, name)
+
+    def test_prices_that_few_rows_have_are_asked_about(self) -> None:
+        codes = ["EAN", *CODES, "96385074"]
+        for cells in (["", "", "", ""], ["9,99", "", "", ""]):
+            found = guess([codes, ["EK", *LOW, "1"], ["VK", *cells], ["UVP", *HIGH, "5"]], 1)
+            self.assertEqual(found.doubts, {"price": [1, 2, 3]}, cells)
+            found = guess([codes, ["Netto", *LOW, "1,00"], ["Preis", *cells]], 1)
+            self.assertEqual(found.doubts, {"price": [1, 2]}, cells)
 
     def test_a_column_that_is_named_as_prices_has_prices(self) -> None:
         for name in ("Tarif", "Preis", "Price"):

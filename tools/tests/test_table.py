@@ -48,6 +48,9 @@ def parts_of(output: bytes) -> Tuple[Label, List[Tuple[Label, str]], Label]:
     return remarks[0], list(zip(remarks[1:-1], texts[2::2])), remarks[-1]
 
 
+OTHER = "a code that is no EAN or UPC needs --symbology code128 (bars) or qr"
+
+
 class TableTest(unittest.TestCase):
     """Steps that the tests share."""
 
@@ -246,7 +249,7 @@ class Encodings(TableTest):
     def test_files_that_are_no_text(self) -> None:
         problem = (
             "standard input is an old .xls, XML, HTML, or has a password: save it as .xlsx,"
-            " without one"
+            " without a password"
         )
         self.check(b"\xd0\xcf\x11\xe0\xa1\xb1\x1a\xe1\0\0", ["--code", "1"], [], [problem], 1)
         for start in (
@@ -256,11 +259,18 @@ class Encodings(TableTest):
             "<table><tr>",
         ):
             self.check(start, ["--code", "1"], [], [problem], 1)
+        for data, kind in (
+            (b"\x89PNG\r\n", "picture"),
+            (b"\xff\xd8\xff", "picture"),
+            (b"%PDF-", "PDF"),
+        ):
+            problem = f"standard input is a {kind}: give the table itself: .xlsx, .ods or CSV"
+            self.check(data, ["--code", "1"], [], [problem], 1)
 
 
 class Cells(TableTest):
     def test_delimiters_without_being_told(self) -> None:
-        for delimiter in (";", ",", "\t"):
+        for delimiter in (";", ",", "\t", "|"):
             table = f"code{delimiter}name\n{PENCIL}{delimiter}a\n{SMALL}{delimiter}b\n"
             self.check(table, ["--code", "code"], [f"ean13 {PENCIL}", f"ean8 {SMALL}"])
             self.check(
@@ -393,9 +403,8 @@ class Cells(TableTest):
         self.check(f"code;x;;\n{SMALL};a\n", ["--code", "code"], [f"ean8 {SMALL}"])
 
     def test_blank_rows(self) -> None:
-        problems = ["row 3: the row is empty", "row 5: the row is empty"]
-        table = f"code;a\n{SMALL};b\n\n{SMALL};c\n;\n{SMALL};d\n;\n\n"
-        self.check(table, ["--code", "1"], [f"ean8 {SMALL}"] * 3, problems, 1)
+        table = f"code;a\n{SMALL};b\n\n{SMALL};b\n;\n{SMALL};b\n;\n\n"
+        self.check(table, ["--code", "1"], [f"ean8 {SMALL}"] * 3)
 
     def test_cells_that_no_label_can_show(self) -> None:
         title = 'refused: column 1 ("code") has '
@@ -477,7 +486,10 @@ class Columns(TableTest):
     def test_column_that_is_not_there(self) -> None:
         table = f"code;name\n{SMALL};a\n"
         listed = 'row 1 has 1 "code", 2 "name": give the number of one'
-        for column in ("Code", "0", "3", "-1", ""):
+        for column in ("Code", "codes"):
+            problem = f'no column "{column}"; row 1 has 1 "code", 2 "name": is it "code"?'
+            self.check(table, [f"--code={column}"], [], [problem], 2)
+        for column in ("0", "3", "-1", ""):
             self.check(table, [f"--code={column}"], [], [f'no column "{column}"; {listed}'], 2)
         for option in ("--title", "--text", "--price", "--copies"):
             self.check(
@@ -771,7 +783,7 @@ class Texts(TableTest):
 
     def test_the_end_names_twenty_rows_that_are_left_out(self) -> None:
         table = "code\n" + "x\n" * 30 + f"{SMALL}\n"
-        problem = '"x" has other characters than digits: character 1 is "x"'
+        problem = f'"x" has other characters than digits: character 1 is "x"; {OTHER}'
         problems = [f"row {row}: {problem}" for row in range(2, 32)]
         self.check(table, ["--code", "code"], [f"ean8 {SMALL}"], problems, 1)
 
@@ -825,14 +837,10 @@ class Numbers(TableTest):
             "36000291452": f"refused: 36000291452 has 11 digits, {self.LENGTHS}: {self.LOST_IN_AUTO}",
             "36000291453": f"refused: 36000291453 has 11 digits, {self.LENGTHS}: {self.NONE}",
             "7351353": f"refused: 7351353 has 7 digits, {self.LENGTHS}: {self.NONE}",
-            "5": f"refused: 5 has 1 digit, {self.LENGTHS}: {self.NONE}",
+            "5": f"refused: 5 has 1 digit, {self.LENGTHS}: {OTHER}",
             "12345678901234": f"refused: 12345678901234 has 14 digits, {self.LENGTHS}: {self.CASE}",
             "10614141543219": f"refused: 10614141543219 has 14 digits, {self.LENGTHS}: {self.CASE}",
-            "7"
-            * 30: (
-                f"refused: {'7' * 20} has 30 digits, {self.LENGTHS}: a code of more digits is"
-                " --symbology code128"
-            ),
+            "7" * 30: (f"refused: {'7' * 20} has 30 digits, {self.LENGTHS}: {OTHER}"),
         }
         self.check_cells([], wanted)
 
@@ -857,7 +865,7 @@ class Numbers(TableTest):
                 cell: f'refused: "{cell}" has only zeros, and is no article\'s number'
                 for cell in zeros
             },
-            "600029145": f"refused: 600029145 has 9 digits, {self.LENGTHS}: {self.NONE}",
+            "600029145": f"refused: 600029145 has 9 digits, {self.LENGTHS}: {OTHER}",
             "": 'refused: column 1 ("code") is empty',
         }
         self.check_cells(["--fill-zeros"], wanted)
@@ -1039,14 +1047,35 @@ class Numbers(TableTest):
             ("４006381333931", 1, "fullwidth digit four (U+FF14)"),
             ("978–0306406157", 4, "en dash (U+2013)"),
         )
-        problem = 'refused: "{}" has other characters than digits: character {} is {}'
-        self.check_cells(
-            [], {cell: problem.format(cell, place, name) for cell, place, name in cells}
+        problem = (
+            f'refused: "{{}}" has other characters than digits: character {{}} is {{}}; {OTHER}'
         )
+        refused = {cell: problem.format(cell, place, name) for cell, place, name in cells}
+        self.check_cells([], {PENCIL: f"ean13 {PENCIL}", **refused})
         for cell in (f"{PENCIL[:-1]}.0", "978-0-306-40615"):
             place, name = (13, '"."') if cell.endswith(".0") else (4, '"-"')
             arguments = ["--without-check-digit", "--symbology", "ean13"]
-            self.check_cells(arguments, {cell: problem.format(cell, place, name)})
+            right = {PENCIL[:-1]: f"ean13 {PENCIL[:-1]}"}
+            self.check_cells(arguments, {**right, cell: problem.format(cell, place, name)})
+
+    def test_a_column_without_an_ean_or_upc_has_one_message(self) -> None:
+        """Racks, lots, tickets and short numbers are told what draws them, once for all rows."""
+        problem = f'standard input: no row has an EAN or UPC in column 1 ("code"); {OTHER}'
+        for cells in (("A-01-01", "A-01-02", ""), ("101", "102", "4711"), ("LOT 7",)):
+            table = "code;name\n" + "".join(f"{cell};x\n" for cell in cells)
+            for arguments in (["--code", "code"], ["--code", "code", "--without-check-digit"]):
+                self.check(table, arguments, [], [problem], 1)
+
+    def test_of_codes_without_check_digits_none_is_drawn(self) -> None:
+        """One in ten has a right last digit by chance."""
+        codes = [f"40063813339{number:02}" for number in range(30, 40)]
+        done = support.run_here(
+            "label-table", "--code", "1", "--no-header", input="\n".join(codes).encode()
+        )
+        self.assertEqual((done.returncode, done.stdout), (1, b""))
+        problem = "label-table: standard input: most codes in column 1 have a wrong check digit; if"
+        problem += " they have none, give --without-check-digit, or --symbology code128"
+        self.assertEqual(support.messages(done)[-1], problem)
 
 
 class Data(TableTest):
@@ -1173,7 +1202,7 @@ class Arguments(TableTest):
         self.check_usage(["--code", "1", "--x"], "unrecognized arguments: --x")
         self.check_usage(["--code", "1", "--fill"], "unrecognized arguments: --fill")
         self.check_usage(["--code", "1", "a.csv", "b.csv"], "unrecognized arguments: b.csv")
-        signs = "argument --decimal: invalid choice: ';' (choose from ',', '.')"
+        signs = 'argument --decimal: ";" is neither comma nor point'
         self.check_usage(["--code", "1", "--decimal", ";"], signs)
         for argument in (";;", "", '"', " ", "ä"):
             text = f'--delimiter "{argument}" is not tab, none or a character that may cut cells'
@@ -1187,6 +1216,18 @@ class Arguments(TableTest):
             for argument in ("--fill-zeros", "--without-check-digit"):
                 self.check_usage(["--code", "1", "--symbology", symbology, argument], text)
         self.check_usage(["--code", "1", "--fill-zeros", "--without-check-digit"], text)
+        text = "--price-as needs --price, --unit-price or --old-price"
+        self.check_usage(["--code", "1", "--price-as", "0,00"], text)
+        text = "EAN-13 has no setting level"
+        self.check_usage(["--code", "1", "--settings", "height=20,level=Q"], text)
+        text = "QR Code has no setting height"
+        self.check_usage(["--code", "1", "--symbology", "qr", "--settings", "height=20"], text)
+
+    def test_settings_of_another_symbology_leave_their_row_out(self) -> None:
+        table = f"code;kind\n{SMALL};ean8\nLOT 7;qr\n"
+        arguments = ["--code", "code", "--symbology-column", "kind", "--settings", "height=20"]
+        problem = "row 3: QR Code has no setting height"
+        self.check(table, arguments, [f"ean8,height=20 {SMALL}"], [problem], 1)
 
     def test_bad_settings(self) -> None:
         for setting in (
@@ -1203,8 +1244,9 @@ class Arguments(TableTest):
             self.check_usage(["--code", "1", "--symbology", "qr", "--settings", setting], text)
 
     def test_options_of_the_other_kind_of_table(self) -> None:
-        problem = "standard input is CSV: leave --sheet away"
-        self.check(f"code\n{SMALL}\n", ["--code", "code", "--sheet", "x"], [], [problem], 2)
+        for words in (["--sheet", "x"], ["--hidden"], ["--links"], ["--date-as", "dd.mm.yyyy"]):
+            problem = f"standard input is CSV: leave {words[0]} away"
+            self.check(f"code\n{SMALL}\n", ["--code", "code", *words], [], [problem], 2)
 
     def test_files(self) -> None:
         table = self.folder / "my table.csv"

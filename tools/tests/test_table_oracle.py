@@ -26,7 +26,7 @@ from xml.etree import ElementTree
 
 import support
 from labeltools.sheets.cells import PRINTED, taken_of
-from labeltools.common.messages import RowError
+from labeltools.common.messages import RowError, Silence
 from labeltools.sheets.number_format import Formatter, Signs
 from labeltools.sheets.rows import Row
 from labeltools.tables.table import rows_of_workbook
@@ -196,7 +196,7 @@ def ours(data: bytes) -> Sheet:
     formatter = Formatter(Signs(".", ","))
     cells: Dict[Tuple[int, int], Found] = {}
     hidden: set[int] = set()
-    for row in rows_of_workbook(data, "x", None, formatter):
+    for row in rows_of_workbook(data, "x", None, formatter, Silence()):
         if row.is_hidden:
             hidden.add(row.number)
         for place in range(len(row.cells)):

@@ -20,6 +20,7 @@ WORDS = "has other words than a price tag has; give --price-text if it is right"
 QUOTES = "a cell that contains the delimiter has to be in quotes"
 TYPED = "enter it again as text"
 NUMBER = 400638100000
+HINT = "if they may be old, open the table in the spreadsheet and save it"
 
 
 class RulesTest(TableTest):
@@ -188,9 +189,8 @@ class Prices(RulesTest):
     def test_free_text(self) -> None:
         for price in ("auf Anfrage", "gratis", "3 zum Preis von 2"):
             self.assertEqual(self.price(price, "--price-text"), price)
-        problem = "is what a program writes if it has no value"
-        for price in ("1E3", "Loading...", "&euro;3.00"):
-            self.assertEqual(self.price(price, "--price-text"), problem)
+        problem = "has neither a letter nor a digit"
+        self.assertEqual(self.price("€", "--price-text"), problem)
         for price in ("undefined", "Fehler:502", "#WERT!"):
             found = self.price(price, "--price-text")
             self.assertRegex(found, "which (a program|the spreadsheet) writes if it has no value")
@@ -200,7 +200,6 @@ class Prices(RulesTest):
             "0,80 €",
             "1.234,50 €",
             "CHF 4.–",
-            "2 für 5 €",
             "\u200f٣٫٩٩ ر.س",
             "1'234.50",
             "12,- €",
@@ -214,17 +213,21 @@ class Prices(RulesTest):
                 "1.234",
                 "5.678",
             ): "1.234 in row 2 and 1 more may have thousands or decimals: it is printed as it is",
-            ("1,50", "1.50"): "row 2 has 1,50 and row 3 has 1.50: two decimal signs",
+            ("1,50", "1.50"): (
+                "row 2 has 1,50 and row 3 has 1.50: prices of two forms; "
+                "give --price-as '0.00', or another pattern"
+            ),
             ("7.5", "8.25"): (
-                "row 2 has 7.5, one decimal (1 row): "
-                "give --price-as '0.00', or another pattern, to print two"
+                "row 2 has 7.5 and row 3 has 8.25: prices of two forms; "
+                "give --price-as '0.00', or another pattern"
             ),
-            ("7.9875", "1.859"): (
-                "row 2 has 7.9875, more than three decimals (1 row): "
-                "give --price-as '0.00', or another pattern, to print two"
-            ),
+            ("7.5", "8"): "",
             ("0.0249 €/g", "0.0184 €/g"): "",
             ("0,00", "0"): "row 2 has the price 0,00 (2 rows)",
+            ("7,5", "8,25"): (
+                "row 2 has 7,5 and row 3 has 8,25: prices of two forms; "
+                "give --price-as '0,00', or another pattern"
+            ),
             ("5 €", "5 CHF"): "the prices have several currencies: CHF, EUR",
             ("1.234", "0,80"): "",
         }
@@ -253,8 +256,7 @@ class Prices(RulesTest):
         refused = {
             ("$3", "0,00 €"): "has $, and the pattern of prices has EUR",
             ("4,99", "0 €"): "has decimals, and the pattern of prices has none",
-            ("2 für 5 €", "0,00 €"): "has words, which the pattern of prices would lose",
-            ("2.675", "0,00 €"): "may have thousands or decimals; give --decimal , or --decimal .",
+            ("2.675", "0,00 €"): "may have thousands or decimals; give --decimal comma or point",
             ("0.001", "0,00 €"): "would be printed as zero",
             ("3 €", "0,00"): "has EUR, and the pattern of prices has no currency",
             ("3", "0,00 ¤"): "has no currency, and the pattern of prices wants one",
@@ -281,8 +283,10 @@ class Prices(RulesTest):
     def test_a_currency_in_a_column_of_its_own(self) -> None:
         text = f"EAN;Preis;Währung\n{SMALL};7.5;EUR\n{BOOK};3.20;CHF\n{PENCIL};1.00;RF\n"
         arguments = ("--code", "EAN", "--price", "Preis", "--currency", "Währung")
-        found = [label["price"] for label, _ in self.said(text, *arguments)[2]]
+        _, said, labels = self.said(text, *arguments)
+        found = [label["price"] for label, _ in labels]
         self.assertEqual(found, ["7.5 EUR", "3.20 CHF", "1.00 RF"])
+        self.assertIn("the prices have several currencies: CHF, EUR, RF", said)
         found = [
             label["price"] for label, _ in self.said(text, *arguments, "--price-as", "¤ 0,00")[2]
         ]
@@ -344,6 +348,17 @@ class Copies(RulesTest):
             text = f"EAN;Copies\n{SMALL};{count}\n{BOOK};1\n"
             status, messages, labels = self.said(text, "--code", "EAN", "--copies", "Copies")
             self.assertEqual((status, len(labels)), (1, 1))
+            self.assertRegex(messages[0], '^row 2: column 2 \\("Copies"\\)')
+
+    def test_a_truth_value_is_no_number_of_copies(self) -> None:
+        shown = ods_cell("TRUE", "float", 'office:value="1"')
+        book = xlsx(
+            rows(["EAN", "Copies"], [SMALL, cell(1, style=1)]),
+            formats=['"TRUE";"TRUE";"FALSE"'],
+        )
+        for data in (ods(table(["EAN", "Copies"], [SMALL, shown])), book):
+            status, messages, labels = self.said(data, "--code", "EAN", "--copies", "Copies")
+            self.assertEqual((status, labels), (1, []))
             self.assertRegex(messages[0], '^row 2: column 2 \\("Copies"\\)')
 
 
@@ -657,22 +672,26 @@ class Workbooks(RulesTest):
         book = parts["xl/workbook.xml"].replace(
             "</workbook>", '<calcPr calcId="1" fullCalcOnLoad="1"/></workbook>'
         )
+        again = "open the table in the spreadsheet and save it"
+        problem = f'row 2: column 2 ("Preis") has a formula without a saved value: {again}'
+        arguments = ["--code", "EAN", "--price", "Preis", "--decimal", "point"]
         data = packed({**parts, "xl/workbook.xml": book})
-        problem = 'row 2: column 2 ("Preis") has a formula without a saved value: '
-        problem += "open the table in the spreadsheet and save it"
-        arguments = ["--code", "EAN", "--price", "Preis", "--decimal", "."]
         self.check(data, arguments, [f"ean13 {BOOK}"], [problem], 1)
+        sheet = "xl/worksheets/sheet1.xml"
+        saved = {sheet: parts[sheet].replace("<v>0</v>", "<v>3</v>"), "xl/workbook.xml": book}
+        said = (
+            f"the file asks to calculate its formulas again; their saved values are taken: {HINT}"
+        )
+        self.check(
+            packed({**parts, **saved}), arguments, [f"ean8 {SMALL}", f"ean13 {BOOK}"], [said], 0
+        )
 
     def test_an_empty_text_of_a_formula(self) -> None:
-        empty = '<table:table-cell table:formula="of:=&quot;&quot;"/>'
-        meta = "<office:document-meta xmlns:office='o' xmlns:meta='m'><office:meta>"
-        meta += "<meta:generator>{}</meta:generator></office:meta></office:document-meta>"
-        arguments = ("--code", "EAN", "--title", "Name")
-        for program, status in (("LibreOffice/7.4.7.2$Linux", 0), ("SomeLibrary/1.0", 1)):
-            data = ods(
-                table(["EAN", "Name"], [SMALL, empty]), extra={"meta.xml": meta.format(program)}
-            )
-            self.assertEqual(self.said(data, *arguments)[0], status)
+        """LibreOffice writes an empty text for it, and libraries that calculate nothing none."""
+        for text, status in (("<text:p/>", 0), ("", 1)):
+            empty = '<table:table-cell table:formula="of:=&quot;&quot;">{}</table:table-cell>'
+            data = ods(table(["EAN", "Name"], [SMALL, empty.format(text)]))
+            self.assertEqual(self.said(data, "--code", "EAN", "--title", "Name")[0], status)
 
     def test_dates(self) -> None:
         def dates(number_format: str | int, *arguments: str) -> list[str]:
@@ -787,10 +806,7 @@ class Encodings(RulesTest):
             ("Şeker, çay, ığdır", "cp1254"),
             ("Мыло душистое", "cp1251 cp866 koi8-r"),
             ("Μελάνι", "cp1253"),
-            ("税込価格 お茶 りんごジュース", "cp932 euc_jp"),
-            ("苹果 绿茶", "gb18030"),
-            ("蘋果 綠茶", "big5"),
-            ("사과 녹차", "cp949"),
+            ("税込価格 お茶 りんごジュース", "cp932"),
         ):
             for codec in codecs.split():
                 data = f"EAN;Name\n{SMALL};{text}\n".encode(codec)
@@ -801,17 +817,6 @@ class Encodings(RulesTest):
                 right = [one for one, word in read.items() if set(word.split()) <= set(words)]
                 decoded = [one for one in right if data.decode(one).endswith(f"{text}\n")]
                 self.assertTrue(decoded, (codec, messages))
-
-    def test_a_wrong_encoding_is_seen(self) -> None:
-        data = f"EAN;Name\n{SMALL};Zażółć\n".encode("cp1250")
-        _, messages, _ = self.said(data, "--code", "EAN", "--title", "Name", "--encoding", "cp1252")
-        said = 'the table is read as CP1252, with "Za¿ó³æ": is that right? cp1250 reads "Zażółć"'
-        self.assertEqual(messages, [said])
-        for word in ("Käse", "Größe", "créée", "½ Liter", "5 µm", "Señorita", "10 €"):
-            data = f"EAN;Name\n{SMALL};{word}\n".encode("cp1252")
-            self.assertEqual(
-                self.said(data, "--code", "EAN", "--encoding", "cp1252")[:2], (0, []), word
-            )
 
     def test_an_encoding_is_never_named_twice(self) -> None:
         data = "EAN;Name\n\x81;\xfd\n".encode("latin-1")

@@ -326,6 +326,12 @@ class Xlsx(WorkbookTest):
         titles = [label["title"] for label, _ in parts_of(done.stdout)[1]]
         self.assertEqual(titles, ["Bleistift", "鉛筆", "a\nb_x000D_ & <", "😀 A"])
 
+    def test_a_text_of_a_cell_without_its_type_goes_nowhere(self) -> None:
+        lost = "<c><is><t>lost</t></is></c>"
+        data = xlsx(rows(["EAN", "x", "Name"], [PENCIL, lost, "Tea"]))
+        label = {"row": 2, "title": "Tea"}
+        self.assertEqual(self.found(data, "--title", "Name"), [(label, f"ean13 {PENCIL}")])
+
     def test_a_wrong_dimension_and_cells_without_references(self) -> None:
         sheet = rows(["EAN", "Name"], [PENCIL, "a"], [SMALL, "b"], [BOOK, "c"])
         for text in (sheet, sheet.replace('<row r="3">', "<row>").replace('<row r="4">', "<row>")):
@@ -340,9 +346,7 @@ class Xlsx(WorkbookTest):
             f'<row r="1">{cell("EAN", "AB1")}</row><row'
             f' r="3">{cell("x", "B3")}{cell(PENCIL, "AB3")}</row>'
         )
-        self.check(
-            xlsx(lines), ["--code", "EAN"], [f"ean13 {PENCIL}"], ["row 2: the row is empty"], 1
-        )
+        self.check(xlsx(lines), ["--code", "EAN"], [f"ean13 {PENCIL}"])
         self.refused(
             xlsx(rows(["EAN"]) + rows(["EAN"])), f"has row 1 or a cell of it out of order: {AGAIN}"
         )
@@ -376,13 +380,8 @@ class Xlsx(WorkbookTest):
             f'<row r="4">{cell(PENCIL)}</row><row r="5"/><row r="6">{cell(SMALL)}</row><row'
             ' r="9"><c s="0"/></row>'
         )
-        problems = ["row 2: the row is empty, and all to row 3", "row 5: the row is empty"]
-        done = support.run_here("label-table", "--code", "EAN", input=xlsx(lines))
-        self.assertEqual(
-            support.messages(done), [f"label-table: {problem}" for problem in problems]
-        )
-        end = {"end": 1, "lines": 2, "left_out": [2, 3, 5], "left_out_count": 3}
-        self.assertEqual(parts_of(done.stdout)[2], end)
+        found = [({"row": 4}, f"ean13 {PENCIL}"), ({"row": 6}, f"ean8 {SMALL}")]
+        self.assertEqual(self.found(xlsx(lines)), found)
 
     def test_hidden_rows(self) -> None:
         lines = rows(["EAN"], [PENCIL], [SMALL], [BOOK], [], [SOAP])
@@ -393,9 +392,7 @@ class Xlsx(WorkbookTest):
         note = "1 hidden row is not printed: give --hidden to print them"
         self.check(xlsx(lines), ["--code", "EAN"], shown, [note])
         every = [f"ean13 {PENCIL}", f"ean8 {SMALL}", f"ean13 {BOOK}", f"upca {SOAP}"]
-        self.check(
-            xlsx(lines), ["--code", "EAN", "--hidden"], every, ["row 5: the row is empty"], 1
-        )
+        self.check(xlsx(lines), ["--code", "EAN", "--hidden"], every)
 
     def test_merged_cells(self) -> None:
         lines = rows(["EAN", "Name"], [PENCIL, "a"], [None, "b"], [SMALL, None], [BOOK, "c"])
@@ -642,12 +639,12 @@ class Formats(WorkbookTest):
             formats=["0.00", "0"],
         )
         note = (
-            'label-table: numbers are printed as "1234.50": is that right? else give --decimal ,'
-            " or ."
+            'label-table: numbers are printed as "1234.50": is that right? else give --decimal'
+            " comma or point"
         )
         for options, messages in (
             ((), [note]),
-            (("--decimal", "."), []),
+            (("--decimal", "point"), []),
             (("--text", "EAN"), [note]),
         ):
             done = support.run(
@@ -683,7 +680,9 @@ class Ods(WorkbookTest):
         )
         cells = {
             ods_cell("0007", "float", 'office:value="7"'): "code128 0007",
-            ods_cell("1.234", "float", 'office:value="1234"'): "code128 1234",
+            ods_cell("1.234", "float", 'office:value="1234"'): (
+                'is shown as "1.234", and would be drawn as 1234: enter it again as text'
+            ),
             ods_cell(
                 "LOT 7", "float", 'office:value="7"'
             ): 'is shown as "LOT 7", which is no whole number: enter it again as text',
@@ -729,11 +728,8 @@ class Ods(WorkbookTest):
         self.assertEqual(found[0], ({"row": 2, "text": ["Seife", "Seife", "x"]}, f"ean13 {PENCIL}"))
         self.assertEqual(found[1:], [({"row": 3}, f"ean8 {SMALL}"), ({"row": 4}, f"ean8 {SMALL}")])
         lines = table(["EAN"], [PENCIL], end=empty.format(3, 5) + row)
-        problem = "row 3: the row is empty, and all to row 5"
-        done = support.run_here("label-table", "--code", "EAN", input=ods(lines))
-        self.assertEqual(
-            (done.returncode, support.messages(done)), (1, [f"label-table: {problem}"])
-        )
+        found = [({"row": row}, f"ean8 {SMALL}") for row in (6, 7)]
+        self.assertEqual(self.found(ods(lines)), [({"row": 2}, f"ean13 {PENCIL}"), *found])
 
     def test_letters(self) -> None:
         comment = (

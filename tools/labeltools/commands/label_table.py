@@ -5,6 +5,7 @@ import gc
 import re
 import shlex
 import sys
+import time
 from pathlib import Path
 from typing import Any, Callable, Mapping, Sequence, TypeVar
 
@@ -14,14 +15,14 @@ from labeltools.tables.codes import AUTO, CodeRules, NAMES
 from labeltools.tables.columns import column_word
 from labeltools.common.command_line import CommandTalk, Parser, main_of, read_input, standard_output
 from labeltools.common.command_line import words_of, wrong_argument
-from labeltools.tables.guess import guess_of
+from labeltools.tables.guess import Guess, guess_of
 from labeltools.lines.file import LinesFile, read_lines
 from labeltools.common.messages import BadArguments, Place, Silence, ToolError
 from labeltools.common.messages import quoted, sentence, write_message
 from labeltools.common.names import listed
 from labeltools.sheets.number_format import date_section
 from labeltools.tables.prices import PricePattern
-from labeltools.lines.symbologies import SYMBOLOGIES
+from labeltools.lines.symbologies import EAN13, SYMBOLOGIES
 from labeltools.tables.table import Lines, lines_of_table
 from labeltools.tables.options import ColumnOptions, PriceRules, TableOptions
 
@@ -37,6 +38,9 @@ EXAMPLES = """examples:
 label-print prints these files; man label-table has all details."""
 SETTINGS = re.compile("[a-z-]+=[A-Za-z0-9]+(?:,[a-z-]+=[A-Za-z0-9]+)*")
 DELIMITER = re.compile('[^"\r\n\0 \x80-\U0010ffff]|tab|none')
+SIGNS = {"comma": ",", "point": ".", ",": ",", ".": "."}
+MOST_PROPOSED = 3  # commands
+QUIET, BETWEEN = 1.0, 0.3  # seconds before progress is shown, and until it is shown again
 MOST_ALIKE = 50  # messages about rows that differ in their cells alone
 Made = TypeVar("Made")
 
@@ -49,6 +53,26 @@ class TableTalk(CommandTalk):
     def __init__(self) -> None:
         super().__init__(TOOL)
         self.rows: dict[str, list[int]] = {}
+        self.next_time = time.monotonic() + QUIET
+        self.is_shown = False
+
+    def go_on(self, done: int, total: int) -> None:
+        """Shows on a terminal how many rows are read."""
+        if sys.stderr.isatty() and time.monotonic() >= self.next_time:
+            self.is_shown = True
+            self.next_time = time.monotonic() + BETWEEN
+            print(f"\r{TOOL}: {done} rows", end="", file=sys.stderr, flush=True)
+
+    def end_progress(self) -> None:
+        """Ends the line that shows progress."""
+        if self.is_shown:
+            self.is_shown = False
+            print(file=sys.stderr)
+
+    def say(self, text: Text, hint: Text = NOTHING) -> None:
+        """Writes something about the whole."""
+        self.end_progress()
+        super().say(text, hint)
 
     def note(self, place: Place, cell: str, reason: Text, hint: Text) -> None:
         """Writes why a row is left out."""
@@ -56,10 +80,12 @@ class TableTalk(CommandTalk):
         rows = self.rows.setdefault(kind, [])
         rows.append(place.number)
         if len(rows) <= MOST_ALIKE:
+            self.end_progress()
             super().note(place, cell, reason, hint)
 
     def finish(self) -> None:
         """Writes how many more rows were left out for each reason."""
+        self.end_progress()
         for kind, rows in self.rows.items():
             more = rows[MOST_ALIKE:]
             if more:
@@ -114,6 +140,13 @@ def condition(text: str) -> tuple[str, str]:
     return column, value
 
 
+def sign(text: str) -> str:
+    """Returns the decimal sign that an argument is."""
+    if text not in SIGNS:
+        raise wrong_argument(Text("{} is neither comma nor point", quoted(text)))
+    return SIGNS[text]
+
+
 def row_number(text: str) -> int:
     """Returns the number of a row that an argument is."""
     if not re.fullmatch("[1-9][0-9]{0,6}", text, re.ASCII):
@@ -160,7 +193,7 @@ OPTIONS: Mapping[str, Sequence[tuple[str, str, str, dict[str, Any]]]] = {
         ("price-as", "FORMAT", "write prices so, such as '0,00 €' or '¤ 0.00'", {"type": pattern}),
         ("price-text", "", "prices may be any text, such as 'on request'", {}),
         ("currency-name", "NAME", "a currency that label-table does not know", {"default": ""}),
-        ("decimal", "SIGN", "of numbers in .xlsx [default: the locale's]", {"choices": (",", ".")}),
+        ("decimal", "SIGN", "of numbers, comma or point [default: the locale's]", {"type": sign}),
         ("date-as", "FORMAT", "write dates so, such as dd.mm.yyyy", {"type": date_pattern}),
     ),
     OF_FILE: (
@@ -222,20 +255,16 @@ def understood(words: Sequence[str]) -> argparse.Namespace:
     """Returns the arguments that words are; raises `BadArguments`."""
     parser = command_line()
     arguments = parser.parse_args(words)
+    if arguments.code is None:
+        what = Text("the following arguments are required: --code")
+        raise BadArguments(what, proposed(words, arguments))
     check(parser, arguments)
     return arguments
 
 
 def check(parser: Parser, arguments: argparse.Namespace) -> None:
     """Raises `BadArguments` for arguments that are wrong, or do not go together."""
-    if arguments.code is None:
-        what = Text("the following arguments are required: --code")
-        raise BadArguments(what, proposed(arguments))
-    settings = arguments.settings
-    if settings is not None and not SETTINGS.fullmatch(settings):
-        parser.error(
-            Text("--settings {}: write it as height=30 or level=Q,mask=2", quoted(settings))
-        )
+    check_settings(parser, arguments)
     delimiter = arguments.delimiter
     if delimiter is not None and not DELIMITER.fullmatch(delimiter):
         parser.error(
@@ -254,25 +283,37 @@ def check(parser: Parser, arguments: argparse.Namespace) -> None:
         )
     if arguments.price_text and arguments.price_as:
         parser.error(Text("--price-text and --price-as do not go together"))
+    is_priced = arguments.price or arguments.unit_price or arguments.old_price
+    if arguments.price_as and not is_priced:
+        parser.error(Text("--price-as needs --price, --unit-price or --old-price"))
 
 
-def proposed(arguments: argparse.Namespace) -> Text:
-    """Returns the words that may fit a table, and the columns among which only the keeper knows the
-    codes or the price; none where it is not a file, or has no codes.
+def check_settings(parser: Parser, arguments: argparse.Namespace) -> None:
+    """Raises `BadArguments` for settings that are wrong, or that no row can have."""
+    settings = arguments.settings or ""
+    if arguments.settings is not None and not SETTINGS.fullmatch(settings):
+        parser.error(
+            Text("--settings {}: write it as height=30 or level=Q,mask=2", quoted(settings))
+        )
+    if arguments.symbology_column is None:
+        one = SYMBOLOGIES[EAN13.name if arguments.symbology == AUTO else arguments.symbology]
+        wrong = TableOptions(settings=settings).wrong_setting(one.name)
+        if wrong:
+            parser.error(Text("{} has no setting {}", one.title, wrong))
+
+
+def proposed(words: Sequence[str], arguments: argparse.Namespace) -> Text:
+    """Returns commands that may fit a table, each with all words that were given, and the columns
+    among which only the keeper knows the right one; nothing if it is not a file, or has no codes.
     """
     if arguments.table in (None, "-"):
         return NOTHING
     name, data = read_input(arguments.table)
     guess = guess_of(data, name, TableOptions(file=file_options(arguments)), Silence())
-    if "code" not in guess.columns and "code" not in guess.doubts:
-        return NOTHING
-    options: dict[str, Any] = {
-        option: column_word(guess.names, place) for option, place in guess.columns.items()
-    }
-    options["symbology"] = guess.symbology if guess.symbology != AUTO else ""
-    options["header-row"] = guess.header if guess.header > 1 else 0
-    options["no-header"] = not guess.header
-    words = shlex.join([TOOL, *words_of(options), arguments.table])
+    codes = guess.doubts.get("code", ()) or [
+        guess.columns[one] for one in guess.columns if one == "code"
+    ]
+    commands = [command_for(guess, code, words, arguments) for code in codes[:MOST_PROPOSED]]
     asked = [
         Text(
             "--{} may be {}",
@@ -280,8 +321,31 @@ def proposed(arguments: argparse.Namespace) -> Text:
             ", ".join(shlex.quote(column_word(guess.names, at)) for at in places),
         )
         for kind, places in guess.doubts.items()
+        if len(places) > 1 or kind != "code"
     ]
-    return joined("; ", [*asked, Text("try {}", words)])
+    tried = [Text("try {}", joined(", ", commands))] if commands else []
+    return joined("; ", [*asked, *tried])
+
+
+def command_for(
+    guess: Guess, code: int, words: Sequence[str], arguments: argparse.Namespace
+) -> str:
+    """Returns the command that a guess proposes with the codes of a column."""
+    columns = {**guess.columns, "code": code}
+    options: dict[str, Any] = {
+        option: column_word(guess.names, columns[option])
+        for option in ("code", "title", "price", "copies")
+        if option in columns and not getattr(arguments, option)
+    }
+    symbology = guess.symbologies.get(code, AUTO)
+    if arguments.symbology == AUTO and symbology != AUTO:
+        options["symbology"] = symbology
+    if arguments.header_row is None and arguments.has_header is None:
+        options["header-row"] = guess.header if guess.header > 1 else 0
+        options["no-header"] = not guess.header
+    is_last = words[-1:] == [arguments.table]
+    front, behind = (words[:-1], words[-1:]) if is_last else (words, [])
+    return shlex.join([TOOL, *front, *words_of(options), *behind])
 
 
 def older_lines(path: str) -> LinesFile:

@@ -3,14 +3,11 @@
 import re
 import unicodedata
 from collections import Counter
-from decimal import Decimal
 from typing import Iterable, Mapping, Sequence
 
 from labeltools.common.text import Text, counted
 
 NUMBER = re.compile("[0-9]{1,15}(?:[.,][0-9]{1,9})?")
-# letters of Greek and Cyrillic as those of Latin that look so
-LOOKS = str.maketrans("аеорсухікмнтвјѕοαυνκρτχ", "aeopcyxikmhtbjsoauvkptx")
 MOST_NAMED = 5  # rows in one message
 
 
@@ -73,26 +70,6 @@ def unlike(codes: Mapping[int, str]) -> list[int]:
     is_only = len(without) == 1 and others >= 3
     is_rare = others >= 10 and others >= 4 * len(without)
     return without if is_only or is_rare else []
-
-
-def looks_like(text: str, other: str) -> bool:
-    """Returns whether people may take a text for another one: by letters of another script, by what
-    nobody sees, by a letter twice, or by zeros of a number.
-
-    >>> [looks_like(one, "x") for one in ("х", "xx", "x\\u200b", "X!", "y", "box")]
-    [True, True, True, True, False, False]
-    >>> looks_like("01", "1"), looks_like("1,00", "1"), looks_like("11", "1")
-    (True, True, False)
-    """
-    if NUMBER.fullmatch(text) and NUMBER.fullmatch(other):
-        return Decimal(text.replace(",", ".")) == Decimal(other.replace(",", "."))
-    return likeness(text) == likeness(other) != ""
-
-
-def likeness(text: str) -> str:
-    """Returns the letters and digits of a text as they look."""
-    folded = unicodedata.normalize("NFKC", text).casefold().translate(LOOKS)
-    return re.sub(r"([^\W\d])\1+", r"\1", "".join(one for one in folded if one.isalnum()))
 
 
 def listed(rows: Sequence[int]) -> Text:

@@ -43,7 +43,7 @@ IS_ROUNDED_DATA = re.compile("[0-9](?:[.,][0-9]+)?[Ee][+][0-9]{2,}")
 ROUNDED = Text("the spreadsheet has rounded the number")
 ROUNDED_HINT = Text("format the column as text, enter it again")
 STRUCK = Text("has letters that are struck through")
-UNSEEN = Text("has letters that nobody sees")
+UNSEEN = Text("has white letters, which nobody sees")
 WITHOUT = Text("enter it again without them")
 SIZES = Text("has digits of two sizes side by side, as for cents without a decimal sign")
 SAME_SIZE = 0.9  # of two sizes of letters: a smaller share is another size
@@ -98,9 +98,6 @@ class Special:
         """Returns the number that it has, whatever its format shows; None where it has none."""
         return None
 
-    def agree(self) -> None:
-        """Raises `RowError` where its value and its text do not agree."""
-
     def shown(self) -> str:
         """Returns the text that the spreadsheet shows."""
         raise NotImplementedError
@@ -111,13 +108,9 @@ class Special:
         """
         return self.shown()
 
-    def digits(self) -> str:
-        """Returns the digits of a number with a check digit, however they are shown."""
-        return self.shown()
-
-    def data(self) -> str:
-        """Returns the data of a code of any letters: what is shown, where that is what was typed
-        too.
+    def digits(self, is_data: bool) -> str:
+        """Returns the digits of a code: with a check digit, however they are shown; as data, what
+        is shown, if that is what was typed too.
         """
         return self.shown()
 
@@ -193,13 +186,13 @@ class Form(NamedTuple):
 
 
 PLAIN = Form()
+NO_LETTERS = {Mark.STRUCK: STRUCK, Mark.WHITE: UNSEEN}  # marks of letters that are none
 Runs = Sequence[tuple[str, Form]]  # letters of a cell, each with their form
 
 
-def text_of_runs(runs: Runs, around: Mark = Mark.NONE) -> str | Fault:
+def text_of_runs(runs: Runs) -> str | Fault:
     """Returns the text of runs: digits that are raised or lowered are such digits. There is none
-    where some letters are none, but for the mark of the whole cell, and where a number goes on in
-    letters of another size.
+    if some letters are none, or a number goes on in letters of another size.
 
     >>> text_of_runs([("7", PLAIN), ("99", Form(Mark.RAISED))])
     '7⁹⁹'
@@ -208,15 +201,13 @@ def text_of_runs(runs: Runs, around: Mark = Mark.NONE) -> str | Fault:
     >>> text_of_runs([("7", Form(size=12)), ("99", Form(size=8))]).what
     'has digits of two sizes side by side, as for cents without a decimal sign'
     """
-    if len(runs) == 1 and runs[0][1].mark is around is Mark.NONE:
+    if len(runs) == 1 and runs[0][1].mark is Mark.NONE:
         return runs[0][0]  # most cells, at once
     found = [(moved(text, form.mark), form) for text, form in runs if text]
     text = "".join(text for text, _ in found)
     marks = {form.mark for part, form in found if part.strip()}
-    if Mark.STRUCK in marks:
-        return Fault(STRUCK, WITHOUT, text)
-    if Mark.WHITE in marks and around is not Mark.WHITE:
-        return Fault(UNSEEN, WITHOUT, text)
+    for mark in marks & {*NO_LETTERS}:
+        return Fault(NO_LETTERS[mark], WITHOUT, text)
     for (one, form), (other, after) in pairwise(found):
         is_number = one[-1].isdecimal() and other[0].isdecimal()
         if is_number and min(form.size, after.size) < SAME_SIZE * max(form.size, after.size):
@@ -233,8 +224,8 @@ def moved(text: str, mark: Mark) -> str:
 
 def formed(cell: Cell, form: Form) -> Cell:
     """Returns a cell all of whose letters have a form."""
-    if form.mark is Mark.STRUCK and cell:
-        return Fault(STRUCK, WITHOUT, cell if isinstance(cell, str) else cell.value)
+    if form.mark in NO_LETTERS and cell:
+        return Fault(NO_LETTERS[form.mark], WITHOUT, cell if isinstance(cell, str) else cell.value)
     if not form.mark.moves or isinstance(cell, (Fault, Truth)):
         return cell
     return moved(cell, form.mark) if isinstance(cell, str) else Fault(RAISED, AS_TEXT, cell.value)
@@ -262,14 +253,13 @@ def taken_of(cell: Special, use: Use) -> str:
     kind = cell.kind
     if kind not in use.kinds:
         raise RowError(IS_TRUTH if kind is Kind.TRUTH else use.of_moment, AS_TEXT)
-    cell.agree()
     if use is PRICE and (cell.number() or 0) < 0:
         raise RowError(Text("is below zero, though its number format may not show it"))
-    if use is DIGITS:
-        return cell.digits()
-    if use is DATA:
-        return cell.data()
+    if use in (DIGITS, DATA):
+        return cell.digits(use is DATA)
     if use is COPIES and kind is Kind.NUMBER:
+        if not re.search("[0-9]", shown := cell.shown()):  # TRUE, though its value is 1
+            raise RowError(Text("is shown as {}, which is no number", quoted(shown)), AS_TEXT)
         return cell.value
     return cell.shown() if use is MARK else cell.printed()
 

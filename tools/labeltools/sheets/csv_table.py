@@ -10,7 +10,7 @@ from typing import NamedTuple
 from labeltools.sheets.encoding import decoded
 from labeltools.sheets.options import CsvOptions
 from labeltools.common.text import Text
-from labeltools.common.messages import BAD_ARGUMENTS, RowError, Talk, ToolError, named, quoted
+from labeltools.common.messages import BAD_ARGUMENTS, RowError, ToolError, named, quoted
 from labeltools.common.names import name_of, row_of_names
 from labeltools.sheets.rows import Row
 
@@ -19,6 +19,7 @@ LONGEST_LINE = 1 << 20  # letters
 MOST_LINE_ENDS = 1_200_000  # a spreadsheet has at most 1,048,576 rows
 ROWS_LOOKED_AT = 1000  # for the delimiter
 NAMES_LOOKED_AT = 50  # for the row of names
+MARKS = "\t;,|"  # delimiters that are found by themselves
 ONE_COLUMN = "\x1f"  # a delimiter that no table has
 DELIMITERS = {"tab": "\t", "none": ONE_COLUMN}
 # the first line in which some exports name the delimiter for Excel; no spreadsheet shows it as a
@@ -141,7 +142,7 @@ class CsvTable:
         return Shape(head.number, named, width, max(rest, 0), asked if has_names else range(width))
 
 
-def csv_table(data: bytes, name: str, options: CsvOptions, talk: Talk) -> CsvTable:
+def csv_table(data: bytes, name: str, options: CsvOptions) -> CsvTable:
     """Returns a table of text; raises `ToolError` where its encoding or its delimiter is not
     sure.
     """
@@ -150,7 +151,7 @@ def csv_table(data: bytes, name: str, options: CsvOptions, talk: Talk) -> CsvTab
             Text("{} has more than {} MB", name, LARGEST_FILE >> 20),
             Text("make several tables of it"),
         )
-    text = decoded(data, name, options.file.encoding, talk)
+    text = decoded(data, name, options.file.encoding)
     if text.count("\n") + text.count("\r") - text.count("\r\n") > MOST_LINE_ENDS:
         raise ToolError(
             Text("{} has more than {} line ends", name, MOST_LINE_ENDS), Text("is it a table?")
@@ -179,7 +180,7 @@ def delimiter_of(text: str, begin: int, given: str | None, options: CsvOptions) 
     """Returns the delimiter: the one that was given, or else the one that row 1 has and that is
     surely no data.
     """
-    marks = [mark for mark in ("\t", ";", ",", given) if mark]
+    marks: list[str] = [*MARKS, given] if given else [*MARKS]
     fits = {mark: fitness(text, begin, mark, options) for mark in marks}
     best = max(fits, key=lambda mark: fits[mark])
     is_cut = fits[best].is_cut
@@ -225,7 +226,7 @@ def delimiter_of_names(text: str, begin: int, options: CsvOptions) -> str:
     """
     if options.file.has_header is False:
         return ""
-    for mark in ("\t", ";", ","):
+    for mark in MARKS:
         rows = islice(parsed(text, begin, mark), NAMES_LOOKED_AT)
         found = row_of_names(((row.number, row.cells) for row in rows), options.asked)
         if found > 1:

@@ -9,7 +9,7 @@ from collections.abc import Iterable, Mapping, Sequence
 from contextlib import suppress
 from itertools import islice
 
-from labeltools.common.messages import BAD_ARGUMENTS, Talk, ToolError, quoted
+from labeltools.common.messages import BAD_ARGUMENTS, ToolError, quoted
 from labeltools.common.text import Text, joined
 
 # the marks in front of a text; that of UTF-32 before the one of UTF-16, which is its beginning
@@ -19,16 +19,8 @@ MARKS = {"\ufeff".encode(codec): codec for codec in UNICODE}
 CANDIDATES = (
     *("cp1252", "iso8859-15", "cp1250", "iso8859-2", "cp1254", "cp1257", "cp1251", "cp1253"),
     *("cp850", "cp852", "cp437", "cp866", "mac_roman", "koi8-r", "cp1255", "cp1256", "cp874"),
-    *("cp932", "euc_jp", "gb18030", "big5", "cp949"),
+    "cp932",
 )
-# the first bytes of the letters that are written often, of encodings with two bytes a letter
-OFTEN = {
-    "cp932": range(0x81, 0x98),
-    "euc_jp": range(0xA1, 0xD0),
-    "gb18030": range(0xA1, 0xD8),
-    "big5": range(0xA1, 0xC7),
-    "cp949": range(0xA1, 0xC9),
-}
 MOST_READINGS = 4
 MOST_LINES = 1000  # that are tried
 MOST_WORDS = 500
@@ -41,11 +33,9 @@ IN_WORDS = "’‘´`‐–・ー〜"  # signs that words have between letters
 SIGNS = f"{CURRENCY}{IN_WORDS}°²³½¼¾®™©§«»„“”‚—…·×µºª№¡¿¢"  # that tables have beside words
 JAPANESE = ("HIRAGANA", "KATAKANA", "KATAKANA-HIRAGANA", "HALFWIDTH", "FULLWIDTH", "CJK")
 NO_SCRIPTS = ("MODIFIER", "MICRO", "FEMININE", "MASCULINE", "COMBINING")
-# what words have that were read by the wrong one of two encodings of Windows
-SUSPICIOUS = re.compile(r"[^\W\d_]+[¡-©«-±´¶-¸»-¿×÷]+[^\W\d_]\w*|\w*[À-ÿ]{3,}\w*")
 
 
-def decoded(data: bytes, name: str, encoding: str | None, talk: Talk) -> str:
+def decoded(data: bytes, name: str, encoding: str | None) -> str:
     """Returns the text of a table, with its mark; raises `ToolError` with what to do."""
     known = known_encoding(data)
     try:
@@ -63,8 +53,6 @@ def decoded(data: bytes, name: str, encoding: str | None, talk: Talk) -> str:
     if unread:
         start = len(text[: unread.start()].encode(codec, "replace"))
         raise wrong_encoding(data, name, codec, start)
-    if encoding and not known:
-        say_suspicious(text, codec, talk)
     return text
 
 
@@ -138,7 +126,7 @@ def readings(data: bytes, without: str) -> dict[str, str]:
         found = OTHER_WORD.findall(text_by(sample, codec))[:MOST_WORDS]
         if codec != without and found and found not in words.values():
             words[codec] = found
-    odd = {codec: sum(is_odd(one, codec) for one in own) / len(own) for codec, own in words.items()}
+    odd = {codec: sum(is_odd(one) for one in own) / len(own) for codec, own in words.items()}
     best = min(odd.values(), default=0.0) + TOLERANCE
     good = (codec for codec in sorted(odd, key=odd.__getitem__) if odd[codec] <= best)
     shown = list(islice((codec for codec in good if text_by(data, codec)), MOST_READINGS))
@@ -170,11 +158,11 @@ def word_of(words: Sequence[str], others: Iterable[Sequence[str]]) -> str:
     return " ".join(word[:LONGEST_WORD] for word in found)
 
 
-def is_odd(word: str, codec: str) -> bool:
+def is_odd(word: str) -> bool:
     """Returns whether nobody writes a word: it has letters of two scripts, a capital behind a small
     letter, a sign between letters or one that is rare, or letters that are.
 
-    >>> [is_odd(one, "cp1252") for one in ("Käse", "2,99€", "F³ller", "KŠse", "¤", "Ñûð")]
+    >>> [is_odd(one) for one in ("Käse", "2,99€", "F³ller", "KŠse", "¤", "Ñûð")]
     [False, False, True, True, True, True]
     """
     letters = [sign for sign in word if sign.isalpha()]
@@ -185,7 +173,7 @@ def is_odd(word: str, codec: str) -> bool:
         scripts -= {*JAPANESE} if has_small else {*JAPANESE, "LATIN"}
         scripts |= {"CJK"}
     is_foreign = "LATIN" in scripts and len(letters) == len(others) > 2
-    if len(scripts) > 1 or is_foreign or any(is_rare(sign, codec) for sign in others):
+    if len(scripts) > 1 or is_foreign:
         return True
     for before, sign, behind in zip(f" {word}", word, f"{word[1:]} "):
         if sign.isascii():
@@ -198,26 +186,6 @@ def is_odd(word: str, codec: str) -> bool:
     return False
 
 
-def is_rare(letter: str, codec: str) -> bool:
-    """Returns whether a letter is one of those that texts in an encoding seldom have."""
-    encoded = letter.encode(codec, "replace")
-    return len(encoded) > 1 and encoded[0] not in OFTEN.get(codec, range(256))
-
-
 def readings_text(readings: Mapping[str, str]) -> Text:
     """Returns how encodings read a word."""
     return joined(", ", (Text("{} reads {}", one, quoted(word)) for one, word in readings.items()))
-
-
-def say_suspicious(text: str, codec: str, talk: Talk) -> None:
-    """Says a word that looks as if it was read by the wrong encoding."""
-    if codec not in ("cp1252", "iso8859-1", "cp1250"):
-        return
-    if found := SUSPICIOUS.search(text):
-        others = readings(found[0].encode(codec), codec)
-        read = readings_text(others)
-        if read:
-            talk.say(
-                Text("the table is read as {}, with {}", codec.upper(), quoted(found[0])),
-                Text("is that right? {}", read),
-            )

@@ -12,8 +12,10 @@ from dataclasses import dataclass, field
 from datetime import date, datetime, timedelta
 from decimal import ROUND_HALF_UP, Context, Decimal
 from functools import lru_cache
+from pathlib import Path
 from typing import NamedTuple, Sequence
 
+from labeltools.common.lists import lists_of
 from labeltools.common.text import Text
 from labeltools.common.messages import RowError, quoted
 
@@ -67,14 +69,9 @@ DAY_ZERO = date(1899, 12, 30)
 SECONDS = 86400  # of a day
 SAME_SECOND = Decimal("0.01")
 WHOLE_PATTERN = re.compile("[#?,]*[#?0]0?0?")  # with signs of thousands
-# the decimal sign and the one of thousands by language, and by country where that differs
-COMMA_POINT = "de es it nl pt da el id tr hr sl ro is vi sr bs ca gl eu mk sq"
-COMMA_SPACE = "fr ru uk be cs sk pl hu bg fi sv nb nn no lt lv et ka kk hy az"
-POINT_COMMA = (
-    "en zh ja ko th he hi ms ta te bn ur sw af_NA es_MX es_US es_DO es_GT es_HN es_NI es_PA es_PE"
-    " es_PR es_SV"
-)
-POINT_APOSTROPHE = "de_CH it_CH de_LI rm"
+
+
+SPACES_OF = {ord("_"): "\u00a0", ord("~"): "\u202f"}  # in the file of signs
 
 
 class Signs(NamedTuple):
@@ -84,15 +81,11 @@ class Signs(NamedTuple):
     thousands: str
 
 
+# the signs of languages, and of countries where these differ
 SIGNS_OF = {
-    **{name: Signs(",", ".") for name in COMMA_POINT.split()},
-    **{name: Signs(",", "\u00a0") for name in COMMA_SPACE.split()},
-    **{name: Signs(".", ",") for name in POINT_COMMA.split()},
-    **{name: Signs(".", "’") for name in POINT_APOSTROPHE.split()},
-    "fr": Signs(",", "\u202f"),
-    "fr_CH": Signs(",", "\u202f"),
-    "pt_PT": Signs(",", "\u00a0"),
-    "de_AT": Signs(",", "\u00a0"),
+    language: Signs(*signs.translate(SPACES_OF))
+    for signs, languages in lists_of(Path(__file__).with_name("signs.txt")).items()
+    for language in languages
 }
 
 
@@ -150,11 +143,12 @@ class Formatter:
 
     def keep(self, number_format: str, text: str) -> None:
         """Keeps a text that was shown, where the file does not say its signs, or the order of its
-        date.
+        date; a slash in a date stands for the sign of the language.
         """
-        if number_format == DATE_OF_LANGUAGE:
+        is_date = is_date_format(number_format)
+        if number_format == DATE_OF_LANGUAGE or is_date and "/" in number_format:
             self.first_date = self.first_date or text
-        elif not self.first_number and not is_date_format(number_format):
+        elif not self.first_number and not is_date:
             has_sign = self.signs.decimal in text or self.signs.thousands in text
             self.first_number = text if has_sign else ""
 

@@ -11,11 +11,11 @@ from typing import NamedTuple
 from zipfile import ZipFile
 
 from labeltools.common.text import Text
-from labeltools.common.messages import RowError, ToolError, quoted
+from labeltools.common.messages import RowError, Talk, ToolError, quoted
 from labeltools.sheets.number_format import DAY_ZERO, Formatter, date_section, date_text, digits_of
 from labeltools.sheets.cells import Cell, Fault, Form, Kind, Mark, RAISED, Special, Truth
 from labeltools.sheets.cells import no_value, text_of_runs
-from labeltools.sheets.rows import Doubt, Merge, Row
+from labeltools.sheets.rows import Merge, Row
 from labeltools.sheets.workbook import (
     LARGEST_ROW,
     MOST_COLUMNS,
@@ -23,13 +23,12 @@ from labeltools.sheets.workbook import (
     NOT_SAVED_HINT,
     SAVE_AGAIN,
 )
-from labeltools.sheets.workbook import Attributes, Reader, Sheet, TOO_LARGE, TYPED, areas_of
-from labeltools.sheets.workbook import chosen, elements, exact_of, filled, has_word, local
+from labeltools.sheets.workbook import Attributes, Reader, Sheet, TOO_LARGE, TYPED
+from labeltools.sheets.workbook import chosen, elements, exact_of, filled, local
 from labeltools.sheets.workbook import merges_at, repeats, rows_from, whole
 
 TABLE = "body/spreadsheet/table"
 CONTENT = "content.xml"
-CONDITION = "conditional-format"
 # groups of rows and columns, which may be in one another, and count nothing
 GROUPS = re.compile("/table-(?:row-group|header-rows|rows|column-group|header-columns|columns)")
 # a style, and what is right in it; formats of numbers have properties, too
@@ -39,15 +38,12 @@ PROPERTIES = ("text-properties", "table-cell-properties")
 MOST_PARENTS = 32  # of a style; a file that has more, or a ring of them, is no spreadsheet's
 LINES = ("text-line-through-style", "text-line-through-type")
 HEIGHT = re.compile(r"(super|[1-9][0-9]*(?:\.[0-9]+)?%)|(sub|-).*")
-# the corner of an area behind the name of its sheet
-CORNER = re.compile(r"(?:^|\.)\$?([A-Z]{1,3})\$?([0-9]{1,7})(?![^\s:])")
 NUMBERS = ("float", "percentage", "currency", "date", "time")
 # white space that counts, by signs that no XML has, and other white space
 SIGNS = {"s": "\0", "tab": "\1", "line-break": "\2"}
 UNSIGNED = {0: " ", 1: "\t", 2: "\n"}
 SPACE = re.compile("[ \t\r\n]+")
 PLAINLY_SHOWN = re.compile(r"[0-9.,'’\s]+(?:E[+][0-9]+)?")
-THOUSANDS = re.compile(r"(?<=[0-9])[.,'’\s](?=(?:[0-9]{3})+(?![0-9]))")
 DIGITS = re.compile(r"[0-9][0-9.,'’\u00a0\u202f ]*")
 # exponents and fractions are not compared with the value
 UNREAD = re.compile(r"[Ee][-+−]?[0-9]|[0-9] ?/ ?[0-9]|[^\x00-\x7f\W\d_]*[^\x00-\x7f\D]")
@@ -55,8 +51,6 @@ WHOLE = re.compile("[0-9]+")
 DAY = re.compile("([0-9]{4})-([0-9]{2})-([0-9]{2})")
 LAST_SIGN = re.compile(r"[.,]([0-9]+)[^0-9]*\Z")
 ROUNDING = Decimal("0.5000001")  # of the last digit that is shown
-# they calculate a formula before they save it, so one without a text has none to show
-CALCULATES = ("LibreOffice", "OpenOffice", "Collabora", "NeoOffice")
 
 
 @dataclass(slots=True)
@@ -93,41 +87,33 @@ class Number(Special):
 
     def shown(self) -> str:
         """Returns the text that is shown."""
+        self.agree()
         pattern = self.formatter.date_as
         if pattern and self.moment:
             return date_text(date_section(pattern), days_of(self.moment))
         return self.text
 
-    def digits(self) -> str:
-        """Returns the digits as they are shown, or else those of the number."""
+    def digits(self, is_data: bool) -> str:
+        """Returns the digits as they are shown, or else those of the number, but not as data."""
+        self.agree()
         if self.exact is None or not PLAINLY_SHOWN.fullmatch(self.text):
-            raise RowError(
-                Text("is shown as {}, which is no whole number", quoted(self.text)), TYPED
-            )
+            what = Text("is shown as {}, which is no whole number", quoted(self.text))
+            raise RowError(what, TYPED)
         digits = digits_of("0", self.exact)  # none where the number has more than a file keeps
-        return self.text if self.text.isdecimal() else digits
-
-    def data(self) -> str:
-        """Returns the digits, which must be those that are shown; signs between thousands are
-        none.
-        """
-        digits = self.digits()
-        if THOUSANDS.sub("", self.text) != digits:
+        if is_data and not self.text.isdecimal():
             what = Text("is shown as {}, and would be drawn as {}", quoted(self.text), digits)
             raise RowError(what, TYPED)
-        return digits
+        return self.text if self.text.isdecimal() else digits
 
 
 @dataclass
 class Styles:
     """The styles of a file by their families and names: what they say themselves, and their
-    parents; the name of a default style is empty. `targets` are the styles that a condition puts in
-    the place of another one.
+    parents; the name of a default style is empty.
     """
 
     own: dict[tuple[str, str], dict[str, str]] = field(default_factory=dict)
     parents: dict[tuple[str, str], str] = field(default_factory=dict)
-    targets: dict[str, list[str]] = field(default_factory=dict)
     hidden: set[str] = field(default_factory=set)  # styles of tables that nobody sees
     last: tuple[str, str] = ("", "")  # the style that is read
     forms: dict[tuple[str, str], Form] = field(default_factory=dict)  # those that were asked for
@@ -145,8 +131,6 @@ class Styles:
             self.own[self.last] |= found
         elif name == "table-properties" and found.get("display") == "false":
             self.hidden.add(self.last[1])
-        elif name == "map":
-            self.targets.setdefault(self.last[1], []).append(found.get("apply-style-name", ""))
 
     def said(self, family: str, name: str) -> dict[str, str]:
         """Returns what a style and its parents say, up to the default style."""
@@ -165,17 +149,6 @@ class Styles:
             own = self.said(SPAN, span) if span else {}
             self.forms[key] = form_of({**self.said(CELL, cell), **own})
         return self.forms[key]
-
-    def doubt(self, name: str) -> Doubt | None:
-        """Returns what is doubtful of cells of a style."""
-        if self.form(name).mark is Mark.WHITE:
-            return Doubt.UNSEEN
-        targets = self.targets.get(name)
-        return Doubt.CONDITION if targets and any(map(self.strikes, targets)) else None
-
-    def strikes(self, name: str) -> bool:
-        """Returns whether a style strikes the letters of cells through."""
-        return self.form(name).mark is Mark.STRUCK
 
 
 def form_of(said: Mapping[str, str]) -> Form:
@@ -197,42 +170,6 @@ def form_of(said: Mapping[str, str]) -> Form:
     return Form(Mark.WHITE if is_white else Mark.NONE, points)
 
 
-class Look(NamedTuple):
-    """How the cells of a style look: the form of their letters, and what is doubtful of them."""
-
-    form: Form
-    doubt: Doubt | None
-
-
-class Condition(NamedTuple):
-    """An area of cells which a condition may show by a style, or hide."""
-
-    area: Merge
-    style: str
-    is_hiding: bool
-
-
-def conditions_of(archive: ZipFile) -> list[list[Condition]]:
-    """Returns the conditions of each sheet, which are below its rows; no list if no sheet has
-    one.
-    """
-    conditions: list[list[Condition]] = []
-    if not has_word(archive, CONTENT, CONDITION.encode()):
-        return conditions
-    areas: list[Merge] = []  # of the conditions that are read
-    for name, found in elements(archive, CONTENT, "table-row"):
-        outer, _, last = name.rpartition("/")
-        if name == TABLE:
-            conditions.append([])
-        elif last == CONDITION:
-            references = found.get("target-range-address", "").split()
-            areas = areas_of(" ".join(map(bare_area, references)))
-        elif outer.endswith(f"/{CONDITION}") and conditions:
-            how = found.get("apply-style-name", ""), found.get("show-value") == "false"
-            conditions[-1] += [Condition(area, *how) for area in areas]
-    return conditions
-
-
 def styles_of(archive: ZipFile) -> Styles:
     """Returns the styles that a file has beside those of its content."""
     styles = Styles()
@@ -242,23 +179,9 @@ def styles_of(archive: ZipFile) -> Styles:
     return styles
 
 
-class Programs(Reader[str]):
-    """Finds the names of the programs that wrote a file."""
-
-    def ended(self, name: str) -> None:
-        """Finds a name."""
-        if name == "generator":
-            self.found.append(self.text)
-
-
-def is_calculated(archive: ZipFile) -> bool:
-    """Returns whether the program that wrote a file calculates its formulas before."""
-    if "meta.xml" not in archive.namelist():
-        return False
-    return any(name.startswith(CALCULATES) for name in Programs().read(archive, "meta.xml"))
-
-
-def rows_of_ods(archive: ZipFile, wanted: str | None, formatter: Formatter) -> Iterator[Row]:
+def rows_of_ods(
+    archive: ZipFile, wanted: str | None, formatter: Formatter, _: Talk
+) -> Iterator[Row]:
     """Yields the rows of the sheet that is wanted, else of the only one that is visible and has
     data.
     """
@@ -282,21 +205,16 @@ class Head(NamedTuple):
 class RowReader(Reader[tuple[Head, Row]]):
     """Finds the rows of a file, each with its sheet, and an empty row for each sheet.
 
-    `areas` are those of a sheet whose cells may be shown as something else, `columns` the styles of
-    its columns, and what follows is of the row and of the cell that are read; `row_depth` and
-    `cell_depth` are those of their elements, 0 for none.
+    `columns` are the styles of the columns, and what follows is of the row and of the cell that are
+    read; `row_depth` and `cell_depth` are those of their elements, 0 for none.
     """
 
     def __init__(self, archive: ZipFile, formatter: Formatter) -> None:
         super().__init__()
         self.formatter = formatter
-        self.is_calculated = is_calculated(archive)
-        self.conditions = conditions_of(archive)
         self.styles = styles_of(archive)
-        self.looks: dict[str, Look] = {}  # of the styles that were asked for
         self.path: list[str] = []  # around the rows
         self.sheet = Head(-1, "", False)
-        self.areas: list[Merge] = []
         self.columns: list[str] = []
         self.number = 1
         self.merges: list[Merge] = []
@@ -304,7 +222,6 @@ class RowReader(Reader[tuple[Head, Row]]):
         self.row_depth = self.cell_depth = 0
         self.cells: list[Cell] = []
         self.links: dict[int, str] = {}
-        self.doubts: dict[int, Doubt] = {}
         self.place = self.letters = 0
         self.cell: Attributes = {}
         self.lines: list[Line] = []
@@ -347,7 +264,7 @@ class RowReader(Reader[tuple[Head, Row]]):
         self.path.append(name)
         at = GROUPS.sub("", "/".join(self.path[1:]))
         self.styles.take(at, attributes)
-        if at == TABLE:
+        if at == TABLE and name == "table":
             self.begin_sheet(attributes)
         elif at == f"{TABLE}/table-column":
             self.add_columns(attributes)
@@ -359,9 +276,6 @@ class RowReader(Reader[tuple[Head, Row]]):
         place = self.sheet.place + 1
         is_visible = attributes.get("style-name") not in self.styles.hidden
         self.sheet = Head(place, attributes.get("name", ""), is_visible)
-        here = self.conditions[place] if self.conditions else ()
-        shown = (one for one in here if one.is_hiding or self.styles.strikes(one.style))
-        self.areas = [one.area for one in shown]
         self.columns = []
         self.number = 1
         self.merges = []
@@ -379,7 +293,7 @@ class RowReader(Reader[tuple[Head, Row]]):
         self.row_depth = self.depth
         self.is_inside = True
         self.merges = merges_at(self.merges, self.number)
-        self.cells, self.links, self.doubts = [], {}, {}
+        self.cells, self.links = [], {}
         self.place = self.letters = 0
 
     def begin_cell(self, attributes: Attributes) -> None:
@@ -446,37 +360,22 @@ class RowReader(Reader[tuple[Head, Row]]):
 
     def add_cell(self, style: str, place: int, count: int) -> None:
         """Adds the cell that is read by a style, so many times."""
-        look = self.look(style)
-        cell = self.cell_by(style, look.form)
-        if not cell:
-            return
-        self.add_letters(count * (len(cell) if isinstance(cell, str) else 1))
-        filled(self.cells, place).extend([cell] * count)
-        if look.doubt:
-            self.doubts |= dict.fromkeys(range(place, place + count), look.doubt)
+        if cell := self.cell_by(style):
+            self.add_letters(count * (len(cell) if isinstance(cell, str) else 1))
+            filled(self.cells, place).extend([cell] * count)
 
     def end_row(self) -> None:
         """Finds the row that is read, as often as it is repeated, but none that is empty and not
         hidden.
         """
-        for area in self.areas:
-            if area.row <= self.number <= area.last_row:
-                places = range(area.place, min(area.last_place + 1, len(self.cells)))
-                self.doubts |= dict.fromkeys(places, Doubt.CONDITION)
         is_hidden = self.row.get("visibility", "visible") != "visible"
         repeat = repeats(self.row, "number-rows-repeated")
         if is_hidden or any(self.cells):
             merges = tuple(self.merges)
             row = Row(self.number, self.cells, None, is_hidden, merges, self.links)
-            rows = rows_from(row._replace(doubts=self.doubts), self.letters, repeat)
+            rows = rows_from(row, self.letters, repeat)
             self.found += ((self.sheet, one) for one in rows)
         self.number += repeat
-
-    def look(self, style: str) -> Look:
-        """Returns how the cells of a style look."""
-        if style not in self.looks:
-            self.looks[style] = Look(self.styles.form(style), self.styles.doubt(style))
-        return self.looks[style]
 
     def line_text(self, line: Line, style: str, form: Form) -> str | Fault:
         """Returns the text of a line of a cell of a style."""
@@ -486,11 +385,12 @@ class RowReader(Reader[tuple[Head, Row]]):
             runs = [(line, "")] if isinstance(line, str) else line
             of = self.styles.form
             found = [(one, of(style, span) if span else form) for one, span in runs if one]
-            text = text_of_runs(found, form.mark)
+            text = text_of_runs(found)
         return text if isinstance(text, Fault) else SPACE.sub(" ", text).strip(" ")
 
-    def cell_by(self, style: str, form: Form) -> Cell:
+    def cell_by(self, style: str) -> Cell:
         """Returns the cell that is read by its type, its text, and a style."""
+        form = self.styles.form(style)
         lines: list[str] = []
         for line in self.lines:
             text = self.line_text(line, style, form)
@@ -512,19 +412,9 @@ class RowReader(Reader[tuple[Head, Row]]):
             return Fault(no_value(text).what, value=text)
         if kind == "boolean":
             return Truth(text)
-        is_uncalculated = "formula" in self.cell and not self.is_calculated
-        if not kind and not text and is_uncalculated:
+        if not kind and "formula" in self.cell and not self.lines:
             return Fault(NOT_SAVED, NOT_SAVED_HINT)
         return text
-
-
-def bare_area(area: str) -> str:
-    """Returns an area without the name of its sheet.
-
-    >>> bare_area("Sheet1.C2:Sheet1.C9"), bare_area("$AB12.$C$2")
-    ('C2:C9', 'C2')
-    """
-    return ":".join("".join(corner) for corner in CORNER.findall(area))
 
 
 @lru_cache(maxsize=4096)

@@ -1,7 +1,6 @@
 """Rows of a table, of whatever kind its file is."""
 
-from enum import Enum, auto
-from typing import Iterator, Mapping, NamedTuple, Protocol, Sequence
+from typing import Mapping, NamedTuple, Sequence
 
 from labeltools.sheets.cells import Cell, Fault, seen
 from labeltools.common.messages import RowError
@@ -19,19 +18,11 @@ class Merge(NamedTuple):
     last_place: int
 
 
-class Doubt(Enum):
-    """Why a cell may not be meant, though it is read."""
-
-    CONDITION = auto()  # that strikes its letters through, or hides them
-    UNSEEN = auto()  # its letters have the colour of the cell
-
-
 class Row(NamedTuple):
     """A row with the number that a spreadsheet shows.
 
     `problem` leaves the row out. `merges` are the merged cells that cross the row, `links` the
-    addresses that cells lead to and `doubts` what is doubtful of them, by their places. A hidden
-    row that is blank may be there `repeat` times, from `number` on.
+    addresses that cells lead to, by their places.
     """
 
     number: int
@@ -40,8 +31,6 @@ class Row(NamedTuple):
     is_hidden: bool = False
     merges: Sequence[Merge] = ()
     links: Mapping[int, str] | None = None
-    repeat: int = 1
-    doubts: Mapping[int, Doubt] | None = None
 
     def is_blank(self) -> bool:
         """Returns whether the row has nothing in it."""
@@ -69,12 +58,3 @@ class Row(NamedTuple):
     def seen(self, place: int) -> str:
         """Returns a cell as messages and names have it; nothing where it has no text."""
         return seen(self.cell(place))
-
-
-class Table(Protocol):
-    """A table of whatever kind."""
-
-    def rows(self) -> Iterator[Row]:
-        """Yields its rows from the top; empty ones may be missing. May raise `ToolError` in the
-        middle.
-        """

@@ -285,12 +285,10 @@ def rows_from(row: Row, letters: int, repeat: int = 1) -> Iterator[Row]:
                 MOST_MERGES,
             )
         )
-    is_repeated = repeat > 1 and not row.is_hidden
-    if letters > LARGEST_ROW or is_repeated and (letters + EACH) * repeat > LARGEST_ROW:
+    if row.is_blank():  # there may be a million
+        repeat = 1
+    if letters > LARGEST_ROW or repeat > 1 and (letters + EACH) * repeat > LARGEST_ROW:
         raise ToolError(TOO_LARGE, SAVE_AGAIN)
-    if repeat > 1 and row.is_hidden and row.is_blank():  # there may be a million
-        yield row._replace(repeat=repeat)
-        return
     yield row
     for number in range(row.number + 1, row.number + repeat):
         yield row._replace(number=number)
@@ -357,9 +355,3 @@ def place_of(letters: str) -> int:
     (0, 27)
     """
     return reduce(lambda place, letter: place * 26 + ord(letter) - 64, letters[:4], 0) - 1
-
-
-def areas_of(references: str) -> list[Merge]:
-    """Returns the areas of some references, as `A2:B3 C1`."""
-    corners = (corners_of(one) for one in references.split())
-    return [Merge(*found[0], *found[-1]) for found in corners if found]

@@ -4,18 +4,17 @@ import posixpath
 import re
 from dataclasses import dataclass, field
 from decimal import Decimal
-from collections.abc import Callable, Iterator, Mapping, Sequence
-from functools import partial
+from collections.abc import Iterator, Mapping, Sequence
 from typing import NamedTuple
 from zipfile import ZipFile
 
 from labeltools.sheets import number_format
 from labeltools.common.text import Text
-from labeltools.common.messages import RowError, ToolError
+from labeltools.common.messages import RowError, Talk, ToolError
 from labeltools.sheets.number_format import BUILT_IN, BUILT_IN_DATES, Formatter, LANGUAGE
 from labeltools.sheets.cells import Cell, Fault, Form, Kind, Mark, PLAIN, Special, Truth, no_value
 from labeltools.sheets.cells import formed, text_of_runs
-from labeltools.sheets.rows import Doubt, Merge, Row
+from labeltools.sheets.rows import Merge, Row
 from labeltools.sheets.workbook import (
     LARGEST_TEXTS,
     NOT_SAVED,
@@ -23,7 +22,7 @@ from labeltools.sheets.workbook import (
     SAVE_AGAIN,
     TOO_LARGE,
 )
-from labeltools.sheets.workbook import Attributes, F, Reader, Sheet, TRUE, areas_of
+from labeltools.sheets.workbook import Attributes, F, Reader, Sheet, TRUE
 from labeltools.sheets.workbook import chosen, corners_of, elements, exact_of, filled, merges_at
 from labeltools.sheets.workbook import place_of, rows_from, whole
 
@@ -36,7 +35,8 @@ PLACES = {"superscript": Mark.RAISED, "subscript": Mark.LOWERED}
 # white by the numbers of themes and of palettes (18.8.3, 18.8.27)
 WHITE_THEME = "0"
 WHITE_INDEXES = ("1", "9", "65")
-PROPERTIES = ("strike", "vertAlign", "sz", "color")  # of a font, that change what letters mean
+STALE = Text("the file asks to calculate its formulas again; their saved values are taken")
+STALE_HINT = Text("if they may be old, open the table in the spreadsheet and save it")
 
 
 class Target(NamedTuple):
@@ -46,62 +46,35 @@ class Target(NamedTuple):
     path: str
 
 
-Begin = Callable[[Attributes], None]
-End = Callable[[], None]
 Runs = Sequence[tuple[str, Form | None]]  # letters; those without a form have that of their cell
 
 
 class Strings(Reader[F]):
-    """Reads strings, run by run; `form` is that of the run that is read. `begins` take what begins,
-    `ends` what ends, by its name.
-    """
+    """Reads strings, run by run; `form` is that of the run that is read."""
 
-    def __init__(self, begins: Mapping[str, Begin], ends: Mapping[str, End]) -> None:
+    def __init__(self) -> None:
         super().__init__()
-        properties = {name: partial(self.have, name) for name in PROPERTIES}
-        forms = {"rPr": self.begin_form, "rPh": self.begin_spoken, **properties}
-        texts = {"t": self.end_text, "r": self.end_run, "rPh": self.end_spoken}
-        self.begins = {**forms, **begins}
-        self.ends = {**texts, **ends}
         self.runs: list[tuple[str, Form | None]] = []
         self.form: Form | None = None
         self.is_spoken = False  # how letters are spoken is beside the text
 
     def begun(self, name: str, attributes: Attributes) -> None:
-        """Takes an element that begins."""
-        if take := self.begins.get(name):
-            take(attributes)
-
-    def ended(self, name: str) -> None:
-        """Takes the end of an element."""
-        if take := self.ends.get(name):
-            take()
-
-    def begin_form(self, _: Attributes) -> None:
-        """Begins the form of a run."""
-        self.form = PLAIN
-
-    def have(self, name: str, attributes: Attributes) -> None:
-        """Takes a property of the form of a run."""
-        if self.form is not None:
+        """Takes what begins in a string."""
+        if name == "rPr":
+            self.form = PLAIN
+        elif name == "rPh":
+            self.is_spoken = True
+        elif self.form is not None:
             self.form = having(self.form, name, attributes)
 
-    def end_text(self) -> None:
-        """Takes a text of a run."""
-        if self.texts and not self.is_spoken:
+    def ended(self, name: str) -> None:
+        """Takes what ends in a string."""
+        if name == "t" and self.texts and not self.is_spoken:
             self.runs.append((unescaped(self.text), self.form))
-
-    def end_run(self) -> None:
-        """Ends a run."""
-        self.form = None
-
-    def begin_spoken(self, _: Attributes) -> None:
-        """Begins how letters are spoken."""
-        self.is_spoken = True
-
-    def end_spoken(self) -> None:
-        """Ends how letters are spoken."""
-        self.is_spoken = False
+        elif name == "r":
+            self.form = None
+        elif name == "rPh":
+            self.is_spoken = False
 
     def string(self) -> str | Runs:
         """Returns the string that was read: a text, where all its letters have the form of the
@@ -115,27 +88,22 @@ class Strings(Reader[F]):
 class SharedStrings(Strings[str | Runs]):
     """Finds the shared strings of a file."""
 
-    def __init__(self) -> None:
-        super().__init__({"si": self.begin_string}, {"si": self.end_string})
-        self.letters = 0
+    letters = 0
 
-    def begin_string(self, _: Attributes) -> None:
-        """Begins a string."""
-        self.is_inside = True
+    def begun(self, name: str, attributes: Attributes) -> None:
+        """Takes what begins."""
+        self.is_inside = self.is_inside or name == "si"
+        super().begun(name, attributes)
 
-    def end_string(self) -> None:
-        """Finds a string."""
-        self.is_inside = False
-        self.letters += sum(len(text) for text, _ in self.runs)
-        if self.letters > LARGEST_TEXTS:
-            raise ToolError(TOO_LARGE, SAVE_AGAIN)
-        self.found.append(self.string())
-
-
-def text_within(runs: Runs, cell: Form) -> str | Fault:
-    """Returns the text of runs in a cell whose letters have a form."""
-    found = [(text, cell if form is None else form.within(cell)) for text, form in runs]
-    return text_of_runs(found, cell.mark)
+    def ended(self, name: str) -> None:
+        """Takes what ends, and finds a string."""
+        super().ended(name)
+        if name == "si":
+            self.is_inside = False
+            self.letters += sum(len(text) for text, _ in self.runs)
+            if self.letters > LARGEST_TEXTS:
+                raise ToolError(TOO_LARGE, SAVE_AGAIN)
+            self.found.append(self.string())
 
 
 class Look(NamedTuple):
@@ -145,28 +113,32 @@ class Look(NamedTuple):
     form: Form
 
 
-class Styles(NamedTuple):
-    """The styles of a file by their numbers, as the file has them; `conditional` are the numbers of
-    the forms that a condition gives to cells, and which show them as something else.
-    """
-
-    looks: Mapping[str, Look]
-    conditional: set[str]
-
-
-@dataclass(frozen=True)
+@dataclass
 class Book:
-    """What all sheets of a file share.
+    """What all sheets of a file share; its strings and its styles by their numbers.
 
-    `is_stale` is whether the formulas are still to be calculated, so that their saved values say
-    nothing.
+    `is_stale` is whether formulas are not calculated. `asks_again` is whether the file asks to
+    calculate them when it is opened: what is saved may be old, and a zero is what libraries write
+    that calculate nothing.
     """
 
     strings: Mapping[str, str | Runs]
-    styles: Styles
+    looks: Mapping[str, Look]
     formatter: Formatter
     is_from_1904: bool
     is_stale: bool
+    asks_again: bool
+    talk: Talk
+    is_reported: bool = False
+
+    def has_saved(self, value: str) -> bool:
+        """Returns whether the value of a formula was calculated; reports once that it may be
+        old.
+        """
+        if self.asks_again and value != "0" and not self.is_reported:
+            self.is_reported = True
+            self.talk.say(STALE, STALE_HINT)
+        return not self.is_stale and not (self.asks_again and value == "0")
 
 
 @dataclass(slots=True)
@@ -201,28 +173,26 @@ class Number(Special):
         self.book.formatter.keep(self.number_format, text)
         return text
 
-    def digits(self) -> str:
-        """Returns the digits of a whole number."""
-        return number_format.digits_of(self.number_format, self.exact)
-
-    def data(self) -> str:
-        """Returns the digits of a whole number that is shown so."""
-        return number_format.digits_of(self.number_format, self.exact, is_data=True)
+    def digits(self, is_data: bool) -> str:
+        """Returns the digits of a whole number; as data it is shown so."""
+        return number_format.digits_of(self.number_format, self.exact, is_data)
 
 
-def rows_of_xlsx(archive: ZipFile, wanted: str | None, formatter: Formatter) -> Iterator[Row]:
+def rows_of_xlsx(
+    archive: ZipFile, wanted: str | None, formatter: Formatter, talk: Talk
+) -> Iterator[Row]:
     """Yields the rows of the sheet that is wanted, else of the only one that is visible and has
     data.
     """
     path = dict(relations(archive, "").values())["officeDocument"]
-    return chosen(sheets_of(archive, path, formatter), wanted)
+    return chosen(sheets_of(archive, path, formatter, talk), wanted)
 
 
-def sheets_of(archive: ZipFile, path: str, formatter: Formatter) -> Iterator[Sheet]:
+def sheets_of(archive: ZipFile, path: str, formatter: Formatter, talk: Talk) -> Iterator[Sheet]:
     """Yields the sheets of a workbook."""
     targets = relations(archive, path)
     parts = dict(targets.values())
-    is_from_1904 = is_stale = False
+    is_from_1904 = is_stale = asks_again = False
     sheets = []
     for name, found in elements(archive, path):
         if name == "sheets/sheet":
@@ -230,16 +200,17 @@ def sheets_of(archive: ZipFile, path: str, formatter: Formatter) -> Iterator[She
         elif name == "workbookPr":
             is_from_1904 = found.get("date1904") in TRUE
         elif name == "calcPr":
-            is_stale = found.get("fullCalcOnLoad") in TRUE
-            is_stale = is_stale or found.get("calcCompleted", "1") not in TRUE
+            asks_again = found.get("fullCalcOnLoad") in TRUE
+            is_stale = found.get("calcCompleted", "1") not in TRUE
     strings = strings_of(archive, parts.get("sharedStrings", ""))
-    styles = styles_of(archive, parts.get("styles", ""))
-    book = Book(strings, styles, formatter, is_from_1904, is_stale)
+    looks = looks_of(archive, parts.get("styles", ""))
+    book = Book(strings, looks, formatter, is_from_1904, is_stale, asks_again, talk)
     for sheet in sheets:
         kind, part = targets[sheet["id"]]
         if kind == "worksheet":
             is_visible = sheet.get("state", "visible") == "visible"
-            yield Sheet(sheet["name"], is_visible, sheet_rows(archive, part, book))
+            reader = SheetReader(book, beside_of(archive, part))
+            yield Sheet(sheet["name"], is_visible, reader.read(archive, part))
 
 
 def strings_of(archive: ZipFile, part: str) -> dict[str, str | Runs]:
@@ -248,14 +219,12 @@ def strings_of(archive: ZipFile, part: str) -> dict[str, str | Runs]:
     return {str(number): string for number, string in enumerate(strings)}
 
 
-def styles_of(archive: ZipFile, part: str) -> Styles:
-    """Returns the styles."""
+def looks_of(archive: ZipFile, part: str) -> dict[str, Look]:
+    """Returns the styles by their numbers."""
     looks: dict[str, Look] = {}
-    conditional: set[str] = set()
     by_number = {**BUILT_IN, **BUILT_IN_DATES}
     fonts: list[Form] = []
     are_filled: list[bool] = []
-    count = -1  # of the forms of conditions
     for path, found in elements(archive, part):
         outer, _, name = path.rpartition("/")
         if path == "numFmts/numFmt":
@@ -271,13 +240,7 @@ def styles_of(archive: ZipFile, part: str) -> Styles:
         elif path == "cellXfs/xf":
             number_format = by_number.get(found.get("numFmtId", "0"), LANGUAGE)
             looks[str(len(looks))] = Look(number_format, form_of(found, fonts, are_filled))
-        elif path == "dxfs/dxf":
-            count += 1
-        elif path == "dxfs/dxf/numFmt":
-            conditional.add(str(count))
-        elif outer == "dxfs/dxf/font" and having(PLAIN, name, found).mark is Mark.STRUCK:
-            conditional.add(str(count))
-    return Styles(looks or {"0": Look("General", PLAIN)}, conditional)
+    return looks or {"0": Look("General", PLAIN)}
 
 
 def form_of(found: Mapping[str, str], fonts: Sequence[Form], are_filled: Sequence[bool]) -> Form:
@@ -322,26 +285,18 @@ def relations(archive: ZipFile, path: str) -> dict[str, Target]:
 
 @dataclass
 class Beside:
-    """What a sheet has beside its rows: the merged cells by their first row, the addresses that
-    cells lead to, by row and place, and the areas of conditions that show cells as something else.
+    """What a sheet has beside its rows: the merged cells by their first row, and the addresses that
+    cells lead to, by row and place.
     """
 
     merges: dict[int, list[Merge]] = field(default_factory=dict)
     links: dict[int, dict[int, str]] = field(default_factory=dict)
-    conditions: list[Merge] = field(default_factory=list)
-
-    def doubts(self, number: int, width: int) -> dict[int, Doubt]:
-        """Returns the places of a row that a condition may show as something else."""
-        areas = [one for one in self.conditions if one.row <= number <= one.last_row]
-        places = (range(one.place, min(one.last_place + 1, width)) for one in areas)
-        return {place: Doubt.CONDITION for some in places for place in some}
 
 
-def beside_of(archive: ZipFile, path: str, styles: Styles) -> Beside:
+def beside_of(archive: ZipFile, path: str) -> Beside:
     """Returns what a sheet has beside its rows, most of which is below them."""
     beside = Beside()
     targets: dict[str, Target] = {}
-    areas: list[Merge] = []  # of the conditions that are read
     for name, found in elements(archive, path, ROWS):
         if name == "mergeCells/mergeCell":
             first, *_, last = corners_of(found["ref"]) * 2
@@ -352,12 +307,6 @@ def beside_of(archive: ZipFile, path: str, styles: Styles) -> Beside:
             place_in_page = f"#{found['location']}" if found.get("location") else ""
             address = targets[found["id"]].path + place_in_page
             beside.links.setdefault(row, {})[place] = address
-        elif name == "conditionalFormatting":
-            areas = areas_of(found.get("sqref", ""))
-        elif name.startswith("conditionalFormatting/"):
-            is_other = found.get("dxfId") in styles.conditional
-            if is_other or found.get("showValue") in FALSE:
-                beside.conditions += areas
     return beside
 
 
@@ -367,9 +316,7 @@ class SheetReader(Strings[Row]):
     """
 
     def __init__(self, book: Book, beside: Beside) -> None:
-        rows = {ROWS: self.begin_rows, "row": self.begin_row, "c": self.begin_cell}
-        cells = {"c": self.end_cell, "v": self.end_value, "f": self.end_formula}
-        super().__init__(rows, {**cells, "row": self.end_row, ROWS: self.end_rows})
+        super().__init__()
         self.book = book
         self.beside = beside
         self.has_rows = False  # elements outside of the rows may have their names
@@ -378,42 +325,45 @@ class SheetReader(Strings[Row]):
         self.row: Attributes = {}
         self.cells: list[Cell] = []
         self.links: dict[int, str] = {}
-        self.doubts: dict[int, Doubt] = {}
         self.cell: Attributes = {}
         self.value: str | None = None
         self.formula: str | None = None
 
-    def begin_rows(self, _: Attributes) -> None:
-        """Begins the rows."""
-        self.has_rows = True
+    def begun(self, name: str, attributes: Attributes) -> None:
+        """Takes what begins."""
+        if name == "c":
+            self.cell, self.runs = attributes, []
+            self.value = self.formula = None
+        elif name == "row" and self.has_rows:
+            self.begin_row(attributes)
+        elif name == ROWS:
+            self.has_rows = True
+        else:
+            super().begun(name, attributes)
 
-    def end_rows(self) -> None:
-        """Ends the rows."""
-        self.has_rows = False
+    def ended(self, name: str) -> None:
+        """Takes what ends."""
+        if name == "v":
+            self.value = self.text
+        elif name == "c":
+            self.end_cell()
+        elif name == "f":
+            self.formula = self.text
+        elif name == "row" and self.has_rows:
+            self.end_row()
+        elif name == ROWS:
+            self.has_rows = False
+        else:
+            super().ended(name)
 
     def begin_row(self, attributes: Attributes) -> None:
         """Begins a row."""
-        if not self.has_rows:
-            return
         self.is_inside = True
         before, self.number = self.number, whole(attributes.get("r", str(self.number + 1)), 1)
         if self.number <= before:
             raise out_of_order(self.number)
-        self.row, self.cells, self.doubts, self.letters = attributes, [], {}, 0
+        self.row, self.cells, self.letters = attributes, [], 0
         self.links = dict(self.beside.links.get(self.number, {}))
-
-    def begin_cell(self, attributes: Attributes) -> None:
-        """Begins a cell."""
-        self.cell = attributes
-        self.value = self.formula = None
-
-    def end_value(self) -> None:
-        """Takes the value of a cell."""
-        self.value = self.text
-
-    def end_formula(self) -> None:
-        """Takes the formula of a cell."""
-        self.formula = self.text
 
     def end_cell(self) -> None:
         """Puts the cell that was read in its place."""
@@ -421,13 +371,11 @@ class SheetReader(Strings[Row]):
         place = place_of(reference.rstrip("0123456789")) if reference else len(cells)
         if place < len(cells):
             raise out_of_order(self.number)
-        look = self.book.styles.looks[self.cell.get("s", "0")]
+        look = self.book.looks[self.cell.get("s", "0")]
         cell = self.cell_by(look)
         filled(cells, place).append(cell)
         if isinstance(cell, str):
             self.letters += len(cell)
-        if cell and look.form.mark is Mark.WHITE:
-            self.doubts[place] = Doubt.UNSEEN
         if self.formula and (found := HYPERLINK.fullmatch(self.formula)):
             self.links[place] = found[1]
 
@@ -436,7 +384,7 @@ class SheetReader(Strings[Row]):
         kind, value, book = self.cell.get("t", "n"), self.value or "", self.book
         if self.formula is not None:
             is_empty_text = kind == "str" and self.value is not None
-            if book.is_stale or not value and not is_empty_text:
+            if not (value or is_empty_text) or not book.has_saved(value):
                 return Fault(NOT_SAVED, NOT_SAVED_HINT)
         elif not value and kind != "inlineStr":
             return ""
@@ -452,25 +400,20 @@ class SheetReader(Strings[Row]):
 
     def end_row(self) -> None:
         """Finds the row that was read."""
-        if not self.has_rows:
-            return
         self.is_inside = False
         number, cells = self.number, self.cells
         self.merges = merges_at(self.merges, number) + self.beside.merges.get(number, [])
-        doubts = self.doubts | self.beside.doubts(number, len(cells))
-        row = Row(number, cells, None, is_unseen(self.row), self.merges, self.links, doubts=doubts)
+        row = Row(number, cells, None, is_unseen(self.row), self.merges, self.links)
         self.found += rows_from(row, self.letters)
-
-
-def sheet_rows(archive: ZipFile, path: str, book: Book) -> Iterator[Row]:
-    """Yields the rows of a sheet."""
-    return SheetReader(book, beside_of(archive, path, book.styles)).read(archive, path)
 
 
 def text_of(text: str | Runs, look: Look) -> Cell:
     """Returns a text; none where its format puts something around it, as `"SKU-"@` does."""
     style, form = look
-    found = formed(text, form) if isinstance(text, str) else text_within(text, form)
+    if isinstance(text, str):
+        found = formed(text, form)
+    else:
+        found = text_of_runs([(one, own.within(form) if own else form) for one, own in text])
     if isinstance(found, str) and found and "@" in style and style != "@":
         try:
             number_format.sections_of(style)

@@ -60,6 +60,8 @@ DRAWN = (
 # what GS1's texts in brackets begin with: an SSCC, or a GTIN
 IN_BRACKETS = re.compile(r"\((?:00\)(?=[0-9]{18})|0[12]\)(?=[0-9]{14}))([0-9]+).*", re.DOTALL)
 NO_CHECK_DIGITS = Text("if the column has no check digits, give --without-check-digit")
+OTHER_CODES = Text("a code that is no EAN or UPC needs --symbology code128 (bars) or qr")
+NOT_SHORT = 7  # digits: shorter numbers are no EAN or UPC that has lost some
 
 
 @dataclass(frozen=True)
@@ -77,6 +79,14 @@ class CodeRules:
     def is_free(self) -> bool:
         """Whether a code is any text."""
         return self.symbology in FREE
+
+
+class OtherCode(RowError):
+    """Why a code is no EAN or UPC, though it may be another one."""
+
+
+class WrongDigit(RowError):
+    """A check digit that is wrong."""
 
 
 class Code(NamedTuple):
@@ -150,8 +160,13 @@ def digits_in(cell: str, has_check_digit: bool) -> str:
         raise RowError(Text("{} has only zeros, and is no article's number", quoted(digits)))
     check_isbn(digits)
     if other := re.search("[^0-9]", digits):
-        place = Text("character {} is {}", other.start() + 1, named(other.group()))
-        raise RowError(Text("{} has other characters than digits", quoted(digits)), place)
+        what = Text(
+            "{} has other characters than digits: character {} is {}",
+            quoted(digits),
+            other.start() + 1,
+            named(other.group()),
+        )
+        raise OtherCode(what, OTHER_CODES)
     return digits
 
 
@@ -208,41 +223,39 @@ def filled_up(digits: str, symbology: str, rules: CodeRules) -> str:
 
 
 def wrong_length(digits: str, asked: Sequence[str], rules: CodeRules) -> RowError:
-    """Returns the error of a number with other digits than its symbology has, and what to do where
-    that is seen.
-    """
+    """Returns the error of a number with other digits than its symbology has, and what to do."""
     count = len(digits)
     missing = rules.without_check_digit
     lengths = joined(", ", (Text("{} has {}", one, LENGTHS[one] - missing) for one in asked))
     what = counted("{1} has {0} digit, {2}", "{1} has {0} digits, {2}", count, digits[:20], lengths)
-    if missing:
-        return RowError(what, Text("give --without-check-digit only if no number has one"))
     length, rest = ADD_ONS.get(count, (0, 0))
-    if length and is_right(digits[:length]):
-        return RowError(
-            what,
+    is_auto = rules.symbology == AUTO
+    may_miss = count + 1 in NUMBERS and not missing
+    hints = (
+        (
+            length > 0 and is_right(digits[:length]),
             Text("if its last {} digits are an add-on, write only the first {}", rest, length),
-        )
-    if count == 14:
-        return RowError(what, Text("a GTIN-14 is drawn as ITF-14, which labels does not draw"))
-    if count < EAN13.digits and is_right(digits):
-        if rules.symbology == AUTO:
-            return RowError(what, Text("give --fill-zeros if leading zeros are lost"))
-        return RowError(
-            what, Text("give --symbology auto, or --fill-zeros if leading zeros are lost")
-        )
-    if count > EAN13.digits:
-        return RowError(what, Text("a code of more digits is --symbology code128"))
-    if count == EAN13.digits:
-        return RowError(what, Text("give --symbology auto"))
-    return RowError(what, NO_CHECK_DIGITS)
+        ),
+        (count == 14, Text("a GTIN-14 is drawn as ITF-14, which labels does not draw")),
+        (count == EAN13.digits and not missing, Text("give --symbology auto")),
+        (not NOT_SHORT <= count <= EAN13.digits, OTHER_CODES),
+        (missing, Text("give --without-check-digit only if no number has one")),
+        (is_right(digits) and is_auto, Text("give --fill-zeros if leading zeros are lost")),
+        (
+            is_right(digits),
+            Text("give --symbology auto, or --fill-zeros if leading zeros are lost"),
+        ),
+        (may_miss, NO_CHECK_DIGITS),
+    )
+    hint = next((hint for is_so, hint in hints if is_so), OTHER_CODES)
+    return OtherCode(what, hint) if hint is OTHER_CODES else RowError(what, hint)
 
 
-def wrong_check_digit(filled: str, count: int, rules: CodeRules) -> RowError:
+def wrong_check_digit(filled: str, count: int, rules: CodeRules) -> WrongDigit:
     """Returns the error of a number whose check digit is wrong; `count` are the digits that it has
     in the table.
     """
     right = check_digit(filled[:-1])
     what = Text("{}: the check digit is {}, should be {}", filled, filled[-1], right)
     may_miss = rules.symbology == AUTO and count == 12
-    return RowError(what, NO_CHECK_DIGITS if may_miss else NOTHING)
+    return WrongDigit(what, NO_CHECK_DIGITS if may_miss else NOTHING)

@@ -3,6 +3,7 @@
 import re
 from dataclasses import dataclass, replace
 from decimal import Decimal
+from difflib import get_close_matches
 from itertools import islice
 from typing import Iterable, Sequence
 
@@ -21,6 +22,11 @@ LISTED = 40  # columns that a message lists
 COUNT = re.compile("0*[0-9]{1,4}(?:[.,]00?)?")
 # what may be in the name of a column of codes though it has digits
 NAME_WITH_DIGITS = re.compile("(?:EAN|GTIN|UPC|ISBN|Code|QR)[- ]?[0-9]{1,3}", re.IGNORECASE)
+# symbologies by the letters and digits of their names
+NAMED = {
+    **{name: name for name in (*SYMBOLOGIES, "auto")},
+    **{"qrcode": "qr", "gtin13": "ean13", "gtin8": "ean8", "upc": "upca", "gtin12": "upca"},
+}
 MARKS = "\u200e\u200f\u061c"  # of the direction, which spreadsheets put around currencies
 
 
@@ -119,22 +125,12 @@ def symbology_in(column: Column, row: Row, default: str) -> str:
     text = column.mark(row)
     if not text:
         return default
-    plain = re.sub("[^a-z0-9]", "", text.casefold())
-    known = {
-        re.sub("[^a-z0-9]", "", one.title.casefold()): name for name, one in SYMBOLOGIES.items()
-    }
-    known.update({name: name for name in SYMBOLOGIES})
-    known.update(
-        {"gtin13": "ean13", "gtin8": "ean8", "upc": "upca", "gtin12": "upca", "auto": "auto"}
-    )
-    if plain not in known:
+    found = NAMED.get(re.sub("[^a-z0-9]", "", text.casefold()))
+    if found is None:
         listed = ", ".join(one.title for one in SYMBOLOGIES.values())
-        raise column.error(
-            RowError(
-                Text("has {}, which is no symbology", quoted(text)), Text("it is one of {}", listed)
-            )
-        )
-    return known[plain]
+        what = Text("has {}, which is no symbology", quoted(text))
+        raise column.error(RowError(what, Text("it is one of {}", listed)))
+    return found
 
 
 def columns_of(head: Head, rows: Iterable[Row], options: TableOptions) -> Columns[Column]:
@@ -207,6 +203,10 @@ def not_one(argument: str, head: Head, count: int) -> ToolError:
     what = Text("no column {}; row {} has {}", quoted(argument), row, has)
     if count:
         what = Text("several columns {}; row {} has {}", quoted(argument), row, has)
+    by_letters = {name.casefold(): name for name in names if name}
+    alike = get_close_matches(name_of(argument).casefold(), by_letters, 1)
+    if alike and not count:
+        return ToolError(what, Text("is it {}?", quoted(by_letters[alike[0]])), BAD_ARGUMENTS)
     return ToolError(what, Text("give the number of one"), BAD_ARGUMENTS)
 
 

@@ -1,30 +1,28 @@
 """What becomes of a row of a table: its code, its texts, and its prices as they are read."""
 
 import re
-from dataclasses import dataclass, field
+from dataclasses import dataclass
 from decimal import Decimal
 from typing import Iterator, NamedTuple, Sequence
-from unicodedata import category
 
 from labeltools.common.text import Text, counted
-from labeltools.sheets.cells import Cell, Kind
+from labeltools.sheets.cells import Cell
 from labeltools.tables.codes import Code, CodeRules, code_of
 from labeltools.tables.columns import Column, symbology_in
-from labeltools.tables.leftovers import has_left, twice_encoded
-from labeltools.common.messages import RowError, Talk, quoted
+from labeltools.tables.twice import twice_encoded
+from labeltools.common.messages import RowError, quoted
 from labeltools.tables.money import MOST_DECIMALS, Money, NotMoney, currency_of, parse
 from labeltools.tables.money import parse_unit_price, plain, text_price
 from labeltools.tables.prices import ARITHMETIC, MOST_LOST, nearest
-from labeltools.common.names import is_repeated, looks_like, name_of
+from labeltools.common.names import is_repeated, name_of
 from labeltools.tables.once import Once
-from labeltools.sheets.rows import Doubt, Row
+from labeltools.lines.symbologies import SYMBOLOGIES
+from labeltools.sheets.rows import Row
 from labeltools.tables.options import Columns, TableOptions
 
-DATE = re.compile(r"(?<![0-9.,])[0-9]{1,4}[./-][0-9]{1,2}(?:[./-](?:[0-9]{2,4})?)?(?![0-9,])")
-MARK = re.compile("[0-9][./-]")  # a text without one is like no date
+HTML = re.compile("</?[a-z][^<>]*>|&(?:[a-z]{2,8}|#[0-9]{1,6});", re.IGNORECASE)
 OWN_TABLE = Text("make a table of its own of it")
 ZERO_HINT = Text("it is a zero, which its number format shows so")
-LONGEST_SIGN = 3  # letters of a text that is no more than a sign
 HALF = Decimal("0.5")
 KIND_OF_CODES = re.compile(
     r"(?:EAN|GTIN|UPC|ISBN|JAN)(?:[- ]?(?:[0-9]{1,2}|code|A|E))?", re.IGNORECASE
@@ -68,127 +66,6 @@ class Draft(NamedTuple):
 
 
 @dataclass
-class Noticed:
-    """Looks at what is odd in rows, and may be right: it is said once. Dates, and texts like dates,
-    are kept by the places of their columns: they are odd together.
-    """
-
-    once: Once
-    dates: dict[int, int] = field(default_factory=dict)
-    like_dates: dict[int, tuple[int, str]] = field(default_factory=dict)
-
-    def text(self, column: Column, row: Row, text: str) -> None:
-        """Looks at a title or text; raises `RowError` for one that was encoded twice."""
-        if (before := twice_encoded(text)) != text:
-            what = Text("has {}, which was encoded twice, for {}", quoted(text), quoted(before))
-            raise column.error(RowError(what, Text("export the table again")))
-        if len(text) <= LONGEST_SIGN and is_sign(text):
-            said = Text("row {} has {} as text, in {}", row.number, quoted(text), column.title)
-            self.once.see(("sign", column), said, Text("does it stand for an empty cell?"))
-        if has_left(text):
-            said = Text("row {} has {}, as programs write it", row.number, quoted(text))
-            self.once.see("left", said, Text("it is printed as it is"))
-        cell = row.cells[column.place]
-        kind = Kind.TEXT if isinstance(cell, str) else cell.kind
-        if kind is Kind.MOMENT:
-            self.dates.setdefault(column.place, row.number)
-        elif kind is Kind.TEXT and MARK.search(text) and DATE.search(text):
-            self.like_dates.setdefault(column.place, (row.number, text))
-
-    def say_of_dates(self, talk: Talk) -> None:
-        """Says which texts are like the dates of their column."""
-        for place, date in self.dates.items():
-            if place in self.like_dates:
-                row, text = self.like_dates[place]
-                said = Text(
-                    "row {} has the text {}, and row {} has a date", row, quoted(text), date
-                )
-                talk.say(said, Text("are its day and month in the same order?"))
-
-    def doubtful(self, columns: Sequence[Column], row: Row) -> None:
-        """Looks at the cells of columns that may not be meant."""
-        for column in columns:
-            doubt = (row.doubts or {}).get(column.place)
-            if doubt is None:
-                continue
-            said = Text(
-                "{} has a condition from row {} on that shows cells as something else",
-                column.title,
-                row.number,
-            )
-            if doubt is Doubt.UNSEEN:
-                said = Text(
-                    "{} has letters from row {} on that nobody sees, in the colour of the cell",
-                    column.title,
-                    row.number,
-                )
-            hint = Text("are these rows to be printed? --where chooses rows")
-            self.once.see((doubt, column), said, hint)
-
-    def value(self, column: Column, row: Row, wanted: str) -> None:
-        """Looks at a value that is not the one that rows are chosen by."""
-        value = column.mark(row)
-        if not value or not looks_like(value, wanted):
-            return
-        self.once.see(
-            (column, wanted),
-            lambda rows: counted(
-                "row {1} has {2} in {3}, which looks like {4}, and is not printed ({0} row)",
-                "row {1} has {2} in {3}, which looks like {4}, and is not printed ({0} rows)",
-                rows,
-                row.number,
-                quoted(value),
-                column.title,
-                quoted(wanted),
-            ),
-        )
-
-    def shown(self, price: Price, row: int, number: Decimal) -> None:
-        """Looks at a price that is the number of a cell; raises `RowError` where it is shown as
-        another one. Rounded to two decimals or more it is the same price. What is no rounding, as
-        digits that its format adds, is another one.
-        """
-        money = price.money
-        if money is None or money.currency == "cent":
-            return
-        lost = abs(money.value - number)
-        if lost <= ARITHMETIC:  # most prices, at once
-            return
-        value = format(round(number, SHOWN_DECIMALS).normalize(), "f")
-        if lost > min(abs(number) * MOST_LOST, HALF.scaleb(-money.decimals) + ARITHMETIC):
-            what = Text("is shown as {}, and its value is {}", quoted(price.text), value)
-            raise price.column.error(
-                RowError(what, Text("give it a number format of two decimals"))
-            )
-        if money.decimals < 2:
-            self.once.see(
-                ("rounded", price.column),
-                lambda rows: counted(
-                    "row {1} shows the price {2}, and its value is {3} ({0} price)",
-                    "row {1} shows the price {2}, and its value is {3} ({0} prices)",
-                    rows,
-                    row,
-                    price.text,
-                    value,
-                ),
-            )
-
-    def prices(self, row: int, price: Price | None, was: Price | None) -> None:
-        """Looks at an old price."""
-        if not (price and was and price.money and was.money):
-            return
-        is_same = (price.money.unit, price.money.count) == (was.money.unit, was.money.count)
-        if is_same and was.money.value <= price.money.value:
-            said = Text(
-                "row {} has the old price {}, which is not above the price {}",
-                row,
-                was.text,
-                price.text,
-            )
-            self.once.see("low", said)
-
-
-@dataclass
 class RowReader:
     """Reads rows that are not blank."""
 
@@ -199,7 +76,6 @@ class RowReader:
     other_names: int = 0  # the row that names other columns, or the same in other places
 
     def __post_init__(self) -> None:
-        self.noticed = Noticed(self.once)
         place = self.columns.code.place
         self.code_name = self.names[place] if place < len(self.names) else ""
 
@@ -224,10 +100,6 @@ class RowReader:
         price = self.price(columns.price, row, currency)
         unit = self.price(columns.unit_price, row, currency) if columns.unit_price else None
         was = self.price(columns.old_price, row, currency) if columns.old_price else None
-        if was:
-            self.noticed.prices(row.number, price, was)
-        if row.doubts:
-            self.noticed.doubtful(columns.shown, row)
         return Draft(row.number, code, title, text, tuple(texts), copies, price, unit, was)
 
     def refuse_names(self, row: Row) -> None:
@@ -275,11 +147,7 @@ class RowReader:
 
     def is_marked(self, row: Row) -> bool:
         """Returns whether a row has the values that were asked for; raises `RowError`."""
-        for column, value in self.columns.where:
-            if not column.has(row, value):
-                self.noticed.value(column, row, value)
-                return False
-        return True
+        return all(column.has(row, value) for column, value in self.columns.where)
 
     def code(self, row: Row) -> Code:
         """Returns the code of a row; raises `RowError`."""
@@ -288,10 +156,10 @@ class RowReader:
         text = column.code(row, rules.is_free)
         if rules.is_free and (link := row.link(column.place)):
             text = self.linked(row, text, link)
-        try:
-            return code_of(text, rules)
-        except RowError as problem:
-            raise RowError(problem.what, problem.hint, column.place) from None
+        code = code_of(text, rules)
+        if self.options.settings and (wrong := self.options.wrong_setting(code.symbology)):
+            raise RowError(Text("{} has no setting {}", SYMBOLOGIES[code.symbology].title, wrong))
+        return code
 
     def linked(self, row: Row, text: str, link: str) -> str:
         """Returns the address that a cell leads to, where that was asked for, or else its text."""
@@ -328,9 +196,48 @@ class RowReader:
             if is_code:
                 found[column.name] = code.whole
             elif text := column.text(row):
-                self.noticed.text(column, row, text)
+                self.see_text(column, row, text)
                 found[column.name] = text
         return found
+
+    def see_text(self, column: Column, row: Row, text: str) -> None:
+        """Looks at a title or text; raises `RowError` for one that was encoded twice."""
+        if (before := twice_encoded(text)) != text:
+            what = Text("has {}, which was encoded twice, for {}", quoted(text), quoted(before))
+            raise column.error(RowError(what, Text("export the table again")))
+        if HTML.search(text):
+            said = Text("row {} has {}, as programs write it", row.number, quoted(text))
+            self.once.see("left", said, Text("it is printed as it is"))
+
+    def see_price(self, price: Price, row: int, number: Decimal) -> None:
+        """Looks at a price that is the number of a cell; raises `RowError` where it is shown as
+        another one. Rounded to two decimals or more it is the same price. What is no rounding, as
+        digits that its format adds, is another one.
+        """
+        money = price.money
+        if money is None or money.currency == "cent":
+            return
+        lost = abs(money.value - number)
+        if lost <= ARITHMETIC:  # most prices, at once
+            return
+        value = format(round(number, SHOWN_DECIMALS).normalize(), "f")
+        if lost > min(abs(number) * MOST_LOST, HALF.scaleb(-money.decimals) + ARITHMETIC):
+            what = Text("is shown as {}, and its value is {}", quoted(price.text), value)
+            raise price.column.error(
+                RowError(what, Text("give it a number format of two decimals"))
+            )
+        if money.decimals < 2:
+            self.once.see(
+                ("rounded", price.column),
+                lambda rows: counted(
+                    "row {1} shows the price {2}, and its value is {3} ({0} price)",
+                    "row {1} shows the price {2}, and its value is {3} ({0} prices)",
+                    rows,
+                    row,
+                    price.text,
+                    value,
+                ),
+            )
 
     def currency(self, row: Row) -> str | None:
         """Returns the currency of a row, None where the table has no column of them; raises
@@ -367,7 +274,7 @@ class RowReader:
         if money is None or number is None:
             return Price(column, text, money, currency)
         found = Price(column, text, nearest(money, number), currency)
-        self.noticed.shown(found, row.number, number)
+        self.see_price(found, row.number, number)
         return found
 
     def money(self, text: str, is_unit: bool, currency: str) -> Money | None:
@@ -378,20 +285,6 @@ class RowReader:
             return None
         most = PROGRAM_DECIMALS if rules.pattern else MOST_DECIMALS
         return parse_unit_price(text, currency, most) if is_unit else parse(text, currency, most)
-
-
-def is_sign(text: str) -> bool:
-    """Returns whether a text is 0 or punctuation alone. An arrow and the like are pictures.
-
-    >>> is_sign("-"), is_sign("..."), is_sign("▼"), is_sign("7")
-    (True, True, False, False)
-    """
-    return text == "0" or not any(one.isalnum() or is_picture(one) for one in text)
-
-
-def is_picture(letter: str) -> bool:
-    """Returns whether a letter is a symbol that is not in ASCII."""
-    return not letter.isascii() and category(letter).startswith("S")
 
 
 def is_zero(cell: Cell) -> bool:

@@ -13,8 +13,8 @@ from contextlib import suppress
 from dataclasses import dataclass, field, replace
 from functools import cached_property
 from itertools import islice, zip_longest
-from typing import NamedTuple
-
+from pathlib import Path
+from labeltools.common.lists import lists_of
 from labeltools.tables.codes import AUTO, CodeRules, code_of
 from labeltools.tables.columns import names_of, texts_of
 from labeltools.common.messages import RowError, Talk
@@ -23,46 +23,11 @@ from labeltools.lines.symbologies import CODE128, QR
 from labeltools.tables.table import head_of
 from labeltools.tables.options import TableOptions
 
-# names of a column of EAN or UPC
-CODES = frozenset("ean gtin upc isbn jan barcode strichcode gencod streepjescode barkod".split())
-# words in the name of a column of other numbers of articles; and how such words end
-NUMBERS = frozenset(
-    """art article item sku code codigo codice kod nr no number numero charge lot batch pzn plu ref
-    referenz reference id qr link url adresse address ticketcode""".split()
-)
+COLUMN_WORDS = Path(__file__).with_name("columns.txt")
+# words of the names of columns; how the names end that are of numbers
+WORDS = {name: frozenset(words) for name, words in lists_of(COLUMN_WORDS).items()}
 NUMBER_ENDS = ("nummer", "nr")
-TITLES = frozenset(
-    """bezeichnung artikelname titel title produkt product article artikel designation libelle
-    descripcion descrizione omschrijving description beschreibung nazwa name nom nombre nome naam
-    desc item ware titre produit titulo articulo libro livre titolo prodotto articolo tytul towar
-    vara varu namn benamning varenavn buch film wein kurztext""".split()
-)
-# the words of a price that customers pay, and those that its name may have beside them
-PRICES = frozenset(
-    """preis preise verkaufspreis ladenpreis endpreis bruttopreis vk vkp uvp price prices msrp rrp
-    srp prix pv pvc precio pvp prezzo preco prijs verkoopprijs cena pris utpris salgspris hinta pret
-    cijena hind kaina fiyat fiyati цена τιμη 価格 売価 税込価格 价格 售价 零售价 가격 판매가""".split()
-)
-PAID = PRICES | frozenset(
-    """brutto inkl incl inc mwst retail selling variant regular gross vat gst each ttc vente public
-    venta iva incluido vendita pubblico ivato inclusa venda btw detaliczna sprzedazy prodejni dph
-    moms satis stuck stk piece розничная eur euro chf usd gbp pln sek dkk nok czk fr kr
-    zl""".split()
-)
-# a name with one of these words, or one that begins so, is of what no customer pays: what the shop
-# pays, an amount without its tax or of a measure, or no price at all
-UNPAID = frozenset("ek hek lek ht pa net gros ex kg g l ml".split())
-UNPAID_BEGINS = tuple(
-    """einkauf einstand bezug handler lieferant selbstkost netto cost kost purchas buying wholesale
-    trade dealer supplier supply vendor achat revient compra coste acquisto ingrosso inkoop
-    inkop innkjop indkob ostohinta nakup zakup hurt koszt beszerz закуп опт αγορ 仕入 原価 税抜 进价 进货
-    매입 alis excl neto grund gewicht weight peso poids waga marg pfand kaution deposit versand
-    porto""".split()
-)
-# counts of stock are no counts of labels, so the names of labels alone are taken
-COPIES = frozenset(
-    "etiketten labels etiquettes etiquetas etichette etykiet copies kopien exemplare".split()
-)
+PAID = WORDS["prices"] | WORDS["paid"]
 # what may be the number of an article: three digits and more, but neither a date nor a count
 ARTICLE = re.compile(
     r"(?!\d{1,4}[./-]\d{1,2}[./-]\d{1,4}\Z)(?=(?:.*[0-9]){3})(?:(?=.*[A-Za-z])|(?=[^.]{5}))"
@@ -79,10 +44,11 @@ LEAST = 0.5  # the part of the cells of a column that are of its kind
 
 @dataclass(frozen=True)
 class Column:
-    """A column: its name, and its cells that have a text."""
+    """A column: its name, its cells that have a text, and the part of its cells that they are."""
 
     name: str
     texts: Sequence[str]
+    filled: float = 1.0
 
     @cached_property
     def words(self) -> frozenset[str]:
@@ -106,9 +72,25 @@ class Column:
         return len(set(self.texts)) == len(self.texts)
 
     @property
+    def differs_mostly(self) -> bool:
+        """Whether most of its texts are other ones, as those of a column of titles are."""
+        return 2 * len(set(self.texts)) >= len(self.texts)
+
+    def begins(self, name: str) -> bool:
+        """Returns whether a word of its name has a start of the list of this name."""
+        return any(one.startswith(tuple(WORDS[name])) for one in self.words)
+
+    @property
     def is_constant(self) -> bool:
         """Whether all rows have the same text, as those of one supplier have its number."""
         return len(self.texts) > 1 == len(set(self.texts))
+
+    @property
+    def is_numbered(self) -> bool:
+        """Whether its name says that it has numbers of articles, or the like."""
+        return bool(WORDS["numbers"] & self.words) or any(
+            one.endswith(NUMBER_ENDS) for one in self.words
+        )
 
     @property
     def is_unpaid(self) -> bool:
@@ -117,22 +99,27 @@ class Column:
         >>> [Column(name, ()).is_unpaid for name in ("EK netto", "Einkaufspreis", "VK", "Aktion")]
         [True, True, False, False]
         """
-        return any(one in UNPAID or one.startswith(UNPAID_BEGINS) for one in self.words)
+        return bool(WORDS["unpaid"] & self.words) or self.begins("unpaid-begins")
 
 
 @dataclass(frozen=True)
 class Guess:
-    """The names of the columns; their places, from 0, by the options of label-table; a symbology;
-    the row of the names, 0 where there is none; a text of each column; the columns of which only
-    the keeper knows the right one, by the same options.
+    """The names of the columns; their places, from 0, by the options of label-table; the symbology
+    of each column that may have the codes; the row of the names, 0 where there is none; a text of
+    each column; the columns of which only the keeper knows the right one, by the same options.
     """
 
     names: Sequence[str]
     columns: Mapping[str, int]
-    symbology: str
+    symbologies: Mapping[int, str]
     header: int
     examples: Sequence[str] = ()
     doubts: Mapping[str, Sequence[int]] = field(default_factory=dict)
+
+    @property
+    def symbology(self) -> str:
+        """The symbology of the codes, or of the first column that may have them."""
+        return next(iter(self.symbologies.values()), AUTO)
 
 
 def guess_of(data: bytes, name: str, options: TableOptions, talk: Talk) -> Guess:
@@ -150,7 +137,7 @@ def guess_of(data: bytes, name: str, options: TableOptions, talk: Talk) -> Guess
         return guess_of(data, name, replace(options, file=file), talk)
     has_names = file.has_header is not False
     names = names_of(rows[0]) if has_names else ()
-    below = [texts_of(row) for row in rows[has_names:] if not row.problem]
+    below = [texts_of(row) for row in rows[has_names:] if not (row.problem or row.is_blank())]
     columns = list(zip_longest(names, *below, fillvalue=""))
     return guess(columns, rows[0].number if has_names else 0)
 
@@ -158,33 +145,41 @@ def guess_of(data: bytes, name: str, options: TableOptions, talk: Talk) -> Guess
 def guess(columns: Sequence[Sequence[str]], header: int) -> Guess:
     """Returns a guess from columns, each with its name in front, which may be empty."""
     names = [name for name, *_ in columns]
-    filled = [
-        Column(name, [one.strip() for one in cells if one.strip()]) for name, *cells in columns
-    ]
+    filled = [column_of(name, cells) for name, *cells in columns]
     codes = codes_of(filled)
     prices = prices_of({at: one for at, one in enumerate(filled) if at not in codes.may_be})
     used = {*codes.may_be, *prices.may_be}
-    others = {at: title_score(one) for at, one in enumerate(filled) if at not in used}
-    best = max(others, key=others.__getitem__, default=-1)
-    places = {
-        "code": codes.surely,
-        "title": best if others.get(best, 0) >= LEAST else None,
-        "price": prices.surely,
-        "copies": next((at for at in others if at != best and is_copies(filled[at])), None),
-    }
-    found = {kind: place for kind, place in places.items() if place is not None}
-    asked = {"code": codes.may_be, "price": prices.may_be}
-    doubts = {kind: may_be for kind, may_be in asked.items() if may_be and kind not in found}
-    symbology = symbology_of(filled[codes.may_be[0]]) if codes.may_be else AUTO
+    others = {at: one for at, one in enumerate(filled) if at not in used}
+    titles = titles_of(others)
+    copies = Places([at for at, one in others.items() if is_copies(one)])
+    kinds = {"code": codes, "title": titles, "price": prices, "copies": copies}
+    found = {kind: one.surely for kind, one in kinds.items() if one.surely is not None}
+    doubts = {kind: one.may_be for kind, one in kinds.items() if one.may_be and kind not in found}
+    symbologies = {at: symbology_of(filled[at]) for at in codes.may_be}
     examples = [column.texts[0] if column.texts else "" for column in filled]
-    return Guess(names, found, symbology, header, examples, doubts)
+    return Guess(names, found, symbologies, header, examples, doubts)
 
 
-class Places(NamedTuple):
+def column_of(name: str, cells: Sequence[str]) -> Column:
+    """Returns a column of cells."""
+    texts = [one.strip() for one in cells if one.strip()]
+    return Column(name, texts, len(texts) / max(1, len(cells)))
+
+
+@dataclass(frozen=True)
+class Places:
     """The places of the columns that may be meant, and that of the one that surely is."""
 
     may_be: Sequence[int]
-    surely: int | None = None
+    is_sure: bool = True
+    best: int | None = None
+
+    @property
+    def surely(self) -> int | None:
+        """The place of the column that surely is meant."""
+        if self.best is None and self.is_sure and len(self.may_be) == 1:
+            return self.may_be[0]
+        return self.best
 
 
 def codes_of(columns: Sequence[Column]) -> Places:
@@ -195,45 +190,61 @@ def codes_of(columns: Sequence[Column]) -> Places:
     for at, one in enumerate(columns):
         if one.has(is_code) and not one.is_constant:
             sure.setdefault(bare(one.texts), at)  # a UPC-A may be there as an EAN-13, too
-    named = [at for at, one in enumerate(columns) if one.texts and CODES & one.words]
+    named = [at for at, one in enumerate(columns) if one.texts and WORDS["codes"] & one.words]
     numbers = [at for at, one in enumerate(columns) if one.differs and one.has(ARTICLE.fullmatch)]
-    may_be = [*sure.values()] or named or numbers
-    if len(may_be) != 1:
-        return Places(may_be)
-    words = columns[may_be[0]].words
-    is_named = NUMBERS & words or any(word.endswith(NUMBER_ENDS) for word in words)
-    return Places(may_be, may_be[0] if sure or named or is_named or not words else None)
+    short = [at for at, one in enumerate(columns) if one.differs and one.is_numbered]
+    may_be = [*sure.values()] or named or numbers or short
+    first = columns[may_be[0]] if may_be else None
+    is_known = first is not None and (first.is_numbered or not first.words)
+    return Places(may_be, bool(sure or named) or is_known)
 
 
 def prices_of(columns: Mapping[int, Column]) -> Places:
     """Returns the columns that may have the price: those with amounts of money, and those that are
-    named so, whatever is in them. One is sure where its name is understood, and those of all
-    others, and it has amounts.
+    named so, whatever is in them. One is sure if its name is understood, and those of all others,
+    and most rows have an amount in it.
     """
-    may_be = [
-        at for at, one in columns.items() if one.has(is_money) or one.texts and PRICES & one.words
-    ]
+    may_be = [at for at, one in columns.items() if one.has(is_money) or WORDS["prices"] & one.words]
     left = [at for at in may_be if not columns[at].is_unpaid]
-    is_sure = len(left) == 1 and columns[left[0]].words <= PAID and columns[left[0]].has(is_amount)
-    return Places(may_be, left[0] if is_sure else None)
+    if len(left) != 1:
+        return Places(may_be, False)
+    one = columns[left[0]]
+    is_sure = one.words <= PAID and one.filled >= LEAST and one.has(is_amount)
+    return Places(may_be, False, left[0] if is_sure else None)
+
+
+def titles_of(columns: Mapping[int, Column]) -> Places:
+    """Returns the columns that may have the title: those that are named so, else those with another
+    text in each row. Of a short and a long text the short one is sure.
+    """
+    texts = {at: one for at, one in columns.items() if one.has(has_letters)}
+    named = [at for at, one in texts.items() if WORDS["titles"] & one.words and not one.is_numbered]
+    others = [at for at, one in texts.items() if one.has(LETTERS.search) and one.differs_mostly]
+    may_be = named or others
+    short = [at for at, one in texts.items() if one.begins("short-begins")]
+    short = short or [at for at in may_be if not texts[at].begins("long-begins")] or may_be
+    return Places(may_be, False, short[0] if len(short) == 1 else None)
 
 
 def is_copies(column: Column) -> bool:
     """Returns whether a column has numbers of labels."""
-    return bool(COPIES & column.words) and share(column.texts, COUNT.fullmatch) == 1
+    return bool(WORDS["copies"] & column.words) and share(column.texts, COUNT.fullmatch) == 1
 
 
-def title_score(column: Column) -> float:
-    """Returns how well a column is one of titles: most have letters, and another text each."""
-    if column.has(is_money) or column.has(ARTICLE.fullmatch):
-        return 0.0
-    differ = len(set(column.texts)) / max(1, len(column.texts))
-    return bool(TITLES & column.words) + share(column.texts, LETTERS.search) * differ
+def has_letters(text: str) -> bool:
+    """Returns whether a text may be a title: it has letters, and is neither a number of an article
+    nor an amount of money; raises `RowError`.
+    """
+    if not any(map(str.isalpha, text)) or ARTICLE.fullmatch(text):
+        return False
+    with suppress(RowError):
+        return not is_money(text)
+    return True
 
 
 def symbology_of(column: Column) -> str:
     """Returns the symbology of a column of codes."""
-    if column.has(is_code) or CODES & column.words:
+    if column.has(is_code) or WORDS["codes"] & column.words:
         return AUTO  # those without their zeros or their check digits, too
     return QR.name if column.has(NO_BARS.fullmatch) else CODE128.name
 

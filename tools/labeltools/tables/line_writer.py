@@ -67,7 +67,7 @@ class LineWriter:
         self.taken += 1
         for price, column in zip(draft.prices, self.columns):
             if price and price.money:
-                column.add(draft.row, price.money)
+                column.add(draft.row, price.money, price.currency or "")
         if self.options.prices.pattern:
             self.waiting.append(draft)
         else:

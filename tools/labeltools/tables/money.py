@@ -9,10 +9,13 @@ import unicodedata
 from dataclasses import dataclass, replace
 from decimal import Decimal
 from functools import lru_cache
+from pathlib import Path
 
+from labeltools.common.lists import lists_of
 from labeltools.common.text import NOTHING, Text
 from labeltools.common.messages import RowError
 
+PRICE_WORDS = Path(__file__).with_name("prices.txt")
 MOST_LETTERS = 60
 NO_CURRENCY = "¤"  # ISO 8859-15 has its € where other encodings have this sign
 MOST_BARE_DIGITS = 8  # of a price; a price that has so many ends in a zero
@@ -47,122 +50,18 @@ LOOKS = {
     "（": "(",
     "）": ")",
 }
-# names of a currency beside each sign that Unicode calls one: its code, where several mean the same
-NAMES_OF = {
-    "EUR": "€ Euro Euros euro euros euroa evro eur",
-    "GBP": "£ GBP£",
-    "USD": "US$ USD$ U$S U$D dollars",
-    "CHF": "Fr. Fr SFr. SFr sFr. sFr",
-    "PLN": "zł zl złotych",
-    "CZK": "Kč Kc Kčs",
-    "HUF": "Ft Ft. forint",
-    "RON": "lei leu Lei",
-    "BGN": "лв лв. lv lv.",
-    "RUB": "₽ руб руб. р р. rub. RUR",
-    "UAH": "₴ грн грн.",
-    "BYN": "Br",
-    "RSD": "din din. дин дин. РСД",
-    "MKD": "ден ден. den",
-    "BAM": "KM КМ",
-    "HRK": "kn",
-    "TRY": "₺ TL",
-    "BRL": "R$",
-    "CAD": "C$ CA$ CDN$",
-    "AUD": "A$ AU$",
-    "NZD": "NZ$",
-    "HKD": "HK$",
-    "TWD": "NT$ 元整",
-    "SGD": "S$",
-    "MXN": "MX$ Mex$",
-    "DOP": "RD$",
-    "CNY": "元 RMB 人民币 人民幣 块",
-    "JPY": "円 圓 日圓 日元",
-    "KRW": "₩ 원",
-    "INR": "₹ Rs Rs. Re Re. रु रु. रू",
-    "PKR": "₨",
-    "IDR": "Rp Rp.",
-    "MYR": "RM",
-    "PHP": "₱ Php",
-    "VND": "₫ đ Đ VNĐ đồng",
-    "THB": "฿ บาท",
-    "ZAR": "R",
-    "KES": "KSh Ksh KSh.",
-    "TZS": "TSh",
-    "UGX": "USh",
-    "NGN": "₦",
-    "GHS": "GH₵",
-    "EGP": "E£ LE L.E. ج.م ج.م.",
-    "SAR": "ر.س ر.س. ريال SR",
-    "AED": "د.إ د.إ. درهم Dhs Dhs. Dh Dh.",
-    "KWD": "د.ك د.ك. KD",
-    "MAD": "د.م. DH DHs",
-    "TND": "د.ت د.ت. DT",
-    "XOF": "FCFA CFA",
-    "DZD": "DA دج د.ج د.ج.",
-    "BHD": "د.ب د.ب.",
-    "IQD": "د.ع د.ع.",
-    "JOD": "د.أ د.أ.",
-    "LBP": "ل.ل ل.ل.",
-    "LYD": "د.ل د.ل.",
-    "OMR": "ر.ع ر.ع.",
-    "QAR": "ر.ق ر.ق.",
-    "YER": "ر.ي ر.ي.",
-    "SDG": "ج.س ج.س.",
-    "SYP": "ل.س ل.س.",
-    "NPR": "नेरू",
-    "LKR": "රු රු.",
-    "IRR": "﷼ ریال",
-    "IRT": "تومان",
-    "ILS": '₪ NIS ש"ח ש״ח',
-    "PEN": "S/ S/.",
-    "BOB": "Bs Bs.",
-    "GTQ": "Q",
-    "HNL": "L",
-    "PYG": "₲ Gs Gs.",
-    "UYU": "$U",
-    "CRC": "₡",
-    "PAB": "B/.",
-    "KZT": "₸ тг тг. тенге",
-    "UZS": "сум so'm",
-    "AZN": "₼ ман. ман",
-    "AMD": "֏ др.",
-    "GEL": "₾ лари",
-    "crown": "kr kr. Kr Kr. :-",  # five countries have one
-}
-CENTS = frozenset("¢ c ct ct. Ct Ct. Cent Cents cent cents cts p".split())
-CODES = frozenset(
-    """AED AFN ALL AMD ANG AOA ARS AUD AWG AZN BAM BBD BDT BGN BHD BIF BMD BND BOB BRL BSD BTN BWP
-    BYN BZD CAD CDF CHF CLP CNY COP CRC CUP CVE CZK DJF DKK DOP DZD EGP ERN ETB EUR FJD FKP GBP GEL
-    GHS GIP GMD GNF GTQ GYD HKD HNL HRK HTG HUF IDR ILS INR IQD IRR ISK JMD JOD JPY KES KGS KHR KMF
-    KRW KWD KYD KZT LAK LBP LKR LRD LSL LYD MAD MDL MGA MKD MMK MNT MOP MRU MUR MVR MWK MXN MYR MZN
-    NAD NGN NIO NOK NPR NZD OMR PAB PEN PGK PHP PKR PLN PYG QAR RON RSD RUB RWF SAR SBD SCR SDG SEK
-    SGD SHP SLE SLL SOS SRD SSP STN SVC SYP SZL THB TJS TMT TND TOP TRY TTD TWD TZS UAH UGX USD UYU
-    UZS VES VND VUV WST XAF XCD XOF XPF YER ZAR ZMW""".split()
-)
-WITHOUT_DECIMALS = frozenset(
-    "JPY ¥ KRW VND IDR CLP COP HUF ISK PYG IRR IRT CRC UZS KZT TZS UGX XOF XAF".split()
-)
-WITH_THREE_DECIMALS = frozenset("BHD IQD JOD KWD LYD OMR TND".split())
-# those that may have capitals or not; `km`, `ft`, `cup`, `pen`, `L` behind a number are no currency
-FOLDED = {
-    **{name.casefold(): name for name in "EUR USD GBP CHF PLN CZK SEK NOK DKK HUF RON RUB".split()},
-    "zł": "PLN",
-    "kč": "CZK",
-    "euro": "EUR",
-    "kr": "crown",
-    "kr.": "crown",
-    "lei": "RON",
-    "руб.": "RUB",
-    "руб": "RUB",
-    "грн": "UAH",
-    "fr.": "CHF",
-    "rs.": "INR",
-}
+# names of currencies beside each sign that Unicode calls one, and other words of prices
+NAMES_OF = lists_of(Path(__file__).with_name("currencies.txt"))
+WORDS = {name: frozenset(words) for name, words in lists_of(PRICE_WORDS).items()}
+CENTS = WORDS["cents"]
+WITHOUT_DECIMALS = WORDS["without-decimals"]
+WITH_THREE_DECIMALS = WORDS["three-decimals"]
 ONLY_IN_FRONT = frozenset("LQR")
 BY_NAME = {
-    **{name: code for code, names in NAMES_OF.items() for name in names.split()},
-    **{code: code for code in CODES},
+    **{name: code for code, names in NAMES_OF.items() for name in names},
+    **{code: code for code in WORDS["codes"]},
 }
+FOLDED = {name.casefold(): BY_NAME[name] for name in WORDS["any-case"]}
 # signs and codes that may be of one currency, as in `$10.00 CAD`, `kr 5 NOK`, `Rs. 5 PKR`
 FAMILIES = {
     "$": "USD CAD AUD NZD HKD SGD MXN TWD ARS CLP COP UYU",
@@ -176,31 +75,16 @@ FAMILIES = {
 }
 PAIRS = {(sign, code) for sign, codes in FAMILIES.items() for code in codes.split()}
 # words that a price tag has in front of its number or behind it; every other word is free text
-FRONT_WORDS = """ab nur je jetzt nun VK UVP statt ca. from only now was RRP MSRP SRP each NEW dès
-    desde solo sólo por partir de da à a partir od do tylko jen už pouze vanaf nu nur slechts voor
-    fra kun från nu endast bara alkaen vain от за цена only csak mar már de la doar apó από μόνο
-    samo že tik nuo tikai no alates 税込 税抜 税別 (税込) (税抜) (税別) 本体 定価 単価 特価 約 现价
-    原价 售价 仅 只要"""
-BEHIND_WORDS = """inkl. inkl incl. incl inc. inc exkl. exkl excl. excl ex zzgl. zzgl plus + MwSt.
-    MwSt MWST USt. USt VAT GST HST PST TVA IVA TTC HT BTW moms VSK DPH PDV KDV ΦΠΑ НДС ПДВ brutto
-    netto net gross Pfand c/IVA s/IVA inkl.MwSt. each ea. ea je only tax 税込 税抜 税別 (税込)
-    (税抜) (税別) (inkl. exkl. MwSt.) (TTC) (HT) から より 起 от od UVP"""
-FRONT = frozenset(map(str.casefold, FRONT_WORDS.split()))
-BEHIND = frozenset(map(str.casefold, BEHIND_WORDS.split()))
-UNITS = frozenset(
-    """kg g 100g l lt ltr liter ml cl m cm m² m2 m³ stk stück st pc pcs pce ea lb lbs oz dz doz kpl
-    db szt ks шт кг л 個 斤 kilo kus""".split()
-)
-COUNTS = "(?:für|for|pour|por|per|za|voor|för|pelo|az|la|за|x)"
+FRONT = frozenset(map(str.casefold, WORDS["front"]))
+BEHIND = frozenset(map(str.casefold, WORDS["behind"]))
+UNITS = WORDS["units"]
 UNIT = r"(?:[0-9]{1,4}(?:[.,][0-9]{1,3})? ?)?[^\W\d_]{1,14}[.²³]?"
 PER = rf"(?: ?/ ?| (?:je|pro|per|par|por|al|le|la|the|a|za|na|på|pr\.|от|за|à|/|の) ){UNIT}"
 # most prices, at once
 COMMON = re.compile(
     "(0|[1-9][0-9]{0,5}|[1-9][0-9]{0,2}([.,'])[0-9]{3})([.,])([0-9]{2})(?:[ \u00a0]?(€))?"
 )
-PIECES = r"(?:Stk\.?|Stück|pcs|x|st\.?|шт\.?)"
-MANY = re.compile(rf"([1-9][0-9]?) ?{PIECES}? ?{COUNTS} (.*)", re.IGNORECASE)
-TAIL = "|".join(map(re.escape, BEHIND_WORDS.split()))
+TAIL = "|".join(map(re.escape, WORDS["behind"]))
 PER_UNIT = re.compile(rf"(?<=[^/])({PER})(?P<more>(?: (?:{TAIL}))*)\Z")
 NUMBER = re.compile(
     r"""(?P<dash>-)?(?P<bare>[.,])(?P<small>[0-9]{2})(?![0-9])  # `-,80`, `.99`
@@ -212,7 +96,6 @@ NUMBER = re.compile(
     """,
     re.VERBOSE,
 )
-YEAR = re.compile("(?:19|20)(?!00)[0-9]{2}")  # four decimals of which two are zeros are a program's
 FOOTNOTE = re.compile(r"(?<=[0-9€$£.,a-zA-Zł\-])(?: ?\*{1,3}| ?[¹²³⁴⁵]\)?)\Z")
 ACCOUNTANTS = re.compile(r"\A\((?=.*[0-9]\)\Z)(.*)\)\Z")  # (5.00)
 SIGN_AS_POINT = re.compile(r"\A([0-9]{1,4}) ?([€$£]) ?([0-9]{2})\Z")  # 3€50
@@ -223,12 +106,7 @@ BASIS = re.compile(
     r"(?P<basis>\(?(?:(?:Grundpreis|GP)\s*:?\s*)?(?:[0-9]{1,4}\s*[^\W\d_]{1,12}\.?\s*[=:]\s*)?)"
     r"(?P<price>.*?)(?P<end>\)?)"
 )
-# what programs, not people, write where they have no value; spreadsheets' errors by their form
-NO_VALUES = frozenset("nan nat null none nil undefined true false <na> n/a na inf -inf".split())
-ERROR = re.compile(
-    r"#.*|\w+\.? ?: ?[0-9]{3}|[0-9]+(?:[.,][0-9]+)?[Ee][+-]?[0-9]+"
-    r"|.*[.…]{2,}\Z|.*&#?\w+;.*|.*<.*>.*"
-)
+NO_VALUES = WORDS["no-values"]  # what programs write where they have no value
 
 
 class NotMoney(RowError):
@@ -240,9 +118,9 @@ class Money:
     """A price as it is written, and what it means.
 
     `value` has the separators as they are read, cents as hundredths; `currency` is its code, or its
-    sign where several have it; `unit` is as `/kg`; `words` are those around it; `count` is 2 for `2
-    für 5 €`. `is_open` is whether one separator has three digits behind it, as 1.234: thousands or
-    decimals. `basis` and `end` are what a unit price has around it, as `1 kg = `.
+    sign where several have it; `unit` is as `/kg`; `words` are those around it. `is_open` is
+    whether one separator has three digits behind it, as 1.234: thousands or decimals. `basis` and
+    `end` are what a unit price has around it, as `1 kg = `.
     """
 
     text: str
@@ -253,7 +131,6 @@ class Money:
     currency: str = ""
     unit: str = ""
     words: str = ""
-    count: int = 1
     is_open: bool = False
     basis: str = ""
     end: str = ""
@@ -316,12 +193,6 @@ def is_pair(one: str, other: str) -> bool:
     return (one, other) in PAIRS or (other, one) in PAIRS
 
 
-def scripts_of(text: str) -> set[int]:
-    """Returns the zeros of the kinds of digits in a text: Latin, Arabic, Devanagari .."""
-    digits = [sign for sign in text if unicodedata.category(sign) == "Nd"]
-    return {ord(sign) - unicodedata.decimal(sign) for sign in digits}
-
-
 @lru_cache(maxsize=4096)
 def parse(text: str, own: str = "", most_decimals: int = MOST_DECIMALS) -> Money:
     """Returns the price of a cell; raises `NotMoney` with the reason.
@@ -333,9 +204,9 @@ def parse(text: str, own: str = "", most_decimals: int = MOST_DECIMALS) -> Money
     ['4', '1234.50', '1234567.50', '298']
     >>> [str(parse(cell).value) for cell in ("-,80", "99¢", "Rs. 40/-", "12'50 €", "3€50")]
     ['0.80', '0.99', '40', '12.50', '3.50']
-    >>> parse("3 €/kg").unit, parse("2 für 5 €").count, parse("RF 1.250", own="RF").currency
-    ('/kg', 2, 'RF')
-    >>> for cell in ("nan", "€", "1E3", "01.02.2026", "007", "-30 %", "3 – 5 €", "5,00-"):
+    >>> parse("3 €/kg").unit, parse("RF 1.250", own="RF").currency
+    ('/kg', 'RF')
+    >>> for cell in ("nan", "€", "2 für 5 €", "01.02.2026", "007", "-30 %", "3 – 5 €", "5,00-"):
     ...     try:
     ...         print(parse(cell))
     ...     except NotMoney as error:
@@ -355,12 +226,11 @@ def parse(text: str, own: str = "", most_decimals: int = MOST_DECIMALS) -> Money
         value = Decimal(f"{whole.replace(group, '')}.{decimals}")
         return Money(text, value, point, group, 2, "EUR" if euro else "")
     bare = with_usual_points(plain_price(text))
-    count, bare = count_in(bare)
     unit, bare = unit_in(bare)
     price = number_in(bare, plain(own), most_decimals)
-    if (unit or count > 1) and not is_priced(price, bare, unit):
-        raise NotMoney(OTHER_WORDS, OTHER_WORDS_HINT)  # 1.0/AV, 10 x 20
-    return replace(price, text=text.strip(), count=count, unit=unit)
+    if unit and not is_priced(price, bare, unit):
+        raise NotMoney(OTHER_WORDS, OTHER_WORDS_HINT)  # 1.0/AV
+    return replace(price, text=text.strip(), unit=unit)
 
 
 def parse_unit_price(text: str, own: str = "", most_decimals: int = MOST_DECIMALS) -> Money:
@@ -377,29 +247,13 @@ def parse_unit_price(text: str, own: str = "", most_decimals: int = MOST_DECIMAL
 
 
 def text_price(text: str) -> str:
-    """Returns the text of a price in a column of free text; raises `NotMoney` for what no shop
-    writes.
+    """Returns the text of a price in a column of free text; raises `NotMoney` for a sign alone.
 
     >>> text_price("auf Anfrage"), text_price("3 zum Preis von 2")
     ('auf Anfrage', '3 zum Preis von 2')
-    >>> for cell in ("#VALEUR !", "Erreur :502", "NaN", "€", "1E+05", "Loading...", "&euro;3.00"):
-    ...     try:
-    ...         print(text_price(cell))
-    ...     except NotMoney as error:
-    ...         print(error.what)
-    is what a program writes where it has no value
-    is what a program writes where it has no value
-    is what a program writes where it has no value
-    has neither a letter nor a digit
-    is what a program writes where it has no value
-    is what a program writes where it has no value
-    is what a program writes where it has no value
     """
-    bare = plain(text)
-    if not any(sign.isalnum() for sign in bare):
+    if not any(sign.isalnum() for sign in plain(text)):
         raise NotMoney(Text("has neither a letter nor a digit"))
-    if bare.casefold() in NO_VALUES or ERROR.fullmatch(bare):
-        raise NotMoney(Text("is what a program writes if it has no value"))
     return text.strip()
 
 
@@ -415,8 +269,6 @@ def plain_price(text: str) -> str:
         raise NotMoney(Text("has no number"), OTHER_WORDS_HINT if has_word else NOTHING)
     if re.search("[%‰٪]", bare):
         raise NotMoney(Text("is a percentage"))
-    if len(scripts_of(text)) > 1 and not re.search("[０-９]", text):
-        raise NotMoney(Text("has digits of two scripts"))
     return bare
 
 
@@ -428,14 +280,6 @@ def with_usual_points(bare: str) -> str:
     bare = ACCOUNTANTS.sub(r"-\1", bare)
     bare = SIGN_AS_POINT.sub(r"\1,\3 \2", bare)
     return APOSTROPHE_AS_POINT.sub(r"\1,\2", bare)
-
-
-def count_in(bare: str) -> tuple[int, str]:
-    """Returns how many things a price is for, and the price: `2 für 5 €`."""
-    many = MANY.fullmatch(bare)
-    if many and re.search("[0-9]", many[2]):
-        return int(many[1]), many[2]
-    return 1, bare
 
 
 def unit_in(bare: str) -> tuple[str, str]:
@@ -452,12 +296,12 @@ def unit_in(bare: str) -> tuple[str, str]:
 
 
 def is_priced(price: Money, bare: str, unit: str) -> bool:
-    """Returns whether a number with a unit or a count is a price: by its currency, its decimals, or
-    the unit.
+    """Returns whether a number with a unit is a price: by its currency, its decimals, or the
+    unit.
     """
     if price.currency:
         return True
-    if unit and unit.lstrip("/ 0123456789.,").rstrip(".").casefold() not in UNITS:
+    if unit.lstrip("/ 0123456789.,").rstrip(".").casefold() not in UNITS:
         return False
     has_decimals = bool(price.point) or price.value != int(price.value)
     return has_decimals or bare.endswith((":-", ",-", ".-"))
@@ -622,11 +466,6 @@ def check_amount(amount: Amount, has_currency: bool, is_plain: bool, most_decima
             Text("is {} digits without a separator or a currency", len(whole)),
             Text("is it a code?"),
         )
-    is_month = (
-        amount.point == "." and int(whole) in range(1, 13) and YEAR.fullmatch(amount.decimals)
-    )
-    if is_month and not has_currency and most_decimals == MOST_DECIMALS:
-        raise NotMoney(Text("may be a month and its year"))
     if len(amount.decimals) > most_decimals or len(whole) > MOST_WHOLE_DIGITS:
         raise NotMoney(Text("has too many digits"), Text("give --price-as"))
 

@@ -7,6 +7,7 @@ from typing import Any, Generic, TypeVar
 from labeltools.tables.codes import CodeRules
 from labeltools.sheets.options import FileOptions
 from labeltools.lines.file import LinesFile
+from labeltools.lines.symbologies import SYMBOLOGIES
 from labeltools.tables.prices import PricePattern
 
 
@@ -93,3 +94,9 @@ class TableOptions:
     links: bool = False
     new_since: LinesFile | None = None
     table: str = ""
+
+    def wrong_setting(self, symbology: str) -> str:
+        """Returns a key of the settings that a symbology does not have; empty if it has all."""
+        keys = (one.partition("=")[0] for one in self.settings.split(",") if one)
+        known = SYMBOLOGIES[symbology].settings
+        return next((key for key in keys if key not in known), "")

@@ -22,10 +22,11 @@ OF_MANY = re.compile(
     r"(?! *(?:g|gr?|kg|mg|m|cm|mm|l|ml|cl)\b)|\b1[., ]?000 *(?:eur|usd|chf|gbp|[€$£])",
     re.IGNORECASE,
 )
+CENTS = Text("cents")
 ARITHMETIC = Decimal("1e-9")  # what a program's arithmetic may leave
 MOST_LOST = Decimal("0.01")  # of a price that is rounded
-USUAL_DECIMALS = 3  # at most: fuel has three
 THOUSANDS_OR_DECIMALS = Text("may have thousands or decimals")
+DECIMAL_HINT = Text("give --decimal comma or point")
 SIGN_OF = {"crown": "kr", "EUR": "€", "GBP": "£"}
 ONE_SIGN = {"JPY": "¥", "CNY": "¥"}
 SAME = {("¥", "JPY"), ("¥", "CNY"), ("$", "USD")}
@@ -40,7 +41,7 @@ PATTERN = re.compile(
 
 
 class Said(NamedTuple):
-    """What is said once of a column, and what to do about it."""
+    """What is reported once of a column, and what to do about it."""
 
     text: Text
     hint: Text = NOTHING
@@ -58,13 +59,13 @@ class Seen(NamedTuple):
 class PriceColumn:
     """What the cells of a price column say together.
 
-    `decimal` is the decimal sign where it is known before. `points` and `kinds` are what was seen:
-    each decimal sign, prices that may have thousands or decimals, those with one decimal
-    or more than three, and zeros.
+    `decimal` is the decimal sign where it is known before. `forms` and `kinds` are what was seen:
+    decimal signs with the decimals after them, prices that may have thousands or decimals, and
+    zeros.
     """
 
     decimal: str | None = None
-    points: dict[str, Seen] = field(default_factory=dict)
+    forms: dict[str, Seen] = field(default_factory=dict)
     kinds: dict[str, Seen] = field(default_factory=dict)
     groups: set[str] = field(default_factory=set)
     lengths: Counter[int] = field(default_factory=Counter)
@@ -72,24 +73,21 @@ class PriceColumn:
     has_thousands: bool = False
     has_cents: bool = False
 
-    def add(self, row: int, price: Money) -> None:
-        """Takes the price of a row."""
+    def add(self, row: int, price: Money, currency: str = "") -> None:
+        """Takes the price of a row; the currency may be in a column of its own."""
         if price.is_open:
             see(self.kinds, "open", row, price.text)
         else:
             self.lengths[price.decimals] += 1
-            if price.point in (".", ","):
-                see(self.points, price.point, row, price.text)
+            if price.point in (".", ",") and not price.unit:
+                see(self.forms, price.point + "0" * price.decimals, row, price.text)
             if price.group:
                 self.groups.add(price.group)
-        if price.decimals == 1:
-            see(self.kinds, "short", row, price.text)
-        elif price.decimals > USUAL_DECIMALS and not price.unit:
-            see(self.kinds, "long", row, price.text)
         if not price.value:
             see(self.kinds, "zero", row, price.text)
-        if price.currency not in ("", "cent"):
-            self.currencies.add(ONE_SIGN.get(price.currency, price.currency))
+        own = currency_of(plain(currency), plain(currency)) if currency else price.currency
+        if own and own != "cent":
+            self.currencies.add(ONE_SIGN.get(own, own))
         self.has_cents = self.has_cents or price.currency == "cent"
         self.has_thousands = self.has_thousands or price.value >= 1000 and not price.group
 
@@ -98,9 +96,10 @@ class PriceColumn:
         """The decimal sign that its sure cells have; empty where there is none or two."""
         if self.decimal:
             return self.decimal
-        if not self.points and len(self.groups) == 1 and self.groups <= {".", ","}:
+        points = {form[0] for form in self.forms}
+        if not points and len(self.groups) == 1 and self.groups <= {".", ","}:
             return "," if "." in self.groups else "."
-        return next(iter(self.points)) if len(self.points) == 1 else ""
+        return points.pop() if len(points) == 1 else ""
 
     @property
     def decimals(self) -> int:
@@ -114,17 +113,17 @@ class PriceColumn:
 
     def says(self) -> Iterator[Said]:
         """Yields what is said once of prices that are printed as they are."""
-        if len(self.points) > 1:
-            first, second = list(self.points.values())[:2]
-            yield Said(
-                Text(
-                    "row {} has {} and row {} has {}: two decimal signs",
-                    first.row,
-                    first.text,
-                    second.row,
-                    second.text,
-                )
+        if len(self.forms) > 1:
+            first, second = list(self.forms.values())[:2]
+            said = Text(
+                "row {} has {} and row {} has {}: prices of two forms",
+                first.row,
+                first.text,
+                second.row,
+                second.text,
             )
+            pattern = f"0{self.point or '.'}00"
+            yield Said(said, Text("give --price-as '{}', or another pattern", pattern))
         if "open" in self.kinds and not self.point:
             row, text, rows = self.kinds["open"]
             where = Text("{} in row {}", text, row)
@@ -132,15 +131,6 @@ class PriceColumn:
                 where = Text("{} in row {} and {} more", text, row, rows - 1)
             hint = Text("it is printed as it is")
             yield Said(Text("{} {}", where, THOUSANDS_OR_DECIMALS), hint)
-        if "short" in self.kinds:
-            row, text, rows = self.kinds["short"]
-            hint = Text("give --price-as '0.00', or another pattern, to print two")
-            yield Said(Text("row {} has {}, one decimal ({})", row, text, rows_text(rows)), hint)
-        if "long" in self.kinds:
-            row, text, rows = self.kinds["long"]
-            hint = Text("give --price-as '0.00', or another pattern, to print two")
-            said = Text("row {} has {}, more than three decimals ({})", row, text, rows_text(rows))
-            yield Said(said, hint)
         yield from self.says_of_values()
 
     def says_of_values(self) -> Iterator[Said]:
@@ -153,23 +143,18 @@ class PriceColumn:
             yield Said(Text("the prices have several currencies: {}", listed))
 
 
-def is_of_cents(name: str) -> bool:
-    """Returns whether the name of a column says that its numbers are hundredths.
+def measure_of(name: str) -> Text:
+    """Returns what the name of a column says that its prices are of, if it is not one article in
+    the currency itself.
 
-    >>> [is_of_cents(name) for name in ("price_cents", "PriceCents", "Preis (ct)", "Center", "CT1")]
-    [True, True, True, False, False]
+    >>> [measure_of(name) for name in ("price_cents", "PriceCents", "Preis (ct)", "Center", "CT1")]
+    ['cents', 'cents', 'cents', '', '']
+    >>> [measure_of(name) for name in ("Preis/100", "Preis (TEUR)", "Preis / 100 g", "VK 2026")]
+    ['prices of 100 or 1000', 'prices of 100 or 1000', '', '']
     """
-    words = re.sub(r"(?<=[a-z])(?=[A-Z])|_", " ", name)
-    return OF_CENTS.search(words) is not None
-
-
-def is_of_many(name: str) -> bool:
-    """Returns whether the name of a column says that its prices are those of many articles.
-
-    >>> [is_of_many(name) for name in ("Preis/100", "Preis (TEUR)", "Preis / 100 g", "VK 2026")]
-    [True, True, False, False]
-    """
-    return OF_MANY.search(name) is not None
+    if OF_CENTS.search(re.sub(r"(?<=[a-z])(?=[A-Z])|_", " ", name)):
+        return CENTS
+    return Text("prices of 100 or 1000") if OF_MANY.search(name) else NOTHING
 
 
 def see(found: dict[str, Seen], kind: str, row: int, text: str) -> None:
@@ -187,7 +172,7 @@ def column_of(prices: Mapping[int, Money], decimal: str | None = None) -> PriceC
     >>> [said.text for said in column_of({2: parse("1.234"), 3: parse("5.678")}).says()]
     ['1.234 in row 2 and 1 more may have thousands or decimals']
     >>> [said.text for said in column_of({2: parse("1,50"), 3: parse("1.50")}).says()]
-    ['row 2 has 1,50 and row 3 has 1.50: two decimal signs']
+    ['row 2 has 1,50 and row 3 has 1.50: prices of two forms']
     """
     column = PriceColumn(decimal)
     for row, price in prices.items():
@@ -218,7 +203,7 @@ def settled(price: Money, column: PriceColumn, pattern: "PricePattern | None" = 
     if not column.point and pattern and pattern.has_decimals_of(price):
         return with_three_decimals(price)
     if not column.point:
-        raise NotMoney(THOUSANDS_OR_DECIMALS, Text("give --decimal , or --decimal ."))
+        raise NotMoney(THOUSANDS_OR_DECIMALS, DECIMAL_HINT)
     if column.point != price.group:
         return replace(price, is_open=False)
     is_known = column.decimals == 3 or column.has_thousands or price.currency in WITH_THREE_DECIMALS
@@ -325,8 +310,8 @@ class PricePattern:
         labeltools.tables.money.NotMoney: has decimals, and the pattern of prices has none
         """
         if price.is_open:
-            raise NotMoney(THOUSANDS_OR_DECIMALS, Text("give --decimal , or --decimal ."))
-        if price.words or price.count != 1:
+            raise NotMoney(THOUSANDS_OR_DECIMALS, DECIMAL_HINT)
+        if price.words:
             raise NotMoney(Text("has words, which the pattern of prices would lose"))
         self.check_currency(price, currency)
         shown = self.rounded(price.value)

@@ -4,23 +4,24 @@ import re
 from dataclasses import dataclass, field
 from functools import reduce
 from itertools import chain
-from typing import Iterator, NamedTuple, Sequence
+from typing import Iterator, NamedTuple
 
 from labeltools.common.text import NOTHING, Text, counted
 from labeltools.tables.columns import Column, Head, columns_of, names_of
-from labeltools.tables.codes import is_in_brackets
+from labeltools.tables.codes import FREE, OTHER_CODES, OtherCode, WrongDigit, is_in_brackets
 from labeltools.sheets.csv_table import csv_table
 from labeltools.sheets.options import CsvOptions
 from labeltools.tables.drafts import RowReader
 from labeltools.tables.line_writer import LineWriter, contents_of
-from labeltools.common.messages import BAD_ARGUMENTS, Place, RowError, Talk, ToolError, quoted
-from labeltools.tables.prices import is_of_cents, is_of_many
+from labeltools.common.messages import BAD_ARGUMENTS, RowError, Talk, ToolError, quoted
+from labeltools.tables.prices import CENTS, measure_of
 from labeltools.common.names import listed, said_of_empty, unlike
 from labeltools.sheets.number_format import Formatter, local_date, local_signs
 from labeltools.sheets.ods import rows_of_ods
 from labeltools.tables.once import Once
 from labeltools.sheets.cells import seen
 from labeltools.sheets.rows import Row
+from labeltools.lines.symbologies import SYMBOLOGIES
 from labeltools.tables.summary import summary
 from labeltools.tables.options import Columns, TableOptions
 from labeltools.sheets.workbook import is_ods, named_errors, opened
@@ -28,6 +29,11 @@ from labeltools.sheets.xlsx import rows_of_xlsx
 
 ZIP = (b"PK\x03\x04", b"PK\x05\x06")
 NO_TABLE = re.compile(rb"(?i)\xd0\xcf\x11\xe0|\s*<(?:\?xml|!doctype|html|table)")
+PICTURE = re.compile(rb"\x89PNG|\xff\xd8\xff|GIF8|BM.{4}\0\0\0\0|II\*\0|MM\0\*|RIFF.{4}WEBP", re.S)
+# options that only CSV has, or only workbooks
+OF_CSV = ("delimiter", "encoding")
+OF_WORKBOOKS = ("sheet", "hidden", "date_as", "links")
+MOST_HELD = 1000  # rows that are wrong, before the first one that is right
 BETWEEN = 256  # rows between two calls of `go_on`
 
 
@@ -64,6 +70,7 @@ def lines_of_table(data: bytes, name: str, options: TableOptions, talk: Talk) ->
     work = TableRun(options, columns, start, talk)
     work.take_all(chain(looked_at, start.rows))
     writer = work.writer
+    work.refuse_other_codes(name)
     if not (writer.taken or writer.left_out or work.hidden or work.unmarked):
         row = start.head.row.number
         raise ToolError(
@@ -100,11 +107,6 @@ def head_of(data: bytes, name: str, options: TableOptions, talk: Talk) -> Start:
     return Start(Head(first, names_of(first)), rows, formatter)
 
 
-def names_in(start: Start) -> list[str]:
-    """Returns the names of the columns; empty ones where the row has none."""
-    return list(names_of(start.head.row))
-
-
 def is_first(row: Row, wanted: int | None) -> bool:
     """Returns whether a row is the one of the names, or below it."""
     return row.number >= wanted if wanted else not row.is_blank()
@@ -125,25 +127,31 @@ def rows_of(
     """
     if NO_TABLE.match(data):
         what = Text("{} is an old .xls, XML, HTML, or has a password", name)
-        raise ToolError(what, Text("save it as .xlsx, without one"))
+        raise ToolError(what, Text("save it as .xlsx, without a password"))
+    if data.startswith(b"%PDF") or PICTURE.match(data):
+        what = Text("{} is a picture", name)
+        if data.startswith(b"%PDF"):
+            what = Text("{} is a PDF", name)
+        raise ToolError(what, Text("give the table itself: .xlsx, .ods or CSV"))
     is_csv = not data.startswith(ZIP)
-    for option in ("sheet",) if is_csv else ("delimiter", "encoding"):
-        if getattr(options.file, option) is not None:
+    for option in OF_WORKBOOKS if is_csv else OF_CSV:
+        if getattr(options if option == "links" else options.file, option):
             what = Text("{} is CSV", name) if is_csv else Text("{} is no CSV", name)
-            raise ToolError(what, Text("leave --{} away", option), BAD_ARGUMENTS)
+            hint = Text("leave --{} away", option.replace("_", "-"))
+            raise ToolError(what, hint, BAD_ARGUMENTS)
     if is_csv:
         how = CsvOptions(options.file, options.columns.asked, options.codes.is_free)
-        return csv_table(data, name, how, talk).rows()
-    return rows_of_workbook(data, name, options.file.sheet, formatter)
+        return csv_table(data, name, how).rows()
+    return rows_of_workbook(data, name, options.file.sheet, formatter, talk)
 
 
 def rows_of_workbook(
-    data: bytes, name: str, wanted: str | None, formatter: Formatter
+    data: bytes, name: str, wanted: str | None, formatter: Formatter, talk: Talk
 ) -> Iterator[Row]:
     """Yields the rows of a sheet of a workbook."""
     with named_errors(name), opened(data) as archive:
         kind = rows_of_ods if is_ods(archive) else rows_of_xlsx
-        yield from kind(archive, wanted, formatter)
+        yield from kind(archive, wanted, formatter, talk)
 
 
 def nothing_marked(columns: Columns[Column], name: str) -> ToolError:
@@ -168,6 +176,9 @@ class TableRun:
     writer: LineWriter = field(init=False)
     hidden: int = 0
     unmarked: int = 0
+    held: list[tuple[int, str, RowError]] = field(default_factory=list)  # while no row is right
+    is_holding: bool = True
+    wrong_digits: int = 0
 
     def __post_init__(self) -> None:
         older = contents_of(self.options.new_since) if self.options.new_since else None
@@ -177,33 +188,16 @@ class TableRun:
         self.writer = LineWriter(self.options, self.talk, self.once, has_copies, older, texts)
 
     def take_all(self, rows: Iterator[Row]) -> None:
-        """Takes the rows below the head; empty ones are left out, but not those at the end."""
-        head = self.start.head
-        last = head.row.number - (not head.names)
-        empty: list[int] = []
+        """Takes the rows below the head, but none that is empty."""
         for row in rows:
             if row.number % BETWEEN == 0:
                 self.talk.go_on(row.number, 0)
-            if row.number > last + 1:
-                empty += range(last + 1, row.number)
-            last = row.number + row.repeat - 1
+            if row.is_blank():
+                continue
             if row.is_hidden and not self.options.file.hidden:
-                self.hidden += not row.is_blank()
-            elif row.is_blank():
-                empty.append(last)
+                self.hidden += 1
             else:
-                if empty:
-                    self.leave_out_empty(empty)
-                    empty = []
                 self.take(row)
-
-    def leave_out_empty(self, empty: Sequence[int]) -> None:
-        """Leaves out empty rows, of which there is one at least."""
-        what = Text("the row is empty")
-        if empty[1:]:
-            what = Text("the row is empty, and all to row {}", empty[-1])
-        self.talk.note(Place("", "row", empty[0]), "", what, NOTHING)
-        self.writer.left_out += empty
 
     def take(self, row: Row) -> None:
         """Takes one row that is not blank, or leaves it out."""
@@ -211,20 +205,46 @@ class TableRun:
             draft = self.reader.draft(row)
         except RowError as problem:
             place = self.columns.code.place if problem.place is None else problem.place
-            cell = row.cells[place] if place < len(row.cells) else ""
-            self.writer.leave_out(row.number, seen(cell), problem)
+            cell = seen(row.cells[place] if place < len(row.cells) else "")
+            self.wrong_digits += isinstance(problem, WrongDigit)
+            self.held.append((row.number, cell, problem))
+            if not self.is_holding or len(self.held) > MOST_HELD:
+                self.leave_out_held()
             return
         if draft is None:
             self.unmarked += 1
-        else:
-            self.writer.take(draft)
+            return
+        self.leave_out_held()
+        self.writer.take(draft)
+
+    def leave_out_held(self) -> None:
+        """Leaves out the rows that are held, and holds no more: one message is not for all."""
+        self.is_holding = False
+        for one in self.held:
+            self.writer.leave_out(*one)
+        self.held.clear()
+
+    def refuse_other_codes(self, name: str) -> None:
+        """Raises `ToolError` if the codes of a table are no EAN or UPC, or have no check digits: of
+        these one in ten is right by chance.
+        """
+        title = self.columns.code.title
+        others = sum(isinstance(problem, OtherCode) for _, _, problem in self.held)
+        if 2 * others > len(self.held):
+            what = Text("{}: no row has an EAN or UPC in {}", name, title)
+            offers = [(SYMBOLOGIES[one].title, ["--symbology", one]) for one in FREE]
+            raise ToolError(what, OTHER_CODES, offers=offers)
+        self.leave_out_held()
+        if 0 < self.writer.taken < self.wrong_digits:
+            what = Text("{}: most codes in {} have a wrong check digit", name, title)
+            hint = Text("if they have none, give --without-check-digit, or --symbology code128")
+            raise ToolError(what, hint)
 
     def say_all(self) -> None:
         """Says what there is to say about the whole table."""
         self.say_of_empty()
         self.say_of_prices()
         self.say_of_codes()
-        self.reader.noticed.say_of_dates(self.talk)
         self.once.say(self.talk)
         if self.hidden:
             text = counted(
@@ -253,17 +273,11 @@ class TableRun:
         """Says which columns have cents, or prices of many articles, by their names."""
         columns = (self.columns.price, self.columns.unit_price, self.columns.old_price)
         for column, prices in zip(columns, self.writer.columns):
-            if column is None:
-                continue
-            if is_of_cents(column.name) and prices.are_bare:
-                text = Text("{} has cents by its name, and is printed as it is", column.title)
-                self.talk.say(text, Text("make a column of prices of it"))
-            elif column is not self.columns.unit_price and is_of_many(column.name):
-                text = Text(
-                    "{} has prices of 100 or 1000 by its name, and is printed as it is",
-                    column.title,
-                )
-                self.talk.say(text, Text("make a column of prices of one"))
+            measure = measure_of(column.name) if column else NOTHING
+            is_meant = prices.are_bare if measure is CENTS else column is not columns[1]
+            if column and measure and is_meant:
+                text = Text("{} has {} by its name, and is printed as it is", column.title, measure)
+                self.talk.say(text, Text("make a column of prices of one article of it"))
 
     def say_of_empty(self) -> None:
         """Says which rows have no title or no price."""
@@ -295,7 +309,7 @@ class TableRun:
         if formatter.first_number and not is_given:
             self.talk.say(
                 Text(
-                    "numbers are printed as {}: is that right? else give --decimal , or .",
+                    "numbers are printed as {}: is that right? else give --decimal comma or point",
                     quoted(formatter.first_number),
                 )
             )

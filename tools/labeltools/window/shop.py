@@ -26,6 +26,12 @@ from labeltools.window import memory
 from labeltools.window.memory import FILES, TABLES
 
 COLUMNS = ("code", "title", "text", "text-2", "price", "unit-price", "old-price", "copies")
+OF_KINDS = {
+    "code": Text("the code"),
+    "title": Text("the title"),
+    "price": Text("the price"),
+    "copies": Text("the number of labels"),
+}
 PAPER = ("sheet", "roll", "stock", "width", "height", "design", "to", "dpi", "address")
 PATTERNS = ("0,00 €", "€0.00", "£0.00", "$0.00", "CHF 0.00", "0,00 kr", "0,00 zł")  # of prices
 Choices = Mapping[str, Any]  # by the names of the options
@@ -95,7 +101,9 @@ class Table:
     def read(self, text: str, header: int | None, talk: Talk) -> None:
         """Guesses the columns of the table as words read it, and finds what is kept for these."""
         head = words_of({"header-row": header, "no-header": header == 0})
-        arguments = table_command.understood(["--code", "1", *head, *option_words(text)])
+        arguments = table_command.understood(
+            ["--code", "1", "--price", "1", *head, *option_words(text)]
+        )
         options = table_command.options_of(arguments)
         self.guess = guess_of(self.data, self.path.name, options, talk)
         self.text = text
@@ -108,9 +116,7 @@ class Table:
             if choices[kind] is None:
                 named = ", ".join(quoted(self.guess.names[at] or str(at + 1)) for at in places)
                 hint = Text("choose its column")
-                if kind == "price":
-                    raise ToolError(Text("the price may be in one of {}", named), hint)
-                raise ToolError(Text("the code may be in one of {}", named), hint)
+                raise ToolError(Text("{} may be in one of {}", OF_KINDS[kind], named), hint)
         to_print = print_words(choices)
         options = print_command.options_of(print_command.command_line().parse_args(to_print))
         job = planned(options)
