@@ -123,7 +123,8 @@ class Built(WithLibrary):
         wrong = Path(tempfile.mkdtemp(dir=self.library.folder))
         self.assertEqual(self.library.make(source, wrong, "all").returncode, 0)
         module = self.wrong_module("    return picture\n", "    return picture + picture\n")
-        for name in (f"{LIBDIR}/liblabels.a", f"{LIBDIR}/liblabels.so.1.1.0", f"{PYTHONDIR}/liblabels/__init__.py"):
+        shared = self.library.shared.resolve().name
+        for name in (f"{LIBDIR}/liblabels.a", f"{LIBDIR}/{shared}", f"{PYTHONDIR}/liblabels/__init__.py"):
             of_module = module / "liblabels/__init__.py"
             with self.subTest(name):
                 found = of_module if name.endswith(".py") else wrong / Path(name).name
