@@ -160,7 +160,7 @@ class Journals(Desk):
     def test_again_by_a_name_that_is_not_there(self) -> None:
         printed("--journal", self.path)
         done = printed("--journal", self.path, "--only", "5", "--again", "tcp://lane-1")
-        self.said(done, 1, "has no label of tcp://lane-1: --again names .*: standard output")
+        self.said(done, 1, "has no label of tcp://lane-1: --again: .* printers: standard output")
         self.said(printed("--journal", self.path, "--again", "tcp://lane-1"), 2, "by --only")
 
     def test_a_jam(self) -> None:
@@ -306,7 +306,7 @@ class Journals(Desk):
     def test_a_line_that_is_none(self) -> None:
         Path(self.path).write_bytes(b"#labels journal 1\n# my remark\nT00001\n")
         done = printed("--journal", self.path)
-        self.said(done, 1, "line 3 is no line of a journal; put it right; take it out only where")
+        self.said(done, 1, "line 3 is no line of a journal; correct it; delete it only if")
         self.assertEqual(labels_in(done), [])
 
     def test_an_editor_that_writes_a_new_file(self) -> None:
