@@ -66,7 +66,7 @@ def laid_out(data: bytes, cell: tuple[float, float], dpi: int = 300, **options: 
         )
     job = planned(sheet)
     prepared = labels_of(sheet, job, "lines", data, Silence())
-    return Laid(job, prepared, Pen(Medium(dpi, True), job.fonts, prepared.letters))
+    return Laid(job, prepared, Pen(Medium(dpi, True), prepared.letters))
 
 
 def look(test: unittest.TestCase, laid: Laid, item: LaidOut) -> None:

@@ -136,7 +136,6 @@ PAGES: tuple[tuple[str, dict[str, Any], str], ...] = (
     (designs.PAGE, {"paper": (50.0, 30.0)}, "is 60 by 40 mm, and a label is 50 by 30 mm; set"),
     (designs.PAGE, {"paper": (40.0, 60.0), "turn": False}, "is 60 by 40 mm, and a label is 40 by"),
     (designs.PAGE, {"turn": True}, "is 60 by 40 mm, and a label is 40 by 60 mm; set the size of"),
-    (designs.PAGE, {"height": 9.0}, "--height is not for your own design; the places of a"),
     (designs.PAGE, {"edge": (5.0, 13.0, 5.0, 5.0)}, "the place title is at an edge of the paper"),
     ('viewBox="0 0 90 40"', {}, "is 90 by 40 without a unit, and a label is 60 by 40 mm; draw"),
     ('width="60" height="40"', {"paper": None}, "has no size in millimetres; name the paper by"),

@@ -532,7 +532,9 @@ class Streams(Desk):
             time.sleep(0.01)  # it waits for the next writer when it is one itself
         os.unlink(fifo)
         self.assertEqual(stream.wait(support.SECONDS), 1)
-        said = b"/till: No such file or directory; make the FIFO again with mkfifo, then give the same"
+        said = (
+            b"/till: No such file or directory; make the FIFO again with mkfifo, then give the same"
+        )
         self.assertIn(said, stream.stderr.read())
 
     def test_a_fifo_that_a_writer_has_taken_for_itself(self) -> None:

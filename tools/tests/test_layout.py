@@ -12,7 +12,7 @@ import numpy
 
 import support
 from labeltools.paper.area import ROLL_SMALLEST
-from labeltools.layout.letters import Fonts, Letters
+from labeltools.layout.letters import FONT, Letters
 from labeltools.printing.selection import selection_of
 from labeltools.lines.symbologies import SYMBOLOGIES
 from jobs import Dots
@@ -352,11 +352,9 @@ class Sizes(unittest.TestCase):
         self.assertGreaterEqual(modules[0], 0.37)
         self.assertTrue(0.95 <= modules[-1] <= 1.03, modules)
 
-    def test_a_module_and_a_height_that_are_given(self) -> None:
-        laid = laid_out(b"ean8 7351353\n", (60.0, 40.0), 300, module=0.5, height=9.0)
-        layout = laid.labels[0].layout
-        self.assertEqual(layout.module, 6)
-        self.assertTrue(9 <= laid.millimetres(layout.boxes["bars"].height) < 9.6)
+    def test_a_module_that_is_given(self) -> None:
+        laid = laid_out(b"ean8 7351353\n", (60.0, 40.0), 300, module=0.5)
+        self.assertEqual(laid.labels[0].layout.module, 6)
         refused = laid_out(filed(PRICED), (60.0, 40.0), 600, module=0.2)
         self.assertRegex(refused.reasons[0], "is a module of 0.264 mm or more")
 
@@ -432,7 +430,7 @@ class Words(unittest.TestCase):
         box = laid.labels[0].layout.boxes["details"]
         part = laid.dots(laid.labels[0])[box.top : box.bottom, box.left : box.right]
         longest = [longest_run(row) for row in part]
-        width = Letters(Fonts()).extent("14,95 €", False).width
+        width = Letters(FONT).extent("14,95 €", False).width
         size = laid.labels[0].layout.frame.sizes["details"]
         self.assertAlmostEqual(max(longest) / size, width, delta=0.35)
         other = laid_out(plain, (105.0, 74.0), 600)
@@ -510,7 +508,7 @@ class Measures(unittest.TestCase):
         """Widths that are added up letter by letter agree with those of whole texts, but for pairs
         of letters that move together.
         """
-        letters = Letters(Fonts())
+        letters = Letters(FONT)
         for text in (
             "12,80 €",
             "1.299,00 €",
@@ -526,7 +524,7 @@ class Measures(unittest.TestCase):
                 self.assertAlmostEqual(found.height, ink.height, delta=0.01, msg=text)
 
     def test_nothing_has_no_extent(self) -> None:
-        letters = Letters(Fonts())
+        letters = Letters(FONT)
         for text in ("", " ", "\u200b"):
             self.assertEqual(tuple(letters.extent(text, True)), (0.0, 0.0), repr(text))
 

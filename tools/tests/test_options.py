@@ -209,7 +209,7 @@ class Cells(unittest.TestCase):
         left, top, right, bottom = jobs.ink_of(self.pages()[0])
         moved = jobs.ink_of(self.pages("--shift=2.54,-5.08")[0])
         self.assertEqual(moved, (left + 15, top - 30, right + 15, bottom - 30))
-        page = ("--page", "120x80", "--edge", "12.7", "--height", "5")
+        page = ("--page", "120x80", "--edge", "12.7")
         left, top, right, bottom = jobs.ink_of(self.pages(*page)[0])
         self.assertGreaterEqual(min(left, top), 75)
         self.assertLessEqual((right, bottom), (709 - 75, 472 - 75))
@@ -257,7 +257,6 @@ class Cells(unittest.TestCase):
         """
         support.needs("qpdf")
         for arguments in (
-            ("--digits", "OCR B"),
             ("--font", "OCR B"),
             ("--font", "Noto Sans CJK JP"),
         ):

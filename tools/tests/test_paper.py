@@ -356,13 +356,6 @@ class Said(unittest.TestCase):
         self.assertEqual(len(messages), 1)
         self.assertRegex(messages[0], r"^rows 2-3: QR with modules of 0\.[23]\d mm: some phones")
 
-    def test_a_height_that_is_given(self) -> None:
-        """One message for a file, not one for each symbology."""
-        labels: list[Label] = [(line, {}) for line in LINES]
-        messages = said(labels, *roll((60.0, 40.0), 300, "--height", "10"))
-        self.assertEqual(len(messages), 1, messages)
-        self.assertRegex(messages[0], r"^rows 2-4: bars of 10\.\d mm: hand scanners read them")
-
 
 class Forms(unittest.TestCase):
     """PDF, PNG, PBM, ZPL and ESC/POS have the same dots."""
@@ -642,14 +635,6 @@ class Users(unittest.TestCase):
         self.assertNotIn("\x1b", self.refused(b"", *self.ROLL, f"{escape}.lines"))
         key = b'#{"labels":1}\n#{"\x7f\xc2\x9b2J":1}\nqr a\n#{"end":1,"lines":1}\n'
         self.assertNotIn("\x9b", self.refused(key))
-
-    def test_bytes_that_are_no_text(self) -> None:
-        for option in (b"--font", b"--digits"):
-            done = support.run(
-                "label-print", *self.ROLL, option, b"\xff\xfe", input=b"ean8 7351353\n"
-            )
-            self.assertNotEqual(done.returncode, 0)
-            self.assertNotIn(b"Traceback", done.stderr)
 
     def test_a_signal_while_it_starts(self) -> None:
         """It ends by the signal and says nothing, whatever module it was loading."""

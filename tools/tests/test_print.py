@@ -217,24 +217,21 @@ def bare(text: str) -> str:
 
 
 class Printers(unittest.TestCase):
-    LINES: Dict[str, Tuple[List[Tuple[str, Any]], Sequence[str]]] = {
-        "60x40": (shelf(9), ()),
-        "50x25": (shelf(9), ("--height", "8")),
-        "40x30": (
-            [
-                ("ean8 73513537", {"title": "Kaugummi", "price": "0,30 €"}),
-                ("qr,level=H https://example.com/7", {"title": "Regal 7", "price": "1,20 €"}),
-                ("code128 LOT-77", {"title": "Los"}),
-            ],
-            ("--height", "9"),
-        ),
+    LINES: Dict[str, List[Tuple[str, Any]]] = {
+        "60x40": shelf(9),
+        "50x25": shelf(9),
+        "40x30": [
+            ("ean8 73513537", {"title": "Kaugummi", "price": "0,30 €"}),
+            ("qr,level=H https://example.com/7", {"title": "Regal 7", "price": "1,20 €"}),
+            ("code128 LOT-77", {"title": "Los"}),
+        ],
     }
 
     def job(self, paper: str, dpi: int, form: str) -> Tuple[List[str], bytes]:
         """The data of the labels for a paper, and the job."""
-        labels, options = self.LINES[paper]
+        labels = self.LINES[paper]
         wide = ("--dots", "9999") if form == "escpos" else ()
-        arguments = ("--paper", paper, "--dpi", str(dpi), "--to", form, *wide, *options)
+        arguments = ("--paper", paper, "--dpi", str(dpi), "--to", form, *wide)
         done = support.printed(*arguments, input=support.file_of(labels))
         self.assertEqual(done.returncode, 0, done.stderr)
         return codes_of(labels), done.stdout

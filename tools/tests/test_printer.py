@@ -348,7 +348,7 @@ class Hostile(unittest.TestCase):
             self.assertNotIn("\u202e".encode(), done.stderr, option)
 
     def test_bytes_that_are_no_text(self) -> None:
-        for option in (b"--stock", b"--font", b"--digits", b"--note"):
+        for option in (b"--stock", b"--font", b"--note"):
             sheet = (b"--paper", b"60x40") if option != b"--stock" else ()
             done = support.run("label-print", *sheet, option, b"\xff\xfe", input=LINES)
             self.assertNotEqual(done.returncode, 0, option)

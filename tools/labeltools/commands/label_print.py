@@ -223,7 +223,6 @@ def add_size_options(parser: Parser) -> None:
     """Adds the options of how labels look."""
     group = parser.add_argument_group("how labels look")
     add = group.add_argument
-    length = reads("38.1", 0.0001)
     design = "article: bars for a till (the default); shelf: a large price; or a page of SVG"
     add("--design", metavar="NAME", type=design_of, default=PrintOptions.design, help=design)
     turn = group.add_mutually_exclusive_group().add_argument
@@ -231,14 +230,11 @@ def add_size_options(parser: Parser) -> None:
     turn("--turn", action="store_const", const=True, help=turned)
     turn("--no-turn", action="store_const", const=False, dest="turn", help="never turn labels")
     module = "the narrowest bar, or a square of QR (what fits best)"
-    add("--module", metavar="MM", type=length, help=module)
-    add("--height", metavar="MM", type=length, help="the height of bars (what fits best)")
+    add("--module", metavar="MM", type=reads("38.1", 0.0001), help=module)
     note = "a line of text for all labels, such as a date"
     add("--note", metavar="TEXT", default=PrintOptions.note, help=note)
     font = "of titles, texts and prices (DejaVu Sans)"
     add("--font", metavar="NAME", default=PrintOptions.font, help=font)
-    digits = "the font below bars (DejaVu Sans Mono)"
-    add("--digits", metavar="NAME", default=PrintOptions.digits, help=digits)
 
 
 def add_choice_options(parser: Parser) -> None:

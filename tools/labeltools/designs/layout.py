@@ -14,7 +14,7 @@ from labeltools.paper.area import Area, LARGEST_MODULE, TINY
 from labeltools.lines.engine import Modules, run_labels
 from labeltools.layout.frames import Box, DIGITS_ROOM, Frame, LOWEST
 from labeltools.layout.layout import ASKED, LaidOut, LaidOutFile, Layout, PrintLabel, short
-from labeltools.layout.letters import Fonts, Letters
+from labeltools.layout.letters import Letters
 from labeltools.lines.file import symbology_and_data
 from labeltools.common.messages import Talk, ToolError, quoted
 from labeltools.designs.design import NEAR, OwnDesign, UNREAD, mixed_text
@@ -179,7 +179,7 @@ class OwnLayouts:
             if place.is_symbol:
                 continue
             if place.font not in known:
-                known[place.font] = Letters(Fonts(place.font))
+                known[place.font] = Letters(place.font)
             counts = Counter(map(itemgetter(number), rows))
             del counts[""]
             if counts:

@@ -10,7 +10,7 @@ from labeltools.paper.area import Dots, MILLIMETRES
 from labeltools.layout.fitting import Style
 from labeltools.drawing.pdf import POINTS
 from labeltools.layout.layout import LaidOut
-from labeltools.layout.letters import Fonts, Letters
+from labeltools.layout.letters import Letters
 from labeltools.designs.design import BLACK, OwnDesign, lightness
 from labeltools.designs.layout import OwnLayout
 from labeltools.designs.places import Place
@@ -22,8 +22,8 @@ UPRIGHT = cairo.Matrix()
 class OwnPen(Pen):
     """Draws labels of a design on a medium: first its drawing, then what differs."""
 
-    def __init__(self, medium: Medium, fonts: Fonts, letters: Letters, design: OwnDesign) -> None:
-        super().__init__(medium, fonts, letters)
+    def __init__(self, medium: Medium, letters: Letters, design: OwnDesign) -> None:
+        super().__init__(medium, letters)
         self.design = design
         # dots of a unit of the drawing: in points Cairo does not scale it for each label of a PDF,
         # and loses no gradients, but what librsvg makes pictures of has as few dots

@@ -22,7 +22,7 @@ from labeltools.lines.engine import LABELS_FAILED, Modules, bytes_a_row
 from labeltools.layout.fitting import Fitted, Fitter, LEFT, MIDDLE, RIGHT, Style
 from labeltools.layout.frames import Box, Frame, LINE
 from labeltools.layout.layout import LaidOut, Layout, PrintLabel
-from labeltools.layout.letters import Fonts, Letters
+from labeltools.layout.letters import DIGITS_FONT, Letters
 from labeltools.designs.design import is_light
 from labeltools.designs.layout import OwnSymbol, symbols_of
 from labeltools.common.messages import FAULT, ToolError
@@ -109,14 +109,13 @@ class Medium:
 class Pen:
     """Draws labels on a medium, in a built-in design."""
 
-    def __init__(self, medium: Medium, fonts: Fonts, letters: Letters) -> None:
+    def __init__(self, medium: Medium, letters: Letters) -> None:
         self.medium = medium
-        self.fonts = fonts
         self.letters = letters
         self.options = options_of(medium)
         self.fitter = Fitter(letters, self.options, medium.is_dots)
         # Cairo keeps a face as it was first used: a name of its own for each medium
-        self.digits_face = cairo.ToyFontFace(fonts.digits + " " * medium.is_dots)
+        self.digits_face = cairo.ToyFontFace(DIGITS_FONT + " " * medium.is_dots)
         large = self.digits_font(plain_options(), LARGE)
         extents = large.text_extents("0")
         self.digit_width = extents.x_advance / LARGE
@@ -227,7 +226,7 @@ class Pen:
         """Returns how a part of a label is written; `lines` are those of each line of a title."""
         words = MIDDLE if arrangement == "below" else LEFT
         numbers = MIDDLE if arrangement == "below" else RIGHT
-        family = self.fonts.texts
+        family = self.letters.family
         if kind == "title":
             return Style(family, True, size, lines, words, 0.0, 0)
         if kind == "text":
@@ -351,7 +350,7 @@ class Pen:
         for (face, size), glyphs in runs.items():
             canvas.set_font_face(face)
             canvas.set_font_size(size)
-            if face is self.digits_face and self.fonts.digits in self.medium.outlines:
+            if face is self.digits_face and DIGITS_FONT in self.medium.outlines:
                 canvas.glyph_path(glyphs)
                 canvas.fill()
             else:
@@ -389,7 +388,7 @@ class Pen:
         module = symbol.module
         if not symbol.symbology.is_number:
             size = round(DIGITS_SIZE * module)
-            style = Style(self.fonts.digits, False, size, 0, MIDDLE, 0.3, 0)
+            style = Style(DIGITS_FONT, False, size, 0, MIDDLE, 0.3, 0)
             text = self.fitter.fitted(data.translate(SHOWN), style, box.width, box.height)
             self.show(canvas, text, style, left, top)
             return

@@ -254,16 +254,12 @@ class JointNeeds:
         modules = need.bars_width * part
         if not need.kind.is_number:
             modules = max(modules, LOWEST_PART * need.width)
-        if area.wishes.bars:
-            modules = area.wishes.bars / area.dot / module
         return math.ceil(max(modules, area.dots(LOWEST) / module)) * module
 
     def highest_bars(self, module: int, low: int) -> int:
         """Returns the height of bars where there is room: the nominal one, or as much more as their
         module is larger.
         """
-        if self.area.wishes.bars:
-            return low
         nominal = max((need.kind.nominal for need in self.bars), default=0.0) / self.area.dot
         return max(low, math.ceil(nominal * max(1.0, module * self.area.dot / MODULE)))
 

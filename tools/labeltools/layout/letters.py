@@ -2,7 +2,6 @@
 
 import re
 import unicodedata
-from dataclasses import dataclass
 from functools import lru_cache, partial
 from typing import Any, Iterable, Mapping, NamedTuple, Optional, Sequence
 
@@ -18,16 +17,10 @@ SPACED = re.compile("[^ ]+ *| +")
 # letters that stand one behind another: Latin, Greek, Cyrillic; punctuation; currencies
 SIMPLE = ((0x20, 0x2FF), (0x370, 0x482), (0x48A, 0x52F), (0x2010, 0x2027), (0x20A0, 0x20CF))
 OTHERS = re.compile("[^" + "".join(f"{chr(one)}-{chr(other)}" for one, other in SIMPLE) + "]")
+FONT = "DejaVu Sans"  # of titles, texts and prices
+DIGITS_FONT = "DejaVu Sans Mono"  # of what is below bars
 FONTS_OF_LETTERS = "apt-get install fonts-noto-core fonts-noto-cjk"
 FONTS_OF_SIGNS = "apt-get install fonts-symbola"
-
-
-@dataclass(frozen=True)
-class Fonts:
-    """The names of fonts: of titles, texts and prices, and of what is below bars."""
-
-    texts: str = "DejaVu Sans"
-    digits: str = "DejaVu Sans Mono"
 
 
 class Sign(NamedTuple):
@@ -91,9 +84,9 @@ def font_instead(families: str) -> str:
     return "" if family == there.lower() or is_face and not is_plain else there
 
 
-def require_fonts(fonts: Fonts) -> None:
+def require_fonts(*families: str) -> None:
     """Raises `ToolError` where a font is not there."""
-    for family in (fonts.texts, fonts.digits):
+    for family in families:
         if font_for(family).lower() != family.lower():
             hint = Text("fc-list : family lists what there is")
             usual = Text("apt-get install fonts-dejavu-core has the usual ones")
@@ -103,15 +96,15 @@ def require_fonts(fonts: Fonts) -> None:
 class Letters:
     """Measures texts in a font."""
 
-    def __init__(self, fonts: Fonts) -> None:
-        require_fonts(fonts)
-        self.family = fonts.texts
+    def __init__(self, family: str) -> None:
+        require_fonts(family, DIGITS_FONT)
+        self.family = family
         self.extent = lru_cache(KEPT)(self.new_extent)
         self.context = pango_context(plain_options(), False)
-        self.layouts = [self.layout(fonts.texts, is_bold) for is_bold in (False, True)]
+        self.layouts = [self.layout(family, is_bold) for is_bold in (False, True)]
         self.signs = tuple(Found(partial(self.sign, is_bold)) for is_bold in (False, True))
         self.words = tuple(Found(partial(self.word, is_bold)) for is_bold in (False, True))
-        self.wrapped = self.layout(fonts.texts, False)
+        self.wrapped = self.layout(family, False)
         self.wrapped.set_width(1)  # so that each part of a line is a line
         blanks = [self.extents(" ", is_bold)[1] for is_bold in (False, True)]
         self.spaces = [blank.width for blank in blanks]

@@ -47,13 +47,12 @@ DESIGNS = {design.name: design for design in (ARTICLE, SHELF)}
 
 @dataclass(frozen=True)
 class Wishes:
-    """What is asked for: a module and a height of bars in millimetres, a design, whether labels are
-    turned to the right (None: where more of them fit so), whether the paper is a roll.
+    """What is asked for: a module in millimetres, a design, whether labels are turned to the right
+    (None: where more of them fit so), whether the paper is a roll.
     """
 
     design: Design = ARTICLE
     module: Optional[float] = None
-    bars: Optional[float] = None
     turn: Optional[bool] = None
     is_roll: bool = False
 

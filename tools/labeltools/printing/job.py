@@ -16,7 +16,7 @@ from labeltools.paper.area import plan_of, white_of, whole_plan_of
 from labeltools.lines.engine import Drawn, run_labels
 from labeltools.drawing.forms import ESCPOS, FORMS, Form, PDF
 from labeltools.layout.layout import LaidOut, LaidOutFile, PrintLabel, lay_out, print_label
-from labeltools.layout.letters import Fonts, Letters
+from labeltools.layout.letters import FONT, Letters
 from labeltools.lines.file import LineRecord, LinesFile, UNPRINTABLE, read_lines
 from labeltools.common.messages import BAD_ARGUMENTS, Place, Talk, ToolError, quoted
 from labeltools.designs.design import OwnDesign, is_file, read_design, size_of_page
@@ -61,7 +61,6 @@ class PrintOptions:
     to: Optional[str] = None
     dpi: Optional[int] = None
     module: Optional[float] = None
-    height: Optional[float] = None
     design: str = ARTICLE.name
     turn: Optional[bool] = None
     edge: Optional[Edges] = None
@@ -69,8 +68,7 @@ class PrintOptions:
     first: int = 1
     only: Optional[Selection] = None
     each: Optional[str] = None
-    font: str = Fonts.texts
-    digits: str = Fonts.digits
+    font: str = FONT
     words: tuple[str, ...] = ()
     note: str = ""
     dots: int = 576
@@ -132,7 +130,6 @@ def planned(options: PrintOptions) -> PrintJob:
     wishes = Wishes(
         OWN if own else DESIGNS[options.design],
         options.module,
-        options.height,
         options.turn,
         options.paper is not None,
     )
@@ -142,9 +139,8 @@ def planned(options: PrintOptions) -> PrintJob:
             "a label has {} dots, and the printer has {} (--dots)", plan.page[0], options.dots
         )
         raise ToolError(what, status=BAD_ARGUMENTS)
-    fonts = Fonts(options.font, options.digits)
     how = (options.first, options.is_cut, options.words, own)
-    return PrintJob(plan, form, fonts, *how)
+    return PrintJob(plan, form, options.font, *how)
 
 
 def dpi_of(options: PrintOptions, form: Form) -> int:
@@ -160,7 +156,7 @@ def dpi_of(options: PrintOptions, form: Form) -> int:
 
 def check_texts(options: PrintOptions) -> None:
     """Raises `ToolError` where a text of the options has what cannot be printed."""
-    for name in ("note", "font", "digits", "stock"):
+    for name in ("note", "font", "stock"):
         if UNPRINTABLE.search(getattr(options, name) or ""):
             raise ToolError(
                 Text("--{} has characters that are no text", name), status=BAD_ARGUMENTS
@@ -169,10 +165,6 @@ def check_texts(options: PrintOptions) -> None:
 
 def own_design(options: PrintOptions, sheet: Sheet, edges: Edges) -> OwnDesign:
     """Returns the design that a file is; raises `ToolError` where it is none."""
-    if options.height is not None:
-        what = Text("--height is not for your own design")
-        hint = Text("the places of a design say how high bars are")
-        raise ToolError(what, hint, BAD_ARGUMENTS)
     return read_design(options.design, sheet.cell, white_of(sheet, edges), options.turn)
 
 
@@ -261,7 +253,7 @@ def prepared(
     """
     lines = found.lines
     drawn = found.drawn
-    letters = letters or Letters(job.fonts)
+    letters = letters or Letters(job.font)
     labels = drawn_labels(lines, drawn, options.note)
     reasons: dict[int, Text] = dict(drawn.refused)
     own = own_layouts(options, job, lines.empty, letters)

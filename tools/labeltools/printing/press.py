@@ -20,7 +20,7 @@ from labeltools.drawing.escpos import escpos
 from labeltools.drawing.pdf import Paper, drawing
 from labeltools.drawing.zpl import zpl
 from labeltools.layout.layout import LaidOut, LaidOutFile
-from labeltools.layout.letters import Fonts, Letters
+from labeltools.layout.letters import DIGITS_FONT, FONT, Letters
 from labeltools.common.messages import Talk
 from labeltools.designs.design import OwnDesign
 from labeltools.drawing.own_pen import OwnPen
@@ -29,13 +29,13 @@ from labeltools.drawing.pen import Medium, Page, Pen
 
 @dataclass(frozen=True)
 class PrintJob:
-    """How labels go out: on which sheet, in which form and fonts, from which cell of the first page
+    """How labels go out: on which sheet, in which form and font, from which cell of the first page
     on; whether ESC/POS cuts after each label; options of labels(1); a design of the user's own.
     """
 
     plan: Plan
     form: Form = PDF
-    fonts: Fonts = Fonts()
+    font: str = FONT
     first: int = 1
     is_cut: bool = True
     words: tuple[str, ...] = ()
@@ -247,10 +247,9 @@ def pens_of(job: PrintJob, letters: Letters) -> list[Pen]:
     Cairo cannot embed.
     """
     dpi = job.plan.dpi
-    fonts = job.fonts
     if not job.form.is_drawn:
         return [pen_of(job, Medium(dpi, True), letters)]
-    outlines = (frozenset[str](), frozenset({fonts.digits}), frozenset({fonts.digits, fonts.texts}))
+    outlines = (frozenset[str](), frozenset({DIGITS_FONT}), frozenset({DIGITS_FONT, job.font}))
     is_smooth = job.form == SVG
     wanted = outlines[:1] if is_smooth else outlines
     return [pen_of(job, Medium(dpi, False, is_smooth, shapes), letters) for shapes in wanted]
@@ -259,5 +258,5 @@ def pens_of(job: PrintJob, letters: Letters) -> list[Pen]:
 def pen_of(job: PrintJob, medium: Medium, letters: Letters) -> Pen:
     """Returns what draws labels of a job on a medium."""
     if job.design:
-        return OwnPen(medium, job.fonts, letters, job.design)
-    return Pen(medium, job.fonts, letters)
+        return OwnPen(medium, letters, job.design)
+    return Pen(medium, letters)

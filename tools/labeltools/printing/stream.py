@@ -225,7 +225,7 @@ class Stream:
         self.options = options
         self.job = job
         self.sender = sender
-        self.letters = Letters(job.fonts)
+        self.letters = Letters(job.font)
         self.presses: dict[bool, Press] = {}
         self.seen: set[tuple[str, bytes]] = set()
         self.said: set[str] = set()

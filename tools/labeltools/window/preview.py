@@ -35,7 +35,7 @@ class Preview:
             self.size = self.sheet.cell
             self.corner = self.sheet.places[0]
         self.count = max(1, job.pages_of(len(self.prints)))  # of pages
-        self.press = Press(job, labels.laid_out, Letters(job.fonts), Silence())
+        self.press = Press(job, labels.laid_out, Letters(job.font), Silence())
 
     def cell_at(self, x: float, y: float) -> int:
         """Returns the number of the cell at a place of a page, from 1; 0 for none."""
