@@ -17,7 +17,7 @@ SOURCES := $(shell find crates -name out -prune -o -name '*.rt' -print -o -name 
 TOOLS := $(notdir $(wildcard tools/label-*))
 # The window has no completion: a link would take away that of file names.
 COMPLETED := $(filter-out label-window,$(TOOLS))
-MODULES := $(shell cd tools && find labeltools -name '*.py' -o -name '*.ui' -o -name '*.txt')
+MODULES := $(shell cd tools && find labeltools -name '*.py' -o -name '*.ui' -o -name '*.list')
 LANGUAGES := $(patsubst tools/po/%.po,%,$(wildcard tools/po/*.po))
 WINDOW = org.labels.Window
 # The pages, and the programs that they call.

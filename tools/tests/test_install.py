@@ -72,6 +72,8 @@ class Install(InFolder):
                 languages = [path.stem for path in (support.TOP / "tools/po").glob("*.po")]
                 locale = "labeltools/locale/{}/LC_MESSAGES/label-tools.mo"
                 wanted |= {locale.format(language) for language in languages}
+            else:
+                wanted |= {"lib/examples/read.py", "tools/tests/printers.py"}
             top = self.folder / place
             found = {str(path.relative_to(top)) for path in top.rglob("*") if path.is_file()}
             self.assertEqual(found, wanted)

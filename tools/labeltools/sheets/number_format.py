@@ -84,7 +84,7 @@ class Signs(NamedTuple):
 # the signs of languages, and of countries where these differ
 SIGNS_OF = {
     language: Signs(*signs.translate(SPACES_OF))
-    for signs, languages in lists_of(Path(__file__).with_name("signs.txt")).items()
+    for signs, languages in lists_of(Path(__file__).with_name("signs.list")).items()
     for language in languages
 }
 

@@ -23,7 +23,7 @@ from labeltools.lines.symbologies import CODE128, QR
 from labeltools.tables.table import head_of
 from labeltools.tables.options import TableOptions
 
-COLUMN_WORDS = Path(__file__).with_name("columns.txt")
+COLUMN_WORDS = Path(__file__).with_name("columns.list")
 # words of the names of columns; how the names end that are of numbers
 WORDS = {name: frozenset(words) for name, words in lists_of(COLUMN_WORDS).items()}
 NUMBER_ENDS = ("nummer", "nr")

@@ -15,7 +15,7 @@ from labeltools.common.lists import lists_of
 from labeltools.common.text import NOTHING, Text
 from labeltools.common.messages import RowError
 
-PRICE_WORDS = Path(__file__).with_name("prices.txt")
+PRICE_WORDS = Path(__file__).with_name("prices.list")
 MOST_LETTERS = 60
 NO_CURRENCY = "¤"  # ISO 8859-15 has its € where other encodings have this sign
 MOST_BARE_DIGITS = 8  # of a price; a price that has so many ends in a zero
@@ -51,7 +51,7 @@ LOOKS = {
     "）": ")",
 }
 # names of currencies beside each sign that Unicode calls one, and other words of prices
-NAMES_OF = lists_of(Path(__file__).with_name("currencies.txt"))
+NAMES_OF = lists_of(Path(__file__).with_name("currencies.list"))
 WORDS = {name: frozenset(words) for name, words in lists_of(PRICE_WORDS).items()}
 CENTS = WORDS["cents"]
 WITHOUT_DECIMALS = WORDS["without-decimals"]
