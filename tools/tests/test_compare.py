@@ -497,7 +497,7 @@ class OwnDesigns(unittest.TestCase):
         for form, (number, line) in product(FORMS, enumerate(lines)):
             with self.subTest(form=form, line=line):
                 found = self.found(form, None, form in ("svg", "png"))
-                wrong = drawn_wrong(number, engine.Engine(()).draw(line))
+                wrong = drawn_wrong(number, engine.Engine(False).draw(line))
                 with mock.patch(PEN + "Pen.draw_modules", wrong):
                     with self.assertRaisesRegex(ToolError, "^row 2: its code is wrong"):
                         write(found)
@@ -573,7 +573,7 @@ class LongTexts(unittest.TestCase):
 
     def test_a_fault_is_seen(self) -> None:
         """The code of another label."""
-        other = engine.Engine(()).draw(b"code128 A-1")
+        other = engine.Engine(False).draw(b"code128 A-1")
         for script, is_sheet in product(self.SCRIPTS, (False, True)):
             found = self.in_own_design(self.SCRIPTS[script], is_sheet)
             with self.subTest(script=script, is_sheet=is_sheet):

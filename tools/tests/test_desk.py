@@ -92,7 +92,6 @@ class Chosen(Desk):
     def test_the_library_is_not_there(self) -> None:
         done = support.run("label-print", *ROLL, input=TICKETS, LABELS_LIBRARY="/no/such.so")
         self.said(done, 1, "the library liblabels is not there: .*python3-liblabels")
-        self.said(printed("--labels", "--level X"), 2, "bad words")
 
 
 class Network(Desk):

@@ -579,7 +579,6 @@ class Streams(Desk):
         self.assertEqual(done.stdout, b"")
 
     def test_what_no_line_can_be_printed_without(self) -> None:
-        self.said(printed("--stream", "--labels", "--level X"), 2, "bad words")
         words = ("label-print", *ROLL, "--stream")
         done = support.run(*words, input=TICKETS, LABELS_LIBRARY="/no/such.so")
         self.said(done, 1, r"\Alabel-print: the library liblabels is not there: .*\n\Z")

@@ -226,7 +226,6 @@ class Cells(unittest.TestCase):
             ("--paper", "60x40", "--shift", "1"),
             ("--paper", "60x40", "--dpi", "0"),
             ("--columns", "9", "--rows", "1", "--cell", "60x40"),
-            ("--paper", "60x40", "--labels", "--scale 3"),
             ("--paper", "60x40", "one.lines", "two.lines"),
             ("--paper", "210x297", "--columns", "3", "--rows", "7"),
             ("--stock", "l7160", "--gap", "1x0"),
@@ -241,7 +240,7 @@ class Cells(unittest.TestCase):
 
     def test_options_of_labels(self) -> None:
         data = b"qr,level=H a\nqr \\x41\\\\\ncode128 a\\nb\n"
-        done = support.printed("--paper", "60x40", "--labels=--escapes", input=data)
+        done = support.printed("--paper", "60x40", "--escapes", input=data)
         self.assertEqual((done.returncode, done.stderr), (0, b""))
 
     def test_no_such_font(self) -> None:

@@ -580,14 +580,6 @@ class Users(unittest.TestCase):
         self.assertEqual((done.returncode, done.stdout), (1, b""))
         self.assertRegex(done.stderr.decode(), "apt-get install .*(symbola|emoji)")
 
-    def test_a_second_file_for_labels(self) -> None:
-        """Bars of one file with the titles and prices of another."""
-        data = support.file_of([(EAN, PRICED)] * 3)
-        with tempfile.NamedTemporaryFile(suffix=".lines") as other:
-            Path(other.name).write_bytes(b"ean13 501234567890\n" * 3)
-            for words in (other.name, f"-- {other.name}"):
-                self.refused(data, *self.ROLL, f"--labels={words}")
-
     def test_files_that_follow_a_link(self) -> None:
         """The part of a file has a name that no label has, and no link is followed."""
         data = support.file_of([("qr a.part", {}), ("qr a", {})])

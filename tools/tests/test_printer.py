@@ -285,13 +285,6 @@ class Edges(unittest.TestCase):
 class Hostile(unittest.TestCase):
     """Input and arguments that would take much memory or time, or another program's pictures."""
 
-    def test_a_second_file_for_labels(self) -> None:
-        with tempfile.NamedTemporaryFile(suffix=".lines") as other:
-            Path(other.name).write_bytes(b"ean13 501234567890\n" * 3)
-            for words in (other.name, f"-- {other.name}", f"--level H {other.name}"):
-                done = support.printed("--paper", "60x40", f"--labels={words}", input=LINES)
-                self.assertEqual((done.returncode, done.stdout), (2, b""), words)
-
     def test_copies_are_numbers(self) -> None:
         labels = [("ean8 7351353", {"copies": 9999})] * 101
         done = support.printed("--paper", "60x40", input=support.file_of(labels))
@@ -376,32 +369,6 @@ class Hostile(unittest.TestCase):
                     with self.assertRaisesRegex(ToolError, "liblabels is version 2.0.0, and"):
                         engine.library()
         engine.library.cache_clear()
-
-    def test_options_are_those_of_the_program(self) -> None:
-        """Each that the program takes or refuses."""
-        from labeltools.lines.engine import settings_of
-        from labeltools.common.messages import ToolError
-
-        values = {
-            "--level": ["L", "H", "h", ""],
-            "--min-version": ["1", "10", "+2", "011", "0", "11", "-0", "x"],
-            "--mask": ["0", "7", "007", "8", "auto", ""],
-            "--escapes": ["1"],
-            "--scale": ["1"],
-            "--esc": ["1"],
-        }
-        words = [[name, text] for name, texts in values.items() for text in texts]
-        words += [["=".join(pair)] for pair in words] + [["--escapes"], ["x"], ["--", "x"]]
-        words += [["--level", "H", "--level", "L"], ["--escapes", "--escapes"]]
-        own = ["--format", "pbm", "--scale", "1", "--height", "1"]
-        for asked in words:
-            program = [str(support.labels_program()), *asked, *own, "/dev/null"]
-            is_taken = subprocess.run(program, capture_output=True).returncode == 0
-            try:
-                settings_of(asked)
-                self.assertTrue(is_taken, asked)
-            except ToolError as error:
-                self.assertEqual((is_taken, error.status), (False, 2), asked)
 
 
 if __name__ == "__main__":

@@ -107,14 +107,13 @@ class Comparison:
     """
 
     def __init__(
-        self, plan: Plan, form: str, words: Sequence[str], is_turned: bool, talk: Talk
+        self, plan: Plan, form: str, is_escaped: bool, is_turned: bool, talk: Talk
     ) -> None:
         self.plan = plan
         self.talk = talk
         self.form = form
-        self.engine = Engine(words)
-        is_escaped = "--escapes" in words
-        self.escaped = self.engine if is_escaped else Engine([*words, "--escapes"])
+        self.engine = Engine(is_escaped)
+        self.escaped = Engine(True)
         self.is_turned = is_turned
         area = plan.area.turned() if is_turned else plan.area
         self.area = Box(0, 0, area.width, area.height)

@@ -24,7 +24,6 @@ from labeltools.common.command_line import (
     standard_output,
     wrong_argument,
 )
-from labeltools.lines.engine import option_words
 from labeltools.common.files import save, send
 from labeltools.drawing.forms import ESCPOS, FORMS
 from labeltools.printing.journal import Journal
@@ -261,8 +260,8 @@ def add_choice_options(parser: Parser) -> None:
     )
     unique = "skip a line whose code was there before, as on tickets and serial numbers"
     add("--unique", action="store_true", dest="is_unique", help=unique)
-    options = "options of labels, such as '--level H'"
-    add("--labels", metavar="WORDS", type=option_words, dest="words", default=(), help=options)
+    escapes = "read escapes in data, as labels --escapes does"
+    add("--escapes", action="store_true", dest="is_escaped", help=escapes)
 
 
 def add_output_options(parser: Parser) -> None:

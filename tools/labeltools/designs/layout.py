@@ -105,7 +105,6 @@ class OwnLayouts:
     area: Area
     letters: Letters
     note: str
-    words: tuple[str, ...]
     empty: frozenset[str]
     left_out: dict[int, Text] = field(default_factory=dict)
 
@@ -195,8 +194,7 @@ class OwnLayouts:
         if not wanted:
             return {}
         lines = [line_of(place, text) for place, text in wanted]
-        words = self.words if "--escapes" in self.words else (*self.words, "--escapes")
-        drawn = run_labels(b"".join(line + b"\n" for line in lines), words, talk)
+        drawn = run_labels(b"".join(line + b"\n" for line in lines), True, talk)
         found: Made = {}
         for number, (key, line) in enumerate(zip(wanted, lines), 1):
             modules = drawn.pictures.get(number)

@@ -2,24 +2,21 @@
 
 import argparse
 import os
-import re
 import shlex
 import sys
 from dataclasses import dataclass
 from functools import cache
 from pathlib import Path
-from typing import Any, Callable, Iterable, Iterator, Mapping, Optional, Sequence
+from typing import Any, Callable, Iterable, Iterator, Optional
 
 from labeltools.common.text import Text
 from labeltools.lines.file import lines_of
 from labeltools.lines.reasons import reason_of
-from labeltools.common.messages import BAD_ARGUMENTS, Talk, ToolError
+from labeltools.common.messages import Talk, ToolError
 
 LABELS_FAILED = 3  # the status of a tool that is not in order
 MAJOR = "1"  # the version of the library that these tools know: later ones of it can do no less
 ASKED = 256  # lines between two calls of `go_on`
-BAD_WORDS = Text("labels ended with status 2: labels: bad words")
-NUMBER = re.compile(r"\+?[0-9]+", re.ASCII)
 LIBRARY = "LABELS_LIBRARY"  # the variable that names another library
 INSTALL = Text("install python3-liblabels with the tools, or name the library in $LABELS_LIBRARY")
 
@@ -114,18 +111,18 @@ def first_of(folder: Path, pattern: str) -> Optional[Path]:
 
 
 class Engine:
-    """Draws one line after another with the same options."""
+    """Draws one line after another, as labels(1) does, with --escapes or without."""
 
-    def __init__(self, words: Sequence[str]) -> None:
-        """Takes options as labels(1) does; raises `ToolError` for those that it does not take."""
-        self.settings = settings_of(words)
+    def __init__(self, is_escaped: bool) -> None:
+        """Raises `ToolError` where the library is not there."""
+        self.is_escaped = is_escaped
         self.module = library()
         self.line: Callable[..., Any] = self.module.line
 
     def symbol(self, line: bytes) -> Any:
         """Returns the symbol of a line that has data, as the library gives it; raises `Refused`."""
         try:
-            return self.line(line, height=1, **self.settings)
+            return self.line(line, height=1, escapes=self.is_escaped)
         except self.module.Refused as refused:
             raise Refused(str(refused)) from refused
 
@@ -137,45 +134,13 @@ class Engine:
         return Modules(left + symbol.width + right, high, symbol.packed(quiet_zones=True))
 
 
-def settings_of(words: Sequence[str]) -> Mapping[str, Any]:
-    """Returns options of labels(1) as arguments of the library; raises `ToolError`.
+def run_labels(data: bytes, is_escaped: bool, talk: Talk, numbers: Iterable[int] = ()) -> Drawn:
+    """Draws a file, a module being a pixel; `is_escaped` is --escapes of labels(1), `numbers` are
+    those of the lines, where the first one is not 1.
 
-    >>> settings_of(["--level", "H", "--mask=3"])
-    {'level': 'H', 'mask': 3}
+    Raises `ToolError` where the library is not there, and what `talk.go_on` raises.
     """
-    settings: dict[str, Any] = {}
-    left = list(words)
-    while left:
-        name, equals, value = left.pop(0).partition("=")
-        known = name.removeprefix("--").replace("-", "_")
-        if name == "--escapes" and not equals:
-            setting: Any = True
-        else:
-            setting = setting_of(name, value if equals or not left else left.pop(0))
-        if setting is None or known in settings:
-            raise ToolError(BAD_WORDS, status=BAD_ARGUMENTS)
-        settings[known] = setting
-    return settings
-
-
-def setting_of(name: str, value: str) -> Any:
-    """Returns the value of an option; None for one that labels(1) does not take."""
-    if name == "--level":
-        return value if value in tuple("LMQH") else None
-    least, most = {"--min-version": (1, 10), "--mask": (0, 7)}.get(name, (0, -1))
-    if not NUMBER.fullmatch(value) or not least <= int(value) <= most:
-        return None
-    return int(value)
-
-
-def run_labels(data: bytes, words: Sequence[str], talk: Talk, numbers: Iterable[int] = ()) -> Drawn:
-    """Draws a file, a module being a pixel; `words` are options of labels(1), `numbers` those of
-    the lines, where the first one is not 1.
-
-    Raises `ToolError` where the library is not there, and with status 2 for bad options. Raises
-    what `talk.go_on` raises.
-    """
-    engine = Engine(words)
+    engine = Engine(is_escaped)
     pictures: dict[int, Modules] = {}
     refused: dict[int, Text] = {}
     for done, (number, line) in enumerate(lines_with_data(data, numbers)):

@@ -46,7 +46,7 @@ class PrintOptions:
     """What is asked for. Lengths are in millimetres; None is what suits the form and the paper.
 
     One of `stock`, `paper` and `cell` names the sheet. `only` are the labels that are printed;
-    `note` is a line of text for all labels; `words` are options of labels(1); `is_unique` is
+    `note` is a line of text for all labels; `is_escaped` is --escapes of labels(1); `is_unique` is
     whether each code is printed once.
     """
 
@@ -69,7 +69,7 @@ class PrintOptions:
     only: Optional[Selection] = None
     each: Optional[str] = None
     font: str = FONT
-    words: tuple[str, ...] = ()
+    is_escaped: bool = False
     note: str = ""
     dots: int = 576
     is_cut: bool = True
@@ -139,7 +139,7 @@ def planned(options: PrintOptions) -> PrintJob:
             "a label has {} dots, and the printer has {} (--dots)", plan.page[0], options.dots
         )
         raise ToolError(what, status=BAD_ARGUMENTS)
-    how = (options.first, options.is_cut, options.words, own)
+    how = (options.first, options.is_cut, options.is_escaped, own)
     return PrintJob(plan, form, options.font, *how)
 
 
@@ -227,8 +227,8 @@ def drawn_lines(options: PrintOptions, name: str, data: bytes, talk: Talk) -> Dr
     """Returns the lines of a file with the modules of their codes; raises what `labels_of` does."""
     if data.startswith(WORKBOOK):
         raise ToolError(Text("{} is a workbook", name), TABLE_FIRST)
-    lines = read_lines(data, name, "--escapes" in options.words)
-    drawn = run_labels(data, options.words, talk)
+    lines = read_lines(data, name, options.is_escaped)
+    drawn = run_labels(data, options.is_escaped, talk)
     if lines.records and not data.endswith(b"\n"):
         cut = lines.records[-1].number
         drawn.pictures.pop(cut, None)
@@ -287,7 +287,7 @@ def own_layouts(
     if job.design is None:
         return None
     area = job.plan.area.turned() if job.design.is_turned else job.plan.area
-    return OwnLayouts(job.design, area, letters, options.note, options.words, empty)
+    return OwnLayouts(job.design, area, letters, options.note, empty)
 
 
 def without_letters(

@@ -30,7 +30,7 @@ from labeltools.drawing.pen import Medium, Page, Pen
 @dataclass(frozen=True)
 class PrintJob:
     """How labels go out: on which sheet, in which form and font, from which cell of the first page
-    on; whether ESC/POS cuts after each label; options of labels(1); a design of the user's own.
+    on; whether ESC/POS cuts after each label; whether data have escapes; a design of a file.
     """
 
     plan: Plan
@@ -38,7 +38,7 @@ class PrintJob:
     font: str = FONT
     first: int = 1
     is_cut: bool = True
-    words: tuple[str, ...] = ()
+    is_escaped: bool = False
     design: Optional[OwnDesign] = None
 
     def pages_of(self, labels: int) -> int:
@@ -120,7 +120,7 @@ class Press:
         area = laid_out.area
         self.turn = area.height if area.is_turned else 0
         self.pens = pens_of(job, letters)
-        how = (job.plan, job.form.name, job.words, area.is_turned)
+        how = (job.plan, job.form.name, job.is_escaped, area.is_turned)
         self.comparison = Comparison(*how, talk)
 
     @property

@@ -220,7 +220,7 @@ class Stream:
         """Takes what lines come from, and how they are printed; raises `ToolError` where none can
         be.
         """
-        Engine(options.words)
+        Engine(options.is_escaped)
         self.name = name
         self.options = options
         self.job = job
@@ -315,8 +315,8 @@ class Stream:
         data = b"".join(part.line + b"\n" for part in parts)
         numbers = [part.number for part in parts]
         try:
-            lines = read_lines(data, self.name, "--escapes" in self.options.words, numbers)
-            drawn = run_labels(data, self.options.words, Silence(), numbers)
+            lines = read_lines(data, self.name, self.options.is_escaped, numbers)
+            drawn = run_labels(data, self.options.is_escaped, Silence(), numbers)
             found = DrawnLines(lines, drawn)
             done = prepared(self.options, self.job, found, Silence(), self.letters, False)
         except ToolError as error:
