@@ -63,7 +63,7 @@ complete -c label-print -l only -x -d 'print only these rows of the table, such 
 complete -c label-print -l only-code -x -d 'print the label with this code, or those of @FILE, a code on each line'
 complete -c label-print -l unique -d 'skip a line whose code was there before, as on tickets and serial numbers'
 complete -c label-print -l escapes -d 'read escapes in data, as labels --escapes does'
-complete -c label-print -l to -x -a 'pdf svg png pbm zpl escpos' -d 'pdf, svg, png, pbm, zpl, escpos'
+complete -c label-print -l to -x -a 'pdf svg png pbm zpl escpos' -d 'pdf, svg, png, zpl, escpos'
 complete -c label-print -l dpi -x -a '203 300 600' -d 'dots an inch of the printer'
 complete -c label-print -l each -r -F -d 'a file for each label'
 complete -c label-print -l print -x -d 'print on this queue of CUPS, tcp'

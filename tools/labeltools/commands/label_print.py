@@ -269,7 +269,8 @@ def add_output_options(parser: Parser) -> None:
     group = parser.add_argument_group("output")
     add = group.add_argument
     count = reads("3", 1, int)
-    add("--to", metavar="FORM", choices=tuple(FORMS), help=f"{', '.join(FORMS)} (pdf)")
+    forms = ", ".join(name for name in FORMS if name != "pbm")  # which is for tests
+    add("--to", metavar="FORM", choices=tuple(FORMS), help=f"{forms} (pdf)")
     dpi = f"dots an inch of the printer (pdf and svg: {DRAWING_DPI})"
     add("--dpi", metavar="N", type=count, help=dpi)
     out = group.add_mutually_exclusive_group().add_argument
