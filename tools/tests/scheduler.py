@@ -12,6 +12,7 @@ import time
 from pathlib import Path
 from typing import Any, List, Tuple
 
+import cups
 import numpy
 import support
 from jobs import Dots
@@ -117,6 +118,7 @@ class Scheduler:
         self.start(*words)
         self.before = os.environ.get("CUPS_SERVER")
         os.environ["CUPS_SERVER"] = self.name
+        cups.setServer(self.name)  # which GTK would not look up again
         self.wait(lambda: not subprocess.run(["lpstat", "-r"], capture_output=True).returncode)
 
     def start(self, *words: str, **variables: str) -> Any:
@@ -189,6 +191,7 @@ class Scheduler:
         os.environ.pop("CUPS_SERVER")
         if self.before is not None:
             os.environ["CUPS_SERVER"] = self.before
+        cups.setServer(self.before or "")
 
 
 def is_open(port: int) -> bool:
