@@ -813,7 +813,8 @@ class WindowTest(unittest.TestCase):
             variables["LABELS_LOCALE"] = str(self.folder / "locale")
             words = [sys.executable, "-c", code]
             environment = {**os.environ, **variables}
-            ran = subprocess.run(words, env=environment, capture_output=True, text=True, check=True)
+            how: Any = {"cwd": support.TESTS, "env": environment, "capture_output": True}
+            ran = subprocess.run(words, text=True, check=True, **how)
             self.assertEqual(ran.stdout.splitlines()[0].rstrip("0123456789"), answer)
             self.assertEqual(raster_of(scheduler.printed("home"))[0], (600, 600))
 
