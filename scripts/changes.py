@@ -121,7 +121,7 @@ def read_crates(top: str) -> dict[str, Crate]:
 def is_worked(declaration: Declaration) -> bool:
     """Returns whether it is a worked value."""
     words = [token.text for token in declaration.tokens]
-    return "refl" in words or ("omega", "arith") in zip(words, words[1:])
+    return bool({"refl", "omega"} & {*words})
 
 
 def with_values(file: File, names: Container[str]) -> str:
