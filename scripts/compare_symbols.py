@@ -17,57 +17,40 @@ arguments, no such program, a third-party program missing.
 """
 
 import dataclasses
+import itertools
 import random
 import subprocess
 import sys
 from typing import Iterator, Sequence
 
-from segno import consts
+import numpy
 
+import pictures
 import sources
-from pictures import DIGITS, Label, Pixels, box_of, gray, kinds_of, pictures_of, with_check_digit
+from pictures import ALPHANUMERIC, DIGITS, LETTERS, LEVELS, NUMBERS, VERSIONS, Label, Pixels, capacity, pictures_of
 
 # The reader that zbarimg has for each symbology. It reads UPC-A as the EAN-13 of the same bars.
 READERS = {"ean13": "ean13", "ean8": "ean8", "upca": "ean13", "code128": "code128", "qr": "qrcode"}
-LETTERS = "ABCDEFGHIJKLMNOPQRSTUVWXYZ"
-ALPHANUMERIC = f"{DIGITS}{LETTERS} $%*+-./:"
-# Of digits, alphanumeric characters and bytes: how many of them take how many bits, and the bits of their count in
-# versions 1 to 9 and in version 10 (ISO/IEC 18004, clause 7.4).
-MODES = ((3, 10, 10, 12), (2, 11, 9, 11), (1, 8, 8, 16))
-MODE_BITS = 4
 # A label of each symbology, in whose picture and data wrong cases are made.
 SHOWN = (
-    Label("ean13", b"400638133393", b"4006381333931", 2, zint=("-b", "EANX", "-d", "400638133393")),
-    Label("ean8", b"7351353", b"73513537", 2, zint=("-b", "EANX", "-d", "7351353")),
-    Label("upca", b"03600029145", b"0036000291452", 2, zint=("-b", "UPCA", "-d", "03600029145")),
-    Label("code128", b"WRONG", b"WRONG", 2, zint=("-b", "CODE128", "-d", "WRONG")),
-    Label(
-        "qr,level=L,min-version=1,mask=0",
-        b"WRONG",
-        b"WRONG",
-        2,
-        zint=("-b", "QRCODE", "--secure=1", "--vers=1", "--mask=0", "-d", "WRONG"),
-    ),
+    Label("ean13", b"400638133393", b"4006381333931", 2),
+    Label("ean8", b"7351353", b"73513537", 2),
+    Label("upca", b"03600029145", b"0036000291452", 2),
+    Label("code128", b"WRONG", b"WRONG", 2),
+    Label("qr,level=L,min-version=1,mask=0", b"WRONG", b"WRONG", 2),
 )
-
-
-def capacity(version: int, level: str, mode: int) -> int:
-    """The most characters of one mode that a QR symbol holds."""
-    characters, bits, *bits_of_count = MODES[mode]
-    room = consts.SYMBOL_CAPACITY[version][consts.ERROR_MAPPING[level]] - MODE_BITS - bits_of_count[version == 10]
-    return int(room * characters // bits)
 
 
 def ean_and_upc(draw: random.Random) -> Iterator[Label]:
     """EAN and UPC labels, each length in turn, with every first digit."""
-    for name, length, count, kind in (("ean13", 12, 60, "EANX"), ("ean8", 7, 50, "EANX"), ("upca", 11, 50, "UPCA")):
-        for number in range(count):
-            digits = str(number % 10) + "".join(draw.choices(DIGITS, k=length - 1))
-            full = with_check_digit(digits)
+    for name in NUMBERS:
+        for number in range(60 if name == "ean13" else 50):
+            digits = pictures.digits_of(draw, name, number)
+            full = pictures.with_check_digit(digits)
             data = full if number % 2 else digits
             read = "0" + full if name == "upca" else full
             head = name if number % 5 else f"{name},height={30 + number}"
-            yield Label(head, data.encode(), read.encode(), 2 + number % 3, zint=("-b", kind, "-d", digits))
+            yield Label(head, data.encode(), read.encode(), 2 + number % 3, has_no_choice=True)
 
 
 def code128(draw: random.Random) -> Iterator[Label]:
@@ -95,30 +78,26 @@ def code128_of_one_set(draw: random.Random) -> Iterator[Label]:
         data = "".join(draw.choices(letters, k=1 + number))
         if number % 3 == 2:
             data = "".join(draw.choices(DIGITS, k=2 * (2 + number // 2)))
-        yield Label("code128", data.encode(), data.encode(), 2 + number % 3, zint=("-b", "CODE128", "-d", data))
+        yield Label("code128", data.encode(), data.encode(), 2 + number % 3, has_no_choice=True)
 
 
 def qr_of_one_mode(draw: random.Random) -> Iterator[Label]:
     """QR labels of one mode: each version with each level and each mask."""
-    alphabets = (DIGITS, f"{LETTERS} $%*+-./:", "abcdefghijklmnopqrstuvwxyz!#&()<=>?@[]_{|}~")
-    for version in range(1, 11):
-        for level_number, level in enumerate("LMQH"):
-            for mask in range(8):
-                kind = (version + level_number + mask) % 3
-                length = 1 + draw.randrange(capacity(version, "H", kind))
-                data = "".join(draw.choices(alphabets[kind], k=length))
-                head = f"qr,level={level},min-version={version},mask={mask}"
-                zint = ("-b", "QRCODE", f"--secure={level_number + 1}", f"--vers={version}", f"--mask={mask}")
-                yield Label(head, data.encode(), data.encode(), 2 + mask % 3, zint=(*zint, "-d", data))
+    alphabets = (DIGITS, f"{LETTERS} $%*+-./:", f"{LETTERS.lower()}{pictures.OTHERS}")
+    for version, level, mask in itertools.product(VERSIONS, LEVELS, range(8)):
+        kind = (version + LEVELS.index(level) + mask) % 3
+        length = 1 + draw.randrange(capacity(version, "H", kind))
+        data = "".join(draw.choices(alphabets[kind], k=length)).encode()
+        head = f"qr,level={level},min-version={version},mask={mask}"
+        yield Label(head, data, data, 2 + mask % 3, has_no_choice=True)
 
 
 def qr_by_capacity(draw: random.Random) -> Iterator[Label]:
     """QR labels that fill versions 1, 5 and 10 to the last character, one mode each."""
-    for level in "LMQH":
-        for number, version in enumerate((1, 5, 10)):
-            for mode, letters in enumerate((DIGITS, LETTERS, LETTERS.lower())):
-                data = "".join(draw.choices(letters, k=capacity(version, level, mode))).encode()
-                yield Label(f"qr,level={level}", data, data, 2 + number)
+    alphabets = (DIGITS, LETTERS, LETTERS.lower())
+    for level, (number, version), mode in itertools.product(LEVELS, enumerate((1, 5, 10)), range(3)):
+        data = "".join(draw.choices(alphabets[mode], k=capacity(version, level, mode))).encode()
+        yield Label(f"qr,level={level}", data, data, 2 + number)
 
 
 def qr_of_bytes(draw: random.Random) -> Iterator[Label]:
@@ -134,7 +113,7 @@ def qr_of_bytes(draw: random.Random) -> Iterator[Label]:
         ]
         draw.shuffle(parts)
         data = b"".join(parts)
-        yield Label(f"qr,level={'LMQH'[number % 4]}", data, data, 2 + number % 3, True)
+        yield Label(f"qr,level={LEVELS[number % 4]}", data, data, 2 + number % 3, True)
 
 
 def all_labels() -> list[Label]:
@@ -145,7 +124,7 @@ def all_labels() -> list[Label]:
 
 def reading_of(label: Label, picture: Pixels) -> bytes:
     """The bytes that zbarimg reads in a picture by the reader of this symbology; none where it reads nothing."""
-    rows = gray(picture, 10 * label.scale)
+    rows = pictures.gray(picture, 10 * label.scale)
     reader = f"-S{READERS[label.head.split(',')[0]]}.enable"
     command = ["zbarimg", "--nodbus", "--quiet", "-Sdisable", reader, "-Sbinary", "-"]
     ran = subprocess.run(command, input=b"P5\n%d %d\n255\n" % rows.shape[::-1] + rows.tobytes(), capture_output=True)
@@ -164,56 +143,23 @@ def readings(program: str, labels: Sequence[Label]) -> Iterator[tuple[Label, byt
             yield label, reading_of(label, picture)
 
 
-def rows_of(pixels: Pixels) -> list[str]:
-    """The rows of modules of a picture at one pixel a module, without its quiet zone, as texts of 0 and 1."""
-    left, top, right, bottom = box_of(pixels)
-    symbol = pixels[top:bottom, left:right]
-    is_linear = (symbol == symbol[0]).all()
-    return ["".join(map(str, row)) for row in (symbol[:1] if is_linear else symbol)]
-
-
-def is_as_zint(label: Label, picture: Pixels) -> bool:
-    """Whether each module of a picture is that of zint's symbol, whose rows zint prints in hexadecimal digits."""
-    ours = rows_of(picture)
-    ran = subprocess.run(["zint", "--dump", *label.zint], capture_output=True, text=True, check=True)
-    theirs = [bin(int("1" + line.replace(" ", ""), 16))[3:] for line in ran.stdout.splitlines()]
-    # Up to three bits fill the last digit.
-    room = len(theirs[0]) - len(ours[0])
-    return 0 <= room < 4 and theirs == [row + room * "0" for row in ours]
-
-
-def with_turned_module(pixels: Pixels, place: str) -> Pixels:
-    """A picture with a module turned, the first, the last or a middle one: of a bar code in all its rows."""
-    left, top, right, bottom = box_of(pixels)
-    symbol = pixels[top:bottom, left:right]
-    if (symbol == symbol[0]).all():
-        rows = slice(top, bottom)
-        places = {"first": (rows, left), "middle": (rows, (left + right) // 2), "last": (rows, right - 1)}
-    else:
-        middle = slice((top + bottom) // 2, (top + bottom) // 2 + 1), (left + right) // 2
-        places = {"first": (slice(top, top + 1), left), "middle": middle, "last": (slice(bottom - 1, bottom), left)}
-    turned = pixels.copy()
-    turned[places[place]] ^= 1
-    return turned
-
-
-def with_other_bytes(data: bytes) -> tuple[bytes, bytes, bytes]:
-    """Data with another first byte, with another last one, and without the last one."""
-    return bytes([data[0] ^ 1]) + data[1:], data[:-1] + bytes([data[-1] ^ 1]), data[:-1]
+def is_as_zint(label: Label, modules: Pixels) -> bool:
+    """Whether each module is that of zint's symbol."""
+    return numpy.array_equal(modules, pictures.drawn_by_zint(label.head, label.data.decode()))
 
 
 def wrong_cases(program: str) -> Iterator[tuple[str, bool]]:
     """Cases of each symbology, wrong ones that the comparisons have to report and right ones that they must not: each
     with whether they do so."""
     for label in SHOWN:
-        (picture,) = pictures_of(program, [label])
-        yield f"{label.head}: the right picture as zint's", is_as_zint(label, picture)
-        for place in ("first", "middle", "last"):
-            is_same = is_as_zint(label, with_turned_module(picture, place))
-            yield f"{label.head}: a picture whose {place} module is turned as zint's", not is_same
+        modules = pictures.modules_of(*pictures_of(program, [label]))
+        yield f"{label.head}: the right picture as zint's", is_as_zint(label, modules)
+        for name, place in (("first", 0), ("middle", modules.size // 2), ("last", modules.size - 1)):
+            is_same = is_as_zint(label, pictures.with_turned(modules, [place]))
+            yield f"{label.head}: a picture whose {name} module is turned as zint's", not is_same
         ((_, reading),) = readings(program, [label])
         yield f"{label.head}: the right picture as read back", is_read_back(label, reading)
-        for other in with_other_bytes(label.full):
+        for other in pictures.with_other_bytes(label.full):
             is_read = is_read_back(dataclasses.replace(label, full=other), reading)
             yield f"{label.head}: a picture of {label.full!r} as read back as {other!r}", not is_read
 
@@ -225,9 +171,9 @@ def is_read_back(label: Label, reading: bytes) -> bool:
 def main() -> int:
     program = sources.program_given(__doc__)
     labels = all_labels()
-    with_zint = [label for label in labels if label.zint]
-    pairs = zip(with_zint, pictures_of(program, with_zint))
-    same = [label for label, picture in pairs if is_as_zint(label, picture)]
+    with_zint = [label for label in labels if label.has_no_choice]
+    pairs = zip(with_zint, map(pictures.modules_of, pictures_of(program, with_zint)))
+    same = [label for label, modules in pairs if is_as_zint(label, modules)]
     found = [*readings(program, labels)]
     read = [label for label, reading in found if is_read_back(label, reading)]
     faults = [f"zint draws another symbol: {label}" for label in with_zint if label not in same]
@@ -235,7 +181,9 @@ def main() -> int:
         f"{label.line()!r}: read as {reading!r}" for label, reading in found if not is_read_back(label, reading)
     ]
     last = f"{len(labels)} labels: {len(read)} read back, {len(same)} of {len(with_zint)} as zint draws them"
-    return sources.ended(faults, f"{last}; of those read back {kinds_of(read) or 'none'}", wrong_cases(program))
+    return sources.ended(
+        faults, f"{last}; of those read back {pictures.kinds_of(read) or 'none'}", wrong_cases(program)
+    )
 
 
 if __name__ == "__main__":

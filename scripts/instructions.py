@@ -356,16 +356,18 @@ def failing(lines: Iterable[str]) -> list[str]:
 
 
 def wrong_cases() -> Iterator[tuple[str, bool]]:
-    """Tables with a count that is 6 % off, one row less or one cell less than the page or more, each with whether this
+    """Tables with a count that is 6 % off or none, a row or a cell less than the page or more, each with whether this
     is reported: rows at both ends and in the middle of each kind of table."""
     for first, second in HEADS:
-        head, rows = [first, second, "others"], {name: [1000] for name in ("one", "two", "three")}
+        head = [first, second, "others"]
+        rows: dict[str, Sequence[Cell]] = {name: [1000] for name in ("one", "two", "three")}
         right: Table = head, rows
         cases: dict[str, Table] = {
             f"{name}, {count}": (head, {**rows, name: [count]}) for name in rows for count in (940, 1060)
         }
         cases |= {f"no {name}": (head, {it: rows[it] for it in rows if it != name}) for name in rows}
-        cases |= {"a cell less": (head[:2], rows)}
+        cases["a cell less"] = head[:2], rows
+        cases["nothing counted"] = head, {**rows, "two": [None]}
         for name, wrong in cases.items():
             for ours, page in ((wrong, right), (right, wrong)):
                 yield f"{name} of {ours} beside {page}", bool(failing(check([ours], text_of([page]))))

@@ -18,19 +18,17 @@ data, E nothing`. Any other symbol is printed, and the status is then 1. Status 
 import itertools
 import random
 import re
-import subprocess
 import sys
 from dataclasses import dataclass, replace
-from typing import Callable, Iterator
+from typing import Iterator
 
 import numpy
-import numpy.typing
 import segno
 import zxingcpp
 
+import pictures
 import sources
-from compare_symbols import ALPHANUMERIC, LETTERS, capacity, with_other_bytes
-from pictures import DIGITS, with_check_digit
+from pictures import ALPHANUMERIC, DIGITS, LETTERS, LEVELS, NUMBERS, VERSIONS, Pixels, capacity
 
 # The quiet zones of each symbology: left, right, above and below, in modules.
 QUIET_ZONES = {
@@ -40,19 +38,18 @@ QUIET_ZONES = {
     "code128": (10, 10, 0, 0),
     "qr": (4, 4, 4, 4),
 }
-# The digits of a symbol without its check digit, and what zint, ZXing and GNU barcode call it.
-NUMBERS = {
-    "ean13": (12, "EANX", zxingcpp.BarcodeFormat.EAN13, "ean13"),
-    "ean8": (7, "EANX", zxingcpp.BarcodeFormat.EAN8, "ean8"),
-    "upca": (11, "UPCA", zxingcpp.BarcodeFormat.UPCA, "upc"),
+# What GNU barcode calls a number, and ZXing each symbology.
+OF_BARCODE = {"ean13": "ean13", "ean8": "ean8", "upca": "upc", "code128": "code128"}
+OF_ZXING = {
+    "ean13": zxingcpp.BarcodeFormat.EAN13,
+    "ean8": zxingcpp.BarcodeFormat.EAN8,
+    "upca": zxingcpp.BarcodeFormat.UPCA,
+    "code128": zxingcpp.BarcodeFormat.Code128,
+    "qr": zxingcpp.BarcodeFormat.QRCode,
 }
 PRINTABLE = "".join(map(chr, range(0x20, 0x7F)))
-MODES = (("numeric", DIGITS), ("alphanumeric", ALPHANUMERIC), ("byte", f"{LETTERS.lower()}!#&()<=>?@[]_{{|}}~"))
-LEVELS = "LMQH"
+MODES = (("numeric", DIGITS), ("alphanumeric", ALPHANUMERIC), ("byte", f"{LETTERS.lower()}{pictures.OTHERS}"))
 WIDTHS = re.compile(r"widths \(space first\): (\S+) -->")
-
-
-Modules = numpy.typing.NDArray[numpy.uint8]
 
 
 @dataclass(frozen=True)
@@ -62,9 +59,9 @@ class Symbol:
     drawer: str
     symbology: str
     data: bytes
-    modules: Modules
+    modules: Pixels
 
-    def dots(self, scale: int) -> Modules:
+    def dots(self, scale: int) -> Pixels:
         """The symbol in its quiet zone, its modules squares of dots."""
         left, right, above, below = QUIET_ZONES[self.symbology]
         framed = numpy.pad(self.modules, ((above, below), (left, right)))
@@ -75,67 +72,49 @@ class Symbol:
         return f"{self.symbology} of {self.drawer}, {self.data!r}: {read}"
 
 
-def printed(*command: str) -> str:
-    """What a program prints. Stops where it fails or is not there."""
-    try:
-        return subprocess.run(command, capture_output=True, encoding="utf-8", check=True).stdout
-    except (OSError, subprocess.CalledProcessError) as fault:
-        print(f"{' '.join(command)}: {fault}", file=sys.stderr)
-        sys.exit(2)
+def of_zint(head: str, data: str) -> Symbol:
+    return Symbol("zint", head.partition(",")[0], data.encode(), pictures.drawn_by_zint(head, data))
 
 
-def row_of(bits: str) -> Modules:
-    return numpy.array([[int(bit) for bit in bits]], numpy.uint8)
-
-
-def of_zint(symbology: str, data: str, width: int, *options: str) -> Symbol:
-    """A symbol of zint, which prints each row in hexadecimal digits, with zeros after it."""
-    rows = printed("zint", "--dump", *options, "-d", data).splitlines()
-    bits = [bin(int("1" + row.replace(" ", ""), 16))[3:] for row in rows]
-    side = width or len(bits)
-    if symbology == "code128":
-        side = len(bits[0].rstrip("0"))
-    return Symbol("zint", symbology, data.encode(), numpy.concatenate([row_of(row[:side]) for row in bits]))
-
-
-def of_barcode(symbology: str, data: str, kind: str) -> Symbol:
+def of_barcode(symbology: str, data: str) -> Symbol:
     """A symbol of GNU barcode, which prints the widths of spaces and bars in turn, the margin first."""
-    found = WIDTHS.search(printed("barcode", "-S", "-n", "-e", kind, "-b", data))
+    found = WIDTHS.search(pictures.printed("barcode", "-S", "-n", "-e", OF_BARCODE[symbology], "-b", data))
     if not found:
         sys.exit(f"GNU barcode printed no widths of {data!r}")
     widths = [int(width) for width in found[1]][1:]
     bits = "".join("10"[place % 2] * width for place, width in enumerate(widths))
-    return Symbol("GNU barcode", symbology, data.encode(), row_of(bits))
+    return Symbol("GNU barcode", symbology, data.encode(), pictures.modules_in([bits]))
 
 
-def of_zxing(symbology: str, data: str, kind: zxingcpp.BarcodeFormat, level: int = -1) -> Symbol:
+def of_zxing(symbology: str, data: str, level: int = -1) -> Symbol:
     """A symbol of ZXing, one dot a module."""
-    dots = numpy.array(zxingcpp.write_barcode(kind, data, 0, 0, 0, level))
+    dots = numpy.array(zxingcpp.write_barcode(OF_ZXING[symbology], data, 0, 0, 0, level))
     modules = (dots == 0).astype(numpy.uint8)
     return Symbol("ZXing", symbology, data.encode(), modules if symbology == "qr" else modules[:1])
+
+
+def of_segno(data: str | bytes, version: int, level: str, mode: str, mask: int | None = None) -> Symbol:
+    """A symbol of segno, of one mode."""
+    made = segno.make_qr(data, level, version, mode, mask, boost_error=False)
+    modules = numpy.array([[*row] for row in made.matrix], numpy.uint8)
+    return Symbol("segno", "qr", data if isinstance(data, bytes) else data.encode(), modules)
 
 
 def of_qrencode(data: str, version: int, level: str) -> Symbol:
     """A symbol of qrencode, which prints two characters a module."""
     options = ("-t", "ASCII", "-m", "0", "-v", str(version), "-l", level, "-o", "-")
-    rows = [row[::2] for row in printed("qrencode", *options, "--", data).splitlines()]
-    modules = numpy.array([[int(letter == "#") for letter in row] for row in rows], numpy.uint8)
-    return Symbol("qrencode", "qr", data.encode(), modules)
+    rows = [row[::2] for row in pictures.printed("qrencode", *options, "--", data).splitlines()]
+    bits = ["".join(str(int(letter == "#")) for letter in row) for row in rows]
+    return Symbol("qrencode", "qr", data.encode(), pictures.modules_in(bits))
 
 
 def numbers(draw: random.Random) -> Iterator[Symbol]:
     """EAN and UPC symbols with every first digit, of three programs."""
-    for symbology, (length, of_kind, kind, name) in NUMBERS.items():
-        for number in range(120):
-            digits = str(number % 10) + "".join(draw.choices(DIGITS, k=length - 1))
-            full = with_check_digit(digits)
-            width = 67 if symbology == "ean8" else 95
-            for drawn in (
-                of_zint(symbology, digits, width, "-b", of_kind),
-                of_barcode(symbology, digits, name),
-                of_zxing(symbology, full, kind),
-            ):
-                yield Symbol(drawn.drawer, symbology, full.encode(), drawn.modules)
+    for symbology, number in itertools.product(NUMBERS, range(120)):
+        digits = pictures.digits_of(draw, symbology, number)
+        full = pictures.with_check_digit(digits)
+        for drawn in (of_zint(symbology, digits), of_barcode(symbology, digits), of_zxing(symbology, full)):
+            yield replace(drawn, data=full.encode())
 
 
 def code128(draw: random.Random) -> Iterator[Symbol]:
@@ -143,65 +122,51 @@ def code128(draw: random.Random) -> Iterator[Symbol]:
     alphabets = (DIGITS, PRINTABLE, DIGITS * 4 + PRINTABLE, LETTERS)
     for number in range(160):
         data = "".join(draw.choices(alphabets[number % 4], k=1 + number % 40)).strip() or "7"
-        yield of_zint("code128", data, 0, "-b", "CODE128")
-        yield of_barcode("code128", data, "code128")
-        yield of_zxing("code128", data, zxingcpp.BarcodeFormat.Code128)
+        yield of_zint("code128", data)
+        yield of_barcode("code128", data)
+        yield of_zxing("code128", data)
 
 
 def qr_of_one_mode(draw: random.Random) -> Iterator[Symbol]:
     """QR symbols of each version, level, mask and mode, of two programs."""
-    for version in range(1, 11):
-        for number, level in enumerate(LEVELS):
-            for mask in range(8):
-                for mode, (name, letters) in enumerate(MODES):
-                    data = "".join(draw.choices(letters, k=1 + draw.randrange(capacity(version, level, mode))))
-                    made = segno.make_qr(data, level, version, name, mask, boost_error=False)
-                    modules = numpy.array([[*row] for row in made.matrix], numpy.uint8)
-                    yield Symbol("segno", "qr", data.encode(), modules)
-                    if mode == mask % 3:
-                        options = ("-b", "QRCODE", f"--secure={number + 1}", f"--vers={version}", f"--mask={mask}")
-                        yield of_zint("qr", data, 0, *options)
+    cases = itertools.product(VERSIONS, LEVELS, range(8), enumerate(MODES))
+    for version, level, mask, (mode, (name, letters)) in cases:
+        data = "".join(draw.choices(letters, k=1 + draw.randrange(capacity(version, level, mode))))
+        yield of_segno(data, version, level, name, mask)
+        if mode == mask % 3:
+            yield of_zint(f"qr,level={level},min-version={version},mask={mask}", data)
 
 
 def qr_of_mixed_modes(draw: random.Random) -> Iterator[Symbol]:
     """QR symbols of digits, letters and bytes in turn, whose segments the programs choose."""
-    for version in range(1, 11):
-        for number, level in enumerate(LEVELS):
-            for _ in range(3):
-                parts = ["".join(draw.choices(letters, k=draw.randrange(1, 4 + 5 * version))) for _, letters in MODES]
-                draw.shuffle(parts)
-                data = "".join(parts)[: capacity(version, level, 2)]
-                yield of_qrencode(data, version, level)
-                yield of_zxing("qr", data, zxingcpp.BarcodeFormat.QRCode, 2 * number + 1)
+    for version, level, _ in itertools.product(VERSIONS, LEVELS, range(3)):
+        parts = ["".join(draw.choices(letters, k=draw.randrange(1, 4 + 5 * version))) for _, letters in MODES]
+        draw.shuffle(parts)
+        data = "".join(parts)[: capacity(version, level, 2)]
+        yield of_qrencode(data, version, level)
+        yield of_zxing("qr", data, 2 * LEVELS.index(level) + 1)
 
 
 def qr_of_bytes(draw: random.Random) -> Iterator[Symbol]:
     """QR symbols of any bytes."""
-    for version in range(1, 11):
-        for level in LEVELS:
-            data = bytes(draw.choices(range(256), k=capacity(version, level, 2)))
-            made = segno.make_qr(data, level, version, "byte", boost_error=False)
-            yield Symbol("segno", "qr", data, numpy.array([[*row] for row in made.matrix], numpy.uint8))
+    for version, level in itertools.product(VERSIONS, LEVELS):
+        data = bytes(draw.choices(range(256), k=capacity(version, level, 2)))
+        yield of_segno(data, version, level, "byte")
 
 
 def all_symbols() -> list[Symbol]:
     draw = random.Random(15417)
-    parts: tuple[Callable[[random.Random], Iterator[Symbol]], ...]
     parts = (numbers, code128, qr_of_one_mode, qr_of_mixed_modes, qr_of_bytes)
     return [symbol for part in parts for symbol in part(draw)]
 
 
-def damaged(symbols: list[Symbol], count: int) -> list[Symbol]:
+def damaged(symbols: list[Symbol], count: int) -> Iterator[Symbol]:
     """Some of the symbols with modules turned: up to seven of a QR symbol, one of a linear one."""
     draw = random.Random(15420)
-    turned = []
     for symbol in draw.sample(symbols, count):
-        modules = symbol.modules.copy()
-        places = draw.sample(range(modules.size), draw.randrange(1, 8) if symbol.symbology == "qr" else 1)
-        for place in places:
-            modules.flat[place] ^= 1
-        turned.append(Symbol(symbol.drawer, symbol.symbology, symbol.data, modules))
-    return turned
+        most = draw.randrange(1, 8) if symbol.symbology == "qr" else 1
+        places = draw.sample(range(symbol.modules.size), most)
+        yield replace(symbol, modules=pictures.with_turned(symbol.modules, places))
 
 
 def readings(symbols: list[Symbol]) -> list[bytes | None]:
@@ -219,7 +184,7 @@ def faults(symbols: list[Symbol], are_damaged: bool) -> list[str]:
 
 def wrong_cases(symbol: Symbol) -> Iterator[tuple[str, bool]]:
     """Wrong symbols before, between and behind right ones, each with whether the comparison reports it alone."""
-    others = [replace(symbol, data=data) for data in with_other_bytes(symbol.data)]
+    others = [replace(symbol, data=data) for data in pictures.with_other_bytes(symbol.data)]
     light = replace(symbol, modules=numpy.zeros_like(symbol.modules))
     for other, are_damaged in (*itertools.product(others, (False, True)), (light, False)):
         for place in range(3):
@@ -232,7 +197,7 @@ def wrong_cases(symbol: Symbol) -> Iterator[tuple[str, bool]]:
 def main() -> int:
     sources.parser_of(__doc__, has_top=False).parse_args()
     symbols = all_symbols()
-    turned = damaged(symbols, 450)
+    turned = [*damaged(symbols, 450)]
     wrong, torn = faults(symbols, False), faults(turned, True)
     one_of_each = {it.symbology: it for it in symbols}.values()
     cases = [case for one in one_of_each for case in wrong_cases(one)]

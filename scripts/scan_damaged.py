@@ -14,16 +14,16 @@ quarters, and in a mirror; and damaged at random, by a fixed seed, up to what th
 A scanner may read the full data or nothing. Other data is a misreading; each is printed, and the status is then 1.
 There is one exception. Where whole modules of a bar code are turned, the reading rules of the standards read nothing,
 but these scanners guess: they take widths that no character has for the nearest one, and look for no quiet zone. Such
-guesses are printed and counted apart, and scripts/counts.txt has their number. Beyond the limits nothing is promised:
-what the scanners make of some labels there is counted too. In each run labels of each symbology are shown in place of
-others that differ from them at one end, and an EAN-13 in place of one from which two modules tell it apart, as the
-worked values say; the run fails unless both scanners read them as the other one and are caught.
+guesses are printed and counted apart, and scripts/counts.txt has their number. In each run labels of each symbology
+are shown in place of others that differ from them at one end, and an EAN-13 in place of one from which two modules
+tell it apart, as the worked values say; the run fails unless both scanners read them as the other one and are caught.
 
-The last line is `N damaged labels, read twice: F as drawn, U not, M misread, G of S guessed; beyond the limits: ..; of
-K of each kind`: symbology, level and version. Status 2: bad arguments, no such program.
+The last line is `N damaged labels, read twice: F as drawn, U not, M misread, G of S guessed; of K of each kind`:
+symbology, level and version. Status 2: bad arguments, no such program.
 """
 
 import functools
+import itertools
 import random
 import sys
 from collections import Counter
@@ -35,7 +35,8 @@ import zxingcpp
 from segno import consts, encoder
 
 import sources
-from pictures import DIGITS, Label, Pixels, box_of, gray, kinds_of, pictures_of, with_check_digit
+from pictures import DIGITS, LEVELS, NUMBERS, VERSIONS, Label, Pixels
+from pictures import box_of, gray, kinds_of, pictures_of, with_check_digit
 
 SEED = 15417
 SCALE = 3
@@ -101,7 +102,7 @@ def label_of(head: str, text: str) -> Label:
 def bar_codes(draw: random.Random, count: int) -> Iterator[Label]:
     """Labels of the four linear symbologies, `count` of each."""
     for _ in range(count):
-        for name, length in (("ean13", 12), ("ean8", 7), ("upca", 11)):
+        for name, length in NUMBERS.items():
             digits = "".join(draw.choices(DIGITS, k=length))
             yield label_of(f"{name},height={draw.randrange(12, 30)}", digits)
         text = "".join(chr(draw.randrange(32, 127)) for _ in range(draw.randrange(1, 30))).encode()
@@ -110,11 +111,10 @@ def bar_codes(draw: random.Random, count: int) -> Iterator[Label]:
 
 def qr_symbols(draw: random.Random, count: int) -> Iterator[Label]:
     """Labels of QR symbols, `count` of each version, with each level in turn."""
-    for turn in range(count):
-        for version in range(1, 11):
-            level = "LMQH"[(version + 2 * turn) % 4]
-            text = "".join(chr(draw.randrange(33, 127)) for _ in range(draw.randrange(1, 8))).encode()
-            yield Label(f"qr,level={level},min-version={version}", text, text, SCALE)
+    for turn, version in itertools.product(range(count), VERSIONS):
+        level = LEVELS[(version + 2 * turn) % 4]
+        text = "".join(chr(draw.randrange(33, 127)) for _ in range(draw.randrange(1, 8))).encode()
+        yield Label(f"qr,level={level},min-version={version}", text, text, SCALE)
 
 
 def pictures(program: str, labels: list[Label]) -> Iterator[Picture]:
@@ -207,14 +207,6 @@ def within(picture: Picture, draw: random.Random) -> Iterator[tuple[Pixels, bool
         yield turn_in_each_row(picture, draw, limit), True
 
 
-def beyond(picture: Picture, draw: random.Random) -> Iterator[Pixels]:
-    """What is damaged above the limits, of which nothing is promised."""
-    yield turn_modules(picture, draw, picture.limit + 1)
-    yield turn_modules(picture, draw, 2 * picture.limit + 2)
-    if picture.is_qr:
-        yield spoil_codewords(picture, draw, picture.ec_codewords // 2 + 1)
-
-
 class Scanners:
     """zbar and zxing-cpp, each set to all five symbologies, and what they made of labels."""
 
@@ -269,29 +261,18 @@ def main() -> int:
     draw, scanners = random.Random(SEED), Scanners()
     labels = [*bar_codes(draw, OF_BARS), *qr_symbols(draw, OF_VERSION)]
     cases, faults = [*scanners.wrong_cases(program)], list[str]()
-    guesses = 0
-    inside: Counter[str] = Counter()
-    outside: Counter[str] = Counter()
+    guesses, found = 0, Counter[str]()
     for picture in pictures(program, labels):
         if "read" not in scanners.scan(picture, picture.pixels):
             faults.append(f"{picture.label.line()!r} is read by no scanner as it is drawn")
-        damaged = [(pixels, False) for pixels in positions(picture.pixels)] + [*within(picture, draw)]
-        for pixels, is_guess in damaged:
-            inside.update(scanners.scan(picture, pixels, is_guess))
-        guesses += sum(is_guess for _, is_guess in damaged)
-        for pixels in beyond(picture, draw):
-            outside.update(scanners.scan(picture, pixels, is_shown=False))
-    faults += [f"{inside['misread']} damaged labels are read as other data"] if inside["misread"] else []
-    faults += [] if inside["read"] else ["no damaged label is read"]
-    return sources.ended(
-        faults,
-        f"{inside.total() // len(SCANNERS)} damaged labels, read twice: {inside['read']} as drawn, "
-        f"{inside['unread']} not, {inside['misread']} misread, {inside['guessed']} of {guesses} guessed; "
-        f"beyond the limits: "
-        f"{outside['read']} as drawn, {outside['unread']} not, {outside['misread']} misread; "
-        f"of {kinds_of(labels)}",
-        cases,
-    )
+        for pixels, is_guess in [*((it, False) for it in positions(picture.pixels)), *within(picture, draw)]:
+            found.update(scanners.scan(picture, pixels, is_guess))
+            guesses += is_guess
+    faults += [f"{found['misread']} damaged labels are read as other data"] if found["misread"] else []
+    faults += [] if found["read"] else ["no damaged label is read"]
+    counts = f"{found['read']} as drawn, {found['unread']} not, {found['misread']} misread, "
+    counts += f"{found['guessed']} of {guesses} guessed; of {kinds_of(labels)}"
+    return sources.ended(faults, f"{found.total() // len(SCANNERS)} damaged labels, read twice: {counts}", cases)
 
 
 if __name__ == "__main__":
