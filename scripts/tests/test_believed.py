@@ -8,7 +8,6 @@ import io
 import re
 import shutil
 import sys
-import types
 import unittest
 from typing import Any, Callable, Container, Iterable
 from unittest import mock
@@ -256,38 +255,7 @@ class Judging(unittest.TestCase):
         for word in ("+", "5", "c", "x"):
             self.assertEqual(judging.with_imports(text, word), text)
 
-    def test_worked_values(self) -> None:
-        """Each that rests on the definition judges it, or of these just those that are named."""
-        seen: list[tuple[str, str]] = []
-
-        def judge_copies(_kit: Any, _words: Any, copies: Any) -> list[Any]:
-            seen.extend((copy.file.module, copy.text) for copy in copies)
-            return []
-
-        kit = mock.Mock()
-        kit.crates_below.return_value = [types.SimpleNamespace(name="gf256")]
-        stands_in = mock.patch.multiple(judging, words_for=lambda *_: [], judge_copies=judge_copies, AT_ONCE=2)
-        with stands_in, mock.patch.object(judging.libraries, "kit", lambda: kit):
-            with contextlib.redirect_stdout(io.StringIO()):
-                crates, file = {"gf256": self.crate}, self.crate.examples["Examples"]
-                resting = self.crate.resting_on(self.found[0].definition.name, file)
-                names = [one.name for one in file.declarations if changes.is_worked(one) and one.name in resting]
-                self.assertGreater(len(names), 1)
-                for values in (names, names[:1], names[-1:], []):
-                    judging.judge(TOP, True, crates, self.found[:1], {self.found[0].file.title: values})
-                judging.judge(TOP, True, crates, self.found[:1])
-                self.found[0].by = names[0]
-                judging.judge(TOP, True, crates, self.found[:1])
-                wanted = [changes.with_values(file, values) for values in (names, names[:1], names[-1:], names)]
-                self.assertEqual(seen, [("Examples", text) for text in wanted])
-                # All are judged, at most two of them in one check.
-                self.found[0].by = ""
-                for count in range(1, 4):
-                    seen.clear()
-                    judging.judge(TOP, True, crates, self.found[:count])
-                    self.assertEqual(len(seen), count)
-
-    def checks_of(self, found: Any, few: int, refuses: bool) -> list[list[Any]]:
+    def checks_of(self, found: Any, values: Any = None, refuses: bool = False, **limits: int) -> list[list[Any]]:
         """The copies of each check of changes, where each copy is refused or none is."""
         checks: list[list[Any]] = []
 
@@ -298,13 +266,29 @@ class Judging(unittest.TestCase):
                 copy.change.by = copy.file.module
             return refused
 
-        kit = mock.Mock()
-        kit.crates_below.return_value = []
-        stands_in = mock.patch.multiple(judging, words_for=lambda *_: [], judge_copies=judge_copies, FEW=few)
-        with stands_in, mock.patch.object(judging.libraries, "kit", lambda: kit):
+        kit = mock.Mock(**{"crates_below.return_value": []})
+        bent: dict[str, Any] = {"words_for": lambda *_: [], "judge_copies": judge_copies, **limits}
+        with mock.patch.multiple(judging, **bent), mock.patch.object(judging.libraries, "kit", lambda: kit):
             with contextlib.redirect_stdout(io.StringIO()):
-                judging.judge(TOP, True, changes.read_crates(TOP), found)
+                judging.judge(TOP, True, changes.read_crates(TOP), found, values)
         return checks
+
+    def test_worked_values(self) -> None:
+        """Each that rests on the definition judges it, or of these just those that are named."""
+        file, (first, *_) = self.crate.examples["Examples"], self.found
+        resting = self.crate.resting_on(first.definition.name, file)
+        names = [one.name for one in file.declarations if changes.is_worked(one) and one.name in resting]
+        self.assertGreater(len(names), 1)
+        for values, judging_it in ((names, names), (names[:1], names[:1]), (names[-1:], names[-1:]), (None, names)):
+            checks = self.checks_of([first], values and {first.file.title: values})
+            self.assertEqual(
+                [[it.text for it in check] for check in checks], [[changes.with_values(file, judging_it)]]
+            )
+        self.assertEqual(self.checks_of([first], {first.file.title: []}), [])
+
+    def test_at_most_so_many_in_one_check(self) -> None:
+        for count, sizes in ((1, [1]), (2, [2]), (3, [2, 1])):
+            self.assertEqual([len(it) for it in self.checks_of(self.found[:count], AT_ONCE=2)], sizes)
 
     def test_each_change_is_judged_by_its_files_in_turn(self) -> None:
         """One that its first file refuses is judged by no other; those that are few by all at once."""
@@ -316,14 +300,14 @@ class Judging(unittest.TestCase):
         titles = [[it.title for it in of_one] for of_one in copies]
         self.assertGreater(max(map(len, titles)), 1)
         for few, count in ((0, max(map(len, titles))), (3, 1)):
-            checks = self.checks_of(found, few, refuses=False)
+            checks = self.checks_of(found, FEW=few)
             copied = [it for check in checks for it in check]
             judged = [[it.title for it in copied if it.change is one] for one in found]
             self.assertEqual((len(checks), judged), (count, titles))
-        (check,) = self.checks_of(found, 0, refuses=True)
+        (check,) = self.checks_of(found, refuses=True, FEW=0)
         self.assertEqual([it.title for it in check], [of_one[0] for of_one in titles])
         self.assertEqual([it.by for it in found], [of_one[0].split(", ")[1] for of_one in titles])
-        self.assertEqual(self.checks_of(found, 0, refuses=True), [])
+        self.assertEqual(self.checks_of(found, refuses=True, FEW=0), [])
 
     def test_what_judges_is_checked_as_it_is(self) -> None:
         """A copy of no change has all worked values of a file that are to judge, and no other."""
@@ -370,15 +354,6 @@ class Sample(unittest.TestCase):
                 last = f"30 changes judged again, 2 mean the same, {wrong} not as judged"
                 self.assertEqual(self.sampled(refuses), (status, last))
 
-    def test_judged_by_own_values(self) -> None:
-        """A worked value that is not in the line of a file does not judge it."""
-        (file,) = module("reader").files_at(TOP, [f"{TOP}/crates/gf256/proofs/Examples.antt"])
-        worked = [one.name for one in file.declarations if changes.is_worked(one)]
-        left = changes.with_values(file, worked[:1])
-        self.assertEqual([name for name in worked if f"\n{name} :" in left], worked[:1])
-        self.assertEqual(changes.with_values(file, worked), file.text)
-        self.assertEqual(changes.with_values(file, ["gone"]), "")
-
     def test_worked_values_by_their_text(self) -> None:
         """One ends with refl or with omega arith; what is none stays in each copy."""
         for crate in ("gf256", "labelcore"):
@@ -388,6 +363,7 @@ class Sample(unittest.TestCase):
             self.assertEqual([one.name for one in file.declarations if changes.is_worked(one)], worked)
             left = changes.with_values(file, worked[-1:])
             self.assertEqual([name for name, text in texts.items() if text not in left], worked[:-1])
+            self.assertEqual((changes.with_values(file, worked), changes.with_values(file, ["gone"])), (file.text, ""))
 
 
 if __name__ == "__main__":

@@ -9,12 +9,11 @@ import io
 import itertools
 import os
 import re
-import shutil
 import sys
 import tempfile
 import types
 import unittest
-from typing import Any, Callable, Iterable, Sequence
+from typing import Any, Callable, Iterable, Iterator
 from unittest import mock
 
 from support import SCRIPTS, TOP, InCopy, InFolder, in_copy, module, read, run, run_command, write
@@ -35,20 +34,12 @@ wrong_bodies = module("wrong_bodies")
 class Arguments(InFolder):
     """Help ends with status 0 and an unknown argument with usage and status 2, in each script."""
 
-    def names(self) -> list[str]:
-        return [
-            name for name in os.listdir(SCRIPTS) if name.endswith(".py") and os.access(f"{SCRIPTS}/{name}", os.X_OK)
-        ]
-
-    def test_help(self) -> None:
-        for name in self.names():
-            status, said = in_copy(TOP, name, "--help")
-            self.assertEqual((name, status, "usage: " in said), (name, 0, True))
-
-    def test_unknown_flag(self) -> None:
-        for name in self.names():
-            status, said = in_copy(TOP, name, "--no-such-flag")
-            self.assertEqual((name, status, "usage: " in said), (name, 2, True))
+    def test_help_and_an_unknown_flag(self) -> None:
+        programs = [name for name in os.listdir(SCRIPTS) if os.access(f"{SCRIPTS}/{name}", os.X_OK)]
+        for name in [name for name in programs if name.endswith(".py")]:
+            for word, wanted in (("--help", 0), ("--no-such-flag", 2)):
+                status, said = in_copy(TOP, name, word)
+                self.assertEqual((name, status, "usage: " in said), (name, wanted, True))
 
     def test_no_such_program(self) -> None:
         for name in ("compare_symbols.py", "run_recipes.py", "refuse_each_growth.py"):
@@ -70,14 +61,6 @@ class WrongBodies(InFolder):
                 self.assertEqual((found, wanted in said), (status, True), said)
 
 
-# A check that the kit made: what it says of a function, and its last line.
-SAID = "fn small::one: {}\nonly=1 proved=0\n"
-CALLS = "no proof: it calls `small::other`"
-HOLED = "depends on a hole in `Rattle.small.proofs.{}_spec`"
-RESTS = (
-    "not proved; it stands on `Rattle.small.proofs.{}`, which antt refuses; "
-    "it calls `small::other`, which is not proved"
-)
 ONE = """/// One.
 pub fn one() -> u8
     ensures { result ≡ 1 }
@@ -85,170 +68,173 @@ pub fn one() -> u8
     1
 }
 """
-EDIT = "refused: one\nfile: src/lib.rt\nold:     1\nnew:     {}\n"
+OTHER = "\nfn other() -> u8 {\n    7\n}\n"
+THIRD = "\nfn third() -> u8 {\n    9\n}\n"
+LIB, WRONG, RIGHT = "src/lib.rt", "wrong-bodies/one.edit", "right-bodies/one.edit"
+SECOND = "wrong-bodies/second.edit"
+# What a check says of a function.
+NOT, HOLES = "not proved", "no holes"
+CALLS = "no proof: it calls `small::other`"
+HOLED = "depends on a hole in `Rattle.small.proofs.{}_spec`"
+RESTS = (
+    "not proved; it stands on `Rattle.small.proofs.{}`, which antt refuses; "
+    "it calls `small::other`, which is not proved"
+)
+WAITS = "note: `search` has not tried the goals of `small::one_calling_itself`, which wait for a callee\n"
+UNENDED = "fn small::one: not proved\nkilled"
+# What is reported of bodies.
+ACCEPTED, UNJUDGED = ["one: NOT REFUSED"], ["one: not judged"]
+UNREPORTED = ["one: it is right, and not reported as not refused"]
+CONTROL = "one calling itself: it is right, and not reported as not refused"
+GHOST = ["second: it has a clause, a ghost item or an attribute"]
+
+
+def edit(new: str, old: str = "1", function: str = "one", more: str = "", file: str = LIB) -> str:
+    """A body that is a change of the code."""
+    return f"refused: {function}\n{more}file: {file}\nold:     {old}\nnew:     {new}\n"
+
+
+def body(text: str, function: str = "one") -> str:
+    """A body that is a text in place of that of a function."""
+    return f"refused: {function}\nbody: {text}\n"
+
+
+def said(**lines: str) -> str:
+    """What a check says of functions, and its last line."""
+    return "".join(f"fn small::{name}: {line}\n" for name, line in lines.items()) + "only=1 proved=0\n"
+
+
+def of_copies(*lines: str) -> str:
+    """What a check says of two copies of a function, and of the control beside them."""
+    return said(**dict(zip(("one_0", "one_1", "one_calling_itself"), lines)))
+
+
+CLAUSE = "old:     ensures { result ≡ 1 }\nnew:     ensures { result ≡ result }\n"
+TWO_TEXTS = {WRONG: body("one() + 1"), "wrong-bodies/two.edit": body("one() + 2")}
+TWO_FUNCTIONS = {LIB: ONE + OTHER, WRONG: edit("2"), "wrong-bodies/other.edit": edit("8", "7", "other")}
+BESIDE = {
+    LIB: ONE + OTHER + THIRD,
+    "wrong-bodies/a.edit": body("one() + 1"),
+    "wrong-bodies/b.edit": body("one() + 2"),
+    "wrong-bodies/c.edit": edit("8", "7", "other"),
+    "wrong-bodies/d.edit": edit("8", "9", "third", "alone: it is read\n"),
+    "wrong-bodies/e.edit": edit("2"),
+}
+# The files of a crate, what its checks say one after the other, and what comes of them: how many bodies are refused,
+# how many right ones accepted, and what is reported.
+TRIED: tuple[tuple[dict[str, str], list[str], tuple[int, int, list[str]]], ...] = (
+    ({WRONG: edit("2")}, [said(one=NOT)], (1, 0, [])),
+    ({WRONG: edit("2")}, [said(one="no proof: expected answers for it")], (1, 0, [])),
+    ({WRONG: edit("2")}, [said(one=RESTS.format("one.Answers.returns"))], (1, 0, [])),
+    ({WRONG: edit("2")}, [said(one=RESTS.format("OneLaws.is_one"))], (1, 0, [])),
+    ({WRONG: edit("2")}, [said(one=HOLED.format("other.Proof.other"))], (0, 0, ACCEPTED)),
+    ({WRONG: edit("2")}, [said(one=HOLED.format("one.Answers.returns"))] * 2, (0, 0, UNJUDGED)),
+    ({WRONG: edit("2")}, [said(one=HOLES)], (0, 0, ACCEPTED)),
+    ({WRONG: edit("2")}, [said()], (0, 0, ACCEPTED)),
+    ({WRONG: edit("2")}, [said(one=CALLS)] * 2, (0, 0, UNJUDGED)),
+    ({WRONG: edit("2")}, [said(one="was not reached")] * 2, (0, 0, UNJUDGED)),
+    ({WRONG: edit("2")}, [UNENDED], (1, 0, ["the check did not reach its end:", *UNENDED.split("\n")])),
+    ({RIGHT: edit("0 + 1")}, [said(one=HOLES)], (0, 1, [])),
+    ({RIGHT: edit("0 + 1")}, [said(one=HOLED.format("other.Proof.other"))], (0, 1, [])),
+    ({RIGHT: edit("0 + 1")}, [said(one=NOT)], (0, 0, UNREPORTED)),
+    ({RIGHT: edit("0 + 1")}, [said()], (0, 0, UNREPORTED)),
+    # A body that no longer applies, or changes something else than a body, is a fault, whatever a check says.
+    ({WRONG: edit("2", old="3")}, [], (0, 0, ["one: an old: text is not in its file just once"])),
+    *(
+        ({WRONG: edit("2", file=name)}, list[str](), (0, 0, [f"one: it changes {name}, which is no file of src/"]))
+        for name in ("specs/One.antt", "src/../x.rt", "src/gone.rt")
+    ),
+    ({WRONG: edit("2") + CLAUSE}, [], (0, 0, ["one: it changes a clause, a ghost item or an attribute"])),
+    ({WRONG: edit(" 1")}, [], (0, 0, ["one: it changes no code"])),
+    ({WRONG: edit("2"), SECOND: edit(" 2")}, [said(one=NOT)], (1, 0, ["second: it leaves the same text as one"])),
+    # A text is tried in a copy of the function, beside a control in which nothing may be wrong.
+    ({WRONG: body("one() + 1")}, [said(one_0=NOT, one_calling_itself="proved")], (1, 1, [])),
+    ({WRONG: body("one() + 1")}, [said(one_0=HOLES, one_calling_itself=HOLES)], (0, 1, ACCEPTED)),
+    (TWO_TEXTS, [of_copies(NOT, NOT, HOLES)], (2, 1, [])),
+    (TWO_TEXTS, [of_copies(NOT, HOLES, HOLES)], (1, 1, ["two: NOT REFUSED"])),
+    (TWO_TEXTS, [of_copies(NOT, NOT, NOT)], (2, 0, [CONTROL])),
+    (TWO_TEXTS, [of_copies(NOT, NOT, CALLS)], (2, 1, [])),
+    (TWO_TEXTS, ["only=3\n"], (0, 0, ["one: NOT REFUSED", "two: NOT REFUSED", CONTROL])),
+    # What fails only by what it calls is tried again, and a control whose goals were not all tried.
+    (TWO_TEXTS, [of_copies(CALLS, NOT, HOLES), said(one_0=NOT)], (2, 1, [])),
+    (TWO_TEXTS, [of_copies(CALLS, NOT, HOLES), said(one_0=HOLES)], (1, 1, ACCEPTED)),
+    (TWO_TEXTS, [of_copies(CALLS, NOT, HOLES), said(one_0=CALLS)], (1, 1, UNJUDGED)),
+    (TWO_TEXTS, [WAITS + of_copies(NOT, NOT, CALLS), said(one_calling_itself=HOLES)], (2, 1, [])),
+    (TWO_TEXTS, [WAITS + of_copies(NOT, NOT, CALLS), said(one_calling_itself=NOT)], (2, 0, [CONTROL])),
+    # One check tries copies, and bodies in the places of other functions. After it comes what has to be alone, and
+    # what is in the place of a function that the copies call.
+    (BESIDE, [said(other=NOT) + of_copies(NOT, NOT, CALLS), said(third=NOT), said(one=NOT)], (5, 1, [])),
+    # Two functions are tried in one check, and what fails by what it calls after the others, and then alone.
+    (TWO_FUNCTIONS, [said(one=NOT, other=NOT)], (2, 0, [])),
+    (TWO_FUNCTIONS, [said(one=NOT, other=CALLS), said(other=NOT)], (2, 0, [])),
+    (TWO_FUNCTIONS, [said(one=NOT, other=CALLS), *[said(other=CALLS)] * 2], (1, 0, ["other: not judged"])),
+    (TWO_FUNCTIONS, [said(one=CALLS, other=CALLS), said(one=NOT), said(other=NOT)], (2, 0, [])),
+    (TWO_FUNCTIONS, [said(one=CALLS, other=CALLS)] * 3, (0, 0, ["one: not judged", "other: not judged"])),
+    (TWO_FUNCTIONS, [said(one=NOT, other=RESTS.format("one.Answers.returns")), said(other=NOT)], (2, 0, [])),
+    # Texts that are not tried.
+    *(
+        ({WRONG: body("2"), SECOND: second}, [said(one_0=NOT, one_calling_itself="proved")], (1, 1, reported))
+        for second, reported in (
+            (body(" 2"), ["second: it leaves the same text as one"]),
+            (body("1"), ["second: it changes no code"]),
+            (body("fn two() -> u8 ensures { result ≡ 1 } { 1 } 3"), GHOST),
+            (body("#[inline] 3"), GHOST),
+            (body("2", "other"), ["second: other is no function that can be there twice: write old: and new:"]),
+        )
+    ),
+)
 
 
 class Outcomes(InFolder):
     """What comes of bodies, by a stand-in of the kit's check."""
 
-    def setUp(self) -> None:
-        super().setUp()
-        self.crate = types.SimpleNamespace(name="small", folder=self.folder)
-        write(self.path("src/lib.rt"), ONE)
+    def crate(self, files: dict[str, str]) -> types.SimpleNamespace:
+        """A crate of one function with these files more."""
+        folder = tempfile.mkdtemp(dir=self.folder)
+        for name, text in {LIB: ONE, **files}.items():
+            write(os.path.join(folder, name), text)
+        return types.SimpleNamespace(name="small", folder=folder)
 
-    def edit(self, text: str, kind: str = "wrong-bodies", name: str = "one") -> None:
-        write(self.path(kind, f"{name}.edit"), text)
-
-    def tried(self, *said: str) -> tuple[int, int, list[str]]:
-        """What comes of the bodies, where the checks say this, one after the other."""
-        with mock.patch.object(wrong_bodies, "check", side_effect=said):
-            with contextlib.redirect_stdout(io.StringIO()):
-                tried = wrong_bodies.try_all(None, self.crate)
-        return len(tried.refused), tried.accepted, tried.lines
-
-    def test_what_a_check_says(self) -> None:
-        wrong = ["one: it is right, and not reported as not refused"]
-        unended = "fn small::one: not proved\nkilled"
-        rows: tuple[tuple[Any, ...], ...] = (
-            ("wrong-bodies", SAID.format("not proved"), (1, 0, [])),
-            ("wrong-bodies", SAID.format("no proof: expected answers for it"), (1, 0, [])),
-            ("wrong-bodies", SAID.format(RESTS.format("one.Answers.returns")), (1, 0, [])),
-            ("wrong-bodies", SAID.format(RESTS.format("OneLaws.is_one")), (1, 0, [])),
-            ("wrong-bodies", SAID.format(HOLED.format("other.Proof.other")), (0, 0, ["one: NOT REFUSED"])),
-            ("wrong-bodies", *[SAID.format(HOLED.format("one.Answers.returns"))] * 2, (0, 0, ["one: not judged"])),
-            ("wrong-bodies", SAID.format("no holes"), (0, 0, ["one: NOT REFUSED"])),
-            ("wrong-bodies", "only=1 proved=0\n", (0, 0, ["one: NOT REFUSED"])),
-            ("wrong-bodies", *[SAID.format(CALLS)] * 2, (0, 0, ["one: not judged"])),
-            ("wrong-bodies", *[SAID.format("was not reached")] * 2, (0, 0, ["one: not judged"])),
-            ("wrong-bodies", unended, (1, 0, ["the check did not reach its end:", *unended.split("\n")])),
-            ("right-bodies", SAID.format("no holes"), (0, 1, [])),
-            ("right-bodies", SAID.format(HOLED.format("other.Proof.other")), (0, 1, [])),
-            ("right-bodies", SAID.format("not proved"), (0, 0, wrong)),
-            ("right-bodies", "only=1 proved=0\n", (0, 0, wrong)),
-        )
-        for kind, *said, wanted in rows:
-            with self.subTest(kind=kind, said=said):
-                self.edit(EDIT.format("0 + 1"), kind)
-                self.assertEqual(self.tried(*said), wanted)
-                shutil.rmtree(self.path(kind))
-
-    def test_bodies_that_are_not_tried(self) -> None:
-        """A body that no longer applies, or changes something else than a body, is a fault, whatever a check says."""
-        clause, both = "old:     ensures { result ≡ 1 }\nnew:     ensures { result ≡ result }\n", EDIT.format("2")
-        for text, said in (
-            (both.replace("old:     1", "old:     3"), "an old: text is not in its file just once"),
-            (both.replace("src/lib.rt", "specs/One.antt"), "it changes specs/One.antt, which is no file of src/"),
-            (both.replace("src/lib.rt", "src/../x.rt"), "it changes src/../x.rt, which is no file of src/"),
-            (both.replace("src/lib.rt", "src/gone.rt"), "it changes src/gone.rt, which is no file of src/"),
-            (both + clause, "it changes a clause, a ghost item or an attribute"),
-            (both.replace("new:     2", "new:   1"), "it changes no code"),
-        ):
-            with self.subTest(said):
-                self.edit(text)
-                self.assertEqual(self.tried(), (0, 0, [f"one: {said}"]))
-
-    def test_two_of_one_text(self) -> None:
-        self.edit(EDIT.format("2"))
-        self.edit(EDIT.format(" 2"), name="two")
-        self.assertEqual(self.tried(SAID.format("not proved")), (1, 0, ["two: it leaves the same text as one"]))
-
-    def of_copies(self, *said: str) -> str:
-        """What a check says of two copies of a function, and of the control beside them."""
-        names = ("one_0", "one_1", "one_calling_itself")
-        return "".join(f"fn small::{name}: {line}\n" for name, line in zip(names, said)) + "only=3 proved=1\n"
-
-    def test_two_texts_of_one_function(self) -> None:
-        """Both are tried in copies of the function, beside a control in which nothing may be wrong."""
-        self.whole("one() + 1", "one")
-        self.whole("one() + 2", "two")
-        waits = "note: `search` has not tried the goals of `small::one_calling_itself`, which wait for a callee\n"
-        untried = waits + self.of_copies("not proved", "not proved", CALLS)
-        unknown = self.of_copies(CALLS, "not proved", "no holes")
-        again = "fn small::{}: {}\nonly=1 proved=0\n".format
-        control = "one calling itself: it is right, and not reported as not refused"
-        refused = "not proved"
-        for said, wanted in (
-            ([self.of_copies(refused, refused, "no holes")], (2, 1, [])),
-            ([self.of_copies(refused, "no holes", "no holes")], (1, 1, ["two: NOT REFUSED"])),
-            ([self.of_copies(refused, refused, refused)], (2, 0, [control])),
-            ([self.of_copies(refused, refused, CALLS)], (2, 1, [])),
-            (["only=3\n"], (0, 0, ["one: NOT REFUSED", "two: NOT REFUSED", control])),
-            # What fails only by what it calls is tried again, and a control whose goals were not all tried.
-            ([unknown, again("one_0", refused)], (2, 1, [])),
-            ([unknown, again("one_0", "no holes")], (1, 1, ["one: NOT REFUSED"])),
-            ([unknown, again("one_0", CALLS)], (1, 1, ["one: not judged"])),
-            ([untried, again("one_calling_itself", "no holes")], (2, 1, [])),
-            ([untried, again("one_calling_itself", refused)], (2, 0, [control])),
-        ):
-            with self.subTest(said=said):
-                self.assertEqual(self.tried(*said), wanted)
-
-    def test_copies_beside_others(self) -> None:
-        """One check tries copies, and bodies in the places of other functions. After it comes what has to be alone,
-        and what is in the place of a function that the copies call."""
-        text = ONE + "\nfn other() -> u8 {\n    7\n}\n\nfn third() -> u8 {\n    9\n}\n"
-        write(self.path("src/lib.rt"), text)
-        self.whole("one() + 1", "a")
-        self.whole("one() + 2", "b")
-        self.edit("refused: other\nfile: src/lib.rt\nold:     7\nnew:     8\n", name="c")
-        self.edit("refused: third\nalone: it is read\nfile: src/lib.rt\nold:     9\nnew:     8\n", name="d")
-        self.edit(EDIT.format("2"), name="e")
-        first = "fn small::other: not proved\n" + self.of_copies("not proved", "not proved", CALLS)
-        alone = "fn small::{}: not proved\nonly=1 proved=0\n".format
-        self.assertEqual(self.tried(first, alone("third"), alone("one")), (5, 1, []))
-
-    def test_two_functions(self) -> None:
-        """They are tried in one check, and what fails by what it calls again: after the others, and then alone."""
-        write(self.path("src/lib.rt"), ONE + "\nfn other() -> u8 {\n    7\n}\n")
-        self.edit(EDIT.format("2"))
-        self.edit(EDIT.format("8").replace("one", "other").replace("    1", "    7"), name="other")
-        both = "fn small::one: {}\nfn small::other: {}\nonly=2 proved=0\n"
-        refused, unknown = both.format("not proved", CALLS), both.format(CALLS, CALLS)
-        again = both.format("", "not proved")
-        for said, wanted in (
-            ([refused, again], (2, 0, [])),
-            ([refused, unknown, unknown], (1, 0, ["other: not judged"])),
-            ([unknown, SAID.format("not proved"), again], (2, 0, [])),
-            ([unknown] * 3, (0, 0, ["one: not judged", "other: not judged"])),
-            ([both.format("not proved", RESTS.format("one.Answers.returns")), again], (2, 0, [])),
-        ):
-            with self.subTest(said):
-                self.assertEqual(self.tried(*said), wanted)
-
-    def whole(self, text: str, name: str = "one") -> None:
-        """Writes a wrong body that is a text in place of that of `one`."""
-        self.edit(f"refused: one\nbody: {text}\n", name=name)
+    def test_what_comes_of_bodies(self) -> None:
+        for number, (files, checks, wanted) in enumerate(TRIED):
+            with (
+                self.subTest(number, files=files, checks=checks),
+                mock.patch.object(wrong_bodies, "check", side_effect=checks),
+                contextlib.redirect_stdout(io.StringIO()),
+            ):
+                tried = wrong_bodies.try_all(None, self.crate(files))
+                self.assertEqual((len(tried.refused), tried.accepted, tried.lines), wanted)
 
     def test_a_body_as_a_text(self) -> None:
         """It is always a copy, beside the function that it can call, and a control that calls it."""
-        self.whole("one() + 1")
-        (copy, calling) = edits.copies_of(edits.bodies_of(self.folder), self.folder)
+        folder = self.crate({WRONG: body("one() + 1")}).folder
+        (copy, calling) = edits.copies_of(edits.bodies_of(folder), folder)
         text = ONE.partition("\n")[2].partition("{\n")[0]
         self.assertEqual(copy.text, text.replace("one(", "one_0(") + "{ one() + 1 }")
         self.assertEqual(calling.text, text.replace("one(", "one_calling_itself(") + "{ one() }")
-        placed = edits.with_copies([copy, calling], self.folder)["src/lib.rt"]
+        placed = edits.with_copies([copy, calling], folder)[LIB]
         self.assertTrue(placed.startswith(ONE.rstrip()))
         self.assertEqual(placed.count(copy.text) + placed.count(calling.text), 2)
-        control_says = "one calling itself: it is right, and not reported as not refused"
-        said = "fn small::one_0: {}\nfn small::one_calling_itself: {}\nonly=2 proved=1\n"
-        self.assertEqual(self.tried(said.format("not proved", "proved")), (1, 1, []))
-        self.assertEqual(self.tried(said.format("not proved", CALLS)), (1, 1, []))
-        self.assertEqual(self.tried(said.format("no holes", "no holes")), (0, 1, ["one: NOT REFUSED"]))
-        self.assertEqual(self.tried(said.format("not proved", "not proved")), (1, 0, [control_says]))
+
+    def test_bodies_of_no_form(self) -> None:
+        for text in (body("2") + edit("2").partition("\n")[2], "refused: one\n", "body: 2\n"):
+            with self.subTest(text), self.assertRaises(SystemExit):
+                edits.bodies_of(self.crate({WRONG: text}).folder)
 
     def test_verdicts_that_are_kept(self) -> None:
         """They hold until something changes that decides them; those with a fault are not kept."""
-        self.crate.stamp = lambda: read(self.path("src/lib.rt"))
-        self.edit(EDIT.format("2"))
+        crate = types.SimpleNamespace(name="small", folder=self.folder, stamp=lambda: read(self.path(LIB)))
+        write(self.path(LIB), ONE)
+        write(self.path(WRONG), edit("2"))
         self.enterContext(mock.patch.object(wrong_bodies.sources, "TOP", self.folder))
         for name in wrong_bodies.SCRIPTS:
             write(self.path("scripts", f"{name}.py"), "")
         steps: tuple[tuple[str, str, bool], ...] = (
             ("", "", True),
             ("", "", False),
-            ("src/lib.rt", ONE + "\n", True),
-            ("wrong-bodies/one.edit", EDIT.format("3"), True),
-            ("right-bodies/two.edit", EDIT.format("0 + 1"), True),
+            (LIB, ONE + "\n", True),
+            (WRONG, edit("3"), True),
+            ("right-bodies/two.edit", edit("0 + 1"), True),
             ("", "", False),
             ("scripts/edits.py", "x", True),
             ("out/wrong-bodies/small", "0" * 64 + " 0 one", True),
@@ -257,16 +243,16 @@ class Outcomes(InFolder):
         for file, text, is_tried in steps:
             if file:
                 write(self.path(file), text)
-            said = ["fn small::one: not proved\nonly=1\n", "fn small::one: no holes\nonly=1\n"]
+            checks = [said(one=NOT), said(one=HOLES)]
             with self.subTest(file=file), contextlib.redirect_stdout(io.StringIO()):
-                with mock.patch.object(wrong_bodies, "check", side_effect=said) as check:
-                    found = wrong_bodies.tried_once(None, self.crate)
+                with mock.patch.object(wrong_bodies, "check", side_effect=checks) as check:
+                    found = wrong_bodies.tried_once(None, crate)
                 self.assertEqual((check.called, found.refused, found.lines), (is_tried, ["one"], []))
-        write(self.path("src/lib.rt"), ONE)
+        write(self.path(LIB), ONE)
         for _ in range(2):
             with mock.patch.object(wrong_bodies, "check", return_value="only=0\n") as check:
                 with contextlib.redirect_stdout(io.StringIO()):
-                    wrong_bodies.tried_once(None, self.crate)
+                    wrong_bodies.tried_once(None, crate)
             self.assertTrue(check.called)
 
     def test_calls_of_a_function_by_itself(self) -> None:
@@ -289,28 +275,6 @@ class Outcomes(InFolder):
             with self.subTest(head):
                 self.assertEqual(edits.call_of(item, is_method), wanted)
 
-    def test_texts_that_are_not_tried(self) -> None:
-        self.whole("2", "first")
-        for text, said in (
-            (" 2", "it leaves the same text as first"),
-            ("1", "it changes no code"),
-            ("fn two() -> u8 ensures { result ≡ 1 } { 1 } 3", "it has a clause, a ghost item or an attribute"),
-            ("#[inline] 3", "it has a clause, a ghost item or an attribute"),
-        ):
-            with self.subTest(text):
-                self.whole(text, "second")
-                control = "fn small::one_calling_itself: proved\n"
-                tried = self.tried(SAID.format("not proved") + f"fn small::one_0: not proved\n{control}")
-                self.assertEqual(tried, (1, 1, [f"second: {said}"]))
-        self.edit("refused: other\nbody: 2\n", name="second")
-        self.assertIn(
-            "second: other is no function that can be there twice: write old: and new:", self.tried("only=1\n")[2]
-        )
-        for text in ("refused: one\nbody: 2\nfile: src/lib.rt\nold:     1\nnew: 2\n", "refused: one\n", "body: 2\n"):
-            self.edit(text, name="second")
-            with self.subTest(text), self.assertRaises(SystemExit):
-                edits.bodies_of(self.folder)
-
     def test_status(self) -> None:
         """What is wrong with a body is printed and makes the status 1; so does a run without a right body."""
         one = wrong_bodies.Tried
@@ -319,11 +283,11 @@ class Outcomes(InFolder):
             ([one("a", ["b", "c"], 0)], False, (0, "2 passed, 0 failed\n")),
             ([one("a", ["c"], 1, 0, ["b: NOT REFUSED"])], True, (1, "a/b: NOT REFUSED\n2 passed, 1 failed\n")),
         ):
-            with contextlib.redirect_stdout(io.StringIO()) as said:
-                self.assertEqual((wrong_bodies.judged(results, are_all), said.getvalue()), wanted)
-        with contextlib.redirect_stdout(io.StringIO()) as said:
+            with contextlib.redirect_stdout(io.StringIO()) as printed:
+                self.assertEqual((wrong_bodies.judged(results, are_all), printed.getvalue()), wanted)
+        with contextlib.redirect_stdout(io.StringIO()) as printed:
             self.assertEqual(wrong_bodies.judged([one("a", ["b"])], True), 1)
-        self.assertIn("no right body was accepted", said.getvalue())
+        self.assertIn("no right body was accepted", printed.getvalue())
 
     def test_no_copies(self) -> None:
         """A method can be there twice, with its attributes; one of a trait cannot, nor one that calls itself."""
@@ -414,80 +378,59 @@ fn called() {
         self.assertTrue(hole.endswith("\ncount_spec 𝓤 𝓛 𝓜 𝓡 w = ?\n"))
 
 
-def unreported(cases: Iterable[tuple[str, bool]]) -> int:
-    """How many of the cases that a script is shown it does not report."""
-    return sum(not is_reported for _, is_reported in cases)
+def bars() -> Any:
+    """The modules of a symbol that nobody drew."""
+    return pictures.modules_in(["101" + "0" * 64])
+
+
+def readings(found: Callable[[Any], bytes | None]) -> Callable[[Any], Any]:
+    """What stands in for the readings of symbols, each by itself."""
+    return lambda symbols: [found(one) for one in symbols]
+
+
+def of_foreign() -> Iterator[tuple[str, bool]]:
+    yield from read_foreign.wrong_cases(read_foreign.Symbol("nobody", "ean8", b"73513537", bars()))
+
+
+def of_symbols() -> Iterator[tuple[str, bool]]:
+    with (
+        mock.patch.object(compare_symbols, "pictures_of", return_value=[bars()]),
+        mock.patch.object(compare_symbols, "readings", lambda _, labels: [(label, label.full) for label in labels]),
+    ):
+        yield from compare_symbols.wrong_cases("")
+
+
+SHOWN = len(compare_symbols.SHOWN)
+# What shows wrong cases, what is put in the place of a part of a judge, and how many cases that one does not report.
+BENT: tuple[tuple[Callable[[], Iterable[tuple[str, bool]]], Any, dict[str, Any], int], ...] = (
+    (of_foreign, read_foreign, {"readings": readings(lambda one: b"73513537" if one.modules.any() else None)}, 0),
+    (of_foreign, read_foreign, {"readings": readings(lambda one: b"73513537")}, 3),
+    (of_foreign, read_foreign, {"readings": readings(lambda one: None)}, 21),
+    (of_foreign, read_foreign, {"readings": readings(lambda one: bytes(one.data))}, 21),
+    (of_symbols, compare_symbols, {"is_as_zint": lambda *_: True, "is_read_back": lambda *_: True}, 6 * SHOWN),
+    (of_symbols, compare_symbols, {"is_as_zint": lambda *_: False, "is_read_back": lambda *_: True}, 4 * SHOWN),
+    (of_symbols, compare_symbols, {"is_as_zint": lambda *_: True, "is_read_back": lambda *_: False}, 4 * SHOWN),
+    (of_symbols, compare_symbols, {"is_as_zint": lambda *_: False, "is_read_back": lambda *_: False}, 2 * SHOWN),
+    (run_recipes.wrong_cases, run_recipes, {"SECONDS": 60}, 0),
+    (run_recipes.wrong_cases, run_recipes.Commands, {"fault": lambda *_: ""}, 36),
+    (run_recipes.wrong_cases, run_recipes, {"fault_of_picture": lambda *_: ""}, 9),
+    (run_recipes.wrong_cases, run_recipes, {"judged": lambda *_: (3, 3)}, 45),
+    (run_recipes.wrong_cases, run_recipes, {"judged": lambda *_: (3, 2)}, 45),
+    (instructions.wrong_cases, instructions, {"ROOM": 5}, 0),
+    (instructions.wrong_cases, instructions, {"ROOM": 50}, 48),
+    (instructions.wrong_cases, instructions, {"compared": lambda *_: "one: fine"}, 56),
+    (instructions.wrong_cases, instructions, {"shape_of": lambda row: ""}, 8),
+    (instructions.wrong_cases, instructions, {"check": lambda *_: []}, 88),
+)
 
 
 class Judges(unittest.TestCase):
     """A judge that passes everything is found by the wrong cases that it is shown in each run."""
 
-    def picture(self) -> Any:
-        picture = pictures.pixels_of(b"9 9\n" + b"0" * 81 + b"\n").copy()
-        picture[2:7, 1:8] = 1
-        return picture
-
-    def test_foreign_symbols(self) -> None:
-        data = b"73513537"
-        symbol = read_foreign.Symbol("nobody", "ean8", data, read_foreign.row_of("101" + "0" * 64))
-        cases: tuple[tuple[Callable[[Any], bytes | None], int], ...] = (
-            (lambda one: data if one.modules.any() else None, 0),
-            (lambda one: data, 3),
-            (lambda one: None, 21),
-            (lambda one: bytes(one.data), 21),
-        )
-        for found, count in cases:
-
-            def bent(symbols: Sequence[Any]) -> list[bytes | None]:
-                return [found(one) for one in symbols]
-
-            with mock.patch.object(read_foreign, "readings", bent):
-                self.assertEqual(unreported(read_foreign.wrong_cases(symbol)), count)
-
-    def test_turned_modules(self) -> None:
-        """At both ends and in the middle: of a QR symbol one module, of a bar code one in all rows."""
-        bars, symbol = self.picture(), self.picture()
-        symbol[3, 3] = 0
-        for picture, place, wanted in (
-            (symbol, "first", [(2, 1)]),
-            (symbol, "middle", [(4, 4)]),
-            (symbol, "last", [(6, 1)]),
-            (bars, "first", [(row, 1) for row in range(2, 7)]),
-            (bars, "middle", [(row, 4) for row in range(2, 7)]),
-            (bars, "last", [(row, 7) for row in range(2, 7)]),
-        ):
-            turned = compare_symbols.with_turned_module(picture, place)
-            self.assertEqual([*zip(*(turned != picture).nonzero())], wanted)
-
-    def test_symbols(self) -> None:
-        """A comparison that passes all, or nothing, is found with each symbology."""
-        count = len(compare_symbols.SHOWN)
-
-        def right(_program: str, labels: Sequence[Any]) -> list[tuple[Any, bytes]]:
-            return [(label, label.full) for label in labels]
-
-        for is_same, is_read, wanted in (
-            (True, True, 6 * count),
-            (False, True, 4 * count),
-            (True, False, 4 * count),
-            (False, False, 2 * count),
-        ):
-            with (
-                self.subTest(is_same=is_same, is_read=is_read),
-                mock.patch.object(compare_symbols, "pictures_of", return_value=[self.picture()]),
-                mock.patch.object(compare_symbols, "readings", right),
-                mock.patch.object(compare_symbols, "is_as_zint", return_value=is_same),
-                mock.patch.object(compare_symbols, "is_read_back", return_value=is_read),
-            ):
-                self.assertEqual(unreported(compare_symbols.wrong_cases("")), wanted)
-
-    def test_more_or_fewer_modules_than_zint(self) -> None:
-        """zint's last digit may have up to three bits more, which are none of the symbol."""
-        label = compare_symbols.SHOWN[0]
-        for dump, wanted in (("F8", False), ("FE", True), ("FC", False), ("FE 0", False), ("7F", False)):
-            ran = mock.Mock(stdout=f"{dump}\n")
-            with self.subTest(dump), mock.patch.object(compare_symbols.subprocess, "run", return_value=ran):
-                self.assertEqual(compare_symbols.is_as_zint(label, self.picture()), wanted)
+    def test_bent_judges(self) -> None:
+        for number, (cases, where, bent, count) in enumerate(BENT):
+            with self.subTest(number, bent=[*bent]), mock.patch.multiple(where, **bent):
+                self.assertEqual(sum(not is_reported for _, is_reported in cases()), count)
 
     def test_wrong_cases_that_pass_are_heeded(self) -> None:
         for cases, wanted in (
@@ -500,11 +443,6 @@ class Judges(unittest.TestCase):
         ):
             with contextlib.redirect_stdout(io.StringIO()) as said:
                 self.assertEqual((sources.ended([], "fine", cases), said.getvalue()), wanted)
-
-    def test_kinds(self) -> None:
-        heads = ("ean13,height=9", "qr,level=L,min-version=2,mask=3", "qr,level=L", "ean13")
-        labels = [pictures.Label(head, b"", b"", 1) for head in heads]
-        self.assertEqual(pictures.kinds_of(labels), "2 ean13, 2 level L, 1 mask 3, 2 qr, 1 version 2")
 
     def test_words_of_code(self) -> None:
         """Each counts, but white space, comments and the commas that a formatter puts last."""
@@ -540,36 +478,45 @@ class Judges(unittest.TestCase):
         self.assertEqual([*pages.faults_of_words({"a.md": most})], [])
         self.assertNotEqual([*pages.faults_of_words({"a.md": most, "b.md": "anew"})], [])
 
-    def test_recipes(self) -> None:
-        self.assertEqual(unreported(run_recipes.wrong_cases()), 0)
-        for where, name, bent, count in (
-            (run_recipes.Commands, "fault", lambda *given: "", 36),
-            (run_recipes, "fault_of_picture", lambda *given: "", 9),
-            (run_recipes, "judged", lambda *given: (3, 3), 45),
-            (run_recipes, "judged", lambda *given: (3, 2), 45),
-        ):
-            with mock.patch.object(where, name, bent):
-                self.assertEqual(unreported(run_recipes.wrong_cases()), count)
 
-
+SCRIPT = "#!/bin/sh\\n"
 # What stands in for the programs that debian/tests calls, as they are and as they must not be.
 RIGHT_PROGRAMS = {
     "labels": "read line; case $line in *8) echo 'line 1: check digit is 8, should be 7' >&2 ;; *) echo P1 ;; esac",
     "label-table": "printf 'ean13 4006381333931\\nean13 4006381333948\\n'",
     "label-print": "[ $1 = --stock ] && echo %PDF-1.5 || printf '^XA\\n^XA\\n'",
     "man": "echo SYNOPSIS",
+    "pkg-config": "echo -llabels",
+    "gcc": f"printf '{SCRIPT}echo P1' > $2; chmod +x $2",
+    "python3": "case $2 in *version*) ;; *) echo P1 ;; esac",
+    "ldd": "[ $1 = static ] || echo liblabels.so.1",
+    "bash": "true",
+    "fish": "case $2 in *format*) echo ascii ;; *) echo zpl ;; esac",
+    "zsh": "true",
 }
+OF_STATIC = f"[ $2 = shared ] && picture=P1 || picture=P2; printf '{SCRIPT}echo %s' $picture > $2; chmod +x $2"
 WRONG_PROGRAMS = (
-    ("program", "labels", "echo P1"),
-    ("program", "labels", "read line; case $line in *8) echo 'line 1: check digit is 8, should be 7' >&2 ;; esac"),
-    ("tools", "label-table", "echo ean13 4006381333931"),
-    ("tools", "label-print", "echo %PDF-1.5"),
-    ("tools", "label-print", "printf '^XA\\n^XA\\n'"),
-    ("tools", "label-print", "[ $1 = --stock ] && echo %!PS || printf '^XA\\n^XA\\n'"),
-    *(
-        ("tools", "man", f"[ $3 = {name} ] && echo NAME || echo SYNOPSIS")
-        for name in ("labels", "label-table", "label-print")
-    ),
+    ("program", {"labels": "echo P1"}),
+    ("program", {"labels": "read line; case $line in *8) echo 'line 1: check digit is 8, should be 7' >&2 ;; esac"}),
+    ("tools", {"label-table": "echo ean13 4006381333931"}),
+    ("tools", {"label-print": "echo %PDF-1.5"}),
+    ("tools", {"label-print": "printf '^XA\\n^XA\\n'"}),
+    ("tools", {"label-print": "[ $1 = --stock ] && echo %!PS || printf '^XA\\n^XA\\n'"}),
+    ("tools", {"man": "[ $3 = labels ] && echo NAME || echo SYNOPSIS"}),
+    ("tools", {"man": "[ $3 = label-table ] && echo NAME || echo SYNOPSIS"}),
+    ("tools", {"man": "[ $3 = label-print ] && echo NAME || echo SYNOPSIS"}),
+    ("library", {"pkg-config": "exit 1"}),
+    ("library", {"gcc": "[ $2 = shared ] || exit 1"}),
+    ("library", {"gcc": OF_STATIC}),
+    ("library", {"python3": "case $2 in *version*) ;; *) echo P2 ;; esac"}),
+    ("library", {"python3": "case $2 in *version*) exit 1 ;; *) echo P1 ;; esac"}),
+    ("library", {"ldd": "true"}),
+    ("library", {"ldd": "echo liblabels.so.1"}),
+    ("library", {"gcc": f"printf '{SCRIPT}exit 0' > $2; chmod +x $2", "python3": "true"}),
+    ("shells", {"bash": "false"}),
+    ("shells", {"fish": "echo ascii"}),
+    ("shells", {"fish": "echo zpl"}),
+    ("shells", {"zsh": "false"}),
 )
 PAGES = ("README.md", "docs/INPUT.md", "docs/pictures/sheet.png")
 
@@ -579,105 +526,30 @@ class PackageTests(InFolder):
 
     def passes(self, name: str, pages: str, **programs: str) -> bool:
         folder = tempfile.mkdtemp(dir=self.folder)
-        for program, text in programs.items():
+        for program, text in {**RIGHT_PROGRAMS, **programs}.items():
             write(os.path.join(folder, "bin", program), f"#!/bin/sh\n{text}\n", is_program=True)
         where = {"PATH": f"{folder}/bin:/usr/bin:/bin", "AUTOPKGTEST_TMP": folder, "PAGES": pages}
         return run_command([f"{TOP}/debian/tests/{name}"], **where)[0] == 0
 
     def test_right_programs_pass(self) -> None:
-        for name in ("program", "tools"):
-            self.assertTrue(self.passes(name, TOP, **RIGHT_PROGRAMS), name)
+        names = {name for name, *_ in WRONG_PROGRAMS}
+        self.assertEqual(names, {*os.listdir(f"{TOP}/debian/tests")} - {"control"})
+        for name in names:
+            self.assertTrue(self.passes(name, TOP), name)
 
     def test_wrong_programs_fail(self) -> None:
-        for name, program, text in WRONG_PROGRAMS:
-            with self.subTest(program=program, text=text):
-                self.assertFalse(self.passes(name, TOP, **{**RIGHT_PROGRAMS, program: text}))
+        for name, programs in WRONG_PROGRAMS:
+            with self.subTest(name, programs=programs):
+                self.assertFalse(self.passes(name, TOP, **programs))
         for gone in PAGES:
             for page in PAGES:
                 write(self.path(gone, page), "")
             os.remove(self.path(gone, gone))
-            self.assertFalse(self.passes("program", self.path(gone), **RIGHT_PROGRAMS), gone)
-
-    def test_nothing_installed(self) -> None:
-        """Completions and the library are looked for where packages put them alone."""
-        for name in ("library", "shells"):
-            with self.subTest(name):
-                self.assertFalse(self.passes(name, TOP, **{"pkg-config": "exit 1", "fish": "exit 1", "zsh": "exit 1"}))
-
-
-PAGE = """Text.
-
-| Label | labels | zint |
-|---|---|---|
-| one | 20,000 | 7 |
-| two | 1,000 | - |
-
-| Other | labels |
-|---|---|
-| three | 1 |
-
-| Call | liblabels |
-|---|---|
-| `labels_draw`, one | 300 |
-"""
+            self.assertFalse(self.passes("program", self.path(gone)), gone)
 
 
 class Instructions(unittest.TestCase):
-    """Counts are compared with each row of the page."""
-
-    def test_rows(self) -> None:
-        lacks = "the page (-) has other rows than are printed (+): "
-        found = {"one": 20000, "two": 1000, "`labels_draw`, one": 300}
-        rows: tuple[tuple[str, str, dict[str, Any], list[str]], ...] = (
-            ("", "", {}, []),
-            ("", "", {"one": 21000, "two": 950}, []),
-            ("", "", {"one": 21200}, ["one: 20,000 on the page, 21,200 measured, +6.0 %"]),
-            ("", "", {"one": 18800}, ["one: 20,000 on the page, 18,800 measured, -6.0 %"]),
-            ("", "", {"one": None}, ["one: 20,000 on the page, and nothing is counted"]),
-            (
-                "| two | 1,000 | - |\n",
-                "",
-                {},
-                ["two: the page has no such row", f"{lacks}+ two with 2 more cells"],
-            ),
-            ("20,000", "many", {}, ["one: the page has many"]),
-            (
-                "| two ",
-                "| one | 1 | - |\n| two ",
-                {},
-                ["one: the page has 20,000; 1", f"{lacks}- one with 2 more cells"],
-            ),
-            ("300 |\n", "300 |\n| more | 1 |\n", {}, [f"{lacks}- more with 1 more cells"]),
-            (
-                "zint |\n|",
-                "barcode |\n|",
-                {},
-                [f"{lacks}- Label | labels | barcode", f"{lacks}+ Label | labels | zint"],
-            ),
-            ("7 |\n", "7 | 8 |\n", {}, [f"{lacks}- one with 3 more cells", f"{lacks}+ one with 2 more cells"]),
-        )
-        for old, new, more, fails in rows:
-            with self.subTest(old=old, new=new, more=more):
-                self.assertIn(old, PAGE)
-                counts = {**found, **more}
-                label, call = ({name: [counts[name]] for name in names} for names in (("one", "two"), [*found][2:]))
-                made = [(["Label", "labels", "zint"], label), (["Call", "liblabels"], call)]
-                lines = instructions.check(made, PAGE.replace(old, new, 1))
-                self.assertEqual(instructions.failing(lines), [f"FAILS {it}" for it in fails])
-                self.assertGreaterEqual(len(lines), 3)
-
-    def test_comparison_that_passes_all(self) -> None:
-        """One with another room for what is off, or that counts no failure, is shown tables that it has to report."""
-        cases: tuple[tuple[str, Any, int], ...] = (
-            ("ROOM", 5, 0),
-            ("ROOM", 50, 48),
-            ("compared", lambda *given: "one: fine", 48),
-            ("shape_of", lambda row: "", 8),
-            ("check", lambda *given: [], 80),
-        )
-        for name, bent, count in cases:
-            with self.subTest(name, bent=bent), mock.patch.object(instructions, name, bent):
-                self.assertEqual(unreported(instructions.wrong_cases()), count)
+    """What is counted is printed as the page has it."""
 
     def test_what_is_printed(self) -> None:
         """It is what is compared: a page of what is printed has nothing wrong, and one of a table less has."""
