@@ -41,6 +41,9 @@ AUTO = "#![tactic(auto)]"
 BRANCHES = "    if two:\n        pass\n" * MOST_WAYS
 WRONG = f"import os  # {'noqa'}\n\n\ndef one():\n    two = three\n\n\ndef four(two):\n{BRANCHES}"
 FINDS = ("F401", "F841", "F821", "C901")
+# What mypy has to find: a module that is not there, a function without types, and another type than is said.
+UNTYPED = "import nowhere\n\n\ndef one(two):\n    return two\n\n\nnumber: int = 'one'\n"
+FINDS_TYPES = ("[import]", "[no-untyped-def]", "[assignment]")
 # The folders whose Python is typed, those together that import one another: modules of others may have the same name.
 TYPED = (("scripts", "debian"), ("lib",), ("tools", "completions"))
 # black puts a space before the colon of a slice, which E203 is against.
@@ -161,7 +164,7 @@ def all_lints(files: Mapping[str, Sequence[str]]) -> list[Lint]:
         Lint("shellcheck --norc --shell=bash", files["completion"], "wrong.bash", "rm $1\n"),
         *(Lint(f"{LAYOUT} {width}", paths, "wrong.py", "x = 'one'\n") for width, paths in layouts.items()),
         *(Lint(f"{STYLE} {width}", paths, "wrong.py", WRONG, FINDS) for width, paths in styles.items()),
-        *(Lint(TYPES + it[0], below(it, files["python"]), "wrong.py", "number: int = 'one'\n") for it in TYPED),
+        *(Lint(TYPES + it[0], below(it, files["python"]), "wrong.py", UNTYPED, FINDS_TYPES) for it in TYPED),
         Lint("mandoc -Tlint -W warning", files["manual"], "wrong.1", ".TH WRONG 1\n.SH NAME\n.XX\n"),
     ]
 

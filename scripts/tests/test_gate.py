@@ -4,6 +4,7 @@ Run by `python3 -m unittest discover -s scripts/tests`. The kit is needed; no th
 """
 
 import ast
+import glob
 import importlib.util
 import os
 import re
@@ -19,24 +20,11 @@ from unittest import mock
 
 from support import PYTHON, SCRIPTS, TOP, InCopy, InFolder, in_copy, module, read, run_command, write
 
-SKIPPED = """import unittest
-class One(unittest.TestCase):
-    def test_one(self) -> None:
-        raise unittest.SkipTest("{}")
-    def test_two(self) -> None:
-        pass
-"""
-# Of these one passes, and with --quick two are left out.
+# Of these one passes, and with --quick two are left out. The ways of single tests run_tests.py is shown in each run.
 WAYS = """import run_tests, subprocess, unittest
 class One(unittest.TestCase):
     def test_right(self):
         pass
-    @unittest.expectedFailure
-    def test_unexpected(self):
-        pass
-    def test_part(self):
-        with self.subTest():
-            self.fail()
     def test_endless(self):
         with subprocess.Popen(["sleep", "60"]) as process:
             run_tests.give_time(0.1)
@@ -169,6 +157,16 @@ class TakenAway(InCopy):
         lines = [line for line in self.faults_of("pages.py") if " and at most " not in line]
         self.assertEqual(lines, sorted(wanted))
 
+    def test_each_text_is_looked_at(self) -> None:
+        """Each page, manual and file of messages: what would be odd in natural English."""
+        patterns = ("*.md", "docs/*.md", "designs/*.md", "man/*", "tools/po/de.po")
+        paths = [path for pattern in patterns for path in glob.glob(pattern, root_dir=self.folder)]
+        paths.remove("CHANGELOG.md")
+        for path in paths:
+            self.replace(path, f'{read(self.path(path))}\nmsgid "alone"\n')
+        said = self.judged("pages.py")[1]
+        self.assertEqual([it for it in paths if not re.search(rf"(?m)^{it}:\d+: alone: msgid", said)], [])
+
     def test_each_page_of_a_crate_is_looked_at(self) -> None:
         """One without an example, and one that is too long."""
         pages = module("pages")
@@ -186,7 +184,7 @@ class TakenAway(InCopy):
         self.move("lib/tests", "lib/tests-away")
         self.addCleanup(shutil.rmtree, self.path("lib/tests"))
         write(self.path("lib/tests/test_one.py"), WAYS)
-        for words, last in (("", "1 passed, 6 failed"), ("--quick", "1 passed, 4 failed, 2 left out")):
+        for words, last in (("", "1 passed, 4 failed"), ("--quick", "1 passed, 2 failed, 2 left out")):
             found = self.judged("run_tests.py", "lib/tests", *words.split())
             self.assertEqual((found[0], found[1].split("\n")[-2]), (1, last), found[1])
 
