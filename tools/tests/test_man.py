@@ -22,6 +22,7 @@ NUMBERS = (
     (r"svg, which take (\d+)", job.DRAWING_DPI),
     (r"sheets have (\d+) dots an inch", job.DRAWING_DPI),
     (r"on a port \((\d+)\)", network.PORT),
+    (r"no connection is made in (\d+) seconds", network.CONNECT),
     (r"takes nothing for (a minute)", {60.0: "a minute"}.get(network.STUCK)),
     (r"after (\d+) seconds without a label", network.FAREWELL),
     (r"(a twentieth) of a second", {0.05: "a twentieth"}.get(network.REGRET)),
@@ -37,15 +38,6 @@ def page_of(tool: str) -> str:
     """The page that describes a tool: its own, or the one of the family."""
     own = f"{tool}.1"
     return own if (support.TOP / "man" / own).exists() else "label-tools.1"
-
-
-def help_of(command: str) -> str:
-    """The help text of the program or of a tool."""
-    if command == "labels":
-        return subprocess.run(
-            [support.labels_program(), "--help"], capture_output=True, text=True
-        ).stdout
-    return support.run(command, "--help").stdout.decode()
 
 
 class Pages(unittest.TestCase):
@@ -65,7 +57,7 @@ class Pages(unittest.TestCase):
             text = text_of(page_of(tool))
             name = re.search(r"^\.SH NAME\n(.*?)^\.SH", text, re.DOTALL | re.MULTILINE)
             self.assertIn(tool, name.group(1) if name else "", tool)
-            options = set(re.findall(r"(?<![\w-])--[a-z][a-z-]*", help_of(tool)))
+            options = set(re.findall(r"(?<![\w-])--[a-z][a-z-]*", support.help_of(tool)))
             self.assertIn("--help", options, tool)
             self.assertEqual([option for option in options if option not in text], [], tool)
 
@@ -88,7 +80,7 @@ class Pages(unittest.TestCase):
             for option in options:
                 for said in re.findall(r"\(([\w. ]+)\)$", option.help or ""):
                     self.assertEqual(said, typed(option.default), option.option_strings)
-        helps = re.findall(r"(--[a-z-]+) .*\[default: (\w+)\]", help_of("labels"))
+        helps = re.findall(r"(--[a-z-]+) .*\[default: (\w+)\]", support.help_of("labels"))
         self.assertEqual(defaults_of("labels.1"), dict(helps))
 
     def test_numbers_are_those_of_the_tools(self) -> None:

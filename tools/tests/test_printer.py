@@ -1,7 +1,9 @@
 """label-print and CUPS: the line to type, --print, and the edges of a page."""
 
+import contextlib
 import os
 import re
+import socket
 import subprocess
 import tempfile
 import unittest
@@ -252,6 +254,30 @@ class Devices(unittest.TestCase):
                 self.assertEqual(done.returncode, 1)
                 self.assertIn(said, done.stderr.decode())
             self.assertEqual(os.listdir(folder), [])
+
+
+class Networks(unittest.TestCase):
+    def test_a_printer_that_does_not_answer(self) -> None:
+        """The system that it runs on takes no more connections. What is asked for is waited for."""
+        waited: list[float] = []
+
+        def connect(address: Any, seconds: float) -> socket.socket:
+            waited.append(seconds)
+            return socket_of(address, 0.1)
+
+        socket_of = socket.create_connection
+        with socket.socket() as server, contextlib.ExitStack() as others:
+            server.bind(("127.0.0.1", 0))
+            server.listen(0)
+            for _ in range(3):
+                other = others.enter_context(socket.socket())
+                other.setblocking(False)
+                other.connect_ex(server.getsockname())
+            name = f"tcp://127.0.0.1:{server.getsockname()[1]}"
+            with mock.patch("labeltools.printing.network.socket.create_connection", connect):
+                done = support.printed(*Devices.WORDS, "--print", name, input=LINES)
+        self.assertEqual((done.returncode, waited), (1, [10]))
+        self.assertIn(f"{name}: timed out: row 2 and what follows it", done.stderr.decode())
 
 
 class Edges(unittest.TestCase):
