@@ -258,7 +258,7 @@ class Calls(unittest.TestCase):
             (IN_TURN, Most(BUFFER, 50)),
             (TWICE_DRAWN, Most(BUFFER, 1)),
             (TWICE_REFUSED, Most(BUFFER, 1)),
-            (LONG, Most(1)),
+            (LONG, Most(100)),
             (LONG, Most(BUFFER, 1)),
         ):
             right = right_run(lines, most)

@@ -4,7 +4,6 @@ Expected values come from the standards, the man page, and other programs: none 
 """
 
 import errno
-import socket
 import subprocess
 import tempfile
 import unittest
@@ -192,21 +191,6 @@ def ran(*arguments: str, data: bytes = b"", cwd: str = ".", **variables: str) ->
     return done.returncode, done.stdout, done.stderr
 
 
-def in_pieces(pieces: Sequence[bytes], *arguments: str) -> Ran:
-    """The same of a run that is given one of these pieces a read: the socket keeps packets apart."""
-    command = [str(support.labels_program()), *arguments]
-    ours, theirs = socket.socketpair(socket.AF_UNIX, socket.SOCK_SEQPACKET)
-    with ours, subprocess.Popen(
-        command, stdin=theirs.fileno(), stdout=subprocess.PIPE, stderr=subprocess.PIPE
-    ) as running:
-        theirs.close()
-        for piece in pieces:
-            ours.send(piece)
-        ours.shutdown(socket.SHUT_WR)
-        out, err = running.communicate(timeout=support.SECONDS)
-    return running.returncode, out, err
-
-
 class InFolder(unittest.TestCase):
     folder: str
 
@@ -317,7 +301,7 @@ class Files(InFolder):
 
 
 # Arguments, an input and its messages: lengths that just fit and one more, and what ends a line.
-CUT = (
+FITTING = (
     ("", b"ean13 4006381333931\n", b""),
     ("", b"ean13 4006381333932\n", b"line 1: check digit is 2, should be 1\n"),
     ("", b"code128 PJJ123C\ncode128 42\ncode128 12345\n", b""),
@@ -342,49 +326,24 @@ CUT = (
 
 
 class Lines(unittest.TestCase):
-    def assert_wrote(self, data: bytes, options: Sequence[str], out: bytes, err: bytes) -> None:
-        """A run over the data writes this, read in pieces of several sizes and in two at each cut."""
-        wanted = (1 if err else 0, out, err)
-        for size in (1, 2, 7, 4096):
-            pieces = [data[start : start + size] for start in range(0, len(data), size)]
-            self.assertEqual(in_pieces(pieces, *options), wanted, (data, size))
-        for cut in range(1, len(data)):
-            self.assertEqual(in_pieces([data[:cut], data[cut:]], *options), wanted, (data, cut))
+    """What lines of each kind make: test_calls reads the same ones in pieces, cut anywhere."""
 
     def test_lines_are_drawn(self) -> None:
-        for line, rows in DRAWN:
-            self.assert_wrote(line + b"\n", OPTIONS, pbm(rows), b"")
-
-    def test_lines_are_drawn_as_text(self) -> None:
-        for line, rows in (DRAWN[0], DRAWN[-1]):
-            self.assert_wrote(line + b"\n", (*OPTIONS, "--format", "ascii"), text(rows), b"")
+        data = b"".join(line + b"\n" for line, _ in DRAWN)
+        for words, picture_of in (((), pbm), (("--format", "ascii"), text)):
+            pictures = b"".join(picture_of(rows) for _, rows in DRAWN)
+            self.assertEqual(ran(*OPTIONS, *words, data=data), (0, pictures, b""))
 
     def test_lines_are_refused(self) -> None:
         data = b"".join(line + b"\n" for line, _ in REFUSED)
-        said = b"".join(
-            b"line %d: %s\n" % (number, fault) for number, (_, fault) in enumerate(REFUSED, 1)
-        )
-        self.assert_wrote(data, OPTIONS, b"", said)
+        faults = enumerate([fault for _, fault in REFUSED], 1)
+        said = b"".join(b"line %d: %s\n" % (number, fault) for number, fault in faults)
+        self.assertEqual(ran(*OPTIONS, data=data), (1, b"", said))
 
-    def test_where_an_input_is_cut_does_not_matter(self) -> None:
-        for arguments, data, said in CUT:
-            whole = ran(*arguments.split(), data=data)
-            self.assertEqual((whole[0], whole[2]), (1 if said else 0, said), arguments)
-            for cut in range(1, len(data)):
-                pieces = [data[:cut], data[cut:]]
-                self.assertEqual(in_pieces(pieces, *arguments.split()), whole, (data[:9], cut))
-
-    def test_an_input_that_ends_anywhere(self) -> None:
-        """The messages of its whole lines, and of the rest one or a picture, also byte by byte."""
-        data = b"".join(line + b"\n" for line, _ in REFUSED)
-        said = [b"line %d: %s\n" % (number, it) for number, (_, it) in enumerate(REFUSED, 1)]
-        for end in range(len(data) + 1):
-            found = in_pieces([data[:end]] if end else [], *OPTIONS)
-            lines = found[2].splitlines(keepends=True)
-            whole = data[:end].count(b"\n")
-            self.assertEqual((found[0], lines[:whole]), (1 if lines else 0, said[:whole]), end)
-            self.assertLessEqual(len(lines) + found[1].count(b"P1"), whole + 1)
-            self.assertEqual(in_pieces([data[at : at + 1] for at in range(end)], *OPTIONS), found)
+    def test_what_fits_and_where_a_line_ends(self) -> None:
+        for arguments, data, said in FITTING:
+            status, _, messages = ran(*arguments.split(), data=data)
+            self.assertEqual((status, messages), (1 if said else 0, said), (arguments, data[:9]))
 
     def test_each_byte(self) -> None:
         """As the data of a Code 128 symbol, of 75 bytes: a line feed ends its own line, and ASCII is drawn."""
