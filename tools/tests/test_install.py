@@ -14,6 +14,7 @@ import support
 
 TOOLS = sorted(path.name for path in support.TOOLS.glob("label-*"))
 PROVED = support.TOP / "crates/labels_c/out/liblabels_c.a"
+NOT_INSTALLED = {"make.py", "labels.bash", "__pycache__"}  # that of bash is named as the command
 PROVED_ARM64 = support.TOP / "crates/labels_c/out/arm64/liblabels_c.a"
 
 
@@ -39,15 +40,21 @@ def text(name: str) -> str:
 
 class InFolder(unittest.TestCase):
     def setUp(self) -> None:
-        folder = tempfile.TemporaryDirectory()
-        self.addCleanup(folder.cleanup)
-        self.folder = Path(folder.name)
+        self.folder = Path(self.enterContext(tempfile.TemporaryDirectory()))
 
 
-class Install(InFolder):
+class Install(unittest.TestCase):
+    folder: Path
+
+    @classmethod
+    def setUpClass(cls) -> None:
+        """Installs twice, as one who keeps new files for himself; the second time replaces."""
+        cls.folder = Path(cls.enterClassContext(tempfile.TemporaryDirectory()))
+        cls.addClassCleanup(os.umask, os.umask(0o077))
+        for _ in range(2):
+            make("install", f"PREFIX={cls.folder}")
+
     def test_what_is_installed_runs(self) -> None:
-        for _ in range(2):  # the second time replaces
-            make("install", f"PREFIX={self.folder}")
         self.assertEqual(sorted(os.listdir(self.folder / "bin")), [*TOOLS, "labels"])
         path = f"{self.folder}/bin:{os.environ['PATH']}"
         environment = {**os.environ, "PATH": path, "PYTHONSAFEPATH": "1"}
@@ -61,7 +68,6 @@ class Install(InFolder):
 
     def test_each_file_is_installed(self) -> None:
         """Of the tools with their translations, and of the pages with what they show."""
-        make("install", f"PREFIX={self.folder}")
         for place, folders in (
             ("share/label-tools", ["tools/label-*", "tools/labeltools"]),
             ("share/doc/labels", ["README.md", "docs", "designs", "examples"]),
@@ -78,27 +84,22 @@ class Install(InFolder):
             found = {str(path.relative_to(top)) for path in top.rglob("*") if path.is_file()}
             self.assertEqual(found, wanted)
 
-    def test_a_folder_with_a_space_is_refused_at_once(self) -> None:
-        for words in ([f"PREFIX={self.folder}/a b"], [f"DESTDIR={self.folder}/a b"]):
-            done = subprocess.run(
-                ["make", "-s", "-C", support.TOP, "install", *words], capture_output=True
-            )
-            self.assertEqual((done.returncode, done.stdout), (2, b""), words)
-            self.assertIn(b"make cannot handle the space in ", done.stderr)
-        self.assertEqual([*self.folder.iterdir()], [])
+    def test_the_desktop_has_what_it_needs(self) -> None:
+        """What is beside the code, the help in each language, and the completion of each shell."""
+        names = {path.name for path in (self.folder / "share").rglob("*")}
+        wanted = {path.name for path in (support.TOP / "tools/data").iterdir()}
+        wanted |= {path.name for path in (support.TOP / "completions").iterdir()} - NOT_INSTALLED
+        self.assertEqual(wanted - names, set())
+        languages = {"C", *(path.stem for path in (support.TOP / "tools/po").glob("*.po"))}
+        helped = (self.folder / "share/help").glob("*/label-window/index.html")
+        self.assertEqual({path.parent.parent.name for path in helped}, languages)
 
     def test_all_users_can_read_what_is_installed(self) -> None:
-        """Also where the one who installs it keeps new files for himself."""
-        before = os.umask(0o077)
-        try:
-            make("install", f"PREFIX={self.folder}")
-        finally:
-            os.umask(before)
         installed = [*self.folder.rglob("*")]
+        self.assertGreater(len(installed), 100)
         self.assertEqual([path for path in installed if path.stat().st_mode & 0o044 != 0o044], [])
 
     def test_completions_are_of_commands_that_they_complete(self) -> None:
-        make("install", f"PREFIX={self.folder}")
         share = self.folder / "share"
         completion = share / "bash-completion/completions"
         named = re.findall(
@@ -109,7 +110,6 @@ class Install(InFolder):
         self.assertEqual(sorted(fish), sorted(os.listdir(completion)))
 
     def test_manuals_name_pages_that_are_there(self) -> None:
-        make("install", f"PREFIX={self.folder}")
         share = self.folder / "share"
         for name in ("labels", *TOOLS):
             page = (share / f"man/man1/{name}.1").read_text(encoding="utf-8")
@@ -119,7 +119,6 @@ class Install(InFolder):
                 self.assertTrue(is_there, f"{name}: {named}")
 
     def test_pages_link_what_is_there(self) -> None:
-        make("install", f"PREFIX={self.folder}")
         pages = [*(self.folder / "share/doc/labels").rglob("*.md")]
         links = [
             page.parent / link
@@ -128,6 +127,17 @@ class Install(InFolder):
         ]
         self.assertEqual([link for link in links if not link.exists()], [])
         self.assertGreater(len(links), 50)
+
+
+class Folders(InFolder):
+    def test_a_folder_with_a_space_is_refused_at_once(self) -> None:
+        for words in ([f"PREFIX={self.folder}/a b"], [f"DESTDIR={self.folder}/a b"]):
+            done = subprocess.run(
+                ["make", "-s", "-C", support.TOP, "install", *words], capture_output=True
+            )
+            self.assertEqual((done.returncode, done.stdout), (2, b""), words)
+            self.assertIn(b"make cannot handle the space in ", done.stderr)
+        self.assertEqual([*self.folder.iterdir()], [])
 
     def test_what_was_installed_goes(self) -> None:
         mine = self.folder / "share/man/man1/mine.1"
