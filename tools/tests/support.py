@@ -80,18 +80,23 @@ def environment(locale: str = "C.UTF-8") -> Dict[str, str]:
     """The environment of a tool under test: LC_ALL alone chooses the language; tools/ and `labels`
     are found.
     """
-    dropped = (
-        "LANG",
-        "LC_",
-        "PYTHONUNBUFFERED",
-        "PYTHONIOENCODING",
-        "PYTHONUTF8",
-        "PYTHONSAFEPATH",
-        "SOURCE_DATE",
-    )
+    dropped = ("LANG", "LC_", "PYTHONIO", "PYTHONSAFE", "PYTHONUN", "PYTHONUTF8", "SOURCE_DATE")
     kept = {name: value for name, value in os.environ.items() if not name.startswith(dropped)}
     path = f"{TOOLS}{os.pathsep}{os.environ['PATH']}"
     return {**kept, "LC_ALL": locale, "PATH": path, "LABELS": str(program_path())}
+
+
+def speaking(language: str, folder: Union[str, Path]) -> Dict[str, str]:
+    """The environment of who speaks a language, with its translation in a folder; English is the
+    language of the tools.
+    """
+    needs("msgfmt")
+    path = Path(folder, language, "LC_MESSAGES/label-tools.mo")
+    if language != "en" and not path.exists():
+        path.parent.mkdir(parents=True)
+        words = ["msgfmt", "--check-format", "-o", str(path), str(TOOLS / f"po/{language}.po")]
+        subprocess.run(words, check=True)
+    return {**environment(), "LANGUAGE": language, "LABELS_LOCALE": str(folder)}
 
 
 def messages(finished: "Finished[bytes]") -> List[str]:
@@ -143,6 +148,12 @@ def draw(lines: Union[str, bytes], *options: str) -> Tuple[bytes, bytes, int]:
         [str(labels_program()), *options], input=data, capture_output=True, timeout=SECONDS
     )
     return done.stdout, done.stderr, done.returncode
+
+
+def help_of(command: str) -> str:
+    """The help text of the program or of a tool."""
+    done = run(labels_program() if command == "labels" else command, "--help")
+    return done.stdout.decode()
 
 
 def needs(*programs: str) -> None:

@@ -1,6 +1,5 @@
 """How each tool ends, where a stream fails or is closed: by a small tool, and then every tool."""
 
-import subprocess
 import sys
 import tempfile
 import unittest
@@ -35,35 +34,28 @@ main_of("small-tool", function)
         self, body: str, *arguments: str, shell: str = '"$@"', data: bytes = b""
     ) -> tuple[int, bytes, str]:
         script = self.SCRIPT.format(tools=str(support.TOOLS), body=body)
-        command = ["bash", "-c", shell, "sh", sys.executable, "-c", script, *arguments]
-        done = subprocess.run(
-            command, input=data, capture_output=True, env=support.environment("C")
-        )
+        words = ["-c", shell, "sh", sys.executable, "-c", script, *arguments]
+        done = support.run("/bin/bash", *words, input=data, locale="C")
         return done.returncode, done.stdout, done.stderr.decode()
 
-    def test_status_and_output(self) -> None:
-        self.assertEqual(self.small_tool("print('fine')"), (0, b"fine\n", ""))
-        self.assertEqual(self.small_tool("return 1"), (1, b"", ""))
-
-    def test_messages(self) -> None:
-        self.assertEqual(
-            self.small_tool("raise ToolError('wrong')"), (1, b"", "small-tool: wrong\n")
-        )
-        self.assertEqual(
-            self.small_tool("raise ToolError('wrong', status=2)"), (2, b"", "small-tool: wrong\n")
-        )
+    def test_how_it_ends(self) -> None:
         missing = "small-tool: nothing.txt: No such file or directory\n"
-        self.assertEqual(self.small_tool("open('nothing.txt')"), (1, b"", missing))
+        for body, ended in (
+            ("print('fine')", (0, b"fine\n", "")),
+            ("return 1", (1, b"", "")),
+            ("raise ToolError('wrong')", (1, b"", "small-tool: wrong\n")),
+            ("raise ToolError('wrong', status=2)", (2, b"", "small-tool: wrong\n")),
+            ("open('nothing.txt')", (1, b"", missing)),
+        ):
+            self.assertEqual(self.small_tool(body), ended, body)
 
     def test_arguments(self) -> None:
         status, out, message = self.small_tool("pass", "--help")
         self.assertEqual((status, message), (0, ""))
         self.assertIn(b"A tool for this test.", out)
         for argument in ("--wrong", "--hel"):
-            status, out, message = self.small_tool("pass", argument)
-            self.assertEqual((status, out), (2, b""))
-            wrong = f"small-tool: error: unrecognized arguments: {argument}"
-            self.assertEqual(message, f"{wrong}; try small-tool --help\n")
+            wrong = f"small-tool: error: unrecognized arguments: {argument}; try small-tool --help"
+            self.assertEqual(self.small_tool("pass", argument), (2, b"", f"{wrong}\n"))
 
     def test_a_full_disk(self) -> None:
         full = (1, b"", "small-tool: standard output: No space left on device\n")
@@ -73,16 +65,15 @@ main_of("small-tool", function)
                 self.assertEqual(ended, full, (unbuffered, body))
 
     def test_messages_that_nobody_takes(self) -> None:
-        for shell, out in (
-            ('"$@" 2>&-', b"fine\n"),
-            ('"$@" 2> /dev/full', b"fine\n"),
-            ('"$@" > /dev/full 2>&1', b""),
-            ('"$@" 2>&- >&-', b""),
+        body = "print('fine', flush=True); raise ToolError('wrong')"
+        for redirection, out in (
+            ("2>&-", b"fine\n"),
+            ("2> /dev/full", b"fine\n"),
+            ("> /dev/full 2>&1", b""),
+            ("2>&- >&-", b""),
         ):
-            ended = self.small_tool(
-                "print('fine', flush=True); raise ToolError('wrong')", shell=shell
-            )
-            self.assertEqual(ended, (1, out, ""), shell)
+            ended = self.small_tool(body, shell=f'"$@" {redirection}')
+            self.assertEqual(ended, (1, out, ""), redirection)
 
     def test_an_output_without_a_buffer(self) -> None:
         shell = 'export PYTHONUNBUFFERED=1; "$@"'
@@ -112,13 +103,8 @@ class EveryTool(unittest.TestCase):
         self, tool: str, arguments: tuple[str, ...], redirection: str, data: bytes = b""
     ) -> tuple[int, bytes, list[str]]:
         """The status, standard output and messages of a tool, run by a shell with a redirection."""
-        done = subprocess.run(
-            ["sh", "-c", f'"$@" {redirection}', "sh", tool, *arguments],
-            input=data,
-            capture_output=True,
-            env=support.environment(),
-            timeout=support.SECONDS,
-        )
+        words = ["-c", f'"$@" {redirection}', "sh", tool, *arguments]
+        done = support.run("/bin/sh", *words, input=data)
         return done.returncode, done.stdout, support.messages(done)
 
     def test_all_are_here(self) -> None:
@@ -135,14 +121,10 @@ class EveryTool(unittest.TestCase):
     def test_messages_that_nobody_takes(self) -> None:
         for redirection in ("2> /dev/full", "2>&-"):
             for tool, (arguments, data) in COMPLAINING.items():
-                self.assertEqual(
-                    self.ended(tool, arguments, redirection, data),
-                    (1, b"", []),
-                    (tool, redirection),
-                )
-                self.assertEqual(
-                    self.ended(tool, ("--wrong",), redirection), (2, b"", []), (tool, redirection)
-                )
+                ended = self.ended(tool, arguments, redirection, data)
+                self.assertEqual(ended, (1, b"", []), (tool, redirection))
+                ended = self.ended(tool, ("--wrong",), redirection)
+                self.assertEqual(ended, (2, b"", []), (tool, redirection))
 
     def test_a_help_text_that_nobody_takes(self) -> None:
         for tool in COMPLAINING:

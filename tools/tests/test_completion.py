@@ -52,18 +52,11 @@ bindkey '^I' complete-word
 """
 
 
-def help_of(command: str) -> str:
-    """The help text of the program or of a tool."""
-    if command == "labels":
-        return subprocess.run(
-            [support.labels_program(), "--help"], capture_output=True, text=True
-        ).stdout
-    return support.run(command, "--help").stdout.decode()
-
-
 def options_of(command: str) -> Dict[str, str]:
     """The options of a help text, each with the word for what it takes, if anything."""
-    return dict(re.findall(r"^ +(?:-h, )?(--[a-z-]+)(?: (\S+))?(?:  |$)", help_of(command), re.M))
+    return dict(
+        re.findall(r"^ +(?:-h, )?(--[a-z-]+)(?: (\S+))?(?:  |$)", support.help_of(command), re.M)
+    )
 
 
 def typed(shell: List[str], lines: str, keys: str, folder: Path) -> str:
@@ -89,6 +82,14 @@ def typed(shell: List[str], lines: str, keys: str, folder: Path) -> str:
         os.waitpid(process, 0)
 
 
+def lines_of(folder: Path, *words: str) -> List[str]:
+    """The lines that a shell prints in a folder, which is its home."""
+    environment = {**support.environment(), "HOME": str(folder)}
+    how: Dict[str, Any] = {"cwd": folder, "env": environment, "check": True}
+    done = subprocess.run(words, stdout=subprocess.PIPE, text=True, **how)
+    return str(done.stdout).split("\n")
+
+
 def by_bash(words: List[str], folder: Path) -> List[str]:
     script = BASH.format(
         completion=shlex.quote(str(COMPLETIONS / "labels.bash")),
@@ -96,32 +97,13 @@ def by_bash(words: List[str], folder: Path) -> List[str]:
         last=len(words) - 1,
         command=words[0],
     )
-    how: Dict[str, Any] = {
-        "capture_output": True,
-        "text": True,
-        "cwd": folder,
-        "check": True,
-        "env": support.environment(),
-    }
-    done: "subprocess.CompletedProcess[str]" = subprocess.run(["bash", "-c", script], **how)
-    return done.stdout.split("\n")
+    return lines_of(folder, "bash", "-c", script)
 
 
 def by_fish(words: List[str], folder: Path) -> List[str]:
     line = shlex.quote(" ".join(words))
     script = f"source {shlex.quote(str(COMPLETIONS / 'labels.fish'))}; complete -C {line}"
-    environment = {**support.environment(), "HOME": str(folder)}
-    how: Dict[str, Any] = {
-        "capture_output": True,
-        "text": True,
-        "cwd": folder,
-        "check": True,
-        "env": environment,
-    }
-    done: "subprocess.CompletedProcess[str]" = subprocess.run(
-        ["fish", "--no-config", "-c", script], **how
-    )
-    return [line.split("\t")[0] for line in done.stdout.split("\n")]
+    return [line.split("\t")[0] for line in lines_of(folder, "fish", "--no-config", "-c", script)]
 
 
 def by_zsh(words: List[str], folder: Path) -> List[str]:
@@ -205,15 +187,12 @@ class Completion(unittest.TestCase):
             ),
             "zsh": (["zsh", "-f", "-i"], ZSH.format(completions=shlex.quote(str(COMPLETIONS)))),
         }
-        commands = ("labels", *TOOLS, "label-print --each")
-        for command in [
-            command for command in commands if command.split()[0] in ("labels", *TOOLS)
-        ]:
+        for command in ("labels", *TOOLS, "label-print --each"):
             name = command.split()[0]
             for start in ("my", "my\\ l", "'my l"):
-                self.assertIn(
-                    "my label.txt", proposed("fish", f"{command} {start}", self.folder), command
-                )
+                with self.subTest(command=command, start=start, shell="fish"):
+                    files = proposed("fish", f"{command} {start}", self.folder)
+                    self.assertIn("my label.txt", files)
                 for shell, (arguments, lines) in shells.items():
                     with self.subTest(command=command, start=start, shell=shell):
                         lines_too = f"{lines}\n{name}() {{ printf '<%s>' \"$@\"; }}"

@@ -3,7 +3,6 @@ it. A language is one file, tools/po/LANGUAGE.po; what it lacks, the test of its
 """
 
 import ast
-import os
 import re
 import string
 import subprocess
@@ -11,7 +10,7 @@ import sys
 import tempfile
 import unittest
 from pathlib import Path
-from typing import Iterator
+from typing import Any, Iterator
 from unittest import mock
 
 import support
@@ -23,20 +22,12 @@ KEYWORDS = ("Text", "counted:1,2", "_", "ngettext:1,2")
 ENTRY = re.compile(r'^msgid "(.+)"(?:\nmsgid_plural "(.+)")?', re.MULTILINE)
 OTHER_OF = re.compile(r'^msgid "(.+)"(?:\nmsgid_plural ".+")?((?:\nmsgstr.* ".+")+)$', re.MULTILINE)
 PRICED = ["--code", "EAN", "--title", "N", "--price", "P"]
-WRONG_CODES = [
-    *("4006381333932", "7", "40063813339311", "9780306406157123", "4,00638E+12", "0000000000"),
-    *(
-        "3-16-148410-X",
-        "4006381333930",
-        "04252614",
-        "036000291453",
-        "4000000000006",
-        "0-8044-2957-X",
-    ),
-    *("40063813339 31", "A", "4006381333931 ", "12345670 12345", "1234567", "000000073513537"),
-    *("#N/A", "=1+1", "N/A", "", "X", "４００６３８１３３３９３１"),
-]
+WRONG_CODES = """4006381333932 7 40063813339311 9780306406157123 4,00638E+12 0000000000
+3-16-148410-X 4006381333930 04252614 036000291453 4000000000006 0-8044-2957-X A 1234567
+000000073513537 #N/A =1+1 N/A X ４００６３８１３３３９３１""".split()
+WRONG_CODES += ["40063813339 31", "4006381333931 ", "12345670 12345", ""]
 WRONG_DATA = ["level=Q X", " X", '"X"', "'X", "NAN", "4,00638E+12", "A\u200bB", "#REF!", "ERR: 502"]
+OPTIONS = ["--code", "EAN", "--title", "Name", "--price", "Preis", "--summary"]
 TABLE = "EAN;Name;Preis\n4006381333932;Stift;0,80\n96385074;Gummi;1E3\n4006381333931;Heft;2,50\n"
 
 
@@ -97,21 +88,6 @@ def in_capitals(text: str) -> str:
     return re.sub(r"(\{.*?\})|[^{]+", lambda found: found[1] or found[0].upper(), text)
 
 
-def speaking(language: str, folder: str) -> dict[str, str]:
-    """The environment of who speaks a language, with its translation in a folder."""
-    path = Path(folder, language, "LC_MESSAGES")
-    path.mkdir(parents=True, exist_ok=True)
-    source = support.TOOLS / f"po/{language}.po"
-    words = ["msgfmt", "--check-format", "-o", str(path / "label-tools.mo"), str(source)]
-    subprocess.run(words, check=True)
-    return {**os.environ, "LANGUAGE": language, "LC_ALL": "C.UTF-8", "LABELS_LOCALE": folder}
-
-
-def german(folder: str) -> dict[str, str]:
-    """The environment of a German, with the translation in a folder."""
-    return speaking("de", folder)
-
-
 # the seconds of a message with 40 quoted names, and of 2,000 notes, the least of some tries
 TIMES = """
 import time
@@ -151,7 +127,9 @@ class German(unittest.TestCase):
         self.assertGreater(len(LANGUAGES), 1)
         for language in LANGUAGES:
             with self.subTest(language):
-                found = entries(Path(support.TOOLS, f"po/{language}.po").read_bytes())
+                file = Path(support.TOOLS, f"po/{language}.po").read_bytes()
+                self.assertNotIn(b"#, fuzzy", file)  # msgfmt would leave that one out
+                found = entries(file)
                 others = dict(OTHER_OF.findall(found))
                 plurals = dict(ENTRY.findall(found))
                 lacking = [one for one in texts if has_words(one) and not others.get(one)]
@@ -168,164 +146,130 @@ class German(unittest.TestCase):
         """
         table = Path(support.TESTS, "prices_wrong.txt").read_text().splitlines()
         prices = [f"4006381333931\tA\t{line}\n" for line in table if line[:1] != "#"]
+        wrong_prices = "EAN\tN\tP\n" + "".join(prices)
+        twice = "EAN;N;N;P\n4006381333931;;;1\n"
+        of_code = ["--code", "EAN"]
         tables = {
-            "wrong prices": ("EAN\tN\tP\n" + "".join(prices), PRICED),
-            "prices with a pattern": (
-                "EAN\tN\tP\n" + "".join(prices),
-                [*PRICED, "--price-as", "0.00 €"],
-            ),
-            "wrong codes": ("EAN\n" + "\n".join(WRONG_CODES) + "\n", ["--code", "EAN"]),
+            "wrong prices": (wrong_prices, PRICED),
+            "prices with a pattern": (wrong_prices, [*PRICED, "--price-as", "0.00 €"]),
+            "wrong codes": ("\n".join(["EAN", *WRONG_CODES, ""]), of_code),
             "wrong data": (
-                "EAN\n" + "\n".join(WRONG_DATA) + "\n",
-                ["--code", "EAN", "--symbology", "code128"],
+                "\n".join(["EAN", *WRONG_DATA, ""]),
+                [*of_code, "--symbology", "code128"],
             ),
-            "columns": ("EAN;N;N;P\n4006381333931;;;1\n", ["--code", "X"]),
-            "a column twice": ("EAN;N;N;P\n4006381333931;;;1\n", ["--code", "EAN", "--text", "N"]),
-            "where": ("EAN;N\n4006381333931;X\n", ["--code", "EAN", "--where", "N=Y"]),
-            "nothing": ("EAN\n", ["--code", "EAN"]),
-            "a quote": ('EAN;N\n4006381333931;"X\n', ["--code", "EAN"]),
-            "empty": ("EAN;N\n4006381333931;\n\n96385074;X\n", ["--code", "EAN", "--title", "N"]),
+            "columns": (twice, ["--code", "X"]),
+            "a column twice": (twice, [*of_code, "--text", "N"]),
+            "where": ("EAN;N\n4006381333931;X\n", [*of_code, "--where", "N=Y"]),
+            "nothing": ("EAN\n", of_code),
+            "a quote": ('EAN;N\n4006381333931;"X\n', of_code),
+            "empty": ("EAN;N\n4006381333931;\n\n96385074;X\n", [*of_code, "--title", "N"]),
         }
         lines = 0
         for name, (text, words) in tables.items():
-            with mock.patch("labeltools.common.text.one_text", in_capitals), mock.patch(
-                "labeltools.common.text.ngettext",
-                lambda one, many, count: in_capitals(one if count == 1 else many),
-            ):
-                ran = support.run_here(
-                    "label-table", *words, "--summary", input=text.encode("utf-8")
-                )
+            capitals: Any = {
+                "one_text": in_capitals,
+                "ngettext": lambda one, many, count: in_capitals(one if count == 1 else many),
+            }
+            with mock.patch.multiple("labeltools.common.text", **capitals):
+                ran = support.run_here("label-table", *words, "--summary", input=text.encode())
             for line in support.messages(ran):
                 said = re.sub(r"\"[^\"]*\"|[a-z -]+ \(U\+\w+\)", "", line.partition(": ")[2])
                 self.assertNotRegex(said, r"(?!(?:ean|upca|ean13|ean8)\b)\b[a-z]{2}", name)
                 lines += 1
         self.assertGreater(lines, 60)
 
+    def ran(self, language: str, *words: Any, **more: str) -> "subprocess.CompletedProcess[str]":
+        """What a command writes for who speaks a language."""
+        with tempfile.TemporaryDirectory() as folder:
+            environment = {**support.speaking(language, folder), **more}
+            return subprocess.run(words, env=environment, capture_output=True, text=True)
+
     def test_a_message_of_many_names_takes_no_time(self) -> None:
         """40 quoted names: less than 0.1 s more than in English; 2,000 notes: less than 0.05 s."""
-        support.needs("msgfmt")
-        with tempfile.TemporaryDirectory() as folder:
-            times = {}
-            for language in ("en", *LANGUAGES):
-                known = language in LANGUAGES
-                environment = speaking(language, folder) if known else {**os.environ}
-                environment["PYTHONPATH"] = str(support.TOOLS)
-                words = [sys.executable, "-c", TIMES]
-                ran = subprocess.run(
-                    words, env=environment, capture_output=True, text=True, check=True
-                )
-                times[language] = [float(one) for one in ran.stdout.split()]
-            for language in LANGUAGES:
-                self.assertLess(times[language][0] - times["en"][0], 0.1, times)
-                self.assertLess(times[language][1] / 2, 0.05, times)
-            table = Path(folder, "wide.csv")
-            table.write_text(";".join(NAMES).replace('"', "") + "\n1\n")
-            words = [str(support.TOOLS / "label-table"), "--code", "EAN", str(table)]
-            ran = subprocess.run(words, env=german(folder), capture_output=True, text=True)
-        self.assertIn("keine Spalte", ran.stderr)
-        self.assertNotIn("column", ran.stderr.partition("error")[2] or ran.stderr)
+        times = {}
+        for language in ("en", *LANGUAGES):
+            ran = self.ran(language, sys.executable, "-c", TIMES, PYTHONPATH=str(support.TOOLS))
+            times[language] = [float(one) for one in ran.stdout.split()]
+        for language in LANGUAGES:
+            self.assertLess(times[language][0] - times["en"][0], 0.1, times)
+            self.assertLess(times[language][1] / 2, 0.05, times)
 
     def test_counts_have_their_plurals(self) -> None:
-        support.needs("msgfmt")
-        code = "from labeltools.tables.summary import rows_text; from labeltools.common.text import translated;"
-        code += " print(*(translated(rows_text(count)) for count in (0, 1, 3)), sep=', ')"
+        code = "from labeltools.tables.summary import rows_text; "
+        code += "from labeltools.common.text import translated; "
+        code += "print(*(translated(rows_text(count)) for count in (0, 1, 3)), sep=', ')"
         for language, said in (
             ("de", "0 Zeilen, 1 Zeile, 3 Zeilen"),
             ("fr", "0 ligne, 1 ligne, 3 lignes"),
         ):
-            with tempfile.TemporaryDirectory() as folder:
-                ran = subprocess.run(
-                    [sys.executable, "-c", code],
-                    env={**speaking(language, folder), "PYTHONPATH": str(support.TOOLS)},
-                    capture_output=True,
-                    text=True,
-                )
+            ran = self.ran(language, sys.executable, "-c", code, PYTHONPATH=str(support.TOOLS))
             self.assertEqual(ran.stdout, f"{said}\n", ran.stderr)
 
-    def test_a_german_reads_german(self) -> None:
-        support.needs("msgfmt")
+    def test_who_speaks_a_language_reads_it(self) -> None:
+        """Without a translation it is English."""
         with tempfile.TemporaryDirectory() as folder:
             table = Path(folder, "artikel.csv")
             table.write_text(TABLE)
-            options = ["--code", "EAN", "--title", "Name", "--price", "Preis", "--summary"]
-            words = [str(support.TOOLS / "label-table"), *options, str(table)]
-            ran = subprocess.run(words, env=german(folder), capture_output=True, text=True)
-        said = ran.stderr.splitlines()
-        self.assertEqual(
-            said[0], "label-table: Zeile 2: 4006381333932: die Prüfziffer ist 2, richtig ist 1"
-        )
-        self.assertTrue(
-            said[1].startswith(
-                'label-table: Zeile 3: Spalte 3 ("Preis") hat "1E3", was kein Preis ist'
-            )
-        )
-        self.assertEqual(
-            said[-1],
-            "label-table: 1 Etikett von 1 Zeile: 1 EAN-13; Preis 2,50; 1 Preis ohne Währung; 2 Zeilen übersprungen",
-        )
-        self.assertNotIn("row", ran.stderr)
-        self.assertIn('"row":4', ran.stdout)
-
-    def test_who_speaks_french_reads_french(self) -> None:
-        support.needs("msgfmt")
-        with tempfile.TemporaryDirectory() as folder:
-            table = Path(folder, "articles.csv")
-            table.write_text(TABLE)
-            options = ["--code", "EAN", "--title", "Name", "--price", "Preis", "--summary"]
-            words = [str(support.TOOLS / "label-table"), *options, str(table)]
-            environment = speaking("fr", folder)
-            ran = subprocess.run(words, env=environment, capture_output=True, text=True)
-        said = ran.stderr.replace("\u00a0", " ").splitlines()
-        wrong = "4006381333932 : le chiffre de contrôle est 2, devrait être 1"
-        self.assertEqual(said[0], f"label-table: ligne 2: {wrong}")
-        self.assertIn('colonne 3 ("Preis") a "1E3", qui n\'est pas un prix', said[1])
-        self.assertTrue(said[-1].startswith("label-table: 1 étiquette de 1 ligne: 1 EAN-13"))
-        self.assertTrue(said[-1].endswith("2 lignes ignorées"))
-        self.assertNotIn("row", ran.stderr)
+            for language, first, second, last in (
+                (
+                    "de",
+                    "Zeile 2: 4006381333932: die Prüfziffer ist 2, richtig ist 1",
+                    'Zeile 3: Spalte 3 ("Preis") hat "1E3", was kein Preis ist',
+                    "1 Etikett von 1 Zeile: 1 EAN-13; Preis 2,50; 1 Preis ohne Währung; "
+                    "2 Zeilen übersprungen",
+                ),
+                (
+                    "fr",
+                    "ligne 2: 4006381333932 : le chiffre de contrôle est 2, devrait être 1",
+                    'ligne 3: colonne 3 ("Preis") a "1E3", qui n\'est pas un prix',
+                    "1 étiquette de 1 ligne: 1 EAN-13; prix 2,50; 1 prix sans devise; "
+                    "2 lignes ignorées",
+                ),
+                (
+                    "en",
+                    "row 2: 4006381333932: the check digit is 2, should be 1",
+                    'row 3: column 3 ("Preis") has "1E3", which is no price',
+                    "1 label of 1 row: 1 EAN-13; price 2,50; 1 price without a currency; "
+                    "2 rows left out",
+                ),
+            ):
+                ran = self.ran(language, support.TOOLS / "label-table", *OPTIONS, table)
+                said = ran.stderr.replace("\u00a0", " ").splitlines()
+                self.assertEqual(said[0], f"label-table: {first}")
+                self.assertTrue(said[1].startswith(f"label-table: {second}"), said[1])
+                self.assertEqual(said[-1], f"label-table: {last}")
+                self.assertEqual("row" in ran.stderr, language == "en")
+                self.assertIn('"row":4', ran.stdout)
 
     @support.slow
     def test_bad_arguments_are_said_in_german(self) -> None:
         """argparse says them, and what it says is looked for in the texts of the tools."""
-        support.needs("msgfmt")
-        with tempfile.TemporaryDirectory() as folder:
-            for tool, words, said in (
-                ("label-table", ["--cod", "EAN"], "unbekannte Argumente: --cod"),
-                ("label-table", ["--code"], "Argument --code: ein Wert fehlt"),
-                (
-                    "label-table",
-                    ["--code", "1", "--symbology", "aztec"],
-                    "Argument --symbology: 'aztec' gibt es nicht (es gibt ",
-                ),
-                (
-                    "label-table",
-                    ["--code", "1", "--price-as", "x"],
-                    "Argument --price-as: 'x' ist kein Format wie '0,00 €'",
-                ),
-                (
-                    "label-table",
-                    ["--code", "1", "--price-as", "0", "--price-text"],
-                    "--price-text und --price-as gehen nicht zusammen",
-                ),
-                (
-                    "label-print",
-                    ["--design", "x"],
-                    "Argument --design: 'x' ist weder eines von article, shelf",
-                ),
-                (
-                    "label-print",
-                    ["--columns", "x"],
-                    "Argument --columns: 'x': schreiben wie 3",
-                ),
-            ):
-                ran = subprocess.run(
-                    [support.TOOLS / tool, *words],
-                    env=german(folder),
-                    capture_output=True,
-                    text=True,
-                )
-                self.assertEqual(ran.returncode, 2)
-                last = ran.stderr.splitlines()[-1]
-                self.assertTrue(last.startswith(f"{tool}: Fehler: {said}"), last)
+        for words, said in (
+            ("label-table --cod EAN", "unbekannte Argumente: --cod"),
+            ("label-table --code", "Argument --code: ein Wert fehlt"),
+            (
+                "label-table --code 1 --symbology aztec",
+                "Argument --symbology: 'aztec' gibt es nicht (es gibt ",
+            ),
+            (
+                "label-table --code 1 --price-as x",
+                "Argument --price-as: 'x' ist kein Format wie '0,00 €'",
+            ),
+            (
+                "label-table --code 1 --price-as 0 --price-text",
+                "--price-text und --price-as gehen nicht zusammen",
+            ),
+            (
+                "label-print --design x",
+                "Argument --design: 'x' ist weder eines von article, shelf",
+            ),
+            ("label-print --columns x", "Argument --columns: 'x': schreiben wie 3"),
+        ):
+            tool, *arguments = words.split()
+            ran = self.ran("de", support.TOOLS / tool, *arguments)
+            self.assertEqual(ran.returncode, 2)
+            last = ran.stderr.splitlines()[-1]
+            self.assertTrue(last.startswith(f"{tool}: Fehler: {said}"), last)
 
     def test_what_the_library_refuses_is_said_in_german(self) -> None:
         """Its reasons are those of labels(1), which stay English."""
@@ -342,10 +286,6 @@ class German(unittest.TestCase):
         ):
             text = reason_of(message)
             self.assertEqual((text, text.template, text.fields), (message, template, fields))
-
-    def test_who_has_no_translation_reads_english(self) -> None:
-        ran = support.run("label-table", "--code", "1", "/not/there.csv")
-        self.assertIn("No such file", ran.stderr.decode())
 
 
 if __name__ == "__main__":
