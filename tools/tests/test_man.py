@@ -17,6 +17,7 @@ NAMED = re.compile(
     r"(?<= )\((?:A4: )?([\w. ]+?)(?:; [^)]*)?\)(?=[,.:]| *$)|(\w+) \(the default\)"
     r"|The default is (\w+)\.|(\w+), which is the default"
 )
+NUMBER = re.compile(r"LABELS_[A-Z0-9_]+")
 # Numbers of label-print(1), and what they are in the tools.
 NUMBERS = (
     (r"svg, which take (\d+)", job.DRAWING_DPI),
@@ -90,6 +91,25 @@ class Pages(unittest.TestCase):
             found = re.search(pattern, text)
             said = found[1].replace(",", "") if found else None
             self.assertEqual(said, typed(wanted), pattern)
+
+    def test_the_library_is_declared_as_in_its_header(self) -> None:
+        """Each call, in the synopsis and in the line of names, and each name of a number."""
+        support.needs("mandoc")
+        header = (support.TOP / "lib/labels.h").read_text(encoding="utf-8")
+        page = shown("labels.3")
+        synopsis = page.partition("SYNOPSIS")[2].partition("DESCRIPTION")[0]
+        declared, described = (calls_in(text) for text in (header, synopsis))
+        self.assertGreater(len(declared), 10)
+        self.assertEqual(described, declared)
+        names = page.partition(" - draw and read")[0].partition("NAME")[2]
+        self.assertEqual({*re.findall(r"\w+", names)}, {name for name, _ in declared})
+        self.assertEqual({*NUMBER.findall(page)} - {*NUMBER.findall(header)}, set())
+
+
+def calls_in(text: str) -> set[tuple[str, str]]:
+    """The calls that a text declares: the name of each, and the words of its line."""
+    found = re.findall(r"^ *(?:LABELS_API )?([a-z][\w *]*?\b(labels_\w+)\([^;]*\));", text, re.M)
+    return {(name, "".join(call.split())) for call, name in found}
 
 
 def shown(page: str) -> str:
