@@ -8,9 +8,10 @@ A run is good where it does what it does when no growth is refused, with the sam
 it writes nothing on standard output and `labels: no memory` on standard error, and ends with status 3, as a run of
 each command has to. Any other run is reported, and makes the status of this script 1.
 
-In each run it is shown programs that it has to report: some lose their output without a word where one growth is
-refused, the first, the middle or the last, and some say something else. The last line is `N growths: K no memory, L
-unaffected, M wrong; S wrong cases shown`. Status 2: bad arguments, no such program, no C compiler.
+In each run it is shown ends of runs that it has to report: output that is lost without a word where one growth is
+refused, the first, the middle or the last, another message, and growths of which none ends with `no memory`. The last
+line is `N growths: K no memory, L unaffected, M wrong; S wrong cases shown`. Status 2: bad arguments, no such program,
+no C compiler.
 """
 
 import contextlib
@@ -22,7 +23,7 @@ import sys
 import tempfile
 from collections import Counter
 from pathlib import Path
-from typing import Iterator, Sequence
+from typing import Iterable, Iterator, Sequence
 
 import sources
 
@@ -59,44 +60,28 @@ static int is_refused(void) {
 void *malloc(size_t size) { return is_refused() ? NULL : __libc_malloc(size); }
 void *realloc(void *old, size_t size) { return is_refused() ? NULL : __libc_realloc(old, size); }
 """
-# Where growth PLACE finds no memory it says nothing, or something else than it has to, and ends with STATUS; where
-# another one does, it does what is right. Place 0: it needs no memory.
-LOSER = """
-#include <stdlib.h>
-#include <unistd.h>
-
-int main(int count, char **words) {
-    int lost = count > 2 ? atoi(words[1]) : 0, status = count > 2 ? atoi(words[2]) : 0;
-    for (int place = 1; place <= GROWTHS; place++) {
-        void *volatile room = malloc(1);
-        if (room || !lost)
-            continue;
-        if (place != lost)
-            return write(STDERR_FILENO, "labels: no memory\\n", 18) != 18 ? 1 : 3;
-        return status && write(STDERR_FILENO, "labels: no memory!\\n", 19) != 19 ? 1 : status;
-    }
-    return write(STDOUT_FILENO, "all", 3) != 3;
-}
-"""
-# How often that program grows.
-GROWTHS = 3
 
 
-def build(text: str, file: Path, *options: str) -> None:
-    """Builds a program or library of C."""
+def build(text: str, file: Path) -> None:
+    """Builds a library of C."""
     file.with_suffix(".c").write_text(text, encoding="utf-8")
-    status, said = sources.run(["cc", "-O2", *options, f"{file}.c", "-o", str(file)])
+    status, said = sources.run(["cc", "-O2", "-fPIC", "-shared", f"{file}.c", "-o", str(file)])
     if status:
         print(said, file=sys.stderr)
         sys.exit(2)
 
 
-def run(folder: Path, command: Sequence[str | Path], growth: int) -> End:
-    """The status of a command and both of its outputs, with this growth refused; none for 0."""
-    more = {"GROWTH": str(growth), "MARK": f"{folder}/mark", "LD_PRELOAD": f"{folder}/refuse"}
-    with open(CRATE / "stdin", "rb") as lines:
-        done = subprocess.run(command, stdin=lines, capture_output=True, cwd=CRATE, env={**os.environ, **more})
-    return done.returncode, done.stdout, done.stderr
+def ends_of(folder: Path, command: Sequence[str | Path]) -> Iterator[End]:
+    """How a command ends where no growth is refused, and where each of its growths is, one after the other."""
+    mark = folder / "mark"
+    for growth in itertools.count():
+        more = {"GROWTH": str(growth), "MARK": str(mark), "LD_PRELOAD": f"{folder}/refuse"}
+        with open(CRATE / "stdin", "rb") as lines:
+            done = subprocess.run(command, stdin=lines, capture_output=True, cwd=CRATE, env={**os.environ, **more})
+        if growth and not mark.exists():
+            return
+        mark.unlink(missing_ok=True)
+        yield done.returncode, done.stdout, done.stderr
 
 
 def kind_of(done: End, whole: End) -> str:
@@ -106,52 +91,52 @@ def kind_of(done: End, whole: End) -> str:
     return "no memory" if done == NO_MEMORY else "wrong"
 
 
-def refuse_each(folder: Path, command: Sequence[str | Path]) -> tuple[Counter[str], End]:
-    """What comes of each growth of a command, and what it does where none is refused."""
-    whole, mark = run(folder, command, 0), folder / "mark"
+def judged(name: str, whole: End, ends: Iterable[End]) -> Counter[str]:
+    """What comes of the growths of a command, which ends as `whole` where none is refused."""
     found: Counter[str] = Counter()
-    for growth in itertools.count(1):
-        status, out, err = done = run(folder, command, growth)
-        if not mark.exists():
-            break
-        mark.unlink()
+    for growth, done in enumerate(ends, 1):
         kind = kind_of(done, whole)
         found[kind] += 1
         if kind == "wrong":
-            print(f"{command}: growth {growth}: status {status}, {len(out)} bytes on standard output, and {err!r}")
+            status, out, err = done
+            print(f"{name}: growth {growth}: status {status}, {len(out)} bytes on standard output, and {err!r}")
     if not found["no memory"]:
-        print(f"{command}: none of its growths ended with 'no memory'")
+        print(f"{name}: none of its growths ended with 'no memory'")
         found["wrong"] += 1
-    return found, whole
+    return found
 
 
-def wrong_cases(folder: Path) -> Iterator[tuple[str, bool]]:
-    """Programs that lose their output at one growth, the first, the middle or the last, and one whose growths all end
-    otherwise than with `no memory`: each with whether it is reported."""
-    build(LOSER, folder / "loser", f"-DGROWTHS={GROWTHS}")
-    for place, status in itertools.product(range(GROWTHS + 1), (0, NO_MEMORY[0])):
+def wrong_cases() -> Iterator[tuple[str, bool]]:
+    """Ends of three growths of which one is wrong, the first, the middle or the last, and of which none is that of no
+    memory: each with whether it is reported."""
+    whole = 0, b"all", b""
+    for place, wrong in itertools.product(range(3), ((0, b"", b""), (3, b"", b"labels: no memory!\n"))):
+        ends = [wrong if growth == place else NO_MEMORY for growth in range(3)]
         with contextlib.redirect_stdout(io.StringIO()) as said:
-            outcomes, _ = refuse_each(folder, [folder / "loser", f"{place}", f"{status}"])
-        wanted = Counter({"no memory" if place else "unaffected": GROWTHS - (place > 0), "wrong": 1})
-        told = f": growth {place}: status {status}, 0 bytes" if place else "none of its growths ended"
-        yield f"output lost at growth {place}, with status {status}", outcomes == wanted and told in said.getvalue()
+            found = judged("shown", whole, ends)
+        told = f"shown: growth {place + 1}: status {wrong[0]}, 0 bytes"
+        yield f"{wrong} at growth {place + 1}", found == {"no memory": 2, "wrong": 1} and told in said.getvalue()
+    for ends in ([whole] * 3, []):
+        with contextlib.redirect_stdout(io.StringIO()) as said:
+            found = judged("shown", whole, ends)
+        yield f"{len(ends)} growths that are unaffected", found["wrong"] == 1 and "none of its" in said.getvalue()
 
 
 def main() -> int:
     program = sources.program_given(__doc__)
     found: Counter[str] = Counter()
+    faults = list[str]()
     with tempfile.TemporaryDirectory() as name:
         folder = Path(name)
-        build(REFUSE, folder / "refuse", "-fPIC", "-shared")
-        cases, faults = [*wrong_cases(folder)], list[str]()
+        build(REFUSE, folder / "refuse")
         for arguments in (STORED, [*STORED, "stdin"], *OTHERS):
-            outcomes, whole = refuse_each(folder, [program, *arguments])
-            found += outcomes
+            whole, *ends = ends_of(folder, [program, *arguments])
+            found += judged(f"{arguments}", whole, ends)
             if arguments not in OTHERS and whole[:2] != (0, (CRATE / "stdout").read_bytes()):
                 faults.append(f"{arguments}: not the stored run")
     faults += [f"{found['wrong']} growths are wrong"] if found["wrong"] else []
     kinds = ", ".join(f"{found[kind]} {kind}" for kind in ("no memory", "unaffected", "wrong"))
-    return sources.ended(faults, f"{found.total()} growths: {kinds}", cases)
+    return sources.ended(faults, f"{found.total()} growths: {kinds}", wrong_cases())
 
 
 if __name__ == "__main__":
