@@ -6,6 +6,7 @@ Run by `python3 -m unittest discover -s scripts/tests`. The kit is needed; no th
 import ast
 import glob
 import importlib.util
+import io
 import os
 import re
 import shutil
@@ -188,6 +189,13 @@ class TakenAway(InCopy):
             found = self.judged("run_tests.py", "lib/tests", *words.split())
             self.assertEqual((found[0], found[1].split("\n")[-2]), (1, last), found[1])
 
+    def test_each_test_has_its_time(self) -> None:
+        """And what is set up before it and after it."""
+        run_tests = module("run_tests")
+        with mock.patch.object(run_tests, "give_time") as given:
+            run_tests.judged(unittest.TestSuite([run_tests.Shown("right")]), False, io.StringIO())
+        self.assertEqual(given.mock_calls, [mock.call(), mock.call()])
+
     def test_runner_that_passes_all(self) -> None:
         """One that takes another end for the right one finds that out by the tests that it is shown."""
         run_tests = module("run_tests")
@@ -270,6 +278,14 @@ class FilesOfLints(unittest.TestCase):
                 self.assertEqual(read_by.count(path), 3)
 
 
+class Subjects(unittest.TestCase):
+    def test_one_that_is_too_long(self) -> None:
+        lints = module("lints")
+        lines = [f"0a1b2c3d {letters * 'x'}" for letters in (lints.LONGEST, lints.LONGEST + 1, 1)]
+        with mock.patch.object(lints.sources, "run", lambda _: (0, "\n".join(lines))):
+            self.assertEqual([it.split(": ")[1] for it in lints.faults_of_subjects()], lines[1:2])
+
+
 class KeptLints(InFolder):
     """A lint runs again where one of its files, its command or a package has changed, and where it found something."""
 
@@ -334,7 +350,7 @@ IN_CI, ZINT = {"CI": "true", "MISSING": "zint"}, {"MISSING": "zint"}
 # Words, variables and changed programs, the status of `.ci/run`, and what it says.
 STARTS: tuple[tuple[str, dict[str, str], dict[str, str], int, str], ...] = (
     ("", {}, {}, 0, "gate all"),
-    ("--install", ZINT, {}, 0, INSTALL),
+    ("--install", ZINT, {}, 0, f"apt-get update\n{INSTALL}\ngate all"),
     ("--instal", {}, {}, 2, USAGE),
     ("", ZINT, {}, 1, MISSING),
     ("", {**IN_CI, "ID": "1000"}, {}, 1, MISSING),

@@ -9,6 +9,7 @@ import subprocess
 import sys
 import tempfile
 import unittest
+from importlib import import_module
 from pathlib import Path
 from typing import Any, Dict, List, Optional
 
@@ -141,6 +142,18 @@ class Completion(unittest.TestCase):
         make = [sys.executable, str(COMPLETIONS / "make.py"), "--check"]
         done = subprocess.run(make, capture_output=True, text=True, env=environment)
         self.assertEqual((done.returncode, done.stdout, done.stderr), (0, "", ""))
+
+    def test_each_value_is_taken(self) -> None:
+        """What completions/make.py proposes for an option of a tool, the tool does not refuse."""
+        support.labels_program()
+        sys.path.insert(0, str(COMPLETIONS))
+        commands = import_module("make").all_options()
+        for tool in TOOLS:
+            found = [(one.name, value) for one in commands[tool] for value in one.values]
+            self.assertGreater(len(found), 5)
+            for words in [*found, (found[0][0], "none")]:
+                said = support.run_here(tool, *words).stderr.decode()
+                self.assertEqual(f"error: argument {words[0]}: " in said, words[1] == "none", said)
 
     @support.slow
     def test_values(self) -> None:

@@ -141,9 +141,8 @@ def work_for(seconds: float) -> None:
 
 
 def settle(seconds: float) -> None:
-    """Lets the window work."""
-    end = time.monotonic() + seconds
-    while time.monotonic() < end:
+    """Lets the window work, on a busy machine for longer."""
+    for _ in range(max(round(1000 * seconds / BEAT), 1)):
         while Gtk.events_pending():
             Gtk.main_iteration_do(False)
         time.sleep(BEAT / 1000)
@@ -389,7 +388,7 @@ class WindowTest(unittest.TestCase):
         dots, dark = self.look("dots")
         self.assertGreater(dark, 100)
         self.assertNotEqual(hash(dots), hash(label))
-        self.assertGreater(self.paper_width(), 1000)
+        self.until(lambda: self.paper_width() > 1000)
         self.look("true")
         true = self.window.true_scale() * self.window.shown.size[0]
         self.assertAlmostEqual(self.paper_width(), true, delta=2)
@@ -418,8 +417,7 @@ class WindowTest(unittest.TestCase):
         (place,) = [number for number, note in enumerate(notes) if "shortened to fit" in note[2]]
         self.assertEqual(notes[place][0], "3")
         self.window.left_out_list.get_selection().select_path(Gtk.TreePath(place))
-        settle(0.1)
-        self.assertEqual(self.window.number.get_value_as_int(), 2)
+        self.until(lambda: self.window.number.get_value_as_int() == 2)
 
     def test_a_table_is_an_argument(self) -> None:
         words = [support.TOOLS / "label-window", self.table]
@@ -614,7 +612,8 @@ class WindowTest(unittest.TestCase):
         self.saved("small.zpl")
         self.assertEqual(self.printed(), [b"96385074"])
         self.change(width=60, height=40, for_print="--only 3")
-        settle(0.5)  # what is typed is read when nothing is typed any more
+        # what is typed is read when nothing is typed any more
+        self.until(lambda: {it.label.title for it in self.window.labels.labels} == {"Soap"})
         self.saved("one.zpl")
         self.assertEqual(self.printed(), [b"96385074", b"036000291452"])
         self.open()
@@ -716,8 +715,8 @@ class WindowTest(unittest.TestCase):
 
     def test_tables_that_were_opened_are_in_the_menu(self) -> None:
         self.open()
-        settle(1.0)  # GTK writes the list a little later
-        self.assertIn(str(self.table), menu.recent_tables())
+        # GTK writes the list a little later
+        self.until(lambda: str(self.table) in menu.recent_tables())
         self.window.menu.fill()
         self.assertIn("articles.csv", self.in_menu())
         self.table.unlink()
@@ -993,8 +992,7 @@ class WindowTest(unittest.TestCase):
         self.change(for_table="")
         self.assertIn("6 labels of 3 rows:", self.counted())
         self.change(for_table="--where Name=Soap")
-        settle(0.5)
-        self.assertIn("2 labels of 1 row:", self.counted())
+        self.until(lambda: "2 labels of 1 row:" in self.counted())
         self.assertEqual(self.window.choices()["price"], "")
         with redirect_stdout(StringIO()):
             self.window.take({"for-table": "--help"})
