@@ -6,6 +6,7 @@ import re
 import subprocess
 import tempfile
 import unittest
+from collections import Counter
 from pathlib import Path
 from typing import Any, Iterator
 
@@ -200,13 +201,18 @@ class Zpl(unittest.TestCase):
         self.assertEqual(jobs.data_of_run_lengths(run_lengths(dots, 6), 6), dots)
 
     def test_no_field_is_longer_than_a_printer_takes(self) -> None:
-        """The manual has 1 to 99999 bytes for ^GF; what is black of this label has more."""
-        data = support.file_of([(LINES[0], {"title": "Seife"})])
-        roll = ("--paper", "100x150", "--dpi", "600", "--to")
+        """The manual has 1 to 99999 bytes for ^GF; the QR symbol of this label, which no white row or
+        column parts, has more.
+        """
+        data = support.file_of([(f"qr {40 * 'A1b2'}", {"title": "Seife"})])
+        roll = ("--paper", "200x300", "--dpi", "600", "--to")
         zpl, pbm = (support.printed(*roll, form, input=data).stdout for form in ("zpl", "pbm"))
-        sizes = [int(size) for size in re.findall(rb"\^GFA,(\d+),", zpl)]
-        self.assertGreater(sum(sizes), 99_999)
-        self.assertLessEqual(max(sizes), 99_999)
+        fields = re.findall(rb"\^FO(\d+),\d+\^GFA,(\d+),", zpl)
+        below: Counter[bytes] = Counter()  # the bytes of fields that are below one another
+        for left, size in fields:
+            below[left] += int(size)
+        self.assertGreater(max(below.values()), 99_999)
+        self.assertLessEqual(max(int(size) for _, size in fields), 99_999)
         (dots,), (wanted,) = jobs.dots_of_zpl(zpl), jobs.pictures_of_pbm(pbm)
         self.assertTrue(numpy.array_equal(dots, wanted))
 
