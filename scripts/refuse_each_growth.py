@@ -116,10 +116,10 @@ def wrong_cases() -> Iterator[tuple[str, bool]]:
             found = judged("shown", whole, ends)
         told = f"shown: growth {place + 1}: status {wrong[0]}, 0 bytes"
         yield f"{wrong} at growth {place + 1}", found == {"no memory": 2, "wrong": 1} and told in said.getvalue()
-    for ends in ([whole] * 3, []):
+    for count in (3, 0):
         with contextlib.redirect_stdout(io.StringIO()) as said:
-            found = judged("shown", whole, ends)
-        yield f"{len(ends)} growths that are unaffected", found["wrong"] == 1 and "none of its" in said.getvalue()
+            found = judged("shown", whole, [whole] * count)
+        yield f"{count} growths that are unaffected", found["wrong"] == 1 and "none of its" in said.getvalue()
 
 
 def main() -> int:
