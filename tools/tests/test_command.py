@@ -117,15 +117,6 @@ class EveryTool(unittest.TestCase):
             self.assertEqual((status, out), (1, b""), tool)
             self.assertTrue(messages and messages[0].startswith(f"{tool}: "), messages)
 
-    @support.slow
-    def test_messages_that_nobody_takes(self) -> None:
-        for redirection in ("2> /dev/full", "2>&-"):
-            for tool, (arguments, data) in COMPLAINING.items():
-                ended = self.ended(tool, arguments, redirection, data)
-                self.assertEqual(ended, (1, b"", []), (tool, redirection))
-                ended = self.ended(tool, ("--wrong",), redirection)
-                self.assertEqual(ended, (2, b"", []), (tool, redirection))
-
     def test_a_help_text_that_nobody_takes(self) -> None:
         for tool in COMPLAINING:
             ended = self.ended(tool, ("--help",), "> /dev/full")

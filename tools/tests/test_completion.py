@@ -167,20 +167,6 @@ class Completion(unittest.TestCase):
                 with self.subTest(name=name, shell=shell):
                     self.assertEqual(proposed(shell, f"{name} ", self.folder), wanted)
 
-    def test_values_of_labels_are_those_of_its_help(self) -> None:
-        shown_values = {
-            option: shown.strip("<>") for option, shown in options_of("labels").items() if shown
-        }
-        self.assertEqual(sorted(shown_values), sorted(OF_LABELS))
-        for option, shown in shown_values.items():
-            numbers = re.fullmatch(r"(\d+)-(\d+)", shown)
-            values = shown.split("|")
-            if numbers:
-                values = [str(number) for number in range(int(numbers[1]), int(numbers[2]) + 1)]
-            self.assertEqual(
-                (OF_LABELS[option] or shown).split(), values if len(values) < 99 else [shown]
-            )
-
     def test_after_an_equals_sign_and_a_letter(self) -> None:
         self.assertEqual(proposed("bash", "labels --level =", self.folder), ["H", "L", "M", "Q"])
         self.assertEqual(proposed("bash", "labels --level = H", self.folder), ["H"])
