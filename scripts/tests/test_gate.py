@@ -184,6 +184,8 @@ class TakenAway(InCopy):
     def test_ways_in_which_tests_do_not_pass(self) -> None:
         self.move("lib/tests", "lib/tests-away")
         self.addCleanup(shutil.rmtree, self.path("lib/tests"))
+        os.mkdir(self.path("lib/tests"))
+        self.assertEqual(self.judged("run_tests.py", "lib/tests")[0], 1)
         write(self.path("lib/tests/test_one.py"), WAYS)
         for words, last in (("", "1 passed, 4 failed"), ("--quick", "1 passed, 2 failed, 2 left out")):
             found = self.judged("run_tests.py", "lib/tests", *words.split())

@@ -616,6 +616,9 @@ PLANTED = (
     (FIELD, "use crate", "use device::{Sink};\nuse crate", ("the imported name Sink is not used",)),
     (FIELD, "", "\nfn lonely() {\n    lonely()\n}\n", ("nothing calls the function lonely",)),
     (FIELD, "", "\npub fn one() -> u8 {\n    1\n}\n", ("nothing calls the function one",)),
+    (FIELD, "", "\nimpl Alpha {\n    fn idle() {}\n}\n", ("nothing calls the function idle",)),
+    (FIELD, "", "\ntrait Rests {\n    fn slumber() {}\n}\n", ("nothing calls the function slumber",)),
+    (FIELD, "", "\nmod inner {\n    fn within() {}\n}\n", ("nothing calls the function within",)),
 )
 
 
