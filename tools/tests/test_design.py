@@ -9,6 +9,7 @@ import unittest
 import zlib
 from pathlib import Path
 from typing import Any, Dict, Sequence, Tuple
+from unittest import mock
 
 import numpy
 
@@ -16,6 +17,7 @@ import designs
 import support
 from designs import CODE, Label, dots_of, reasons_of, said_of, texts_of
 from labeltools.common.messages import Silence, ToolError
+from labeltools.designs import drawing
 from labeltools.designs.layout import OwnLayout
 from labeltools.printing.job import Prepared, PrintOptions, labels_of, planned
 
@@ -23,10 +25,9 @@ TITLE = '<rect id="title" {}/>' + CODE
 WIDE = 'x="2" y="2" width="56" height="10"'
 ONE: Label = ("code128 A", {"title": "Title"})
 PICTURE = '<image x="2" y="2" width="5" height="5" href="data:image/{};base64,{}"/>' + CODE
-BOX = '<rect x="2" y="2" width="9" height="9"/>'
 NOT_EMBEDDED = "is of another file, or is no PNG or JPEG; embed it"
 NOT_DRAWN = "is not drawn; export it as a picture, or with texts as paths"
-PIXELS = "has pictures of more than 25 million pixels; make its pictures smaller"
+PIXELS = "a picture has more than 25 million pixels; make its pictures smaller"
 HIDDEN = "the place title is hidden, or has no size; give it a width and a height, and show its"
 
 
@@ -47,11 +48,6 @@ def png_of(width: int, height: int, dots: bytes = b"\xff") -> str:
 
 
 BLACK = png_of(8, 8, b"\0")
-
-
-def svg_in_base64() -> str:
-    """A picture that is SVG itself, which may name other files."""
-    return base64.b64encode(f"<svg {designs.SPACE} width='5' height='5'/>".encode()).decode()
 
 
 def beside(dots: Any) -> Any:
@@ -80,32 +76,22 @@ REFUSED = (
         "is not white in the place co",
     ),
     (f'<path d="M0 30H60" stroke="black" stroke-width="0.005"/>{CODE}', NOT_WHITE),
-    (f'<path d="M30 0V40" stroke="#ccc" stroke-width="0.02"/>{CODE}', NOT_WHITE),
-    (f'<path d="M4 30H50V31H4Z" fill="#ccc"/>{CODE}', NOT_WHITE),
     (f'<path d="M4 30H50V31H4Z" fill="#fafafa"/>{CODE}', NOT_WHITE),
     (f'<path d="M0 0H60V20.1H0Z" fill="#ccc"/>{CODE}', NOT_WHITE),
     (f'<path id="title" d="M2 2H9"/>{CODE}', "title is no rectangle (path); draw a rectangle"),
     (f'<text id="price" x="2" y="9">1</text>{CODE}', "price is no rectangle (text); draw a"),
     (f'<image href="logo.png"/>{CODE}', f"image {NOT_EMBEDDED}"),
-    (f'<image href="/etc/logo.png"/>{CODE}', f"image {NOT_EMBEDDED}"),
     (f'<use href="other.svg#logo"/>{CODE}', f"use {NOT_EMBEDDED}"),
     (f'<path d="M2 2H9" fill="url(other.svg#red)"/>{CODE}', f"path {NOT_EMBEDDED}"),
     (f'<style>@import "other.css";</style>{CODE}', f"style {NOT_EMBEDDED}"),
     (f"<style>text{{fill:url('other.svg')}}</style>{CODE}", f"style {NOT_EMBEDDED}"),
     (f"<foreignObject/><switch/>{CODE}", f"foreignObject, switch {NOT_DRAWN}"),
     (f"<flowRoot><flowPara>Door 2</flowPara></flowRoot>{CODE}", f"flowRoot, flowPara {NOT_DRAWN}"),
-    (
-        f'<text><textPath href="#a">Door 2</textPath></text>{CODE}',
-        f"textPath {NOT_DRAWN}",
-    ),
-    (f"<filter><feDropShadow/></filter>{CODE}", f"feDropShadow {NOT_DRAWN}"),
     ("<g>" * 100_000 + "</g>" * 100_000 + CODE, "is no SVG: "),
     (f"<!--{'x' * 8_000_000}-->{CODE}", "has more than 8 MB; make its pictures smaller"),
     (PICTURE.format("webp", "aGVsbG8="), f"image {NOT_EMBEDDED}"),
-    (PICTURE.format("svg+xml", svg_in_base64()), f"image {NOT_EMBEDDED}"),
     (f'<image href="data:image/png,hello"/>{CODE}', f"image {NOT_EMBEDDED}"),
     (PICTURE.format("png", png_of(20_000, 20_000)), PIXELS),
-    (PICTURE.format("png", png_of(3_000, 5_000)) * 2, PIXELS),
     (PICTURE.format("png", "iVBORw0KGgo="), "a picture is broken; embed it again"),
     ('<rect data-place="code, blod"/>', '"code, blod": "blod" is not understood; after the name'),
     ('<rect data-place="title, level=Q"/>', '"level=Q" is not understood; after the name of a t'),
@@ -118,9 +104,7 @@ REFUSED = (
         '<rect data-place="title" inkscape:label="price"/>',
         'a rectangle is named "title" and "price"; make its label and its data-place alike, or',
     ),
-    ('<rect data-place="code, size=1"/>', '"size=1" is not understood; after the name of a'),
     ('<rect data-place="title, qr, bold"/>', '"bold" is not understood; after the name of a symb'),
-    ('<rect data-place="title, bold, qr"/>', '"bold" is not understood; after the name of a symb'),
     ('<rect data-place="title, module=1"/>', '"module=1" is not understood; after the name'),
     ('<rect id="title-2"/>' * 500, "has more than 400 places"),
     ('<rect data-place="title, lines=1.5"/>', '"lines=1.5" is not understood; after the name of'),
@@ -149,7 +133,6 @@ FILES = (
     (f"<svg {designs.SPACE} {designs.PAGE}>{CODE}".encode(), "is no SVG: no element found"),
     (f"<svg {designs.SPACE}/>".encode("utf-16"), "has no size; give it width, height"),
     (b'<!DOCTYPE svg [<!ENTITY a SYSTEM "/etc/hosts">]><svg>&a;</svg>', "is no SVG: undefined"),
-    ("<svg>Größe</svg>".encode("latin-1"), "is no SVG: not well-formed"),
     (b'<?xml version="1.0" encoding="GB2312"?><svg>\xbb\xf5</svg>', "is no SVG: "),
     (b"\x1f\x8b\x08\x00" + bytes(9), "is no SVG: "),
     (gzip.compress(f"<svg {designs.SPACE}>".encode()), "is no SVG: no element found"),
@@ -205,6 +188,17 @@ class Refused(OwnPages):
         self.assertEqual(len(self.found(body).labels), 1)
         with self.assertRaisesRegex(ToolError, r"seat is no rectangle \(text\)"):
             self.found(body, [("code128 A", {"text": {"Seat": "7"}})])
+
+    def test_what_takes_too_long_or_too_much_memory(self) -> None:
+        filtered = '<filter id="f"><feTurbulence numOctaves="2000000000"/></filter>'
+        for body in (f'{filtered}<path filter="url(#f)" d="M0 0V9H9Z"/>', f"<text>{'a' * 800_000}"):
+            end = "</text>" * body.startswith("<text>")
+            with mock.patch.object(drawing, "MOST_SECONDS", 1), self.assertRaises(
+                ToolError
+            ) as caught:
+                self.found(body + end + CODE)
+            why = "own.svg cannot be drawn in 1 seconds and 500 MB; export it as a picture, or"
+            self.assertTrue(designs.is_refused(caught.exception, why), caught.exception)
 
     def test_files_that_are_no_svg(self) -> None:
         for data, why in FILES:
@@ -748,19 +742,13 @@ class Drawings(OwnPages):
                 self.assertEqual(len(found.labels), 1)
 
     def test_a_font_that_is_not_there_is_said(self) -> None:
-        for style in ('font-family="Nothing, serif"', "style=\"font-family:'Nothing'\""):
-            word = f'<text x="2" y="9" font-size="4" {style}>a</text>{CODE}'
+        for style in ('"Nothing, serif"', '"DejaVu Sans Nothing"', "\"'Nothing'\""):
+            word = f'<text x="2" y="9" font-size="4" font-family={style}>a</text>{CODE}'
             (said, _) = self.said(self.found(word))
-            self.assertRegex(said, "^: font-family:Nothing may be drawn otherwise, or not at all")
-        for family in ("DejaVu Sans", "sans-serif"):
+            self.assertRegex(said, "^: font-family:(DejaVu Sans )?Nothing may be drawn otherw")
+        for family in ("DejaVu Sans", "DejaVu Sans Light", "sans-serif"):
             word = f'<text x="2" y="9" font-size="4" font-family="{family}">a</text>{CODE}'
             self.assertEqual(len(self.said(self.found(word))), 1)
-
-    def test_a_face_of_a_font_is_there(self) -> None:
-        word = '<text x="2" y="9" font-size="4" font-family="DejaVu Sans {}">a</text>' + CODE
-        self.assertEqual(self.said(self.found(word.format("Light"), [("code128 A", {})])), [])
-        (said,) = self.said(self.found(word.format("Nothing"), [("code128 A", {})]))
-        self.assertTrue(said.startswith(": font-family:DejaVu Sans Nothing may be drawn oth"), said)
 
     def test_a_drawing_that_is_cut_is_said(self) -> None:
         """But for what loses no more than 0.5 mm."""
@@ -778,9 +766,9 @@ class Drawings(OwnPages):
             wanted = [": the drawing is cut at the edge"] * is_cut
             self.assertEqual([one.split(": move")[0] for one in cut], wanted, (ends, options))
 
-    def test_a_link_is_drawn_in_a_pdf(self) -> None:
-        link = '<a href="https://example.org"><path d="M2 2H9V9Z"/></a>'
-        found = self.found(link + CODE, to="pdf")
+    def test_a_link_and_white_letters_are_drawn_in_a_pdf(self) -> None:
+        link = '<a href="https://example.org"><path d="M2 15H9V19Z"/></a>'
+        found = self.found(link + self.BAND.format("black"), to="pdf")
         (document,) = found.press(Silence()).documents(found.prints)
         self.assertTrue(document.read().startswith(b"%PDF"))
         document.close()
@@ -845,6 +833,11 @@ class Symbols(OwnPages):
             (item,) = found.labels
             dot = found.laid_out.area.dot
             self.assertTrue(module - dot <= item.layout.module * dot <= module + dot / 2, line)
+
+    def test_a_low_place_has_smaller_modules(self) -> None:
+        """Bars of the width of the place would have no room for their digits."""
+        body = '<rect id="code" x="2" y="2" width="56" height="12"/>'
+        self.assertEqual(reasons_of(self.found(body, [("code128 A", {})])), [])
 
     def test_where_a_symbol_is_in_its_place(self) -> None:
         place = '<rect data-place="code, qr{}" x="10" y="2" width="40" height="17"/>'

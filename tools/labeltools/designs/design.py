@@ -12,18 +12,20 @@ It is the value of `data-place`, or else the name that Inkscape, Affinity or Ill
 else the id. Lengths are in millimetres from the left upper corner of the label as it is read.
 """
 
+import math
 import re
 from collections import Counter
 from dataclasses import dataclass, replace
 from functools import lru_cache
-from typing import Any, Callable, Iterator, Mapping, Optional
+from typing import Any, Callable, Iterator, Mapping, NamedTuple, Optional
 from xml.etree.ElementTree import Element
 
 import cairo
 
 from labeltools.paper.area import Edges
 from labeltools.common.messages import BAD_ARGUMENTS, ToolError
-from labeltools.designs.drawing import HOLDERS, SvgPage, named, read_page, rectangle, tag_of
+from labeltools.designs.drawing import HOLDERS, SvgPage, handle_of, named, read_page
+from labeltools.designs.drawing import rectangle, tag_of
 from labeltools.designs.places import Colour, PARTS, Place, key_of, part_of, place_of
 from labeltools.designs.places import title_of
 from labeltools.paper.stock import Size, size_text
@@ -41,7 +43,8 @@ THIN = "1e-7px"  # the height of what shows the upper edge of a place
 TINY = 0.01  # millimetres
 BLACK = (0.0, 0.0, 0.0)
 WHITE = (1.0, 1.0, 1.0)
-CHECKED = 12.0  # dots a millimetre, in which a drawing is looked at
+CHECKED = 12.0  # dots a millimetre, in which a drawing is looked at, and
+MOST_SEEN = 4_000_000  # the most of all: of A4 8 a millimetre
 WHITEST = bytes((254, 255))  # what symbols take behind them: a line far thinner than a dot is seen
 LIGHT = bytes(range(128, 256))  # what is white in dots
 # the least part of a place, but for so many millimetres at its edges, that some letters may lie on
@@ -50,6 +53,24 @@ UNREAD = 0.25  # the least part from which on they are refused
 FRAME = 0.5
 EDGE = 0.05  # of the place of a symbol, where the drawing may end
 CONTRAST = 0.3  # between letters and what is behind them, of that between black and white
+
+
+class Seen(NamedTuple):
+    """A drawing as it is looked at: how light its dots are, bytes from 0 for black, of which so
+    many are a row, and so many a millimetre.
+    """
+
+    light: bytes
+    wide: int
+    scale: float
+
+    def behind(self, place: Place, edge: float) -> bytes:
+        """Returns how light it is in a place, but for so many millimetres at its edges."""
+        left, top = (math.ceil((at + edge) * self.scale) for at in (place.left, place.top))
+        ends = (place.left + place.width, place.top + place.height)
+        right, bottom = (math.floor((at - edge) * self.scale) for at in ends)
+        starts = range(top * self.wide, max(top + 1, bottom) * self.wide, self.wide)
+        return b"".join(self.light[at + left : at + max(left + 1, right)] for at in starts)
 
 
 @dataclass(frozen=True, eq=False)
@@ -68,11 +89,6 @@ class OwnDesign:
     places: tuple[Place, ...] = ()
     remarks: tuple[Text, ...] = ()
 
-    @property
-    def file(self) -> str:
-        """The name of its file."""
-        return self.page.file
-
     def area(self, scale: float) -> Any:
         """Returns where its page is on a label, in so many units a millimetre."""
         size = self.page.size if self.page.is_real else self.label
@@ -80,34 +96,24 @@ class OwnDesign:
         return rectangle(left, top, *size, scale)
 
     def draw(self, canvas: Any, scale: float, absent: frozenset[str] = frozenset()) -> None:
-        """Draws what is alike on all labels without some parts, in so many units a millimetre;
-        raises `ToolError`.
-        """
+        """Draws what is alike on labels without some parts, in so many units a millimetre."""
         hidden = [f"#place-{number}" for number in range(len(self.places))]
         hidden += [f".group-{number}" for number, key in enumerate(self.groups) if key in absent]
         self.page.draw(canvas, self.area(scale), f"{','.join(hidden)}{{display:none!important}}")
 
-    def recorded(self, scale: float, absent: frozenset[str]) -> cairo.RecordingSurface:
-        """Returns what `draw` draws, which ends at the edges of a label."""
-        area = cairo.Rectangle(0, 0, *(side * scale for side in self.label))
-        surface = cairo.RecordingSurface(cairo.CONTENT_COLOR_ALPHA, area)
-        canvas = cairo.Context(surface)
-        canvas.rectangle(*area)
-        canvas.clip()
-        self.draw(canvas, scale, absent)
-        return surface
-
     @lru_cache(KEPT)
-    def seen(self, absent: frozenset[str]) -> cairo.RecordingSurface:
+    def seen(self, absent: frozenset[str]) -> Seen:
         """Returns the drawing without some parts as it is looked at."""
-        return self.recorded(CHECKED, absent)
+        scale = min(CHECKED, math.sqrt(MOST_SEEN / (self.label[0] * self.label[1])))
+        wide, high = (math.ceil(side * scale) for side in self.label)
+        light = lightness(lambda canvas: self.draw(canvas, scale, absent), wide, high)
+        return Seen(light, wide, scale)
 
-    def colours(self, seen: cairo.Surface) -> dict[Place, Colour]:
-        """Returns the colours of letters in places on a drawing: without some parts they may be
-        other ones.
-        """
+    def colours(self, absent: frozenset[str]) -> dict[Place, Colour]:
+        """Returns the colours of letters in places on the drawing without some parts."""
+        seen = self.seen(absent)
         texts = (place for place in self.places if not place.is_symbol)
-        return {place: colour_on(place, behind(seen, place, 0.0)) for place in texts}
+        return {place: colour_on(place, seen.behind(place, 0.0)) for place in texts}
 
     def mixed(self, absent: frozenset[str], least: float, most: float) -> list[Place]:
         """Returns the places of texts in which that part of the drawing is of the rarer kind, light
@@ -115,7 +121,7 @@ class OwnDesign:
         """
         seen = self.seen(absent)
         texts = [place for place in self.places if not place.is_symbol]
-        dark = [dark_part(behind(seen, place, FRAME)) for place in texts]
+        dark = [dark_part(seen.behind(place, FRAME)) for place in texts]
         return [one for one, part in zip(texts, dark) if least < min(part, 1 - part) <= most]
 
 
@@ -125,9 +131,7 @@ def is_file(design: str) -> bool:
 
 
 def size_of_page(file: str) -> Size:
-    """Returns the size of the page of a file; raises `ToolError` where that is not in
-    millimetres.
-    """
+    """Returns the size of a page; raises `ToolError` if that is not in millimetres."""
     page = read_page(file)
     if not page.is_real:
         hint = Text("name the paper by --paper, --stock or --cell")
@@ -149,13 +153,17 @@ def read_design(file: str, cell: Size, white: Edges, turn: Optional[bool]) -> Ow
     placed = tuple(located(design, marked_places(page)))
     check_places(file, placed, label)
     cut = tuple(inside(file, place, label, edges) for place in placed)
-    smaller = [one.title for one, whole in zip(cut, placed) if is_smaller(one, whole)]
+    lost = (
+        (one.title, max(whole.width - one.width, whole.height - one.height))
+        for one, whole in zip(cut, placed)
+    )
+    smaller = [title for title, by in lost if by > NEAR / 2 + TINY]
     design = replace(design, places=cut)
     seen = design.seen(frozenset())
     for drawing in (seen, design.seen(frozenset(groups))) if groups else (seen,):
         check_white(design, drawing)
     said = tuple(remarks_on(design, seen, smaller, edges))
-    colours = design.colours(seen)
+    colours = design.colours(frozenset())
     places = (replace(place, colour=colours.get(place, BLACK)) for place in cut)
     return replace(design, places=tuple(places), remarks=said)
 
@@ -178,9 +186,7 @@ def fitting_turn(page: SvgPage, cell: Size, turn: Optional[bool]) -> bool:
 
 
 def is_fitting(page: SvgPage, label: Size) -> bool:
-    """Returns whether a page has the size of a label, or its proportions where its own size is not
-    in millimetres.
-    """
+    """Returns whether a page has the size of a label, or its proportions if it is in pixels."""
     if page.is_real:
         return all(abs(one - other) <= NEAR for one, other in zip(page.size, label))
     across = page.size[0] / label[0]
@@ -240,13 +246,13 @@ def located(design: OwnDesign, places: list[Place]) -> Iterator[Place]:
     """
     names = [f"#place-{number}" for number in range(len(places))]
     edges = (f"{','.join(names)}{{{side}:{THIN}!important}}" for side in ("height", "width"))
-    handles = [design.page.handle(sheet) for sheet in ("", *edges)]
+    handles = [handle_of(design.page.file, design.page.data, sheet) for sheet in ("", *edges)]
     area = design.area(1.0)
     for name, place in zip(names, places):
         whole, upper, left = (
             handle.get_geometry_for_layer(name, area).out_logical_rect for handle in handles
         )
-        placed = located_place(design.file, place, whole, upper, left)
+        placed = located_place(design.page.file, place, whole, upper, left)
         yield replace(placed, colour=colour_of(handles[0], name, area, placed))
 
 
@@ -320,18 +326,11 @@ def inside(file: str, place: Place, label: Size, edges: Edges) -> Place:
     return replace(place, left=left, top=top, width=wide, height=high)
 
 
-def is_smaller(one: Place, other: Place) -> bool:
-    """Returns whether a place is so much smaller than another one that it is said."""
-    return max(other.width - one.width, other.height - one.height) > NEAR / 2 + TINY
-
-
-def remarks_on(
-    design: OwnDesign, seen: cairo.Surface, smaller: list[str], edges: Edges
-) -> Iterator[Text]:
+def remarks_on(design: OwnDesign, seen: Seen, smaller: list[str], edges: Edges) -> Iterator[Text]:
     """Yields what is said of a design and its drawing, of which some places are smaller than drawn,
     since an edge takes no ink.
     """
-    file = design.file
+    file = design.page.file
     counts = Counter(place.key for place in design.places)
     if again := [key for key, count in counts.items() if count > 1]:
         what = Text("{}: several rectangles are named {}", file, ", ".join(again))
@@ -343,7 +342,7 @@ def remarks_on(
     wide, high = design.label
     if max(left, top, right, bottom) > 0:
         areas = ((0, 0, wide, high), (left, top, wide - left - right, high - top - bottom))
-        whole, within = (behind(seen, Place("", *sides), 0.0) for sides in areas)
+        whole, within = (seen.behind(Place("", *sides), 0.0) for sides in areas)
         if len(whole.translate(None, LIGHT)) > len(within.translate(None, LIGHT)):
             what = Text("{}: the drawing is cut at the edge", file)
             yield Text("{}: {}", what, Text("move it in, or give another --edge or --shift"))
@@ -361,25 +360,14 @@ def mixed_text(file: str, places: str) -> Text:
     return Text("{}: {}", what, Text("letters need light or dark behind them: move the place"))
 
 
-def check_white(design: OwnDesign, seen: cairo.Surface) -> None:
+def check_white(design: OwnDesign, seen: Seen) -> None:
     """Raises `ToolError` where a drawing is not white in the place of a symbol."""
     for place in design.places:
-        if place.is_symbol and behind(seen, place, EDGE).translate(None, WHITEST):
-            what = Text("{}: the drawing is not white in the place {}", design.file, place.title)
+        if place.is_symbol and seen.behind(place, EDGE).translate(None, WHITEST):
+            what = Text(
+                "{}: the drawing is not white in the place {}", design.page.file, place.title
+            )
             raise ToolError(what, Text("a symbol needs white there, up to the edge of its place"))
-
-
-def behind(seen: cairo.Surface, place: Place, edge: float) -> bytes:
-    """Returns how light a drawing is in a place, but for so many millimetres at its edges."""
-    sides = ((side - 2 * edge) * CHECKED for side in (place.width, place.height))
-    wide, high = (max(1, round(side)) for side in sides)
-
-    def paint(canvas: Any) -> None:
-        corner = (-(start + edge) * CHECKED for start in (place.left, place.top))
-        canvas.set_source_surface(seen, *corner)
-        canvas.paint()
-
-    return lightness(paint, wide, high)
 
 
 def dark_part(light: bytes) -> float:
@@ -415,8 +403,12 @@ def lightness(paint: Callable[[Any], None], wide: int, high: int) -> bytes:
     canvas.set_source_rgb(1, 1, 1)
     canvas.paint()
     paint(canvas)
-    canvas.set_operator(cairo.Operator.HSL_COLOR)  # grey, as light as the colours are
-    canvas.set_source_rgb(1, 1, 1)
-    canvas.paint()
     surface.flush()
-    return bytes(surface.get_data())[0::4]
+    data = bytes(surface.get_data())
+    if not data[0::4] == data[1::4] == data[2::4]:  # colours, which take longer to be
+        canvas.set_operator(cairo.Operator.HSL_COLOR)  # grey, as light as they are
+        canvas.set_source_rgb(1, 1, 1)
+        canvas.paint()
+        surface.flush()
+        data = bytes(surface.get_data())
+    return data[0::4]

@@ -8,14 +8,17 @@ is hidden by a style sheet.
 
 import os
 import re
+import resource
 import zlib
 from base64 import b64decode
 from dataclasses import dataclass
-from functools import cached_property
+from functools import cached_property, lru_cache
 from io import BytesIO
-from typing import Any, Iterable
+from typing import Any, Iterable, NoReturn
 from xml.etree import ElementTree
 from xml.etree.ElementTree import Element
+
+import cairo
 
 from labeltools.layout.letters import font_instead
 from labeltools.common.messages import ToolError
@@ -30,7 +33,10 @@ NO_STYLES = (*LINKS, "d", "points")  # long ones
 DPI = 96.0  # of CSS, in which lengths without a unit are; librsvg takes 90 where nothing is said
 PX = 25.4 / DPI  # millimetres
 MOST_BYTES = 8_000_000
-MOST_PIXELS = 25_000_000  # of all pictures: each takes 16 bytes when it is drawn
+MOST_SECONDS = 5  # of a processor, in which a page has to be drawn
+MOST_MEMORY = 500_000_000  # bytes that this may take
+MOST_PIXELS = 25_000_000  # of a picture: each takes 16 bytes when it is drawn
+TRIED = 1000  # dots of each side of what it is drawn on then
 LARGEST = 4000.0  # millimetres of a page
 PACKED = b"\x1f\x8b"  # what .svgz begins with
 WITHIN = re.compile("#|data:image/(?:png|jpeg);base64,")
@@ -77,17 +83,9 @@ class SvgPage:
         """Its bytes, once its places and groups are marked."""
         return ElementTree.tostring(self.root)
 
-    def handle(self, sheet: str = "") -> Any:
-        """Returns what draws it in a style sheet of its own; raises `ToolError`."""
-        return handle_of(self.file, self.data, sheet)
-
     def draw(self, canvas: Any, area: Any, sheet: str) -> None:
-        """Draws all of it into an area; raises `ToolError`."""
-        try:
-            self.handle(sheet).render_document(canvas, area)
-        except library("GLib", "2.0").Error as error:
-            what = Text("{} cannot be drawn: {}", self.file, error.message)
-            raise ToolError(what, PLAIN) from error
+        """Draws all of it into an area, in a style sheet of its own."""
+        handle_of(self.file, self.data, sheet).render_document(canvas, area)
 
     def has(self, *tags: str) -> bool:
         """Returns whether it has an element of one of some tags."""
@@ -113,6 +111,7 @@ class SvgPage:
 def read_page(file: str) -> SvgPage:
     """Returns the page of a file; raises `ToolError` where that is none, or would not be drawn."""
     data = data_of(file)
+    check_cost(file, data)
     try:
         root = ElementTree.fromstring(data)
     except (ElementTree.ParseError, LookupError, ValueError) as error:
@@ -139,6 +138,37 @@ def data_of(file: str) -> bytes:
     if len(data) > MOST_BYTES:
         raise ToolError(Text("{} has more than {} MB", file, MOST_BYTES // 1_000_000), SMALLER)
     return data
+
+
+@lru_cache(1)
+def check_cost(file: str, data: bytes) -> None:
+    """Raises `ToolError` for a page that takes too much: another process draws it once."""
+    rsvg()
+    child = os.fork()
+    if not child:
+        try_to_draw(file, data)
+    _, status = os.waitpid(child, 0)
+    if status:
+        most = (MOST_SECONDS, MOST_MEMORY // 1_000_000)
+        raise ToolError(Text("{} cannot be drawn in {} seconds and {} MB", file, *most), PLAIN)
+
+
+def try_to_draw(file: str, data: bytes) -> NoReturn:
+    """Draws a page, and ends the process: with 0 if that is done, or what is read is none."""
+    status = 1
+    try:
+        resource.setrlimit(resource.RLIMIT_CORE, (0, 0))
+        resource.setrlimit(resource.RLIMIT_CPU, (MOST_SECONDS, MOST_SECONDS))
+        resource.setrlimit(resource.RLIMIT_DATA, (MOST_MEMORY, MOST_MEMORY))
+        os.dup2(os.open(os.devnull, os.O_WRONLY), 2)  # where librsvg says why it gives up
+        surface = cairo.ImageSurface(cairo.FORMAT_ARGB32, TRIED, TRIED)
+        area = rectangle(0, 0, TRIED, TRIED, 1.0)
+        handle_of(file, data).render_document(cairo.Context(surface), area)
+        status = 0
+    except ToolError:
+        status = 0
+    finally:
+        os._exit(status)
 
 
 def sized_page(file: str, root: Element, handle: Any) -> SvgPage:
@@ -184,7 +214,6 @@ def check_elements(file: str, root: Element) -> None:
     tags = dict.fromkeys(map(tag_of, filled))
     if unknown := [tag for tag in tags if not tag.startswith("{") and tag not in ELEMENTS]:
         raise ToolError(Text("{}: {} is not drawn", file, named(unknown)), PLAIN)
-    pixels = 0
     for element in root.iter():
         links = [*filter(None, map(element.get, LINKS))]
         if tag_of(element) == "a":  # of which Cairo makes no PDF
@@ -193,24 +222,22 @@ def check_elements(file: str, root: Element) -> None:
             what = Text("{}: {} is of another file, or is no PNG or JPEG", file, tag_of(element))
             raise ToolError(what, Text("embed it, in Inkscape by Extensions, Images, Embed Images"))
         elif tag_of(element) == "image":
-            pixels += sum(pixels_of(file, link) for link in links if link.startswith("data:"))
-    if pixels > MOST_PIXELS:
-        what = Text(
-            "{} has pictures of more than {} million pixels", file, MOST_PIXELS // 1_000_000
-        )
-        raise ToolError(what, SMALLER)
+            for link in links:
+                check_picture(file, link.partition(",")[2])
 
 
-def pixels_of(file: str, link: str) -> int:
-    """Returns the pixels of a picture in a page; raises `ToolError` where it is none."""
+def check_picture(file: str, data: str) -> None:
+    """Raises `ToolError` for a picture that is broken, or too large; there may be no data."""
     from PIL import Image  # it takes 40 ms, also of built-in designs
 
     Image.MAX_IMAGE_PIXELS = None  # its own limit is a warning
     try:
-        with Image.open(BytesIO(b64decode(link.partition(",")[2]))) as picture:
-            return int(picture.width * picture.height)
+        size = Image.open(BytesIO(b64decode(data))).size if data else (0, 0)
     except (OSError, ValueError) as error:
         raise ToolError(Text("{}: a picture is broken", file), Text("embed it again")) from error
+    if size[0] * size[1] > MOST_PIXELS:
+        most = MOST_PIXELS // 1_000_000
+        raise ToolError(Text("{}: a picture has more than {} million pixels", file, most), SMALLER)
 
 
 def is_empty_flow(element: Element) -> bool:

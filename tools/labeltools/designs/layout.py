@@ -218,7 +218,7 @@ class OwnLayouts:
             if not text:
                 continue
             if place in unread:
-                raise NoRoom(mixed_text(self.design.file, place.title))
+                raise NoRoom(mixed_text(self.design.page.file, place.title))
             if place in rooms:
                 texts.append(rooms[place].texts[text])
                 continue
@@ -246,7 +246,8 @@ class OwnLayouts:
         rows = height if height > 1 else 0  # else bars are as high as there is room
         below = DIGITS_ROOM if symbology.nominal else 0
         lowest = rows * least or math.ceil(LOWEST / self.area.dot)
-        module = min(most, wide // width, high // (rows + below) if rows else most)
+        down = high // (rows + below) if rows else (high - lowest) // below
+        module = min(most, wide // width, down)
         tall = rows * module or high - below * module
         if module < least or tall < lowest:
             raise NoRoom(self.no_room(place, symbology, (width * least, lowest + below * least)))
@@ -284,7 +285,7 @@ class OwnLayouts:
             symbology.title,
             size_text((wide, high)),
             place.title,
-            self.design.file,
+            self.design.page.file,
             size_text(sides),
         )
         return Text("{}: {}", what, hint)
@@ -300,7 +301,7 @@ class OwnLayouts:
         and of places for which no label has anything. Raises `ToolError` where a shape that is no
         rectangle has the name of a column.
         """
-        file = self.design.file
+        file = self.design.page.file
         yield from self.design.remarks
         for (one, place), (two, other) in combinations(enumerate(self.places), 2):
             is_common = {place, other} <= rooms.keys() and place.common(other) > NEAR / 2

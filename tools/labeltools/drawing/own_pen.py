@@ -8,13 +8,14 @@ import cairo
 
 from labeltools.paper.area import Dots, MILLIMETRES
 from labeltools.layout.fitting import Style
+from labeltools.layout.frames import Box
 from labeltools.drawing.pdf import POINTS
 from labeltools.layout.layout import LaidOut
 from labeltools.layout.letters import Letters
 from labeltools.designs.design import BLACK, OwnDesign, lightness
 from labeltools.designs.layout import OwnLayout
 from labeltools.designs.places import Place
-from labeltools.drawing.pen import Medium, Page, Pen, Placed
+from labeltools.drawing.pen import Codes, Medium, Page, Pen, Placed, White, white_of
 
 UPRIGHT = cairo.Matrix()
 
@@ -32,17 +33,23 @@ class OwnPen(Pen):
         self.tinted: set[Place] = set()  # places that have dots of a tint behind them
         self.recorded = cache(self.new_recorded)
         self.dots = cache(self.new_dots)
-        self.colours = cache(lambda absent: design.colours(design.seen(absent)))
+        self.colours = cache(design.colours)
         # Ghostscript and MuPDF show a pattern in all places as it is in the first one
         self.has_patterns = medium.is_pdf and design.page.has("pattern")
 
     def new_recorded(
         self, absent: frozenset[str], _: Optional[Dots]
     ) -> Optional[cairo.RecordingSurface]:
-        """Returns the drawing without some parts as it is, which a file has once, or once for each
-        place that is given; None where there is no ink.
+        """Returns the drawing without some parts as it is, up to the edges of a label, which a file
+        has once, or once for each place that is given; None where there is no ink.
         """
-        surface = self.design.recorded(self.medium.dpi / self.unit / MILLIMETRES, absent)
+        scale = self.medium.dpi / self.unit / MILLIMETRES
+        area = cairo.Rectangle(0, 0, *(side * scale for side in self.design.label))
+        surface = cairo.RecordingSurface(cairo.CONTENT_COLOR_ALPHA, area)
+        canvas = cairo.Context(surface)
+        canvas.rectangle(*area)
+        canvas.clip()
+        self.design.draw(canvas, scale, absent)
         return surface if min(surface.ink_extents()[2:]) > 0 else None
 
     def new_dots(
@@ -65,35 +72,42 @@ class OwnPen(Pen):
     def draw_below(self, canvas: Any, page: Page, is_turned: bool) -> None:
         """Draws what is alike on the labels of a page."""
         is_alone = [place for _, place in page] == [(0, 0)] and canvas.get_matrix() == UPRIGHT
-        if self.medium.is_dots and is_alone:
+        is_dots = self.medium.is_dots
+        if is_dots and is_alone:
             self.begin(canvas.get_target(), own_layout(page[0][0]).absent)
             return
         for item, place in page:
-            if drawing := self.drawing(own_layout(item).absent, place):
+            absent = own_layout(item).absent
+            own = place if self.has_patterns else None
+            drawing = self.dots(absent, None) if is_dots else self.recorded(absent, own)
+            if drawing:
                 canvas.save()
                 canvas.translate(*place)
                 canvas.scale(self.unit, self.unit)
-                if self.medium.is_dots:  # which takes a quarter of the time of a mask
+                if is_dots:  # which takes a quarter of the time of a mask
                     canvas.set_operator(cairo.Operator.ADD)
                 canvas.set_source_surface(drawing)
                 canvas.paint()
                 canvas.restore()
 
-    def drawing(self, absent: frozenset[str], place: Dots) -> Optional[cairo.Surface]:
-        """Returns the drawing without some parts, in a place of a page."""
-        if self.medium.is_dots:
-            return self.dots(absent, None)
-        return self.recorded(absent, place if self.has_patterns else None)
-
     def begin(self, page: cairo.ImageSurface, absent: frozenset[str]) -> None:
-        """Copies the drawing to a page that is one label: Cairo would take as long for it as for
-        all else.
-        """
+        """Copies the drawing to a page that is one label: Cairo would be slow."""
         drawing = self.dots(absent, (page.get_width(), page.get_height()))
         if drawing:
             page.flush()
             page.get_data()[:] = drawing.get_data()
             page.mark_dirty()
+
+    def draw_white(self, canvas: Any, codes: Codes, turn: int) -> None:
+        """Draws what is white below codes, in a PDF over a black dot: Cairo names a colour there if
+        it is another one than before, and letters may be white.
+        """
+        if self.medium.is_pdf:
+            symbol, place = codes[0]
+            box = white_of(symbol)[0]
+            dot = Box(box.left + box.width // 2, box.top + box.height // 2, 1, 1)
+            self.fill_white(canvas, [White((dot,), symbol.box, symbol.place.quarters, place)], turn)
+        super().draw_white(canvas, codes, turn)
 
     def texts(self, item: LaidOut) -> Iterator[Placed]:
         """Yields the texts of a label, each of which is drawn before the next one is fitted."""
