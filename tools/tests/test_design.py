@@ -612,6 +612,23 @@ class Drawings(OwnPages):
             self.assertTrue((dots >= sharp).all())
             self.assertFalse(dots[:150][beside(sharp[:150])].any(), colour)
 
+    def test_what_is_thin_is_no_tint(self) -> None:
+        """Words in a light colour are black, and those on a dark one white."""
+        word = '<text x="5" y="9" font-size="4" font-family="DejaVu Sans" fill="{}">Word</text>'
+        band = '<path fill="{}" d="M0 0H60V19H0Z"/>' + word
+        black = dots_of(self.found(word.format("black") + CODE, [("code128 A", {})]))[:150]
+        for colour in ("orange", "yellow", "lightgreen", "#999", "#ddd"):
+            dots = dots_of(self.found(word.format(colour) + CODE, [("code128 A", {})]))[:150]
+            self.assertGreater((dots & black).sum(), 0.5 * black.sum(), colour)
+            self.assertLess(dots.sum(), 1.3 * black.sum(), colour)
+        for colours in (("#003", "#06c"), ("#000", "#666"), ("blue", "red"), ("#555", "#000")):
+            drawn = band.format(*colours) + CODE
+            dots = 1 - dots_of(self.found(drawn, [("code128 A", {})]))[8:140, 8:470]
+            near = sum(numpy.roll(black, by, (0, 1)) for by in numpy.ndindex(9, 9))
+            near = numpy.roll(near > 0, (-4, -4), (0, 1))[8:140, 8:470]
+            self.assertGreater(dots.sum(), 0.5 * black.sum(), colours)
+            self.assertFalse((dots > near).any(), colours)
+
     def test_letters_have_the_colour_of_their_place_where_it_is_read(self) -> None:
         for fill, behind, colour in (
             ('fill="red"', "none", (1, 0, 0)),

@@ -13,10 +13,15 @@ from labeltools.paper.area import Dots
 DARKEST = 128  # the lightness from which on a dot is white
 FAINT = 191  # the lightness up to which a dot may be of a line that is thinner
 CLEAR = bytes((*range(DARKEST), *range(FAINT + 1, 256)))
-THIN = re.compile(b"(?<=[\xc0-\xff])[\x80-\xbf]{1,2}(?=[\xc0-\xff])")  # between light dots
+THIN = re.compile(  # between white dots
+    b"(?<=[\xf8-\xff])(?:[\x80-\xf7][\x80-\xbf]|[\x80-\xbf][\xc0-\xf7]?)(?=[\xf8-\xff])"
+)
 FAINTEST = 250  # the lightness from which on a tint is as white
-HALVES = bytes(DARKEST) + b"\xff" * (256 - DARKEST)
 TINTS = bytes(range(FAINTEST)) + b"\xff" * (256 - FAINTEST)
+WIDE = 3  # dots: a dot of a tint that is dithered has so many of it on each side
+PALE = 236  # the lightness from which on less of it is dithered too
+INKLESS = 0.6  # from a dot beside it to white: where a dot of such a line is white
+UNLIKE = 16  # by how much a dot is lighter than the dark around it that is white beside it
 Ends = tuple[int, int, int, int]  # left, upper, right and lower ends of what is spared
 
 
@@ -28,16 +33,12 @@ class Drawing:
     def __init__(self, light: bytes, size: Dots, spared: Iterable[Ends]) -> None:
         rows = with_thin_lines(light, size[0], spared)
         picture = Image.frombytes("L", size, b"".join(rows))
-        dark = picture.point(HALVES)
-        near = dark.filter(ImageFilter.MinFilter(3))  # beside dark dots, whose edges stay sharp
-        tint = Image.composite(picture.point(TINTS), Image.new("L", size, 255), near)
-        self.tint = tint.convert("1")
-        self.picture = ImageChops.logical_and(dark.convert("1"), self.tint)
-
-    @property
-    def has_ink(self) -> bool:
-        """Whether it has a black dot."""
-        return bool(self.picture.getextrema()[0] == 0)
+        dark = at_least(DARKEST, picture)
+        white = Image.new("L", size, 255)  # so is what is beside dark dots: their edges stay sharp
+        tint = Image.composite(picture.point(TINTS), white, inner(dark, 1))
+        self.tint = with_black(tint).convert("1")
+        drawn = ImageChops.lighter(dark, light_in_dark(picture, dark))
+        self.picture = ImageChops.logical_and(drawn.convert("1"), self.tint)
 
     def is_tinted(self, ends: Ends) -> bool:
         """Returns whether it has dots of tints there."""
@@ -53,6 +54,39 @@ class Drawing:
         surface.get_data()[:] = page.tobytes("raw", "1;IR", surface.get_stride())
         surface.mark_dirty()
         return surface
+
+
+def at_least(light: int, picture: Image.Image) -> Image.Image:
+    """Returns a picture that is white where another one has a lightness, and black elsewhere."""
+    return picture.point(bytes(light) + b"\xff" * (256 - light))
+
+
+def inner(white: Image.Image, dots: int) -> Image.Image:
+    """Returns what is white with so many white dots on each side."""
+    return at_least(255, white.filter(ImageFilter.BoxBlur(dots)))
+
+
+def with_black(tint: Image.Image) -> Image.Image:
+    """Returns tints of which lines and letters that are too thin for a dither are black."""
+    pale = at_least(PALE, tint)
+    ink = ImageChops.invert(pale)
+    if not ink.getbbox():
+        return tint
+    wide = at_least(1, inner(ink, WIDE).filter(ImageFilter.BoxBlur(2 * WIDE + 1)))
+    darkest = tint.filter(ImageFilter.MinFilter(3))
+    white = Image.new("L", tint.size, 255)
+    thin = at_least(1, ImageChops.subtract(tint, Image.blend(darkest, white, INKLESS)))
+    return Image.composite(tint, thin, ImageChops.lighter(pale, wide))
+
+
+def light_in_dark(picture: Image.Image, dark: Image.Image) -> Image.Image:
+    """Returns what is lighter than the dark around it, in white: words on a dark colour."""
+    within = inner(ImageChops.invert(dark), WIDE)
+    if at_least(UNLIKE, ImageChops.darker(picture, within)).getbbox():
+        around = picture.filter(ImageFilter.BoxBlur(WIDE))
+        lighter = at_least(UNLIKE, ImageChops.subtract(picture, around))
+        return ImageChops.darker(lighter, within)
+    return Image.new("L", picture.size, 0)
 
 
 def with_thin_lines(light: bytes, wide: int, spared: Iterable[Ends]) -> list[bytes]:

@@ -67,7 +67,8 @@ class OwnPen(Pen):
         ends = {place: ends_of(place, scale) for place in self.design.places}
         drawing = Drawing(light, (wide, high), [ends[place] for place in ends if place.is_symbol])
         self.tinted.update(place for place in ends if drawing.is_tinted(ends[place]))
-        return drawing.surface(size or (wide, high)) if drawing.has_ink else None
+        has_ink = drawing.picture.getextrema()[0] == 0
+        return drawing.surface(size or (wide, high)) if has_ink else None
 
     def draw_below(self, canvas: Any, page: Page, is_turned: bool) -> None:
         """Draws what is alike on the labels of a page."""
