@@ -9,11 +9,13 @@ is hidden by a style sheet.
 import os
 import re
 import resource
+import signal
 import zlib
 from base64 import b64decode
 from dataclasses import dataclass
 from functools import cached_property, lru_cache
 from io import BytesIO
+from pathlib import Path
 from typing import Any, Iterable, NoReturn
 from xml.etree import ElementTree
 from xml.etree.ElementTree import Element
@@ -35,6 +37,7 @@ PX = 25.4 / DPI  # millimetres
 MOST_BYTES = 8_000_000
 MOST_SECONDS = 5  # of a processor, in which a page has to be drawn
 MOST_MEMORY = 500_000_000  # bytes that this may take
+LONGEST = 120  # seconds that it may wait, as for a lock of a thread that the process does not have
 MOST_PIXELS = 25_000_000  # of a picture: each takes 16 bytes when it is drawn
 TRIED = 1000  # dots of each side of what it is drawn on then
 LARGEST = 4000.0  # millimetres of a page
@@ -159,7 +162,9 @@ def try_to_draw(file: str, data: bytes) -> NoReturn:
     try:
         resource.setrlimit(resource.RLIMIT_CORE, (0, 0))
         resource.setrlimit(resource.RLIMIT_CPU, (MOST_SECONDS, MOST_SECONDS))
-        resource.setrlimit(resource.RLIMIT_DATA, (MOST_MEMORY, MOST_MEMORY))
+        used = int(Path("/proc/self/statm").read_text().split()[5]) * resource.getpagesize()
+        resource.setrlimit(resource.RLIMIT_DATA, (used + MOST_MEMORY, used + MOST_MEMORY))
+        signal.alarm(LONGEST)
         os.dup2(os.open(os.devnull, os.O_WRONLY), 2)  # where librsvg says why it gives up
         surface = cairo.ImageSurface(cairo.FORMAT_ARGB32, TRIED, TRIED)
         area = rectangle(0, 0, TRIED, TRIED, 1.0)
