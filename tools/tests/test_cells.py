@@ -287,6 +287,34 @@ class Looks(CellTest):
             data = self.of_ods("12.49", own=style)
             self.check_price(data, price, "" if price else IS_UNSEEN)
 
+    def test_a_condition_that_takes_letters_away_is_reported(self) -> None:
+        """The cells are read as they are without it: only the spreadsheet knows which it strikes."""
+        report = "a condition of the spreadsheet strikes letters out or hides them, "
+        report += "and is not read: choose rows by --where"
+        white = '<color rgb="FFFFFFFF"/>'
+        after = '<conditionalFormatting sqref="A2:C9"><cfRule type="expression" dxfId="1" '
+        after += 'priority="1"><formula>D2="x"</formula></cfRule></conditionalFormatting>'
+        for font, fill, of_ods, is_said in (
+            ("<strike/>", "", STRIKES, True),
+            (white, "", f'{COLOURS} fo:color="#ffffff"', True),
+            (white, "<fill><patternFill/></fill>", STRIKES_NOT, False),
+            ('<color rgb="FFFF0000"/>', "", RAISES, False),
+        ):
+            styles = f"<dxfs><dxf/><dxf><font>{font}</font>{fill}</dxf></dxfs>"
+            data = xlsx(rows(HEAD, [PENCIL, "Tea", 1.25]), after=after, styles=styles)
+            self.assertEqual(self.ran(data, *PRICED), (["1.25"], [report] * is_said), font)
+            named = ods_style("ce1", "table-cell", "").replace(
+                "</", '<style:map style:apply-style-name="By"/></'
+            )
+            styles = named + ods_style("By", "table-cell", of_ods)
+            data = ods(table(HEAD, [PENCIL, "Tea", "1.25"]), styles=styles)
+            self.assertEqual(self.ran(data, *PRICED), (["1.25"], [report] * is_said), of_ods)
+
+    def test_a_number_that_a_narrow_column_of_ods_hides(self) -> None:
+        number = ods_cell("###", "float", 'office:value="47"')
+        titles, said = self.ran(ods(table(HEAD, [PENCIL, number])), *PRICED[:4])
+        self.assertEqual((titles, 'the value 47 and the text "###"' in said[0]), ([], True))
+
     def test_a_row_without_height_is_hidden(self) -> None:
         cases: List[Tuple[str, List[str]]] = [("0", []), ("15", ["14.25"])]
         for height, prices in cases:

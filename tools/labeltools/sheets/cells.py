@@ -48,6 +48,10 @@ WITHOUT = Text("enter it again without them")
 SIZES = Text("has digits of two sizes side by side, as for cents without a decimal sign")
 SAME_SIZE = 0.9  # of two sizes of letters: a smaller share is another size
 RAISED = Text("is a number that is raised or lowered")
+CONDITION = Text(
+    "a condition of the spreadsheet strikes letters out or hides them, and is not read"
+)
+CONDITION_HINT = Text("choose rows by --where")
 
 
 class Kind(Enum):

@@ -14,7 +14,7 @@ from labeltools.common.text import Text
 from labeltools.common.messages import RowError, Talk, ToolError, quoted
 from labeltools.sheets.number_format import DAY_ZERO, Formatter, date_section, date_text, digits_of
 from labeltools.sheets.cells import Cell, Fault, Form, Kind, Mark, RAISED, Special, Truth
-from labeltools.sheets.cells import no_value, text_of_runs
+from labeltools.sheets.cells import CONDITION, CONDITION_HINT, NO_LETTERS, no_value, text_of_runs
 from labeltools.sheets.rows import Merge, Row
 from labeltools.sheets.workbook import (
     LARGEST_ROW,
@@ -81,7 +81,8 @@ class Number(Special):
             is_right = not value or is_date_of(self.text, value)
         else:
             is_right = self.text == value or is_text_of(self.text, value)
-        if not is_right:
+        is_narrow = self.text != "" and not self.text.strip("#")  # the column of the cell
+        if is_narrow or not is_right:
             what = Text("has the value {} and the text {}", value, quoted(self.text))
             raise RowError(what, SAVE_AGAIN)
 
@@ -115,6 +116,7 @@ class Styles:
     own: dict[tuple[str, str], dict[str, str]] = field(default_factory=dict)
     parents: dict[tuple[str, str], str] = field(default_factory=dict)
     hidden: set[str] = field(default_factory=set)  # styles of tables that nobody sees
+    of_conditions: set[str] = field(default_factory=set)  # styles that conditions give
     last: tuple[str, str] = ("", "")  # the style that is read
     forms: dict[tuple[str, str], Form] = field(default_factory=dict)  # those that were asked for
 
@@ -131,6 +133,8 @@ class Styles:
             self.own[self.last] |= found
         elif name == "table-properties" and found.get("display") == "false":
             self.hidden.add(self.last[1])
+        elif name == "map":
+            self.of_conditions.add(found.get("apply-style-name", ""))
 
     def said(self, family: str, name: str) -> dict[str, str]:
         """Returns what a style and its parents say, up to the default style."""
@@ -141,6 +145,10 @@ class Styles:
                 break
             name = self.parents.get((family, name), "")
         return found
+
+    def has_condition(self) -> bool:
+        """Returns whether a condition takes letters away."""
+        return any(self.form(one).mark in NO_LETTERS for one in self.of_conditions)
 
     def form(self, cell: str, span: str = "") -> Form:
         """Returns the form of the letters of a cell by its style, and by that of letters in it."""
@@ -180,7 +188,7 @@ def styles_of(archive: ZipFile) -> Styles:
 
 
 def rows_of_ods(
-    archive: ZipFile, wanted: str | None, formatter: Formatter, _: Talk
+    archive: ZipFile, wanted: str | None, formatter: Formatter, talk: Talk
 ) -> Iterator[Row]:
     """Yields the rows of the sheet that is wanted, else of the only one that is visible and has
     data.
@@ -188,7 +196,9 @@ def rows_of_ods(
     reader = RowReader(archive, formatter)
     found = groupby(reader.read(archive, CONTENT), lambda one: one[0])
     sheets = (Sheet(head.name, head.is_visible, (row for _, row in rows)) for head, rows in found)
-    return chosen(sheets, wanted)
+    yield from chosen(sheets, wanted)
+    if reader.styles.has_condition():
+        talk.say(CONDITION, CONDITION_HINT)
 
 
 Line = str | list[tuple[str, str]]  # of a cell: a text, or texts each with the style of its letters

@@ -13,7 +13,7 @@ from labeltools.common.text import Text
 from labeltools.common.messages import RowError, Talk, ToolError
 from labeltools.sheets.number_format import BUILT_IN, BUILT_IN_DATES, Formatter, LANGUAGE
 from labeltools.sheets.cells import Cell, Fault, Form, Kind, Mark, PLAIN, Special, Truth, no_value
-from labeltools.sheets.cells import formed, text_of_runs
+from labeltools.sheets.cells import CONDITION, CONDITION_HINT, NO_LETTERS, formed, text_of_runs
 from labeltools.sheets.rows import Merge, Row
 from labeltools.sheets.workbook import (
     LARGEST_TEXTS,
@@ -113,6 +113,13 @@ class Look(NamedTuple):
     form: Form
 
 
+class Looks(NamedTuple):
+    """The styles of a file by their numbers, and the forms of letters that conditions give."""
+
+    of_cells: Mapping[str, Look]
+    of_conditions: Sequence[Form]
+
+
 @dataclass
 class Book:
     """What all sheets of a file share; its strings and its styles by their numbers.
@@ -123,7 +130,7 @@ class Book:
     """
 
     strings: Mapping[str, str | Runs]
-    looks: Mapping[str, Look]
+    looks: Looks
     formatter: Formatter
     is_from_1904: bool
     is_stale: bool
@@ -209,7 +216,7 @@ def sheets_of(archive: ZipFile, path: str, formatter: Formatter, talk: Talk) -> 
         kind, part = targets[sheet["id"]]
         if kind == "worksheet":
             is_visible = sheet.get("state", "visible") == "visible"
-            reader = SheetReader(book, beside_of(archive, part))
+            reader = SheetReader(book, beside_of(archive, part, looks))
             yield Sheet(sheet["name"], is_visible, reader.read(archive, part))
 
 
@@ -219,9 +226,10 @@ def strings_of(archive: ZipFile, part: str) -> dict[str, str | Runs]:
     return {str(number): string for number, string in enumerate(strings)}
 
 
-def looks_of(archive: ZipFile, part: str) -> dict[str, Look]:
-    """Returns the styles by their numbers."""
+def looks_of(archive: ZipFile, part: str) -> Looks:
+    """Returns the styles of a file."""
     looks: dict[str, Look] = {}
+    of_conditions: list[Form] = []
     by_number = {**BUILT_IN, **BUILT_IN_DATES}
     fonts: list[Form] = []
     are_filled: list[bool] = []
@@ -240,7 +248,13 @@ def looks_of(archive: ZipFile, part: str) -> dict[str, Look]:
         elif path == "cellXfs/xf":
             number_format = by_number.get(found.get("numFmtId", "0"), LANGUAGE)
             looks[str(len(looks))] = Look(number_format, form_of(found, fonts, are_filled))
-    return looks or {"0": Look("General", PLAIN)}
+        elif path == "dxfs/dxf":
+            of_conditions.append(PLAIN)
+        elif outer == "dxfs/dxf/font":
+            of_conditions[-1] = having(of_conditions[-1], name, found)
+        elif outer == "dxfs/dxf/fill":
+            of_conditions[-1] = of_conditions[-1].within(Form(is_filled=True))
+    return Looks(looks or {"0": Look("General", PLAIN)}, of_conditions)
 
 
 def form_of(found: Mapping[str, str], fonts: Sequence[Form], are_filled: Sequence[bool]) -> Form:
@@ -285,15 +299,16 @@ def relations(archive: ZipFile, path: str) -> dict[str, Target]:
 
 @dataclass
 class Beside:
-    """What a sheet has beside its rows: the merged cells by their first row, and the addresses that
-    cells lead to, by row and place.
+    """What a sheet has beside its rows: the merged cells by their first row, the addresses that
+    cells lead to, by row and place, and whether a condition takes letters away.
     """
 
     merges: dict[int, list[Merge]] = field(default_factory=dict)
     links: dict[int, dict[int, str]] = field(default_factory=dict)
+    has_condition: bool = False
 
 
-def beside_of(archive: ZipFile, path: str) -> Beside:
+def beside_of(archive: ZipFile, path: str, looks: Looks) -> Beside:
     """Returns what a sheet has beside its rows, most of which is below them."""
     beside = Beside()
     targets: dict[str, Target] = {}
@@ -307,6 +322,9 @@ def beside_of(archive: ZipFile, path: str) -> Beside:
             place_in_page = f"#{found['location']}" if found.get("location") else ""
             address = targets[found["id"]].path + place_in_page
             beside.links.setdefault(row, {})[place] = address
+        elif name == "conditionalFormatting/cfRule" and "dxfId" in found:
+            form = looks.of_conditions[whole(found["dxfId"])]
+            beside.has_condition = beside.has_condition or form.mark in NO_LETTERS
     return beside
 
 
@@ -338,6 +356,8 @@ class SheetReader(Strings[Row]):
             self.begin_row(attributes)
         elif name == ROWS:
             self.has_rows = True
+            if self.beside.has_condition:
+                self.book.talk.say(CONDITION, CONDITION_HINT)
         else:
             super().begun(name, attributes)
 
@@ -371,7 +391,7 @@ class SheetReader(Strings[Row]):
         place = place_of(reference.rstrip("0123456789")) if reference else len(cells)
         if place < len(cells):
             raise out_of_order(self.number)
-        look = self.book.looks[self.cell.get("s", "0")]
+        look = self.book.looks.of_cells[self.cell.get("s", "0")]
         cell = self.cell_by(look)
         filled(cells, place).append(cell)
         if isinstance(cell, str):
