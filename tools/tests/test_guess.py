@@ -182,6 +182,9 @@ class Guesses(unittest.TestCase):
             self.assertEqual(guessed(f"{above}{names}\n{row}\n").header, header, above)
         found = guessed("4006381333931;Kerze;1,20\n96385074;Docht;0,80\n")
         self.assertEqual((found.header, found.columns["price"]), (0, 2))
+        for place in ("A-01-", "SN-4711-000", "https://t.example/"):  # a name of the form of codes
+            found = guessed(f"{place}1\n{place}2\n{place}3\n")
+            self.assertEqual((found.header, found.columns), (0, {"code": 0}), place)
         said = guessed(f"{names}\n{row}\n", TableOptions(file=FileOptions(has_header=False)))
         self.assertEqual(said.header, 0)
         said = guessed(f"{row}\n{names}\n", TableOptions(file=FileOptions(header_row=1)))

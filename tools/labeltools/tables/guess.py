@@ -35,6 +35,7 @@ ARTICLE = re.compile(
 )
 AMOUNT = re.compile("[0-9]{1,6}(?:[.,][0-9]+)?")
 COUNT = re.compile("[0-9]{1,3}")
+DIGITS = re.compile("[0-9]+")
 LETTERS = re.compile(r"(?:[^\W\d][\W\d]*){6}")  # those that a title has
 NO_BARS = re.compile(".*://.*|.{31,}")
 FOLDED = str.maketrans("łøđðı", "loddi")  # letters that Unicode does not take apart
@@ -121,25 +122,36 @@ class Guess:
         """The symbology of the codes, or of the first column that may have them."""
         return next(iter(self.symbologies.values()), AUTO)
 
+    def is_named_as_code(self, at: int) -> bool:
+        """Returns whether the name of a column is of the form of its codes: it is one of them.
+
+        >>> Guess(["A-01"], {}, {}, 1, ["A-02"]).is_named_as_code(0)
+        True
+        """
+        name, example = self.names[at], self.examples[at]
+        return bool(DIGITS.search(name)) and DIGITS.sub("0", name) == DIGITS.sub("0", example)
+
 
 def guess_of(data: bytes, name: str, options: TableOptions, talk: Talk) -> Guess:
     """Returns a guess of a table; raises `ToolError` where it cannot be read."""
     start = head_of(data, name, options, talk)
-    rows = [start.head.row, *islice(start.rows, SAMPLE)]
-    file = options.file
+    file, head = options.file, start.head.row
+    below = list(islice(start.rows, SAMPLE))
     if file.has_header is None and file.header_row is None:
         # the names have more than half as many cells as any row; what is above is a title
+        rows = [head, *below]
         counts = [sum(map(bool, names_of(row))) for row in rows]
         top = next(row for row, count in zip(rows, counts) if 2 * count > max(counts))
+        named = replace(file, has_header=True, header_row=top.number)
+        found = guess_of(data, name, replace(options, file=named), talk)
         is_article = share([one for one in names_of(top) if one], is_code) > 0
-        row = None if is_article else top.number
-        file = replace(file, has_header=not is_article, header_row=row)
+        if not is_article and not any(map(found.is_named_as_code, found.symbologies)):
+            return found
+        file = replace(file, has_header=False)
         return guess_of(data, name, replace(options, file=file), talk)
-    has_names = file.has_header is not False
-    names = names_of(rows[0]) if has_names else ()
-    below = [texts_of(row) for row in rows[has_names:] if not (row.problem or row.is_blank())]
-    columns = list(zip_longest(names, *below, fillvalue=""))
-    return guess(columns, rows[0].number if has_names else 0)
+    cells = [texts_of(row) for row in below if not (row.problem or row.is_blank())]
+    columns = list(zip_longest(start.head.names, *cells, fillvalue=""))
+    return guess(columns, 0 if file.has_header is False else head.number)
 
 
 def guess(columns: Sequence[Sequence[str]], header: int) -> Guess:
