@@ -1174,6 +1174,10 @@ class Data(TableTest):
         self.check("code\nLOT 6\nLOT 7;Name\n", [*arguments, "--delimiter", "none"], lines)
         self.check('code\nLOT 6\n"LOT 7;Name"\n', arguments, lines)
         self.check(f"code\n{SMALL}\n", ["--code", "code"], [f"ean8 {SMALL}"])
+        ask = "row 1 has \"^\": give --delimiter '^' if it is between cells, --delimiter none if it"
+        table = f"code^Name\n{SMALL}^Tea\n"
+        self.check(table, ["--code", "code"], [], [f"{ask} is data"], 2)
+        self.check(table, ["--code", "code", "--delimiter", "^"], [f"ean8 {SMALL}"])
 
 
 class Arguments(TableTest):

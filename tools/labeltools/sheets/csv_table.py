@@ -20,6 +20,7 @@ MOST_LINE_ENDS = 1_200_000  # a spreadsheet has at most 1,048,576 rows
 ROWS_LOOKED_AT = 1000  # for the delimiter
 NAMES_LOOKED_AT = 50  # for the row of names
 MARKS = "\t;,|"  # delimiters that are found by themselves
+RARE = "^~"  # those that are asked for
 ONE_COLUMN = "\x1f"  # a delimiter that no table has
 DELIMITERS = {"tab": "\t", "none": ONE_COLUMN}
 # the first line in which some exports name the delimiter for Excel; no spreadsheet shows it as a
@@ -193,8 +194,10 @@ def delimiter_of(text: str, begin: int, given: str | None, options: CsvOptions) 
         return later
     if is_cut and is_sure(text, begin, best, options):
         return best
-    if is_cut or options.is_free:
-        refuse_delimiter(text, begin, [best] if is_cut else marks)
+    first = LINE.match(text, begin)
+    rare = [mark for mark in RARE if first and mark in first[0]]
+    if is_cut or rare or options.is_free:
+        refuse_delimiter(text, begin, [best] if is_cut else rare or marks)
     return ONE_COLUMN
 
 
