@@ -230,6 +230,10 @@ class Prices(RulesTest):
             ),
             ("5 €", "5 CHF"): "the prices have several currencies: CHF, EUR",
             ("1.234", "0,80"): "",
+            ("1,234", "0,80"): (
+                "1,234 in row 2 may have thousands or decimals: it is printed as it is"
+            ),
+            ("1,005", "1234,500"): "",
         }
         for prices, wanted in cases.items():
             text = "".join(f"{code};{price}\n" for code, price in zip((SMALL, BOOK), prices))

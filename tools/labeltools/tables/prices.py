@@ -59,14 +59,15 @@ class Seen(NamedTuple):
 class PriceColumn:
     """What the cells of a price column say together.
 
-    `decimal` is the decimal sign where it is known before. `forms` and `kinds` are what was seen:
-    decimal signs with the decimals after them, prices that may have thousands or decimals, and
-    zeros.
+    `decimal` is the decimal sign where it is known before. `forms`, `open` and `zeros` are what was
+    seen: decimal signs with the decimals after them, prices that may have thousands or decimals, by
+    their sign, and zeros.
     """
 
     decimal: str | None = None
     forms: dict[str, Seen] = field(default_factory=dict)
-    kinds: dict[str, Seen] = field(default_factory=dict)
+    open: dict[str, Seen] = field(default_factory=dict)
+    zeros: dict[str, Seen] = field(default_factory=dict)
     groups: set[str] = field(default_factory=set)
     lengths: Counter[int] = field(default_factory=Counter)
     currencies: set[str] = field(default_factory=set)
@@ -76,7 +77,7 @@ class PriceColumn:
     def add(self, row: int, price: Money, currency: str = "") -> None:
         """Takes the price of a row; the currency may be in a column of its own."""
         if price.is_open:
-            see(self.kinds, "open", row, price.text)
+            see(self.open, price.group, row, price.text)
         else:
             self.lengths[price.decimals] += 1
             if price.point in (".", ",") and not price.unit:
@@ -84,7 +85,7 @@ class PriceColumn:
             if price.group:
                 self.groups.add(price.group)
         if not price.value:
-            see(self.kinds, "zero", row, price.text)
+            see(self.zeros, "", row, price.text)
         own = currency_of(plain(currency), plain(currency)) if currency else price.currency
         if own and own != "cent":
             self.currencies.add(ONE_SIGN.get(own, own))
@@ -107,6 +108,13 @@ class PriceColumn:
         return self.lengths.most_common(1)[0][0] if self.lengths else 0
 
     @property
+    def has_three_decimals(self) -> bool:
+        """Whether its decimal sign may have three decimals after it: most cells have three, or none
+        has a sign of thousands, though it is a thousand or more.
+        """
+        return self.decimals == 3 or self.has_thousands
+
+    @property
     def are_bare(self) -> bool:
         """Whether its cells have whole numbers alone, without a currency or a sign of cents."""
         return set(self.lengths) == {0} and not self.currencies and not self.has_cents
@@ -124,8 +132,9 @@ class PriceColumn:
             )
             pattern = f"0{self.point or '.'}00"
             yield Said(said, Text("give --price-as '{}', or another pattern", pattern))
-        if "open" in self.kinds and not self.point:
-            row, text, rows = self.kinds["open"]
+        for sign, (row, text, rows) in self.open.items():
+            if self.point and (self.point != sign or self.has_three_decimals):
+                continue
             where = Text("{} in row {}", text, row)
             if rows > 1:
                 where = Text("{} in row {} and {} more", text, row, rows - 1)
@@ -135,8 +144,7 @@ class PriceColumn:
 
     def says_of_values(self) -> Iterator[Said]:
         """Yields what is said once, also of prices that are written anew."""
-        if "zero" in self.kinds:
-            row, text, rows = self.kinds["zero"]
+        for row, text, rows in self.zeros.values():
             yield Said(Text("row {} has the price {} ({})", row, text, rows_text(rows)))
         if len(self.currencies) > 1:
             listed = ", ".join(sorted(self.currencies))
@@ -206,8 +214,7 @@ def settled(price: Money, column: PriceColumn, pattern: "PricePattern | None" = 
         raise NotMoney(THOUSANDS_OR_DECIMALS, DECIMAL_HINT)
     if column.point != price.group:
         return replace(price, is_open=False)
-    is_known = column.decimals == 3 or column.has_thousands or price.currency in WITH_THREE_DECIMALS
-    if not is_known:
+    if not column.has_three_decimals and price.currency not in WITH_THREE_DECIMALS:
         raise NotMoney(
             Text("has three digits behind {}, which is the decimal sign of its column", price.group)
         )
