@@ -481,13 +481,6 @@ class Texts(CellTest):
             titles, said = self.ran(f"EAN;Name\n{PENCIL};{text}\n".encode(), *PRICED[:4])
             self.assertEqual((titles, said), ([text], []))
 
-    def test_what_a_program_writes_without_a_value(self) -> None:
-        for text in ("(NULL)", "[none]", "\\N", "NA", "5,9E+12"):
-            data = f"EAN;Name\n{PENCIL};{text}\n{SMALL};Na\n".encode()
-            titles, said = self.ran(data, *PRICED[:4])
-            self.assertEqual((titles, len(said)), (["Na"], 1), text)
-            self.assertIn("row 2", said[0])
-
     def test_what_another_program_has_left_is_said_once(self) -> None:
         for text in ("Tee &amp; Co", "<b>Tee</b>", "Tee<br/>", "Gr&#252;ntee"):
             data = f"EAN\tName\n{PENCIL}\t{text}\n{SMALL}\t{text}\n".encode()
@@ -523,9 +516,15 @@ class Heads(CellTest):
     def test_the_same_names_end_no_table(self) -> None:
         """Lists have them on each page; an article may be called as a column is."""
         words = ["--code", "EAN", "--title", "Name", "--price", "VK"]
-        for head in ("EAN;Name;VK;Stock", "EAN;Name;VK;", ";Name;;"):
+        again = "row 3: the row has the names of the columns again"
+        empty = 'row 3: column 1 ("EAN") is empty'
+        for head, problem in (
+            ("EAN;Name;VK;Stock", again),
+            ("EAN;Name;VK;", again),
+            (";Name;;", empty),
+        ):
             data = f"EAN;Name;VK;Stock\n{PENCIL};Tea;3,33;7\n{head}\n{SMALL};Tea;2,22;7\n".encode()
-            self.assertEqual(self.ran(data, *words)[0], ["3,33", "2,22"], head)
+            self.assertEqual(self.ran(data, *words), (["3,33", "2,22"], [problem]), head)
         data = f"Code;Name;VK\nName;VK;3,33\n{SMALL};Tea;2,22\n".encode()
         free = ["--code", "Code", "--price", "VK", "--symbology", "code128"]
         prices, said = self.ran(data, *free)

@@ -366,39 +366,6 @@ NO_PRICES = (
 )
 # amounts of three columns, and the number of the one that is the price; 0 where only the keeper
 # knows it
-AMOUNTS = (
-    # one of them is without its tax of 19 and of 7 %
-    ("VK 1;8,39 7,55 11,76 2,80;Preis mit MwSt;9,99 8,99 13,99 2,99;UVP;9,99 9,49 13,99 3,19", 2),
-    # what names do not say, but last digits do; and a price that is reduced by a fifth
-    ("Preis I;7,97 10,50 5,03 3,18;Preis II;9,49 12,49 5,99 3,79;Marge;1 2 3 4", 2),
-    ("Preis I;8,00 16,00 4,00 2,40;Preis II;10,00 20,00 5,00 2,99;Marge;1 2 3 4", 0),
-    # a price of the shop near to what a maker recommends, and one of a dealer
-    ("Price;9,99 18,50 4,99 7,00;MSRP;9,99 19,99 4,99 7,49;Weight;1,10 2,20 1,50 3,10", 1),
-    ("Price;4,99 9,99 2,49 3,75;MSRP;9,99 19,99 4,99 7,49;Weight;1,10 2,20 1,50 3,10", 0),
-    # what a maker recommends is empty in most rows; a new price is there for some articles
-    ("Prijs;9,99 18,50 4,99 7,00;Adviesprijs;- - 5,99 -;Marge;1 2 3 4", 1),
-    ("VK;9,99 18,50 4,99 7,00;VK neu;- - 5,99 -;Marge;1 2 3 4", 0),
-    ("Prezzo scaffale;9,99 18,50 4,99 7,00;Prezzo cantina;5,10 9,90 2,60 3,80;Sconto;1 2 3 4", 1),
-    # a total that is the price with its tax, and columns of zeros
-    ("Venta (neta);2,08 3,50 4,16 5,00;Venta;2,08 3,50 4,16 5,00;Total;2,50 4,20 4,99 6,00", 0),
-    ("Retail price;0,00 0,00 0,00 0,00;Sale price;0,00 0,00 0,00 0,00;Price;2,50 4,20 4,99 6", 3),
-    # the name in brackets says that the tax is in it
-    ("Tarifa 1;8,26 4,13 2,07 1,65;Tarifa 1 (IVA incl.);9,99 5 2,50 2;Marge;1 2 3 4", 2),
-    # a price for a while that one row has; one from a day on is asked, and one that is above
-    ("Prix promo;- 9,99 - -;Prix;9,99 18,50 4,99 7,00;Marge;1 2 3 4", 2),
-    ("VK ab 1.12.;- 9,99 - -;VK;9,99 18,50 4,99 7,00;Marge;1 2 3 4", 0),
-    ("Prix promo;- 19,99 - -;Prix;9,99 18,50 4,99 7,00;Marge;1 2 3 4", 0),
-    # an abbreviation of what the shop pays, unless it is near to what customers pay
-    ("IP EUR;4,10 9,20 2,05 3,00;VP EUR;9,99 18,50 4,99 7,00;Marge;1 2 3 4", 2),
-    ("EP EUR;9,10 18,20 4,85 6,90;VP EUR;9,99 18,50 4,99 7,00;Marge;1 2 3 4", 0),
-    # beside what the shop pays, prices that are below what a maker recommends are its own
-    ("MSRP;9,99 18,50 4,99 7,00;Price;7,99 14,50 3,75 5,80;Cost;4 7 2 3", 2),
-    ("MSRP;9,99 18,50 4,99 7,00;Price;3,99 6,50 1,75 2,80;Cost;4 7 2 3", 0),
-    # the price of a carton
-    ("Preis/Krt;60 90 24 42;VK mit MwSt;9,99 18,50 4,99 7,00;Marge;1 2 3 4", 2),
-    # the net price beside what the maker recommends with its tax
-    ("Händler;5,00 7,00 8,00 9,99;UVP inkl. MwSt.;12,00 24,00 6,00 3,60;unser Preis;10 20 5 3", 3),
-)
 NUMBERS = (("30-11821", "30-11822", "77-40013"), ("KB-2001", "KB-2002", "KB-2003"))
 CODES = ("4006381333931", "9780306406157", "5901234123457")
 LOW, HIGH = ("1,20", "8,40", "2,05"), ("1,99", "12,49", "3,10")
@@ -462,16 +429,6 @@ class Prices(unittest.TestCase):
         self.assertIn(found.columns.get("price", -1) + 1, {place, 0}, names)
         self.assertEqual("price" in found.columns, not asked, names)
         self.assertTrue(not (asked and place) or place - 1 in asked, names)
-
-    def test_amounts_without_a_sure_name_are_asked_about(self) -> None:
-        for columns, place in AMOUNTS:
-            words = columns.split(";")
-            prices = [
-                [name, *("" if cell == "-" else cell for cell in cells.split())]
-                for name, cells in zip(words[::2], words[1::2])
-            ]
-            found = guess([["EAN", *CODES, "96385074"], *prices], 1)
-            self.check_price(found, place + 1 if place else 0, columns)
 
     def test_what_is_not_named_a_price_is_none(self) -> None:
         for name in NO_PRICES:

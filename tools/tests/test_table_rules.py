@@ -203,9 +203,12 @@ class Prices(RulesTest):
             "\u200f٣٫٩٩ ر.س",
             "1'234.50",
             "12,- €",
+            "12.999,00 zł",
+            "1\u202f299,00\u00a0€",
         ):
             self.assertEqual(self.price(price), price)
         self.assertEqual(self.price("0,80\t€"), "0,80 €")
+        self.assertEqual(self.price('="1,20"'), "1,20")
 
     def test_what_a_column_says_once(self) -> None:
         cases = {
@@ -347,13 +350,6 @@ class Prices(RulesTest):
 
 
 class Copies(RulesTest):
-    def test_copies_are_whole_numbers(self) -> None:
-        for count in ("nan", "TRUE", "1.5", "1e1", "#WERT!"):
-            text = f"EAN;Copies\n{SMALL};{count}\n{BOOK};1\n"
-            status, messages, labels = self.said(text, "--code", "EAN", "--copies", "Copies")
-            self.assertEqual((status, len(labels)), (1, 1))
-            self.assertRegex(messages[0], '^row 2: column 2 \\("Copies"\\)')
-
     def test_a_truth_value_is_no_number_of_copies(self) -> None:
         shown = ods_cell("TRUE", "float", 'office:value="1"')
         book = xlsx(
@@ -379,19 +375,14 @@ class Titles(RulesTest):
         self.assertEqual((status, messages, len(labels)), (0, said, 40))
 
     def test_what_programs_write_is_no_title(self) -> None:
-        for title in ("nan", "NULL", "None", "#VALEUR !", "Fehler:502", "undefined"):
+        titles = ["nan", "NULL", "None", "#VALEUR !", "Fehler:502", "undefined"]
+        for title in (*titles, "(NULL)", "[none]", "\\N", "NA", "5,9E+12"):
             status, messages, labels = self.said(
-                f"EAN;Name\n{SMALL};{title}\n{BOOK};a\n", "--code", "EAN", "--title", "2"
+                f"EAN;Name\n{SMALL};{title}\n{BOOK};Na\n", "--code", "EAN", "--title", "2"
             )
             self.assertEqual(
                 (status, len(labels), quoted(title) in messages[0]), (1, 1, True), title
             )
-
-    def test_html_is_said_once(self) -> None:
-        text = f"EAN,Name\n{SMALL},Salt & pepper\n{BOOK},<b>Tea</b> &amp; tin\n{PENCIL},&uuml;\n"
-        status, messages, labels = self.said(text, "--code", "EAN", "--title", "Name")
-        said = ['row 3 has "<b>Tea</b> &amp; tin", as programs write it: it is printed as it is']
-        self.assertEqual((status, messages, len(labels)), (0, said, 3))
 
     def test_tabs_and_marks_of_the_direction_are_white(self) -> None:
         labels = self.labels(
@@ -454,12 +445,6 @@ class Codes(RulesTest):
         self.check(
             text, self.FREE, [f"code128 {code}" for code in ("A-1", "A-2", "A-3", "Summe")], [said]
         )
-
-    def test_names_that_are_repeated_on_each_page(self) -> None:
-        text = "Art.-Nr.;Name\nA-1;x\nArt.-Nr.;Name\nA-2;y\n"
-        problem = "row 3: the row has the names of the columns again"
-        arguments = ["--code", "Art.-Nr.", "--symbology", "qr"]
-        self.check(text, arguments, ["qr A-1", "qr A-2"], [problem], 1)
 
     def test_add_ons(self) -> None:
         lengths = "ean8 has 8, upca has 12, ean13 has 13"
@@ -850,39 +835,6 @@ class Messages(RulesTest):
             done = support.run("label-table", "--code", "EAN", argument)
             self.assertNotIn(b"\x1b", done.stderr)
             self.assertIn(b"a<U+001B>[2Jb.csv", done.stderr)
-
-
-class OldTables(RulesTest):
-    """Ordinary tables give the same file as ever."""
-
-    def test_a_table(self) -> None:
-        text = (
-            f'EAN;Name;Size;Price;Copies\n{PENCIL};"Pencil\n2B";red;0,80 €;3\n36000291452;Soap;100'
-            " g;0,99 €;1\n"
-        )
-        arguments = (
-            "--code",
-            "EAN",
-            "--fill-zeros",
-            "--title",
-            "Name",
-            "--text",
-            "Size",
-            "--price",
-            "Price",
-        )
-        done = support.run_here(
-            "label-table", *arguments, "--copies", "Copies", input=text.encode()
-        )
-        lines = [
-            '#{"labels":1}',
-            '#{"row":2,"title":"Pencil\\n2B","text":{"Size":"red"},"price":"0,80 €","copies":3}',
-            f"ean13 {PENCIL}",
-            '#{"row":3,"title":"Soap","text":{"Size":"100 g"},"price":"0,99 €","copies":1}',
-            "ean13 0036000291452",
-            '#{"end":1,"lines":2,"left_out":[],"left_out_count":0}',
-        ]
-        self.assertEqual(done.stdout.decode().split("\n"), [*lines, ""])
 
 
 if __name__ == "__main__":

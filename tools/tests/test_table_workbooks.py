@@ -231,14 +231,6 @@ class Xlsx(WorkbookTest):
             (done.returncode, parts_of(done.stdout)[0]), (0, {"labels": 1, "table": str(path)})
         )
 
-    def test_lost_zeros(self) -> None:
-        data = xlsx(
-            rows(["EAN"], [36000291452], [cell(36000291452, style=1)]), formats=["000000000000"]
-        )
-        problem = "row 2: 36000291452 has 11 digits, ean8 has 8, upca has 12, ean13 has 13: "
-        problem += "give --fill-zeros if leading zeros are lost"
-        self.check(data, ["--code", "EAN"], [f"upca {SOAP}"], [problem], 1)
-
     def test_numbers_as_codes(self) -> None:
         formats: List[Union[str, int]] = [
             "0.00E+00",
@@ -250,12 +242,14 @@ class Xlsx(WorkbookTest):
             14,
             "0000",
             "000\\-000",
+            "000000000000",
         ]
         number = int(PENCIL)
         lines = {cell(number, style=style): f"ean13 {PENCIL}" for style in (0, 1, 2, 3, 6)}
         lines["<c><v>4.006381333931E12</v></c>"] = lines[
             "<c><v>4006381333931.0</v></c>"
         ] = f"ean13 {PENCIL}"
+        lines[cell(36000291452, style=10)] = f"upca {SOAP}"
         self.check_codes(lines, "auto", formats)
         again = "enter it again as text"
         texts = {
@@ -460,32 +454,6 @@ class Xlsx(WorkbookTest):
         self.check(data, ["--code", "1", "--no-header"], [f"ean13 {PENCIL}", f"ean8 {SMALL}"])
         hint = "give --no-header if that is a code, --header if it is a name"
         self.check(data, ["--code", "1"], [], [f'row 1 has "{PENCIL}" in column 1: {hint}'], 2)
-
-    def test_openpyxl_writes_what_is_read(self) -> None:
-        try:
-            from openpyxl import Workbook
-        except ImportError:
-            support.skip("openpyxl is not installed")
-        book, stream = Workbook(), io.BytesIO()
-        sheet = book.active
-        for line in (
-            ["EAN", "Name", "Price"],
-            [int(PENCIL), "Käse\n2", 1.5],
-            [SMALL, "=A1", 2],
-            [BOOK, "x", 3],
-        ):
-            sheet.append(line)
-        sheet["C2"].number_format = "0.00"
-        sheet.row_dimensions[4].hidden = True
-        book.save(stream)
-        arguments = ["--code", "EAN", "--title", "Name", "--price", "Price", "--decimal", "."]
-        done = support.run_here("label-table", *arguments, input=stream.getvalue())
-        label = {"row": 2, "title": "Käse\n2", "price": "1.50"}
-        self.assertEqual(parts_of(done.stdout)[1], [(label, f"ean13 {PENCIL}")])
-        self.assertEqual(
-            [message[13:52] for message in support.messages(done)],
-            ['row 3: column 2 ("Name") has a formula ', "1 hidden row is not printed: give --hid"],
-        )
 
 
 def unpacked(data: bytes) -> Dict[str, str]:
