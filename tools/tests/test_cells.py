@@ -13,7 +13,7 @@ from test_table import BOOK, PENCIL, SMALL, SOAP, parts_of
 from test_table_workbooks import ODS_SPACES, WorkbookTest, cell, ods, ods_cell, rows, table, xlsx
 
 HEAD = ["EAN", "Name", "Price"]
-PRICED = ["--code", "EAN", "--title", "Name", "--price", "Price", "--decimal", "."]
+PRICED = "--code EAN --title Name --price Price --decimal .".split()
 SHARED = '<c t="s"><v>0</v></c>'
 STRUCK_FONT = "<fonts><font/><font><strike/></font></fonts>"
 
@@ -392,7 +392,7 @@ class Kinds(CellTest):
         data = xlsx(rows(["EAN", "N"], [PENCIL, cell(3, style=1)]), formats=["d.m.yy"])
         problem = 'row 2: column 2 ("N") is a date or a time, which is no number of copies: '
         problem += "enter it again as text"
-        self.check(data, ["--code", "EAN", "--copies", "N"], [], [problem], 1)
+        self.check(data, "--code EAN --copies N".split(), [], [problem], 1)
 
     def test_the_number_of_a_text_is_its_value(self) -> None:
         for text, value, is_right in (
@@ -459,7 +459,7 @@ class Texts(CellTest):
         problem = f'row 2: column 2 ("Name") has "{text}", which was encoded twice, for "Füller": '
         problem += "export the table again"
         data = f"EAN;Name\n{PENCIL};{text}\n"
-        self.check(data, ["--code", "EAN", "--title", "Name"], [], [problem], 1)
+        self.check(data, "--code EAN --title Name".split(), [], [problem], 1)
 
     def test_utf_8_that_was_read_as_another_encoding(self) -> None:
         for text, encoding in (
@@ -496,7 +496,7 @@ class Heads(CellTest):
     """A row may name columns again: what is below may be another table."""
 
     def test_a_row_that_names_other_columns_ends_the_table(self) -> None:
-        words = ["--code", "EAN", "--title", "Name", "--price", "VK"]
+        words = "--code EAN --title Name --price VK".split()
         names = "row 3: the row names other columns than the first one"
         below = "row 4: the row is below row 3, which names other columns"
         for head, row in (
@@ -515,7 +515,7 @@ class Heads(CellTest):
 
     def test_the_same_names_end_no_table(self) -> None:
         """Lists have them on each page; an article may be called as a column is."""
-        words = ["--code", "EAN", "--title", "Name", "--price", "VK"]
+        words = "--code EAN --title Name --price VK".split()
         again = "row 3: the row has the names of the columns again"
         empty = 'row 3: column 1 ("EAN") is empty'
         for head, problem in (
@@ -526,7 +526,7 @@ class Heads(CellTest):
             data = f"EAN;Name;VK;Stock\n{PENCIL};Tea;3,33;7\n{head}\n{SMALL};Tea;2,22;7\n".encode()
             self.assertEqual(self.ran(data, *words), (["3,33", "2,22"], [problem]), head)
         data = f"Code;Name;VK\nName;VK;3,33\n{SMALL};Tea;2,22\n".encode()
-        free = ["--code", "Code", "--price", "VK", "--symbology", "code128"]
+        free = "--code Code --price VK --symbology code128".split()
         prices, said = self.ran(data, *free)
         self.assertEqual((prices, "names other columns" in said[0]), ([], True))
 
@@ -549,7 +549,7 @@ class Heads(CellTest):
 
 class Codes(CellTest):
     def test_codes_that_are_meant_for_another_program(self) -> None:
-        words = ["--code", "EAN", "--symbology", "code128"]
+        words = "--code EAN --symbology code128".split()
         left = 'row 2: column 1 ("EAN") "*LOT 9*" has the asterisks of a font, which would be drawn'
         done = support.run_here("label-table", *words, input=b"EAN\n*LOT 9*\n")
         self.assertIn("the asterisks of a font", support.messages(done)[0], left)
@@ -562,11 +562,11 @@ class Codes(CellTest):
     def test_an_article_has_one_number(self) -> None:
         said = f"rows 2 and 3 have the same code, 0{SOAP}, and another title, text or price"
         data = f"EAN;Name\n{SOAP};Soap\n0{SOAP};Soap, blue\n"
-        words = ["--code", "EAN", "--title", "Name"]
+        words = "--code EAN --title Name".split()
         self.check(data, words, [f"upca {SOAP}", f"ean13 0{SOAP}"], [said])
         problem = f"row 2: 00{SMALL} may be an EAN-8 with zeros in front: "
         problem += "write its 8 digits, or give --symbology"
-        self.check(f"EAN\n00{SMALL}\n", ["--code", "EAN", "--fill-zeros"], [], [problem], 1)
+        self.check(f"EAN\n00{SMALL}\n", "--code EAN --fill-zeros".split(), [], [problem], 1)
 
 
 class Prices(CellTest):

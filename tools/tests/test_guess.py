@@ -119,16 +119,8 @@ DOUBTS: Sequence[tuple[str, str, dict[str, list[str]]]] = (
         "4006381333931;4012345678901;Honig Linde;3,10;5,49",
         {"code": ["EAN Karton", "EAN Stück"]},
     ),
-    (
-        "EAN;Seriennummer;Modell",
-        "4006381333931;SN-20144;Kamera Reflex",
-        {},
-    ),
-    (
-        "Artikelnummer;SKU;Ware",
-        "M-10023;SK-77120;Kugellager",
-        {"code": ["Artikelnummer", "SKU"]},
-    ),
+    ("EAN;Seriennummer;Modell", "4006381333931;SN-20144;Kamera Reflex", {}),
+    ("Artikelnummer;SKU;Ware", "M-10023;SK-77120;Kugellager", {"code": ["Artikelnummer", "SKU"]}),
     ("N° billet;Place", "FR26-0099123;B14", {"code": ["N° billet"]}),
     ("Etikett;Eingang;Spender;Ort", "C00812;03.11.2026;Anna;Ulm", {"code": ["Etikett"]}),
 )

@@ -142,7 +142,7 @@ class Encodings(TableTest):
     FIX = "save it as UTF-8, or give the --encoding that reads it right: "
     WIDE = "save it as UTF-8, or give --encoding utf-16-le or utf-16-be"
     TEXT = f"Nummer;Größe;Name\r\n{PENCIL};ß;Käse\r\n{SMALL};ü;Öl €\r\n"
-    ARGUMENTS = ("--code", "Nummer", "--title", "Name", "--text", "Größe")
+    ARGUMENTS = "--code Nummer --title Name --text Größe".split()
 
     def check_letters(self, data: bytes, *arguments: str) -> None:
         for locale in support.LOCALES:
@@ -185,13 +185,11 @@ class Encodings(TableTest):
         self.check_letters(self.TEXT.encode("cp1252"), "--encoding", "cp1252")
         text = self.TEXT.replace("€", "¤").encode("latin-1")
         self.check(
-            text,
-            ["--code", "Nummer", "--encoding", "latin-1"],
-            [f"ean13 {PENCIL}", f"ean8 {SMALL}"],
+            text, "--code Nummer --encoding latin-1".split(), [f"ean13 {PENCIL}", f"ean8 {SMALL}"]
         )
         self.check(
             "code\nKäse\n".encode("latin-1"),
-            ["--code", "code", "--symbology", "qr", "--encoding", "latin-1"],
+            "--code code --symbology qr --encoding latin-1".split(),
             ["qr Käse"],
         )
 
@@ -211,7 +209,7 @@ class Encodings(TableTest):
         self.check(b"\xff\xfea", ["--code", "1"], [], [problem], 1)
         problem = f'standard input is not CP1252, as line 2 shows: {self.FIX}cp1251 reads "Ѓ"'
         problem += ', cp850 reads "ü", cp866 reads "Б", mac_roman reads "Å"'
-        self.check(b"code\n\x81\n", ["--code", "1", "--encoding", "windows-1252"], [], [problem], 1)
+        self.check(b"code\n\x81\n", "--code 1 --encoding windows-1252".split(), [], [problem], 1)
 
     def test_encodings_that_are_none(self) -> None:
         for encoding in ("x", "rot13", "base64", "ä"):
@@ -239,11 +237,7 @@ class Encodings(TableTest):
             ' reads "Ђ", cp850 reads "Ç", cp866 reads "А"'
         )
         self.check(
-            "code\n5 €\n".encode("cp1252"),
-            ["--code", "1", "--encoding", "latin-1"],
-            [],
-            [problem],
-            1,
+            "code\n5 €\n".encode("cp1252"), "--code 1 --encoding latin-1".split(), [], [problem], 1
         )
 
     def test_files_that_are_no_text(self) -> None:
@@ -279,10 +273,10 @@ class Cells(TableTest):
                 [f"ean13 {PENCIL}", f"ean8 {SMALL}"],
             )
         self.check(
-            f"name\tcode\na\t{SMALL}\n", ["--code", "2", "--delimiter", "tab"], [f"ean8 {SMALL}"]
+            f"name\tcode\na\t{SMALL}\n", "--code 2 --delimiter tab".split(), [f"ean8 {SMALL}"]
         )
         self.check(
-            f"name|code\na|{SMALL}\n", ["--code", "code", "--delimiter", "|"], [f"ean8 {SMALL}"]
+            f"name|code\na|{SMALL}\n", "--code code --delimiter |".split(), [f"ean8 {SMALL}"]
         )
 
     def test_delimiter_among_other_marks(self) -> None:
@@ -294,7 +288,7 @@ class Cells(TableTest):
         self.check(f'"price; net",code\n"1;20",{PENCIL}\n', ["--code", "2"], [f"ean13 {PENCIL}"])
         self.check(
             f"{PENCIL};a;1,20\n{SMALL};b;0,80\n",
-            ["--code", "1", "--no-header"],
+            "--code 1 --no-header".split(),
             [f"ean13 {PENCIL}", f"ean8 {SMALL}"],
         )
         self.check(f'size 5"\tcode\n3"\t{SMALL}\n', ["--code", "code"], [f"ean8 {SMALL}"])
@@ -313,11 +307,7 @@ class Cells(TableTest):
     def test_told_delimiter_that_row_1_does_not_have(self) -> None:
         problem = 'row 1 has no "," between cells, but ";": leave --delimiter away'
         self.check(
-            "code;name\nA1;a\n",
-            ["--code", "1", "--symbology", "qr", "--delimiter", ","],
-            [],
-            [problem],
-            2,
+            "code;name\nA1;a\n", "--code 1 --symbology qr --delimiter ,".split(), [], [problem], 2
         )
 
     def test_line_ends(self) -> None:
@@ -378,7 +368,7 @@ class Cells(TableTest):
             + "x" * 37
             + '...", and at most 131068 characters of a cell are read'
         )
-        self.check(table, ["--code", "code", "--text", "name"], [f"ean13 {PENCIL}"], [problem], 1)
+        self.check(table, "--code code --text name".split(), [f"ean13 {PENCIL}"], [problem], 1)
         self.check(
             f'code;name\n{SMALL};"{long}\n"\n{PENCIL};b\n',
             ["--code", "1"],
@@ -472,8 +462,8 @@ class Columns(TableTest):
     def test_by_name_and_by_number(self) -> None:
         table = f'name;"the\ncode";2\na;{SMALL};{PENCIL}\n'
         self.check(table, ["--code", "the code"], [f"ean8 {SMALL}"])
-        self.check(table, ["--code", "3", "--header"], [f"ean13 {PENCIL}"])
-        self.check(table, ["--code", "2", "--header"], [f"ean13 {PENCIL}"])
+        self.check(table, "--code 3 --header".split(), [f"ean13 {PENCIL}"])
+        self.check(table, "--code 2 --header".split(), [f"ean13 {PENCIL}"])
         self.check(
             f" Größe ;x\n{SMALL};a\n",
             ["--code", "Größe"],
@@ -491,7 +481,7 @@ class Columns(TableTest):
             self.check(table, [f"--code={column}"], [], [problem], 2)
         for column in ("0", "3", "-1", ""):
             self.check(table, [f"--code={column}"], [], [f'no column "{column}"; {listed}'], 2)
-        for option in ("--title", "--text", "--price", "--copies"):
+        for option in "--title --text --price --copies".split():
             self.check(
                 table, ["--code", "1", option, "size"], [], [f'no column "size"; {listed}'], 2
             )
@@ -507,8 +497,8 @@ class Columns(TableTest):
     def test_no_header(self) -> None:
         table = f"{PENCIL};a\n73513538;b\n"
         problem = "row 2: 73513538: the check digit is 8, should be 7"
-        self.check(table, ["--code", "1", "--no-header"], [f"ean13 {PENCIL}"], [problem], 1)
-        self.check(f"ean;b\n{SMALL};c\n", ["--code", "1", "--header"], [f"ean8 {SMALL}"])
+        self.check(table, "--code 1 --no-header".split(), [f"ean13 {PENCIL}"], [problem], 1)
+        self.check(f"ean;b\n{SMALL};c\n", "--code 1 --header".split(), [f"ean8 {SMALL}"])
         for column in ("code", "3"):
             problem = f'no column "{column}"; row 1 has 1 "{PENCIL}", 2 "a": give the number of one'
             self.check(table, ["--code", column, "--no-header"], [], [problem], 2)
@@ -529,12 +519,10 @@ class Columns(TableTest):
             problem = f'row 1 has "{cell}" in column {place}: {hint}'
             self.check(table, ["--code", "1", *arguments], [], [problem], 2)
         self.check(
-            "LOT 7\nLOT 8\n",
-            ["--code", "1", "--symbology", "code128", "--header"],
-            ["code128 LOT 8"],
+            "LOT 7\nLOT 8\n", "--code 1 --symbology code128 --header".split(), ["code128 LOT 8"]
         )
         lots = ["code128 LOT 7", "code128 LOT 8"]
-        self.check("LOT 7\nLOT 8\n", ["--code", "1", "--symbology", "code128", "--no-header"], lots)
+        self.check("LOT 7\nLOT 8\n", "--code 1 --symbology code128 --no-header".split(), lots)
         for name in ("EAN-13", "GTIN14", "Code 128", "Artikel-Nr."):
             self.check(f"{name}\n{SMALL}\n", ["--code", "1"], [f"ean8 {SMALL}"])
 
@@ -561,18 +549,7 @@ class Texts(TableTest):
         table = "\n".join(["code;name;price;colour;copies", *rows, ""])
         done = support.run_here(
             "label-table",
-            *(
-                "--code",
-                "code",
-                "--title",
-                "name",
-                "--text",
-                "colour",
-                "--price",
-                "price",
-                "--copies",
-                "copies",
-            ),
+            *"--code code --title name --text colour --price price --copies copies".split(),
             input=table.encode(),
         )
         problems = [
@@ -627,22 +604,7 @@ class Texts(TableTest):
 
     def test_several_columns(self) -> None:
         table = f"code;a;b;c\n{SMALL};one;;three\n{PENCIL};;;\n"
-        arguments = [
-            "--title",
-            "c",
-            "--title",
-            "b",
-            "--title",
-            "a",
-            "--text",
-            "a",
-            "--text",
-            "b",
-            "--text",
-            "3",
-            "--text",
-            "c",
-        ]
+        arguments = "--title c --title b --title a --text a --text b --text 3 --text c".split()
         said = ["row 3 has no title (1 of 2 labels)"]
         labels = self.labels(table, "--code", "code", *arguments, said=said)
         self.assertEqual(
@@ -650,7 +612,7 @@ class Texts(TableTest):
         )
 
     def test_the_column_of_the_codes_as_text(self) -> None:
-        arguments = ["--code", "code", "--text", "name", "--text", "1"]
+        arguments = "--code code --text name --text 1".split()
         labels = self.labels(f"code;name\n {SOAP[1:]} ;a\n{SMALL};b\n", *arguments, "--fill-zeros")
         self.assertEqual([label["text"] for label in labels], [["a", f"0{SOAP}"], ["b", SMALL]])
         labels = self.labels(f"code;name\n{BOOK[:-1]};a\n", *arguments, "--without-check-digit")
@@ -672,7 +634,7 @@ class Texts(TableTest):
             "x" * 500,
         ):
             labels = self.labels(
-                f'code;name\n{SMALL};"{text}"\n', "--code", "code", "--title", "name", "--text", "2"
+                f'code;name\n{SMALL};"{text}"\n', *"--code code --title name --text 2".split()
             )
             self.assertEqual(labels, [{"row": 2, "title": text, "text": [text]}])
 
@@ -702,11 +664,7 @@ class Texts(TableTest):
         ):
             problem = f'row 2: column 2 ("name") has {problem}'
             self.check(
-                f"code;name\n{SMALL};{cell}\n",
-                ["--code", "code", "--title", "name"],
-                [],
-                [problem],
-                1,
+                f"code;name\n{SMALL};{cell}\n", "--code code --title name".split(), [], [problem], 1
             )
 
     def test_characters_that_no_price_can_show(self) -> None:
@@ -724,7 +682,7 @@ class Texts(TableTest):
             problem = f'row 2: column 2 ("price") {problem}'
             self.check(
                 f'code;price\n{SMALL};"{price}"\n',
-                ["--code", "code", "--price", "price"],
+                "--code code --price price".split(),
                 [],
                 [problem],
                 1,
@@ -750,7 +708,7 @@ class Texts(TableTest):
             )
             table = f"code;copies\n{SMALL};{cell}\n{PENCIL};1\n"
             self.check(
-                table, ["--code", "code", "--copies", "copies"], [f"ean13 {PENCIL}"], [problem], 1
+                table, "--code code --copies copies".split(), [f"ean13 {PENCIL}"], [problem], 1
             )
 
     def test_a_code_that_is_there_twice(self) -> None:
@@ -760,15 +718,15 @@ class Texts(TableTest):
         )
         lines = [f"ean8 {SMALL}", f"ean13 {PENCIL}", f"ean8 {SMALL}", f"ean8 {SMALL}"]
         for cells in ("c;b;1", "a;c;1", "a;b;2", "a;;1"):
-            arguments = ["--code", "code", "--title", "name", "--text", "text", "--price", "price"]
+            arguments = "--code code --title name --text text --price price".split()
             self.check(table.format(cells), arguments, lines, [f"rows 2 and 4 {what}"])
-        arguments = ["--code", "code", "--text", "text", "--copies", "price"]
+        arguments = "--code code --text text --copies price".split()
         self.check(table.format("c;b;2"), arguments, lines)
 
     def test_the_end_names_texts_that_no_row_has(self) -> None:
         """As a logo that no article of a table has."""
         table = f"code,Bio,Day,Old\n{SMALL},,1.9.,\n{PENCIL}, ,,\n".encode()
-        words = ["--code", "code", "--text", "Bio", "--text", "Day", "--text", "Old"]
+        words = "--code code --text Bio --text Day --text Old".split()
         done = support.run_here("label-table", *words, input=table)
         self.assertEqual(parts_of(done.stdout)[2]["empty"], ["Bio", "Old"])
 
@@ -842,10 +800,10 @@ class Numbers(TableTest):
             PENCIL: f"ean13 {PENCIL}",
             "36000291453": "refused: 0036000291453: the check digit is 3, should be 2",
         }
-        self.check_cells(["--fill-zeros", "--symbology", "ean13"], wanted)
+        self.check_cells("--fill-zeros --symbology ean13".split(), wanted)
         self.check_cells(["--fill-zeros"], {**wanted, SMALL: f"ean8 {SMALL}"})
         self.check_cells(
-            ["--fill-zeros", "--symbology", "upca"],
+            "--fill-zeros --symbology upca".split(),
             {"36000291452": f"upca {SOAP}", SOAP: f"upca {SOAP}"},
         )
 
@@ -906,7 +864,7 @@ class Numbers(TableTest):
             SOAP: f"refused: {SOAP} may have its check digit: if not, give --symbology ean13",
         }
         self.check_cells(["--without-check-digit"], wanted)
-        self.check_cells(["--without-check-digit", "--symbology", "ean13"], {SOAP: f"ean13 {SOAP}"})
+        self.check_cells("--without-check-digit --symbology ean13".split(), {SOAP: f"ean13 {SOAP}"})
 
     def test_rounded_by_the_spreadsheet(self) -> None:
         rest = "the spreadsheet has rounded the number; format the column as text, enter it again"
@@ -927,7 +885,7 @@ class Numbers(TableTest):
             [], {"20000004": f"refused: 20000004 {looks}", "20000103": "ean8 20000103"}
         )
         self.check_cells(["--fill-zeros"], {"36000300000": f"refused: 0036000300000 {looks}"})
-        arguments = ["--without-check-digit", "--symbology", "ean13"]
+        arguments = "--without-check-digit --symbology ean13".split()
         self.check_cells(
             arguments,
             {
@@ -947,7 +905,7 @@ class Numbers(TableTest):
         )
         self.check_cells(["--without-check-digit"], {"0123456": f"refused: 0123456 {may_be}"})
         self.check_cells(["--symbology", "ean8"], {"01234565": "ean8 01234565"})
-        self.check_cells(["--symbology", "ean8", "--fill-zeros"], {"1234565": "ean8 01234565"})
+        self.check_cells("--symbology ean8 --fill-zeros".split(), {"1234565": "ean8 01234565"})
 
     def test_an_isbn_of_ten_digits(self) -> None:
         # ISBN 0-306-40615-2 is 978-0-306-40615-7, ISBN 0-8044-2957-X is 978-0-8044-2957-3
@@ -963,18 +921,18 @@ class Numbers(TableTest):
             cell: f"refused: {cell} is an ISBN of ten digits: its EAN-13 is {ean}"
             for cell, ean in cells.items()
         }
-        for arguments in ((), ("--fill-zeros",), ("--fill-zeros", "--symbology", "upca")):
+        for arguments in ((), ("--fill-zeros",), "--fill-zeros --symbology upca".split()):
             self.check_cells(arguments, wanted)
         # without its zero
         wanted = {"306406152": f"refused: 306406152 is an ISBN of ten digits: its EAN-13 is {book}"}
-        self.check_cells(["--fill-zeros", "--symbology", "upca"], wanted)
+        self.check_cells("--fill-zeros --symbology upca".split(), wanted)
 
     def test_no_right_isbn_of_ten_digits_becomes_an_ean(self) -> None:
         cells = []
         for number in range(100000000, 100001000):
             total = sum(int(digit) * weight for digit, weight in zip(str(number), range(10, 1, -1)))
             cells.append(f"{number}{'0123456789X'[-total % 11]}")
-        for arguments in ((), ("--fill-zeros",), ("--fill-zeros", "--symbology", "ean13")):
+        for arguments in ((), ("--fill-zeros",), "--fill-zeros --symbology ean13".split()):
             table = "code\n" + "\n".join(cells)
             done = support.run_here(
                 "label-table", "--code", "code", *arguments, input=table.encode()
@@ -1045,7 +1003,7 @@ class Numbers(TableTest):
         self.check_cells([], {PENCIL: f"ean13 {PENCIL}", **refused})
         for cell in (f"{PENCIL[:-1]}.0", "978-0-306-40615"):
             place, name = (13, '"."') if cell.endswith(".0") else (4, '"-"')
-            arguments = ["--without-check-digit", "--symbology", "ean13"]
+            arguments = "--without-check-digit --symbology ean13".split()
             right = {PENCIL[:-1]: f"ean13 {PENCIL[:-1]}"}
             self.check_cells(arguments, {**right, cell: problem.format(cell, place, name)})
 
@@ -1054,7 +1012,7 @@ class Numbers(TableTest):
         problem = f'standard input: no row has an EAN or UPC in column 1 ("code"); {OTHER}'
         for cells in (("A-01-01", "A-01-02", ""), ("101", "102", "4711"), ("LOT 7",)):
             table = "code;name\n" + "".join(f"{cell};x\n" for cell in cells)
-            for arguments in (["--code", "code"], ["--code", "code", "--without-check-digit"]):
+            for arguments in (["--code", "code"], "--code code --without-check-digit".split()):
                 self.check(table, arguments, [], [problem], 1)
 
     def test_of_codes_without_check_digits_none_is_drawn(self) -> None:
@@ -1085,7 +1043,7 @@ class Data(TableTest):
         for symbology in ("code128", "qr"):
             wanted = {cell: f"{symbology} {cell}".replace('""', '"') for cell in cells}
             self.check_cells(["--symbology", symbology], wanted)
-        arguments = ["--symbology", "qr", "--settings", "level=Q,mask=auto"]
+        arguments = "--symbology qr --settings level=Q,mask=auto".split()
         self.check_cells(arguments, {"Käse 日本": "qr,level=Q,mask=auto Käse 日本"})
 
     def test_drawn_though_unmeant(self) -> None:
@@ -1146,8 +1104,8 @@ class Data(TableTest):
                 )
                 self.check(table, [*arguments, "--text", "2"], [f"{symbology} a", f"{symbology} c"])
                 self.check(f'"x"{delimiter}b\n', arguments, [f"{symbology} x"])
-        self.check("a\tb\n", ["--code", "1", "--no-header", "--symbology", "qr"], ["qr a"])
-        self.check("Lot;Link\nA;B\n", ["--code", "Lot", "--symbology", "qr"], ["qr A"])
+        self.check("a\tb\n", "--code 1 --no-header --symbology qr".split(), ["qr a"])
+        self.check("Lot;Link\nA;B\n", "--code Lot --symbology qr".split(), ["qr A"])
 
     def test_a_delimiter_that_only_later_rows_have_is_asked_for(self) -> None:
         for delimiter, name, option in (
@@ -1159,7 +1117,7 @@ class Data(TableTest):
                 f"give --delimiter {option} if it is between cells, --delimiter none if it is data"
             )
             table = f"code\nLOT 6\nLOT 7{delimiter}Name\n"
-            arguments = ["--code", "code", "--symbology", "code128"]
+            arguments = "--code code --symbology code128".split()
             self.check(table, arguments, [], [f"row 3 has {name}: {ask}"], 2)
         lines = ["code128 LOT 6", "code128 LOT 7;Name"]
         self.check("code\nLOT 6\nLOT 7;Name\n", [*arguments, "--delimiter", "none"], lines)
@@ -1168,7 +1126,7 @@ class Data(TableTest):
         ask = "row 1 has \"^\": give --delimiter '^' if it is between cells, --delimiter none if it"
         table = f"code^Name\n{SMALL}^Tea\n"
         self.check(table, ["--code", "code"], [], [f"{ask} is data"], 2)
-        self.check(table, ["--code", "code", "--delimiter", "^"], [f"ean8 {SMALL}"])
+        self.check(table, "--code code --delimiter ^".split(), [f"ean8 {SMALL}"])
 
 
 class Arguments(TableTest):
@@ -1176,16 +1134,9 @@ class Arguments(TableTest):
         for argument in ("--help", "-h"):
             done = support.run("label-table", argument)
             self.assertEqual((done.returncode, done.stderr), (0, b""))
-            for option in (
-                "--code",
-                "--title",
-                "--text",
-                "--price",
-                "--copies",
-                "--sheet",
-                "--hidden",
-                "--decimal",
-            ):
+            for (
+                option
+            ) in "--code --title --text --price --copies --sheet --hidden --decimal".split():
                 self.assertIn(option, done.stdout.decode())
 
     def test_bad_arguments(self) -> None:
@@ -1194,11 +1145,11 @@ class Arguments(TableTest):
         wrong = "label-table: error: the following arguments are required: --code"
         self.assertEqual(support.messages(done), [f"{wrong}; try label-table --help"])
         self.check_usage(["--code"], "argument --code: expected one argument")
-        self.check_usage(["--code", "1", "--x"], "unrecognized arguments: --x")
-        self.check_usage(["--code", "1", "--fill"], "unrecognized arguments: --fill")
-        self.check_usage(["--code", "1", "a.csv", "b.csv"], "unrecognized arguments: b.csv")
+        self.check_usage("--code 1 --x".split(), "unrecognized arguments: --x")
+        self.check_usage("--code 1 --fill".split(), "unrecognized arguments: --fill")
+        self.check_usage("--code 1 a.csv b.csv".split(), "unrecognized arguments: b.csv")
         signs = 'argument --decimal: ";" is neither comma nor point'
-        self.check_usage(["--code", "1", "--decimal", ";"], signs)
+        self.check_usage("--code 1 --decimal ;".split(), signs)
         for argument in (";;", "", '"', " ", "ä"):
             text = f'--delimiter "{argument}" is not tab, none or a character that may cut cells'
             self.check_usage(["--code", "1", "--delimiter", argument], text)
@@ -1210,17 +1161,17 @@ class Arguments(TableTest):
         for symbology in ("code128", "qr"):
             for argument in ("--fill-zeros", "--without-check-digit"):
                 self.check_usage(["--code", "1", "--symbology", symbology, argument], text)
-        self.check_usage(["--code", "1", "--fill-zeros", "--without-check-digit"], text)
+        self.check_usage("--code 1 --fill-zeros --without-check-digit".split(), text)
         text = "--price-as needs --price, --unit-price or --old-price"
-        self.check_usage(["--code", "1", "--price-as", "0,00"], text)
+        self.check_usage("--code 1 --price-as 0,00".split(), text)
         text = "EAN-13 has no setting level"
-        self.check_usage(["--code", "1", "--settings", "height=20,level=Q"], text)
+        self.check_usage("--code 1 --settings height=20,level=Q".split(), text)
         text = "QR Code has no setting height"
-        self.check_usage(["--code", "1", "--symbology", "qr", "--settings", "height=20"], text)
+        self.check_usage("--code 1 --symbology qr --settings height=20".split(), text)
 
     def test_settings_of_another_symbology_leave_their_row_out(self) -> None:
         table = f"code;kind\n{SMALL};ean8\nLOT 7;qr\n"
-        arguments = ["--code", "code", "--symbology-column", "kind", "--settings", "height=20"]
+        arguments = "--code code --symbology-column kind --settings height=20".split()
         problem = "row 3: QR Code has no setting height"
         self.check(table, arguments, [f"ean8,height=20 {SMALL}"], [problem], 1)
 
@@ -1335,17 +1286,17 @@ class WithLabels(TableTest):
         support.labels_program()
         tables = (
             (
-                ["--fill-zeros", "--title", "1"],
+                "--fill-zeros --title 1".split(),
                 "\n".join(["code", PENCIL, BOOK, SMALL, "36000291452", SOAP]),
             ),
-            (["--symbology", "upca", "--settings", "height=30"], f"code\n{SOAP}\n"),
+            ("--symbology upca --settings height=30".split(), f"code\n{SOAP}\n"),
             (["--without-check-digit"], "\n".join(["code", PENCIL[:-1], SMALL[:-1], SOAP[:-1]])),
             (
-                ["--symbology", "code128", "--settings", "height=500"],
+                "--symbology code128 --settings height=500".split(),
                 f"code\nLOT 7\nC:\\new\n{'A' * 80}\n",
             ),
             (
-                ["--symbology", "qr", "--settings", "level=H,min-version=02,mask=7"],
+                "--symbology qr --settings level=H,min-version=02,mask=7".split(),
                 f"code\nKäse\n{'ß' * 59}\n{'7' * 288}\n",
             ),
         )

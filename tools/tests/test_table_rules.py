@@ -40,7 +40,7 @@ class RulesTest(TableTest):
         stream = io.StringIO()
         csv.writer(stream, delimiter=";").writerows([["EAN", "Preis"], [SMALL, price]])
         _, messages, labels = self.said(
-            stream.getvalue(), "--code", "EAN", "--price", "Preis", *arguments
+            stream.getvalue(), *"--code EAN --price Preis".split(), *arguments
         )
         if labels:
             return str(labels[0][0].get("price", ""))
@@ -76,7 +76,7 @@ class RowNumbers(RulesTest):
 class Widths(RulesTest):
     """A row of CSV has the cells of row 1."""
 
-    ARGUMENTS = ("--code", "EAN", "--title", "Name", "--price", "Price")
+    ARGUMENTS = "--code EAN --title Name --price Price".split()
 
     def test_an_unquoted_decimal_comma(self) -> None:
         text = f"EAN,Name,Price,Copies,A,B\n{SMALL},Pen,1.99,2,,\n{PENCIL},Pen,1,99,2,,\n"
@@ -184,7 +184,7 @@ class Prices(RulesTest):
         data = xlsx(rows(["EAN", "Preis"], [SMALL, cell(0, style=1)]), formats=[dash])
         problem = f'row 2: column 2 ("Preis") has "- €", {NO_PRICE} has no number; '
         problem += "it is a zero, which its number format shows so"
-        self.check(data, ["--code", "EAN", "--price", "Preis"], [], [problem], 1)
+        self.check(data, "--code EAN --price Preis".split(), [], [problem], 1)
 
     def test_free_text(self) -> None:
         for price in ("auf Anfrage", "gratis", "3 zum Preis von 2"):
@@ -241,7 +241,7 @@ class Prices(RulesTest):
         for prices, wanted in cases.items():
             text = "".join(f"{code};{price}\n" for code, price in zip((SMALL, BOOK), prices))
             status, messages, labels = self.said(
-                f"EAN;Preis\n{text}", "--code", "EAN", "--price", "Preis"
+                f"EAN;Preis\n{text}", *"--code EAN --price Preis".split()
             )
             self.assertEqual(
                 (status, messages, len(labels)), (0, [wanted] if wanted else [], 2), prices
@@ -289,7 +289,7 @@ class Prices(RulesTest):
 
     def test_a_currency_in_a_column_of_its_own(self) -> None:
         text = f"EAN;Preis;Währung\n{SMALL};7.5;EUR\n{BOOK};3.20;CHF\n{PENCIL};1.00;RF\n"
-        arguments = ("--code", "EAN", "--price", "Preis", "--currency", "Währung")
+        arguments = "--code EAN --price Preis --currency Währung".split()
         _, said, labels = self.said(text, *arguments)
         found = [label["price"] for label, _ in labels]
         self.assertEqual(found, ["7.5 EUR", "3.20 CHF", "1.00 RF"])
@@ -327,16 +327,7 @@ class Prices(RulesTest):
 
     def test_the_price_of_a_unit_and_the_old_price(self) -> None:
         text = f"EAN;Preis;Grundpreis;Alt\n{SMALL};1,99;1 kg = 7,96 €;2,49\n{BOOK};5,00;5,00 €/l;\n"
-        arguments = (
-            "--code",
-            "EAN",
-            "--price",
-            "Preis",
-            "--unit-price",
-            "Grundpreis",
-            "--old-price",
-            "Alt",
-        )
+        arguments = "--code EAN --price Preis --unit-price Grundpreis --old-price Alt".split()
         status, messages, labels = self.said(text, *arguments)
         first, second = (label for label, _ in labels)
         self.assertEqual((status, messages), (0, []))
@@ -353,8 +344,7 @@ class Copies(RulesTest):
     def test_a_truth_value_is_no_number_of_copies(self) -> None:
         shown = ods_cell("TRUE", "float", 'office:value="1"')
         book = xlsx(
-            rows(["EAN", "Copies"], [SMALL, cell(1, style=1)]),
-            formats=['"TRUE";"TRUE";"FALSE"'],
+            rows(["EAN", "Copies"], [SMALL, cell(1, style=1)]), formats=['"TRUE";"TRUE";"FALSE"']
         )
         for data in (ods(table(["EAN", "Copies"], [SMALL, shown])), book):
             status, messages, labels = self.said(data, "--code", "EAN", "--copies", "Copies")
@@ -368,7 +358,7 @@ class Titles(RulesTest):
             f"{support.ean13(number)};{'x' if number % 7 else ''};\n"
             for number in range(NUMBER, NUMBER + 40)
         )
-        arguments = ("--code", "EAN", "--title", "Name", "--price", "Preis")
+        arguments = "--code EAN --title Name --price Preis".split()
         status, messages, labels = self.said(f"EAN;Name;Preis\n{lines}", *arguments)
         said = ["rows 4, 11, 18, 25, 32 and 1 more have no title (6 of 40 labels)"]
         said.append("rows 2, 3, 4, 5, 6 and 35 more have no price (40 of 40 labels)")
@@ -378,7 +368,7 @@ class Titles(RulesTest):
         titles = ["nan", "NULL", "None", "#VALEUR !", "Fehler:502", "undefined"]
         for title in (*titles, "(NULL)", "[none]", "\\N", "NA", "5,9E+12"):
             status, messages, labels = self.said(
-                f"EAN;Name\n{SMALL};{title}\n{BOOK};Na\n", "--code", "EAN", "--title", "2"
+                f"EAN;Name\n{SMALL};{title}\n{BOOK};Na\n", *"--code EAN --title 2".split()
             )
             self.assertEqual(
                 (status, len(labels), quoted(title) in messages[0]), (1, 1, True), title
@@ -386,7 +376,7 @@ class Titles(RulesTest):
 
     def test_tabs_and_marks_of_the_direction_are_white(self) -> None:
         labels = self.labels(
-            f"EAN,Name\n{SMALL},a\tb \u200fc\n", "--code", "EAN", "--title", "Name"
+            f"EAN,Name\n{SMALL},a\tb \u200fc\n", *"--code EAN --title Name".split()
         )
         self.assertEqual(labels, [{"row": 2, "title": "a b \u200fc"}])
 
@@ -394,7 +384,7 @@ class Titles(RulesTest):
 class Codes(RulesTest):
     """What the spreadsheet shows is what is drawn."""
 
-    FREE = ("--code", "EAN", "--symbology", "code128")
+    FREE = "--code EAN --symbology code128".split()
 
     def test_numbers_that_are_not_shown_as_they_are_drawn(self) -> None:
         wanted = {
@@ -470,7 +460,7 @@ class Codes(RulesTest):
         problem = 'row 6: column 2 ("Art") has "Aztec", which is no symbology: '
         problem += "it is one of EAN-13, EAN-8, UPC-A, Code 128, QR Code"
         lines = [f"ean13 {PENCIL}", "code128 LOT 7", "qr https://example.com/7", f"ean8 {SMALL}"]
-        self.check(text, ["--code", "EAN", "--symbology-column", "Art"], lines, [problem], 1)
+        self.check(text, "--code EAN --symbology-column Art".split(), lines, [problem], 1)
 
     def test_a_cell_that_leads_to_an_address(self) -> None:
         link = '<hyperlinks><hyperlink ref="A2" r:id="rId1"/></hyperlinks>'
@@ -501,7 +491,7 @@ class Codes(RulesTest):
             "the code of row 2 is a text that leads to an address: give --links to draw the address"
         )
         for data in files:
-            arguments = ["--code", "EAN", "--symbology", "qr"]
+            arguments = "--code EAN --symbology qr".split()
             self.check(data, arguments, ["qr Hier klicken", "qr B7"], [said])
             self.check(data, [*arguments, "--links"], ["qr https://example.com/7", "qr B7"])
 
@@ -511,14 +501,14 @@ class Names(RulesTest):
         merge = '<mergeCells><mergeCell ref="B1:C1"/></mergeCells>'
         data = xlsx(rows(["EAN", "Preis"], [SMALL, "1,00", "1,19"]), after=merge)
         problem = 'the name "Preis" is over the columns 2 to 3: give the number of one'
-        self.check(data, ["--code", "EAN", "--price", "Preis"], [], [problem], 2)
+        self.check(data, "--code EAN --price Preis".split(), [], [problem], 2)
         self.assertEqual(self.said(data, "--code", "EAN", "--price", "3")[2][0][0]["price"], "1,19")
         spanned = (
             ods_cell("Preis", more='table:number-columns-spanned="2"')
             + "<table:covered-table-cell/>"
         )
         data = ods(table(["EAN", spanned], [SMALL, "1,00", "1,19"]))
-        self.check(data, ["--code", "EAN", "--price", "Preis"], [], [problem], 2)
+        self.check(data, "--code EAN --price Preis".split(), [], [problem], 2)
 
     def test_names_below_a_title(self) -> None:
         lines = [
@@ -531,7 +521,7 @@ class Names(RulesTest):
             f"{BOOK};Atlas;24,00",
         ]
         text = "\n".join(lines)
-        arguments = ["--code", "EAN", "--title", "Name", "--price", "Preis"]
+        arguments = "--code EAN --title Name --price Preis".split()
         status, messages, labels = self.said(text, *arguments)
         self.assertEqual((status, labels), (2, []))
         self.assertRegex(
@@ -572,29 +562,25 @@ class Marked(RulesTest):
 
     def test_rows_that_are_marked(self) -> None:
         self.check(
-            self.TEXT,
-            ["--code", "EAN", "--where", "Drucken=x"],
-            [f"ean8 {SMALL}", f"ean13 {PENCIL}"],
+            self.TEXT, "--code EAN --where Drucken=x".split(), [f"ean8 {SMALL}", f"ean13 {PENCIL}"]
         )
         self.check(
-            self.TEXT,
-            ["--code", "EAN", "--where", "Drucken=x", "--where", "Name=c"],
-            [f"ean13 {PENCIL}"],
+            self.TEXT, "--code EAN --where Drucken=x --where Name=c".split(), [f"ean13 {PENCIL}"]
         )
-        self.check(self.TEXT, ["--code", "EAN", "--where", "3="], [f"ean13 {BOOK}"])
+        self.check(self.TEXT, "--code EAN --where 3=".split(), [f"ean13 {BOOK}"])
 
     def test_rows_that_a_truth_value_marks(self) -> None:
         truth = '<c t="b"><v>{}</v></c>'
         lines = [["EAN", "Drucken"], [SMALL, truth.format(1)], [BOOK, truth.format(0)]]
         data = xlsx(rows(*lines))
-        self.check(data, ["--code", "EAN", "--where", "Drucken=true"], [f"ean8 {SMALL}"])
+        self.check(data, "--code EAN --where Drucken=true".split(), [f"ean8 {SMALL}"])
 
     def test_no_row_is_marked(self) -> None:
         problem = (
             'standard input has no row with "ja" in column 3 ("Drucken"): look how the cells are'
             " spelled"
         )
-        self.check(self.TEXT, ["--code", "EAN", "--where", "Drucken=ja"], [], [problem], 1)
+        self.check(self.TEXT, "--code EAN --where Drucken=ja".split(), [], [problem], 1)
 
     def test_an_older_table_is_not_its_lines(self) -> None:
         text = f"EAN;Name;Preis\n{SMALL};a;1,00\n"
@@ -610,7 +596,7 @@ class Marked(RulesTest):
 
     def test_only_what_is_new(self) -> None:
         text = f"EAN;Name;Preis\n{SMALL};a;1,00\n{BOOK};b;2,00\n{PENCIL};c;3,00\n"
-        arguments = ("--code", "EAN", "--title", "Name", "--price", "Preis")
+        arguments = "--code EAN --title Name --price Preis".split()
         older = self.folder / "old.lines"
         older.write_bytes(support.run_here("label-table", *arguments, input=text.encode()).stdout)
         changed = text.replace("2,00", "2,20") + f"{SOAP};d;4,00\n"
@@ -634,7 +620,7 @@ class Marked(RulesTest):
 class Summary(RulesTest):
     def test_what_was_understood(self) -> None:
         text = f"EAN;Preis;Stück\n{SMALL};0,80 €;1\n{BOOK};1.299,00 €;3\nx;1,00 €;1\n"
-        arguments = ("--code", "EAN", "--price", "Preis", "--copies", "Stück", "--summary")
+        arguments = "--code EAN --price Preis --copies Stück --summary".split()
         said = (
             "4 labels of 2 rows: 1 EAN-8, 1 EAN-13; prices 0,80 € to 1.299,00 €; copies 1 to 3; 1"
             " row left out"
@@ -663,7 +649,7 @@ class Workbooks(RulesTest):
         )
         again = "open the table in the spreadsheet and save it"
         problem = f'row 2: column 2 ("Preis") has a formula without a saved value: {again}'
-        arguments = ["--code", "EAN", "--price", "Preis", "--decimal", "point"]
+        arguments = "--code EAN --price Preis --decimal point".split()
         data = packed({**parts, "xl/workbook.xml": book})
         self.check(data, arguments, [f"ean13 {BOOK}"], [problem], 1)
         sheet = "xl/worksheets/sheet1.xml"
@@ -707,13 +693,13 @@ class Workbooks(RulesTest):
             self.assertEqual(dates(number_format, "--date-as", "dd.mm.yy"), ["25.11.26"])
         more = 'office:date-value="2026-11-25"'
         data = ods(table(["EAN", "MHD"], [SMALL, ods_cell("Mi 25. Nov", "date", more)]))
-        arguments = ("--code", "EAN", "--text", "MHD")
+        arguments = "--code EAN --text MHD".split()
         self.assertEqual(self.said(data, *arguments)[2][0][0]["text"], ["Mi 25. Nov"])
         self.assertEqual(
             self.said(data, *arguments, "--date-as", "d.m.yyyy")[2][0][0]["text"], ["25.11.2026"]
         )
         self.check_usage(
-            ["--code", "1", "--date-as", "xx"], "argument --date-as: 'xx': write it as 'dd.mm.yyyy'"
+            "--code 1 --date-as xx".split(), "argument --date-as: 'xx': write it as 'dd.mm.yyyy'"
         )
 
     def test_the_language_of_a_format_decides_its_signs(self) -> None:
@@ -777,7 +763,7 @@ class Encodings(RulesTest):
         for (word, codec), wanted in cases.items():
             data = f"EAN;Name\n{SMALL};{word}\n".encode(codec)
             problem = f"standard input is not UTF-8, as line 2 shows: {fix}{wanted}"
-            self.check(data, ["--code", "EAN", "--title", "Name"], [], [problem], 1)
+            self.check(data, "--code EAN --title Name".split(), [], [problem], 1)
         data = f"EAN;Name\n{SMALL};Мыло\n".encode("cp1251")
         _, messages, _ = self.said(data, "--code", "EAN")
         self.assertIn('cp1251 reads "Мыло"', messages[0])

@@ -212,7 +212,7 @@ class Xlsx(WorkbookTest):
             ),
             formats=['#,##0.00\\ "€"'],
         )
-        columns = ["--title", "Artikel", "--price", "Preis", "--copies", "Stück", "--decimal", ","]
+        columns = "--title Artikel --price Preis --copies Stück --decimal ,".split()
         wanted = [
             (
                 {"row": 2, "title": "Bleistift\n2B", "price": "0,80 €", "copies": 3},
@@ -300,7 +300,7 @@ class Xlsx(WorkbookTest):
             )
         )
         problems = [f'row 3: column 2 ("Name") {no_value}', "row 2 has no title (1 of 1 label)"]
-        self.check(data, ["--code", "EAN", "--title", "Name"], [f"ean13 {PENCIL}"], problems, 1)
+        self.check(data, "--code EAN --title Name".split(), [f"ean13 {PENCIL}"], problems, 1)
         self.check(data, ["--code", "EAN"], [f"ean13 {PENCIL}", f"ean8 {SMALL}"])
 
     def test_strings(self) -> None:
@@ -386,7 +386,7 @@ class Xlsx(WorkbookTest):
         note = "1 hidden row is not printed: give --hidden to print them"
         self.check(xlsx(lines), ["--code", "EAN"], shown, [note])
         every = [f"ean13 {PENCIL}", f"ean8 {SMALL}", f"ean13 {BOOK}", f"upca {SOAP}"]
-        self.check(xlsx(lines), ["--code", "EAN", "--hidden"], every)
+        self.check(xlsx(lines), "--code EAN --hidden".split(), every)
 
     def test_merged_cells(self) -> None:
         lines = rows(["EAN", "Name"], [PENCIL, "a"], [None, "b"], [SMALL, None], [BOOK, "c"])
@@ -399,7 +399,7 @@ class Xlsx(WorkbookTest):
             'row 5: column 2 ("Name") is merged with row 4: take the merged cells apart',
             "row 4 has no title (1 of 2 labels)",
         ]
-        arguments = ["--code", "EAN", "--title", "Name"]
+        arguments = "--code EAN --title Name".split()
         self.check(
             xlsx(lines, after=after), arguments, [f"ean13 {PENCIL}", f"ean8 {SMALL}"], problems, 1
         )
@@ -451,7 +451,7 @@ class Xlsx(WorkbookTest):
 
     def test_a_number_of_a_column(self) -> None:
         data = xlsx(rows([PENCIL, "a"], [SMALL, "b"]))
-        self.check(data, ["--code", "1", "--no-header"], [f"ean13 {PENCIL}", f"ean8 {SMALL}"])
+        self.check(data, "--code 1 --no-header".split(), [f"ean13 {PENCIL}", f"ean8 {SMALL}"])
         hint = "give --no-header if that is a code, --header if it is a name"
         self.check(data, ["--code", "1"], [], [f'row 1 has "{PENCIL}" in column 1: {hint}'], 2)
 
@@ -638,7 +638,7 @@ class Ods(WorkbookTest):
         copies = ods_cell("3", "float", 'office:value="3"')
         line = [ods_cell("4,01E+12", "float", value), ods_cell("Bleistift\n2B"), price, copies]
         data = ods(table(["EAN", "Artikel", "Preis", "Stück"], line))
-        columns = ["--title", "Artikel", "--price", "Preis", "--copies", "Stück"]
+        columns = "--title Artikel --price Preis --copies Stück".split()
         label = {"row": 2, "title": "Bleistift\n2B", "price": "0,80 €", "copies": 3}
         self.assertEqual(self.found(data, *columns), [(label, f"ean13 {PENCIL}")])
 
@@ -677,7 +677,7 @@ class Ods(WorkbookTest):
             if text not in lines
         ]
         data = ods(table(["EAN"], *([text] for text in cells)))
-        self.check(data, ["--code", "EAN", "--symbology", "code128"], lines, problems, 1)
+        self.check(data, "--code EAN --symbology code128".split(), lines, problems, 1)
         data = ods(table(["EAN", "x"], [PENCIL, list(cells)[4]]))
         self.assertEqual(self.found(data, "--text", "x")[0][0]["text"], ["25.11.26"])
 
@@ -735,7 +735,7 @@ class Ods(WorkbookTest):
         note = "2 hidden rows are not printed: give --hidden to print them"
         self.check(data, ["--code", "EAN"], [f"ean13 {PENCIL}", f"upca {SOAP}"], [note])
         every = [f"ean13 {PENCIL}", f"ean8 {SMALL}", f"ean13 {BOOK}", f"upca {SOAP}"]
-        self.check(data, ["--code", "EAN", "--hidden"], every)
+        self.check(data, "--code EAN --hidden".split(), every)
 
         style = '<style:style style:name="ta2" style:family="table">'
         style += '<style:table-properties table:display="false"/></style:style>'
@@ -746,7 +746,7 @@ class Ods(WorkbookTest):
         ]
         data = ods(*sheets, styles=style)
         self.check(data, ["--code", "EAN"], [f"ean13 {PENCIL}"])
-        self.check(data, ["--code", "EAN", "--sheet", "alt"], [f"ean8 {SMALL}"])
+        self.check(data, "--code EAN --sheet alt".split(), [f"ean8 {SMALL}"])
         problem = 'has 2 visible sheets with data: give --sheet with one of "Tabelle1", "alt"'
         self.refused(ods(*sheets), problem, status=2)
 
@@ -937,7 +937,7 @@ class LongTables(WorkbookTest):
             before = support.processor_seconds()
             done = support.run(
                 "label-table",
-                *("--code", "EAN", "--title", "Name", "--price", "Price", "--decimal", ","),
+                *"--code EAN --title Name --price Price --decimal ,".split(),
                 input=data,
             )
             self.assertEqual(
