@@ -9,13 +9,13 @@ import unittest
 from typing import List, Optional, Sequence, Tuple
 
 import support
+from sheets import COLOURS, KINDS, Cell, Look, Sheet, of_ods, of_xlsx
 from test_table import BOOK, PENCIL, SMALL, SOAP, parts_of
 from test_table_workbooks import ODS_SPACES, WorkbookTest, cell, ods, ods_cell, rows, table, xlsx
 
 HEAD = ["EAN", "Name", "Price"]
 PRICED = "--code EAN --title Name --price Price --decimal .".split()
 SHARED = '<c t="s"><v>0</v></c>'
-STRUCK_FONT = "<fonts><font/><font><strike/></font></fonts>"
 
 
 def shared(*runs: Tuple[str, str]) -> str:
@@ -42,43 +42,6 @@ class CellTest(WorkbookTest):
         self.assertEqual(bool(messages), bool(said))
 
 
-class Runs(CellTest):
-    def test_raised_letters_are_other_signs(self) -> None:
-        raised = '<vertAlign val="superscript"/>'
-        for runs, price, said in (
-            ([("12", "<b/>"), ("49", raised)], None, "is no price"),
-            ([("1.49", ""), ("2", raised)], "1.49²", ""),
-            ([("1.4", ""), ("9", "<i/>")], "1.49", ""),
-        ):
-            data = xlsx(rows(HEAD, [PENCIL, "Tea", SHARED]), strings=shared(*runs))
-            self.check_price(data, price, said)
-        style = '<style:style style:name="T1" style:family="text">'
-        style += "<style:text-properties style:text-position="
-        span = '12<text:span text:style-name="T1">49</text:span>'
-        for place, price in (("super 58%", None), ("33% 58%", None), ("0% 100%", "1249")):
-            styles = f'{style}"{place}"/></style:style>'
-            data = ods(table(HEAD, [PENCIL, "Tea", ods_cell(span)]), styles=styles)
-            self.check_price(data, price, "" if price else "is no price")
-
-    def test_a_title_has_its_raised_digit(self) -> None:
-        strings = shared(("Fliese, 2 m", ""), ("2", '<vertAlign val="superscript"/>'))
-        data = xlsx(rows(HEAD, [PENCIL, SHARED, 3]), strings=strings)
-        self.assertEqual(self.ran(data, *PRICED[:4]), (["Fliese, 2 m²"], []))
-
-    def test_struck_letters_leave_their_row_out(self) -> None:
-        strings = shared(("19.99", "<strike/>"), (" 14.99", ""))
-        data = xlsx(rows(HEAD, [PENCIL, "Tea", SHARED]), strings=strings)
-        self.check_price(data, None, "has letters that are struck through")
-        styles = f'{STRUCK_FONT}<cellXfs><xf numFmtId="2" fontId="1"/></cellXfs>'
-        data = xlsx(rows(HEAD, [PENCIL, "Tea", cell(14.99, style=1)]), styles=styles)
-        self.check_price(data, None, "has letters that are struck through")
-        line = 'style:text-line-through-style="solid"'
-        styles = ods_style("ce1", "table-cell", line)
-        struck = ods_cell("14.99", "float", 'office:value="14.99" table:style-name="ce1"')
-        data = ods(table(HEAD, [PENCIL, "Tea", struck]), styles=styles)
-        self.check_price(data, None, "has letters that are struck through")
-
-
 def ods_style(name: str, family: str, properties: str, more: str = "") -> str:
     """A style of .ods with properties of its letters."""
     named = f'style:name="{name}" ' if name else ""
@@ -94,7 +57,131 @@ IS_STRUCK = "has letters that are struck through"
 IS_RAISED = "is a number that is raised or lowered"
 IS_CUT = "has digits of two sizes side by side"
 IS_UNSEEN = "has white letters, which nobody sees"
-COLOURS = 'xmlns:fo="urn:oasis:names:tc:opendocument:xmlns:xsl-fo-compatible:1.0"'
+
+
+STRUCK, RAISED, WHITE = Look(is_struck=True), Look(is_raised=True), Look(colour="FFFFFF")
+
+
+class Looks(CellTest):
+    """How letters look, in a cell or a part of it, as both kinds of files have it."""
+
+    def check_looks(self, *cases: Tuple[Cell, Optional[str], str]) -> None:
+        """Prices, and what is printed of each, or else why it is not."""
+        for price, wanted, said in cases:
+            for kind in KINDS:
+                with self.subTest(price, kind=kind):
+                    self.check_price(kind(Sheet([HEAD, [PENCIL, "Tea", price]])), wanted, said)
+
+    def test_raised_letters_are_other_signs(self) -> None:
+        self.check_looks(
+            (Cell(runs=(("12", None), ("49", RAISED))), None, "is no price"),
+            (Cell(runs=(("1.49", None), ("2", RAISED))), "1.49²", ""),
+            (Cell(runs=(("1.4", None), ("9", Look()))), "1.49", ""),
+            (Cell(14.99, "0.00", "14.99", RAISED), None, IS_RAISED),
+            (Cell("2,99", look=RAISED), None, "is no price"),
+        )
+        for kind in KINDS:
+            for title, wanted in (
+                (Cell(runs=(("Fliese, 2 m", None), ("2", RAISED))), "Fliese, 2 m²"),
+                (Cell("2", look=RAISED), "²"),
+            ):
+                data = kind(Sheet([HEAD, [PENCIL, title, 3]]))
+                self.assertEqual(self.ran(data, *PRICED[:4]), ([wanted], []))
+
+    def test_struck_letters_leave_their_row_out(self) -> None:
+        self.check_looks(
+            (Cell(runs=(("19.99", STRUCK), (" 14.99", None))), None, IS_STRUCK),
+            (Cell(14.99, "0.00", "14.99", STRUCK), None, IS_STRUCK),
+            (Cell("14.99", look=STRUCK), None, IS_STRUCK),
+        )
+
+    def test_a_number_goes_on_in_letters_of_its_size(self) -> None:
+        """The cents of a price are typed smaller in place of a decimal sign."""
+        small, usual, large = Look(size=7), Look(size=11), Look(size=20)
+        self.check_looks(
+            (Cell(look=usual, runs=(("12", None), ("49", small))), None, IS_CUT),
+            (Cell(look=usual, runs=(("12", usual), ("49", small))), None, IS_CUT),
+            (Cell(look=usual, runs=(("12", small), ("49", None))), None, IS_CUT),
+            (Cell(look=large, runs=(("12", None), ("49", usual))), None, IS_CUT),
+            (Cell(look=usual, runs=(("12", None), ("49", Look(size=10)))), "1249", ""),
+            (Cell(look=usual, runs=(("12.", None), ("49", small))), "12.49", ""),
+            (Cell(look=usual, runs=(("12.49", None), (" €", small))), "12.49 €", ""),
+            (Cell(look=usual, runs=(("12", small), ("49", small))), "1249", ""),
+        )
+
+    def test_letters_that_nobody_sees_leave_their_row_out(self) -> None:
+        dark, grey = Look(fill="202020"), Look(colour="F0F0F0")
+        both = Look(colour="FFFFFF", fill="202020")
+        self.check_looks(
+            (Cell(runs=(("12", None), ("49", WHITE))), None, IS_UNSEEN),
+            (Cell(look=dark, runs=(("12", WHITE), ("49", WHITE))), "1249", ""),
+            (Cell(runs=(("12", None), ("49", grey))), "1249", ""),
+            (Cell("12.49", look=WHITE), None, IS_UNSEEN),
+            (Cell("12.49", look=both), "12.49", ""),
+        )
+
+
+class Sheets(CellTest):
+    """Rows and sheets, as both kinds of files have them."""
+
+    def test_a_table(self) -> None:
+        euros = '#,##0.00\\ "€"'
+        lines = [
+            ["EAN", "Artikel", "Preis", "Stück"],
+            [Cell(int(PENCIL), shown="4,01E+12"), "Bleistift\n2B", Cell(0.8, euros, "0,80 €"), 3],
+            [int(SMALL), "Käse „x“ – …", Cell(12999, euros, "12.999,00 €"), 0],
+        ]
+        pencil = {"row": 2, "title": "Bleistift\n2B", "price": "0,80 €", "copies": 3}
+        cheese = {"row": 3, "title": "Käse „x“ – …", "price": "12.999,00 €", "copies": 0}
+        wanted = [(pencil, f"ean13 {PENCIL}"), (cheese, f"ean8 {SMALL}")]
+        columns = "--title Artikel --price Preis --copies Stück".split()
+        self.assertEqual(self.found(of_xlsx(Sheet(lines)), *columns, "--decimal", ","), wanted)
+        self.assertEqual(self.found(of_ods(Sheet(lines)), *columns), wanted)
+
+    def test_hidden_rows(self) -> None:
+        sheet = Sheet([["EAN"], [PENCIL], [SMALL], [BOOK], [], [SOAP]], hidden=(3, 4, 5))
+        shown = [f"ean13 {PENCIL}", f"upca {SOAP}"]
+        note = "2 hidden rows are not printed: give --hidden to print them"
+        every = [f"ean13 {PENCIL}", f"ean8 {SMALL}", f"ean13 {BOOK}", f"upca {SOAP}"]
+        for kind in KINDS:
+            self.check(kind(sheet), ["--code", "EAN"], shown, [note])
+            self.check(kind(sheet), ["--code", "EAN", "--hidden"], every)
+
+    def test_merged_cells(self) -> None:
+        lines = [
+            ["EAN", "Name", Cell(span=(1, 4))],
+            [Cell(PENCIL, span=(2, 1)), "a"],
+            [None, "b"],
+            [SMALL, Cell(span=(2, 1))],
+            [BOOK, "c"],
+        ]
+        problems = [
+            'row 3: column 1 ("EAN") is merged with row 2: take the merged cells apart',
+            'row 5: column 2 ("Name") is merged with row 4: take the merged cells apart',
+            "row 4 has no title (1 of 2 labels)",
+        ]
+        found = [f"ean13 {PENCIL}", f"ean8 {SMALL}"]
+        for kind in KINDS:
+            self.check(kind(Sheet(lines)), PRICED[:4], found, problems, 1)
+
+    def test_several_sheets(self) -> None:
+        first, empty = Sheet([["EAN"], [PENCIL]]), Sheet([[None]], "leer")
+        old, new = Sheet([["EAN"], [SMALL]], "alt", (), False), Sheet([["EAN"], [SMALL]], "Preise")
+        pencil, small = [({"row": 2}, f"ean13 {PENCIL}")], [({"row": 2}, f"ean8 {SMALL}")]
+        for kind in KINDS:
+            data = kind(first, empty, old)
+            self.assertEqual(self.found(data), pencil)
+            self.assertEqual(self.found(data, "--sheet", "alt"), small)
+            self.assertEqual(self.found(kind(Sheet([[None]]), new)), small)
+            data = kind(first, empty, old, new)
+            named = 'has 2 visible sheets with data: give --sheet with one of "Tabelle1", "Preise"'
+            self.refused(data, named, status=2)
+            self.assertEqual(self.found(data, "--sheet", "Preise"), small)
+            names = '"Tabelle1", "leer", "alt", "Preise"'
+            problem = f'has no sheet "preise" with data: give --sheet with one of {names}'
+            self.refused(data, problem, "--sheet", "preise", status=2)
+            problem = 'has 0 visible sheets with data: give --sheet with one of "Tabelle1", "leer"'
+            self.refused(kind(Sheet([]), empty), problem, status=2)
 
 
 class Styles(CellTest):
@@ -176,115 +263,38 @@ class Styles(CellTest):
         data = self.columns_of_ods(ods_cell(span), common=common)
         self.check_price(data, None, IS_STRUCK)
 
-    def test_a_font_of_xlsx_raises_numbers_and_texts(self) -> None:
-        fonts = '<fonts><font/><font><vertAlign val="superscript"/></font></fonts>'
-        styles = f'{fonts}<cellXfs><xf numFmtId="2" fontId="1"/></cellXfs>'
-        data = xlsx(rows(HEAD, [PENCIL, "Tea", cell(14.99, style=1)]), styles=styles)
-        self.check_price(data, None, IS_RAISED)
-        text = cell("2").replace("<c ", '<c s="1" ')
-        data = xlsx(rows(HEAD, [PENCIL, text, 3]), styles=styles)
-        self.assertEqual(self.ran(data, *PRICED[:4]), (["²"], []))
-        struck = f'{STRUCK_FONT}<cellXfs><xf numFmtId="2" fontId="1"/></cellXfs>'
-        text = cell("14.99").replace("<c ", '<c s="1" ')
-        self.check_price(xlsx(rows(HEAD, [PENCIL, "T", text]), styles=struck), None, IS_STRUCK)
 
+class Marks(CellTest):
+    """What only one kind of files says of letters, or of all cells."""
 
-class Looks(CellTest):
-    """Letters that are smaller, that nobody sees, or that a font shows as signs."""
-
-    def of_xlsx(self, *runs: Tuple[str, str], font: str = "", fill: str = "") -> bytes:
-        """An .xlsx with a price of runs; a run with the form "-" has that of its cell."""
-        text = shared(*runs).replace("<rPr>-</rPr>", "")
-        fonts = f"<fonts><font><sz val='11'/></font><font>{font}</font></fonts>"
-        fills = f"<fills><fill><patternFill/></fill><fill>{fill}</fill></fills>"
-        styles = f'{fonts}{fills}<cellXfs><xf fontId="1" fillId="{int(fill != "")}"/></cellXfs>'
-        price = SHARED.replace("<c ", '<c s="1" ')
-        return xlsx(rows(HEAD, [PENCIL, "Tea", price]), strings=text, styles=styles)
-
-    def of_ods(self, text: str, *styles: Tuple[str, str, str], own: str = "") -> bytes:
+    def of_ods(self, text: str, *styles: Tuple[str, str, str]) -> bytes:
         """An .ods with a price, and styles by name, family and properties."""
         made = (ods_style(name, family, f"{COLOURS} {looks}") for name, family, looks in styles)
         price = ods_cell(text, more='table:style-name="ce1"')
-        return ods(table(HEAD, [PENCIL, "Tea", price]), styles="".join(made) + own)
+        return ods(table(HEAD, [PENCIL, "Tea", price]), styles="".join(made))
 
-    def test_a_number_goes_on_in_letters_of_its_size(self) -> None:
-        """The cents of a price are typed smaller in place of a decimal sign."""
-        small, usual, near = "<sz val='7'/>", "<sz val='11'/>", "<sz val='10'/>"
-        for runs, price in (
-            ([("12", "-"), ("49", small)], None),
-            ([("12", usual), ("49", small)], None),
-            ([("12", small), ("49", "-")], None),
-            ([("12", "-"), ("49", near)], "1249"),
-            ([("12", "-"), ("49", usual)], "1249"),
-            ([("12.", "-"), ("49", small)], "12.49"),
-            ([("12.49", "-"), (" €", small)], "12.49 €"),
-            ([("12", small), ("49", small)], "1249"),
-        ):
-            data = self.of_xlsx(*runs, font="<sz val='11'/>")
-            self.check_price(data, price, "" if price else IS_CUT)
-        self.check_price(
-            self.of_xlsx(("12", "-"), ("49", usual), font="<sz val='20'/>"), None, IS_CUT
-        )
-
-    def test_the_sizes_of_ods_are_those_of_what_is_around(self) -> None:
+    def test_letters_in_letters_of_ods(self) -> None:
+        """The inner ones look as their style says; a height may be a number."""
         span = '12<text:span text:style-name="T1">49</text:span>'
         inner = '<text:span text:style-name="T1">12<text:span text:style-name="T2">49</text:span>'
-        for text, large, small, price in (
-            (span, 'fo:font-size="10pt"', 'fo:font-size="6pt"', None),
-            (span, 'fo:font-size="20pt"', 'fo:font-size="10pt"', None),
-            (span, 'fo:font-size="20pt"', 'fo:font-size="19pt"', "1249"),
-            (f"{inner}</text:span>", 'fo:font-size="20pt"', 'fo:font-size="7pt"', "1249"),
-            (
-                "12.<text:span text:style-name='T1'>49</text:span>",
-                "",
-                'fo:font-size="6pt"',
-                "12.49",
-            ),
-        ):
-            styles = ("ce1", "table-cell", large), ("T1", "text", small), ("T2", "text", small)
-            self.check_price(self.of_ods(text, *styles), price, "" if price else IS_CUT)
-
-    def test_letters_that_nobody_sees_leave_their_row_out(self) -> None:
-        white, theme, red = (
-            "<color rgb='00FFFFFF'/>",
-            "<color theme='0'/>",
-            "<color rgb='FFFF0000'/>",
+        small = ("ce1", "table-cell", 'fo:font-size="20pt"'), *(
+            (name, "text", 'fo:font-size="7pt"') for name in ("T1", "T2")
         )
-        dark = "<patternFill patternType='solid'><fgColor theme='1'/></patternFill>"
-        for hides, fill, price in (
-            (white, "", None),
-            (theme, "", None),
-            ("<color indexed='9'/>", "", None),
-            (white, dark, "1249"),
-            (red, "", "1249"),
-            ("<color theme='0' tint='-0.5'/>", "", "1249"),
-            ("<color auto='1'/>", "", "1249"),
-        ):
-            seen = white if fill else ""
-            data = self.of_xlsx(("12", seen), ("49", hides), fill=fill)
-            self.check_price(data, price, "" if price else IS_UNSEEN)
-        span = '12<text:span text:style-name="T1">49</text:span>'
-        for looks, price in (
-            ('fo:color="#ffffff"', None),
-            ('fo:color="#ffffff" fo:background-color="#000000"', "1249"),
-            ('fo:color="#f0f0f0"', "1249"),
-        ):
+        self.check_price(self.of_ods(f"{inner}</text:span>", *small), "1249")
+        for place, price in (("33% 58%", None), ("0% 100%", "1249")):
+            looks = f'style:text-position="{place}"'
             data = self.of_ods(span, ("T1", "text", looks))
-            self.check_price(data, price, "" if price else IS_UNSEEN)
+            self.check_price(data, price, "" if price else "is no price")
 
-    def test_a_cell_with_white_letters_leaves_its_row_out(self) -> None:
-        dark = "<patternFill patternType='solid'><fgColor rgb='FF202020'/></patternFill>"
-        white = "<color rgb='FFFFFFFF'/>"
-        for fill, price in (("", None), (dark, "12.49")):
-            data = self.of_xlsx(("12.49", "-"), font=white, fill=fill)
-            self.check_price(data, price, "" if price else IS_UNSEEN)
-        for ground, price in (
-            ("", None),
-            ('<style:table-cell-properties {} fo:background-color="#202020"/>', "12.49"),
+    def test_what_is_white_in_xlsx(self) -> None:
+        for colour, price in (
+            ('theme="0"', None),
+            ('indexed="9"', None),
+            ('theme="0" tint="-0.5"', "1249"),
+            ('auto="1"', "1249"),
         ):
-            style = ods_style("ce1", "table-cell", f'{COLOURS} fo:color="#ffffff"')
-            style = style.replace("</style:style>", f"{ground.format(COLOURS)}</style:style>")
-            data = self.of_ods("12.49", own=style)
+            strings = shared(("12", ""), ("49", f"<color {colour}/>"))
+            data = xlsx(rows(HEAD, [PENCIL, "Tea", SHARED]), strings=strings)
             self.check_price(data, price, "" if price else IS_UNSEEN)
 
     def test_a_condition_that_takes_letters_away_is_reported(self) -> None:
@@ -316,10 +326,14 @@ class Looks(CellTest):
         self.assertEqual((titles, 'the value 47 and the text "###"' in said[0]), ([], True))
 
     def test_a_row_without_height_is_hidden(self) -> None:
-        cases: List[Tuple[str, List[str]]] = [("0", []), ("15", ["14.25"])]
-        for height, prices in cases:
+        cases: List[Tuple[str, List[str]]] = [
+            ('ht="0" customHeight="1"', []),
+            ('ht="15"', ["14.25"]),
+            ('hidden="true"', []),
+        ]
+        for own, prices in cases:
             lines = rows(HEAD, [PENCIL, "Tea", 14.25], [SMALL, "Tea", 14.25])
-            lines = lines.replace('<row r="2">', f'<row r="2" ht="{height}" customHeight="1">')
+            lines = lines.replace('<row r="2">', f'<row r="2" {own}>')
             found, said = self.ran(xlsx(lines), *PRICED)
             self.assertEqual(found, [*prices, "14.25"])
             self.assertEqual(["hidden row" in one for one in said], [True] * (not prices))

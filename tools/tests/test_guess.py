@@ -4,7 +4,6 @@ import shlex
 import tempfile
 import unittest
 from pathlib import Path
-from typing import Sequence
 
 import support
 from labeltools.sheets.options import FileOptions
@@ -12,123 +11,103 @@ from labeltools.tables.guess import Guess, guess, guess_of
 from labeltools.common.messages import Silence
 from labeltools.tables.options import TableOptions
 
-# the names of the columns, a row, and what is to be guessed; what has a `?` is asked
-TABLES = (
-    (
-        "Warengruppe;Artikel;GTIN;Preis EUR",
-        "Brot;Roggenbrot;4006381333931;3,20",
-        "- title code price",
-    ),
-    (
-        "Référence;Désignation;Code-barres;Prix achat;Prix TTC;Qté stock",
-        "JR1;Poupée Léa;4006381333931;2,10;5,90 €;40",
-        "- title code - price -",
-    ),
-    (
-        "Handle;Title;Variant SKU;Variant Inventory Qty;Variant Price;Variant Barcode",
-        "c-1;Chain, silver;C1;7;25.95;4006381333931",
-        "- title - - price code",
-    ),
-    (
-        "Lp.;Kod kreskowy;Nazwa towaru;Cena brutto;Ilość etykiet",
-        "1;4006381333931;Masło extra;6,49 zł;2",
-        "- code title price copies",
-    ),
-    (
-        "CN;EAN;Descripción;PVP;Existencias;Etiquetas",
-        "654321;4006381333931;Gel de baño;3,75 €;20;2",
-        "- code title price - copies",
-    ),
-    (
-        "Item no;Description;Barcode;Cost;Retail;On hand",
-        "12;Hammer 12 oz;4006381333931;12.10;$24.49;3",
-        "- title code - price -",
-    ),
-    (
-        "Codice articolo;Descrizione;EAN13;Prezzo acquisto;Prezzo vendita;Giacenza",
-        "P4;Crema mani;4006381333931;4,00;€ 8,50;6",
-        "- title code - price -",
-    ),
-    (
-        "Produkt;Strichcode;Alter Preis;Neuer Preis;Anzahl Etiketten",
-        "Honig Linde;4006381333931;3,50 €;2,99 €;4",
-        "title code ?price ?price copies",
-    ),
-    (
-        "Artikelnr;Omschrijving;EAN;Inkoopprijs;Adviesprijs",
-        "A1;Drop zoet;4006381333931;1,00;1,95",
-        "- title code ?price ?price",
-    ),
-    (
-        "Autor;Titel;ISBN;Ladenpreis",
-        "K. Lenz;Herbstlicht;978-3-16-148410-0;24,00 €",
-        "- title code price",
-    ),
-    (
-        "PLU;Ware;Herkunft;Preis;Grundpreis;EAN",
-        "4100;Birnen Conference;Italien;2,99;2,33 €/kg;4006381333931",
-        "- title - price - code",
-    ),
-    ("Inventarnummer;Gegenstand;Raum", "INV-00118;Drehstuhl;Büro", "code title -"),
-    ("Charge;Sorte;Datum", "L26-0011A;Apfelsaft;11.03.2026", "code title -"),
-    ("Regal;Inhalt;Adresse", "R3;Schrauben M3;https://lager.example/r/3", "- title code"),
-    ("Artikelbezeichnung;GTIN;CHF", "Rivella rot;4006381333931;2.50", "title code price"),
-    ("Käse;EAN;Fr. / 100 g;Fr. / Stück", "Tilsiter;4006381333931;1.95;4.85", "title code - price"),
-    ("Zolltarifnr.;EAN;Art.-Nr.", "731814;4006381333931;100-22", "- code -"),
-    (
-        "Code article;Jeans;EAN;PU TTC",
-        "V12 Denim;Bleu nuit;4006381333931;39,90",
-        "?title ?title code ?price",
-    ),
-    ("Bestellnummer;Artikelnummer;Ware", "4500012345;M-10023;Kugellager", "?code ?code title"),
-    (
-        "EAN artikel;EAN omdoos;Omschrijving;Prijs per stuk;Prijs per doos",
-        "4006381333931;4012345678901;Drop zoet;1,95;19,50",
-        "?code ?code title ?price ?price",
-    ),
-    (
-        "EAN Einzelpflanze;EAN Tray;Pflanze;Preis",
-        "4006381333931;4012345678901;Lavendel;4,95",
-        "?code ?code title price",
-    ),
-    (
-        "UPC-A;EAN-13;Board game;MSRP",
-        "036000291452;0036000291452;Chess, wood;19.95",
-        "code - title price",
-    ),
-)
-# tables in which two columns may be meant, and those that are
-DOUBTS: Sequence[tuple[str, str, dict[str, list[str]]]] = (
-    (
-        "Artikel;EAN;Preis A;Preis B",
-        "Schraube lang;4006381333931;1,10;1,30",
-        {"price": ["Preis A", "Preis B"]},
-    ),
-    (
-        "EAN;Artikel;Normalpreis;Aktionspreis",
-        "4006381333931;Kaffee Crema;7,99 €;5,49 €",
-        {"price": ["Normalpreis", "Aktionspreis"]},
-    ),
-    (
-        "GTIN alt;GTIN neu;Artikel;Preis",
-        "4006381333931;4012345678901;Limo Zitrone;1,19",
-        {"code": ["GTIN alt", "GTIN neu"]},
-    ),
-    (
-        "EAN Karton;EAN Stück;Artikel;EK;UVP",
-        "4006381333931;4012345678901;Honig Linde;3,10;5,49",
-        {"code": ["EAN Karton", "EAN Stück"]},
-    ),
-    ("EAN;Seriennummer;Modell", "4006381333931;SN-20144;Kamera Reflex", {}),
-    ("Artikelnummer;SKU;Ware", "M-10023;SK-77120;Kugellager", {"code": ["Artikelnummer", "SKU"]}),
-    ("N° billet;Place", "FR26-0099123;B14", {"code": ["N° billet"]}),
-    ("Etikett;Eingang;Spender;Ort", "C00812;03.11.2026;Anna;Ulm", {"code": ["Etikett"]}),
-)
+# three lines a table: the names of the columns, a row, and what is guessed; what has a `?` is asked
+TABLES = """\
+Warengruppe;Artikel;GTIN;Preis EUR
+Brot;Roggenbrot;4006381333931;3,20
+- title code price
+Référence;Désignation;Code-barres;Prix achat;Prix TTC;Qté stock
+JR1;Poupée Léa;4006381333931;2,10;5,90 €;40
+- title code - price -
+Handle;Title;Variant SKU;Variant Inventory Qty;Variant Price;Variant Barcode
+c-1;Chain, silver;C1;7;25.95;4006381333931
+- title - - price code
+Lp.;Kod kreskowy;Nazwa towaru;Cena brutto;Ilość etykiet
+1;4006381333931;Masło extra;6,49 zł;2
+- code title price copies
+CN;EAN;Descripción;PVP;Existencias;Etiquetas
+654321;4006381333931;Gel de baño;3,75 €;20;2
+- code title price - copies
+Item no;Description;Barcode;Cost;Retail;On hand
+12;Hammer 12 oz;4006381333931;12.10;$24.49;3
+- title code - price -
+Codice articolo;Descrizione;EAN13;Prezzo acquisto;Prezzo vendita;Giacenza
+P4;Crema mani;4006381333931;4,00;€ 8,50;6
+- title code - price -
+Produkt;Strichcode;Alter Preis;Neuer Preis;Anzahl Etiketten
+Honig Linde;4006381333931;3,50 €;2,99 €;4
+title code ?price ?price copies
+Artikelnr;Omschrijving;EAN;Inkoopprijs;Adviesprijs
+A1;Drop zoet;4006381333931;1,00;1,95
+- title code ?price ?price
+Autor;Titel;ISBN;Ladenpreis
+K. Lenz;Herbstlicht;978-3-16-148410-0;24,00 €
+- title code price
+PLU;Ware;Herkunft;Preis;Grundpreis;EAN
+4100;Birnen Conference;Italien;2,99;2,33 €/kg;4006381333931
+- title - price - code
+Inventarnummer;Gegenstand;Raum
+INV-00118;Drehstuhl;Büro
+code title -
+Charge;Sorte;Datum
+L26-0011A;Apfelsaft;11.03.2026
+code title -
+Regal;Inhalt;Adresse
+R3;Schrauben M3;https://lager.example/r/3
+- title code
+Artikelbezeichnung;GTIN;CHF
+Rivella rot;4006381333931;2.50
+title code price
+Käse;EAN;Fr. / 100 g;Fr. / Stück
+Tilsiter;4006381333931;1.95;4.85
+title code - price
+Zolltarifnr.;EAN;Art.-Nr.
+731814;4006381333931;100-22
+- code -
+Code article;Jeans;EAN;PU TTC
+V12 Denim;Bleu nuit;4006381333931;39,90
+?title ?title code ?price
+Bestellnummer;Artikelnummer;Ware
+4500012345;M-10023;Kugellager
+?code ?code title
+EAN artikel;EAN omdoos;Omschrijving;Prijs per stuk;Prijs per doos
+4006381333931;4012345678901;Drop zoet;1,95;19,50
+?code ?code title ?price ?price
+EAN Einzelpflanze;EAN Tray;Pflanze;Preis
+4006381333931;4012345678901;Lavendel;4,95
+?code ?code title price
+UPC-A;EAN-13;Board game;MSRP
+036000291452;0036000291452;Chess, wood;19.95
+code - title price
+Artikel;EAN;Preis A;Preis B
+Schraube lang;4006381333931;1,10;1,30
+title code ?price ?price
+EAN;Artikel;Normalpreis;Aktionspreis
+4006381333931;Kaffee Crema;7,99 €;5,49 €
+code title ?price ?price
+GTIN alt;GTIN neu;Artikel;Preis
+4006381333931;4012345678901;Limo Zitrone;1,19
+?code ?code title price
+EAN Karton;EAN Stück;Artikel;EK;UVP
+4006381333931;4012345678901;Honig Linde;3,10;5,49
+?code ?code title - price
+EAN;Seriennummer;Modell
+4006381333931;SN-20144;Kamera Reflex
+code - title
+Artikelnummer;SKU;Ware
+M-10023;SK-77120;Kugellager
+?code ?code title
+N° billet;Place
+FR26-0099123;B14
+?code -
+Etikett;Eingang;Spender;Ort
+C00812;03.11.2026;Anna;Ulm
+?code - - -
+""".splitlines()
 SYMBOLOGIES = {
-    "Inventarnummer": "code128",
-    "Charge": "code128",
     "Regal": "qr",
-    "Bestellnummer": "code128",
+    **dict.fromkeys(("Inventarnummer", "Charge", "Bestellnummer", "Artikelnummer"), "code128"),
+    **dict.fromkeys(("N° billet", "Etikett"), "code128"),
 }
 
 
@@ -139,7 +118,7 @@ def guessed(text: str, options: TableOptions = TableOptions()) -> Guess:
 
 class Guesses(unittest.TestCase):
     def test_columns_of_shops(self) -> None:
-        for names, row, wanted in TABLES:
+        for names, row, wanted in zip(TABLES[::3], TABLES[1::3], TABLES[2::3]):
             found = guessed(f"{names}\n{row}\n")
             kinds = {place: kind for kind, place in found.columns.items()}
             kinds |= {at: f"?{kind}" for kind, all in found.doubts.items() for at in all}
@@ -158,18 +137,8 @@ class Guesses(unittest.TestCase):
         found = guessed(f"{names};Apothekenpreis\n{row};4,95 €\n")  # a word that is not known
         self.assertEqual(found.doubts, {"price": [2, 3]})
 
-    def test_what_only_the_keeper_knows(self) -> None:
-        for names, row, wanted in DOUBTS:
-            found = guessed(f"{names}\n{row}\n")
-            said = {
-                kind: [found.names[place] for place in places]
-                for kind, places in found.doubts.items()
-            }
-            self.assertEqual(said, wanted, names)
-            self.assertFalse(set(said) & set(found.columns), names)
-
     def test_the_row_of_the_names(self) -> None:
-        names, row, _ = TABLES[0]
+        names, row = TABLES[:2]
         for above, header in (("", 1), ("Preisliste;;;\n;;;\n", 3), ("Stand;Mai;;\n", 2)):
             self.assertEqual(guessed(f"{above}{names}\n{row}\n").header, header, above)
         found = guessed("4006381333931;Kerze;1,20\n96385074;Docht;0,80\n")
@@ -190,7 +159,7 @@ class Guesses(unittest.TestCase):
 
     @support.slow
     def test_label_table_proposes_columns(self) -> None:
-        names, row, _ = TABLES[7]
+        names, row = TABLES[21:23]
         with tempfile.TemporaryDirectory() as folder:
             path = Path(folder, "Hofladen Mai.csv")
             path.write_text(f"Hofladen;\n{names}\n{row}\n")

@@ -12,6 +12,7 @@ import unittest
 
 import support
 from labeltools.common.messages import quoted
+from sheets import KINDS, Cell, Sheet
 from test_table import BOOK, PENCIL, SMALL, SOAP, Label, TableTest, parts_of
 from test_table_workbooks import cell, ods, ods_cell, packed, relations, rows, table, unpacked, xlsx
 
@@ -116,42 +117,10 @@ class Prices(RulesTest):
 
     # what spreadsheets and programs write where they have no value, in languages of Europe and Asia
     NONE = (
-        *(
-            "#VALEUR !",
-            "#WERT!",
-            "#NV",
-            "Fehler:502",
-            "Err :502",
-            "Erreur :502",
-            "Virhe:502",
-            "#¡VALOR!",
-        ),
-        *(
-            "nan",
-            "NULL",
-            "None",
-            "TRUE",
-            "n/a",
-            "Loading...",
-            "€",
-            "1e3",
-            "verzinkt",
-            "undefined",
-            "-",
-        ),
-        *(
-            "01.02.2026",
-            "12:50",
-            "4006381333931",
-            "5 kg",
-            "3 – 5 €",
-            "-30 %",
-            "007",
-            "A100",
-            "\\1,080",
-        ),
-        *("&euro;3.00", "<b>3.00</b>", "z³ 3,00", "#ЗНАЧ!", "Za¿ó³æ"),
-    )
+        "#VALEUR !|#WERT!|#NV|Fehler:502|Err :502|Erreur :502|Virhe:502|#¡VALOR!|nan|NULL|None|TRUE"
+        "|n/a|Loading...|€|1e3|verzinkt|undefined|-|01.02.2026|12:50|4006381333931|5 kg|3 – 5 €"
+        "|-30 %|007|A100|\\1,080|&euro;3.00|<b>3.00</b>|z³ 3,00|#ЗНАЧ!|Za¿ó³æ"
+    ).split("|")
 
     def test_what_is_no_price_leaves_its_row_out(self) -> None:
         for price in self.NONE:
@@ -180,11 +149,12 @@ class Prices(RulesTest):
         self.assertEqual(self.price("R12", "--currency-name", "R"), "R12")
 
     def test_a_zero_that_is_a_dash(self) -> None:
-        dash = '#,##0.00\\ "€";-#,##0.00\\ "€";"-"\\ "€"'
-        data = xlsx(rows(["EAN", "Preis"], [SMALL, cell(0, style=1)]), formats=[dash])
+        dash = Cell(0, '#,##0.00\\ "€";-#,##0.00\\ "€";"-"\\ "€"', "- €")
         problem = f'row 2: column 2 ("Preis") has "- €", {NO_PRICE} has no number; '
         problem += "it is a zero, which its number format shows so"
-        self.check(data, "--code EAN --price Preis".split(), [], [problem], 1)
+        for kind in KINDS:
+            data = kind(Sheet([["EAN", "Preis"], [SMALL, dash]]))
+            self.check(data, "--code EAN --price Preis".split(), [], [problem], 1)
 
     def test_free_text(self) -> None:
         for price in ("auf Anfrage", "gratis", "3 zum Preis von 2"):
@@ -342,11 +312,9 @@ class Prices(RulesTest):
 
 class Copies(RulesTest):
     def test_a_truth_value_is_no_number_of_copies(self) -> None:
-        shown = ods_cell("TRUE", "float", 'office:value="1"')
-        book = xlsx(
-            rows(["EAN", "Copies"], [SMALL, cell(1, style=1)]), formats=['"TRUE";"TRUE";"FALSE"']
-        )
-        for data in (ods(table(["EAN", "Copies"], [SMALL, shown])), book):
+        shown = Cell(1, '"TRUE";"TRUE";"FALSE"', "TRUE")
+        for kind in KINDS:
+            data = kind(Sheet([["EAN", "Copies"], [SMALL, shown]]))
             status, messages, labels = self.said(data, "--code", "EAN", "--copies", "Copies")
             self.assertEqual((status, labels), (1, []))
             self.assertRegex(messages[0], '^row 2: column 2 \\("Copies"\\)')

@@ -203,34 +203,6 @@ class WorkbookTest(TableTest):
 
 
 class Xlsx(WorkbookTest):
-    def test_a_table(self) -> None:
-        data = xlsx(
-            rows(
-                ["EAN", "Artikel", "Preis", "Stück"],
-                [PENCIL, "Bleistift\n2B", cell(0.8, style=1), 3],
-                [int(SMALL), "Käse „x“ – …", cell(12999, style=1), 0],
-            ),
-            formats=['#,##0.00\\ "€"'],
-        )
-        columns = "--title Artikel --price Preis --copies Stück --decimal ,".split()
-        wanted = [
-            (
-                {"row": 2, "title": "Bleistift\n2B", "price": "0,80 €", "copies": 3},
-                f"ean13 {PENCIL}",
-            ),
-            (
-                {"row": 3, "title": "Käse „x“ – …", "price": "12.999,00 €", "copies": 0},
-                f"ean8 {SMALL}",
-            ),
-        ]
-        self.assertEqual(self.found(data, *columns), wanted)
-        path = self.folder / "articles.zip"
-        path.write_bytes(data)
-        done = support.run("label-table", "--code", "EAN", path)
-        self.assertEqual(
-            (done.returncode, parts_of(done.stdout)[0]), (0, {"labels": 1, "table": str(path)})
-        )
-
     def test_numbers_as_codes(self) -> None:
         formats: List[Union[str, int]] = [
             "0.00E+00",
@@ -376,68 +348,6 @@ class Xlsx(WorkbookTest):
         )
         found = [({"row": 4}, f"ean13 {PENCIL}"), ({"row": 6}, f"ean8 {SMALL}")]
         self.assertEqual(self.found(xlsx(lines)), found)
-
-    def test_hidden_rows(self) -> None:
-        lines = rows(["EAN"], [PENCIL], [SMALL], [BOOK], [], [SOAP])
-        for number in (3, 5):
-            lines = lines.replace(f'<row r="{number}">', f'<row r="{number}" hidden="1">')
-        lines += '<row r="8" hidden="true"></row>'
-        shown = [f"ean13 {PENCIL}", f"ean13 {BOOK}", f"upca {SOAP}"]
-        note = "1 hidden row is not printed: give --hidden to print them"
-        self.check(xlsx(lines), ["--code", "EAN"], shown, [note])
-        every = [f"ean13 {PENCIL}", f"ean8 {SMALL}", f"ean13 {BOOK}", f"upca {SOAP}"]
-        self.check(xlsx(lines), "--code EAN --hidden".split(), every)
-
-    def test_merged_cells(self) -> None:
-        lines = rows(["EAN", "Name"], [PENCIL, "a"], [None, "b"], [SMALL, None], [BOOK, "c"])
-        after = (
-            '<mergeCells><mergeCell ref="B4:B5"/><mergeCell ref="A2:A3"/><mergeCell'
-            ' ref="C1:F1"/></mergeCells>'
-        )
-        problems = [
-            'row 3: column 1 ("EAN") is merged with row 2: take the merged cells apart',
-            'row 5: column 2 ("Name") is merged with row 4: take the merged cells apart',
-            "row 4 has no title (1 of 2 labels)",
-        ]
-        arguments = "--code EAN --title Name".split()
-        self.check(
-            xlsx(lines, after=after), arguments, [f"ean13 {PENCIL}", f"ean8 {SMALL}"], problems, 1
-        )
-        # a word that is cut in two where the part is read piece by piece
-        for padding in range(65536 - 700, 65536 - 400, 7):
-            comment = f"<!--{'x' * padding}-->"
-            data = xlsx(lines, before=comment, after=after)
-            done = support.run_here("label-table", *arguments, input=data)
-            self.assertEqual(len(support.messages(done)), 3, padding)
-
-    def test_several_sheets(self) -> None:
-        first, second = rows(["EAN"], [PENCIL]), rows(["EAN"], [SMALL])
-        others = [
-            ("leer", "visible", rows([None])),
-            ("alt", "hidden", second),
-            ("sehr alt", "veryHidden", second),
-        ]
-        self.assertEqual(self.found(xlsx(first, *others)), [({"row": 2}, f"ean13 {PENCIL}")])
-        self.assertEqual(
-            self.found(xlsx(rows([None]), ("Neu", "visible", second))),
-            [({"row": 2}, f"ean8 {SMALL}")],
-        )
-        for name in ("alt", "sehr alt"):
-            self.assertEqual(
-                self.found(xlsx(first, *others), "--sheet", name), [({"row": 2}, f"ean8 {SMALL}")]
-            )
-        data = xlsx(first, *others, ("Preise", "visible", second))
-        self.refused(
-            data,
-            'has 2 visible sheets with data: give --sheet with one of "Tabelle1", "Preise"',
-            status=2,
-        )
-        self.assertEqual(self.found(data, "--sheet", "Preise"), [({"row": 2}, f"ean8 {SMALL}")])
-        names = '"Tabelle1", "leer", "alt", "sehr alt", "Preise"'
-        problem = f'has no sheet "preise" with data: give --sheet with one of {names}'
-        self.refused(data, problem, "--sheet", "preise", status=2)
-        problem = 'has 0 visible sheets with data: give --sheet with one of "Tabelle1", "x"'
-        self.refused(xlsx("", ("x", "visible", "")), problem, status=2)
 
     def test_options_of_csv(self) -> None:
         for option, value in (("--delimiter", ";"), ("--encoding", "cp1252")):
@@ -624,24 +534,6 @@ class Formats(WorkbookTest):
 
 
 class Ods(WorkbookTest):
-    def test_all_sheets_with_data_are_named(self) -> None:
-        """Each sheet of .ods begins with an empty row, which is none with data."""
-        names = ["Cover", *(f"Month {number}" for number in range(1, 5)), "Empty"]
-        sheets = [table(["EAN"], [PENCIL], name=name) for name in names[:-1]]
-        listed = ", ".join(f'"{name}"' for name in names[:-1])
-        problem = f"has 5 visible sheets with data: give --sheet with one of {listed}"
-        self.refused(ods(*sheets, table(name="Empty")), problem, status=2)
-
-    def test_a_table(self) -> None:
-        value = f'office:value="{PENCIL}"'
-        price = ods_cell("0,80 €", "currency", 'office:currency="EUR" office:value="0.8"')
-        copies = ods_cell("3", "float", 'office:value="3"')
-        line = [ods_cell("4,01E+12", "float", value), ods_cell("Bleistift\n2B"), price, copies]
-        data = ods(table(["EAN", "Artikel", "Preis", "Stück"], line))
-        columns = "--title Artikel --price Preis --copies Stück".split()
-        label = {"row": 2, "title": "Bleistift\n2B", "price": "0,80 €", "copies": 3}
-        self.assertEqual(self.found(data, *columns), [(label, f"ean13 {PENCIL}")])
-
     def test_numbers_as_codes(self) -> None:
         no_value = (
             "has a formula without a saved value: open the table in the spreadsheet and save it"
@@ -717,47 +609,6 @@ class Ods(WorkbookTest):
         done = support.run_here("label-table", "--code", "EAN", "--title", "x", input=data)
         titles = [label["title"] for label, _ in parts_of(done.stdout)[1]]
         self.assertEqual(titles, list(texts.values()))
-
-    def test_hidden_rows_and_sheets(self) -> None:
-        hidden = '<table:table-row table:visibility="{}" {}>{}</table:table-row>'
-        repeated = 'table:number-rows-repeated="1048500"'
-        lines = hidden.format("filter", "", ods_cell(SMALL)) + hidden.format(
-            "collapse", "", ods_cell(BOOK)
-        )
-        lines += f"<table:table-row>{ods_cell(SOAP)}</table:table-row>"
-        data = ods(
-            table(
-                ["EAN"],
-                [PENCIL],
-                end=lines + hidden.format("collapse", repeated, "<table:table-cell/>"),
-            )
-        )
-        note = "2 hidden rows are not printed: give --hidden to print them"
-        self.check(data, ["--code", "EAN"], [f"ean13 {PENCIL}", f"upca {SOAP}"], [note])
-        every = [f"ean13 {PENCIL}", f"ean8 {SMALL}", f"ean13 {BOOK}", f"upca {SOAP}"]
-        self.check(data, "--code EAN --hidden".split(), every)
-
-        style = '<style:style style:name="ta2" style:family="table">'
-        style += '<style:table-properties table:display="false"/></style:style>'
-        sheets = [
-            table(["EAN"], [PENCIL]),
-            table(["EAN"], [SMALL], name="alt", style="ta2"),
-            table([""], name="leer"),
-        ]
-        data = ods(*sheets, styles=style)
-        self.check(data, ["--code", "EAN"], [f"ean13 {PENCIL}"])
-        self.check(data, "--code EAN --sheet alt".split(), [f"ean8 {SMALL}"])
-        problem = 'has 2 visible sheets with data: give --sheet with one of "Tabelle1", "alt"'
-        self.refused(ods(*sheets), problem, status=2)
-
-    def test_merged_cells(self) -> None:
-        spanned = ods_cell(
-            PENCIL, more='table:number-rows-spanned="2" table:number-columns-spanned="1"'
-        )
-        covered = "<table:covered-table-cell/>"
-        data = ods(table(["EAN", "Name"], [spanned, "a"], [covered, "b"], [SMALL, "c"]))
-        problem = 'row 3: column 1 ("EAN") is merged with row 2: take the merged cells apart'
-        self.check(data, ["--code", "EAN"], [f"ean13 {PENCIL}", f"ean8 {SMALL}"], [problem], 1)
 
     def test_other_tables_in_the_file(self) -> None:
         inner = f"<text:p>{PENCIL}</text:p>{table(['x'], ['y'])}"

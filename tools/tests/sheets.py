@@ -1,0 +1,168 @@
+"""Sheets as rows of cells with looks, each written as .xlsx and as .ods: a rule for both is tested
+once.
+"""
+
+from dataclasses import dataclass
+from typing import Any, Callable, Collection, List, Optional, Sequence, Tuple
+from xml.sax.saxutils import escape
+
+from test_table_workbooks import cell, ods, ods_cell, rows, xlsx
+
+COLOURS = 'xmlns:fo="urn:oasis:names:tc:opendocument:xmlns:xsl-fo-compatible:1.0"'
+FIRST_FORMAT = 164  # the number of the first one that a file of .xlsx has itself
+HIDDEN = '<style:style style:name="ta2" style:family="table">'
+HIDDEN += '<style:table-properties table:display="false"/></style:style>'
+
+
+@dataclass(frozen=True)
+class Look:
+    """How letters look: their size in points, 0 for none of their own, and colours as RRGGBB."""
+
+    is_struck: bool = False
+    is_raised: bool = False
+    size: int = 0
+    colour: str = ""
+    fill: str = ""
+
+    def font(self) -> str:
+        """The properties of a font of .xlsx."""
+        struck = "<strike/>" if self.is_struck else ""
+        raised = '<vertAlign val="superscript"/>' if self.is_raised else ""
+        size = f'<sz val="{self.size}"/>' if self.size else ""
+        colour = f'<color rgb="FF{self.colour}"/>' if self.colour else ""
+        return f"{struck}{size}{colour}{raised}"
+
+    def pattern(self) -> str:
+        """The filling of a cell of .xlsx."""
+        if not self.fill:
+            return "<fill><patternFill/></fill>"
+        colour = f'<fgColor rgb="FF{self.fill}"/>'
+        return f'<fill><patternFill patternType="solid">{colour}</patternFill></fill>'
+
+    @property
+    def name(self) -> str:
+        """The name of its style in .ods."""
+        return f"s{self.is_struck:d}{self.is_raised:d}-{self.size}-{self.colour}-{self.fill}"
+
+    def style(self, family: str) -> str:
+        """A style of .ods."""
+        struck = 'style:text-line-through-style="solid"' if self.is_struck else ""
+        raised = 'style:text-position="super 58%"' if self.is_raised else ""
+        size = f'fo:font-size="{self.size}pt"' if self.size else ""
+        colour = f'fo:color="#{self.colour}"' if self.colour else ""
+        fill = f'fo:background-color="#{self.fill}"' if self.fill else ""
+        letters = f"<style:text-properties {COLOURS} {struck} {raised} {size} {colour}/>"
+        ground = f"<style:table-cell-properties {COLOURS} {fill}/>" if fill else ""
+        named = f'style:name="{self.name}" style:family="{family}"'
+        return f"<style:style {named}>{letters}{ground}</style:style>"
+
+
+@dataclass(frozen=True)
+class Cell:
+    """A text or a number, by the number format of .xlsx, and as .ods shows it; runs of letters may
+    have looks of their own. `span` are the rows and columns that are merged.
+    """
+
+    value: object = None
+    form: str = "General"
+    shown: str = ""
+    look: Look = Look()
+    runs: Tuple[Tuple[str, Optional[Look]], ...] = ()
+    span: Tuple[int, int] = (1, 1)
+
+    @property
+    def key(self) -> Tuple[str, Look]:
+        """What its style in .xlsx has."""
+        return self.form, self.look
+
+
+@dataclass(frozen=True)
+class Sheet:
+    """Rows of cells, or of their values; the numbers of those that are hidden."""
+
+    lines: Sequence[Any]
+    name: str = "Tabelle1"
+    hidden: Collection[int] = ()
+    is_visible: bool = True
+
+    @property
+    def cells(self) -> List[List[Cell]]:
+        """Its rows of cells."""
+        return [[one if isinstance(one, Cell) else Cell(one) for one in row] for row in self.lines]
+
+
+def of_xlsx(*sheets: Sheet) -> bytes:
+    """A file of .xlsx, whose first sheet has a usual name and may have merged cells."""
+    keys = list(dict.fromkeys(one.key for sheet in sheets for row in sheet.cells for one in row))
+    forms = [form for form, _ in keys]
+    fonts = "".join(f"<font>{look.font()}</font>" for _, look in keys)
+    fills = "".join(look.pattern() for _, look in keys)
+    xfs = "".join(
+        f'<xf numFmtId="{FIRST_FORMAT + at}" fontId="{at}" fillId="{at}"/>'
+        for at in range(len(keys))
+    )
+    styles = f"<fonts>{fonts}</fonts><fills>{fills}</fills><cellXfs>{xfs}</cellXfs>"
+
+    def text(one: Cell) -> str:
+        style = 1 + len(keys) + keys.index(one.key)
+        if not one.runs:
+            return cell(one.value, style=style)
+        found = ""
+        for letters, look in one.runs:
+            own = f"<rPr>{look.font()}</rPr>" if look else ""
+            found += f"<r>{own}<t xml:space='preserve'>{escape(letters)}</t></r>"
+        return f'<c s="{style}" t="inlineStr"><is>{found}</is></c>'
+
+    texts = []
+    for sheet in sheets:
+        lines = rows(*([text(one) for one in row] for row in sheet.cells))
+        for number in sheet.hidden:
+            lines = lines.replace(f'<row r="{number}">', f'<row r="{number}" hidden="1">')
+        texts.append((sheet.name, "visible" if sheet.is_visible else "hidden", lines))
+    merges = "".join(
+        f'<mergeCell ref="{chr(65 + at)}{row}:{chr(64 + at + one.span[1])}{row + one.span[0] - 1}"/>'
+        for row, line in enumerate(sheets[0].cells, 1)
+        for at, one in enumerate(line)
+        if one.span != (1, 1)
+    )
+    after = f"<mergeCells>{merges}</mergeCells>" if merges else ""
+    return xlsx(texts[0][2], *texts[1:], formats=forms, styles=styles, after=after)
+
+
+def ods_text(one: Cell) -> str:
+    """A cell of .ods."""
+    more = f'table:style-name="{one.look.name}"'
+    if one.span != (1, 1):
+        more += f' table:number-rows-spanned="{one.span[0]}"'
+        more += f' table:number-columns-spanned="{one.span[1]}"'
+    if one.runs:
+        found = ""
+        for letters, look in one.runs:
+            own = f'text:style-name="{look.name}"' if look else ""
+            found += f"<text:span {own}>{escape(letters)}</text:span>"
+        return ods_cell(found, "string", more)
+    if one.value is None:
+        return f"<table:table-cell {more}/>"
+    if isinstance(one.value, str):
+        return ods_cell(escape(one.value), "string", more)
+    return ods_cell(one.shown or str(one.value), "float", f'office:value="{one.value}" {more}')
+
+
+def of_ods(*sheets: Sheet) -> bytes:
+    """A file of .ods."""
+    texts = ""
+    looks = set()
+    for sheet in sheets:
+        kind = 1 if sheet.is_visible else 2
+        texts += f'<table:table table:name="{sheet.name}" table:style-name="ta{kind}">'
+        for number, row in enumerate(sheet.cells, 1):
+            looks |= {look for one in row for look in (one.look, *(own for _, own in one.runs))}
+            hides = "filter" if number % 2 else "collapse"
+            hidden = f'table:visibility="{hides}"' if number in sheet.hidden else ""
+            texts += f"<table:table-row {hidden}>{''.join(map(ods_text, row))}</table:table-row>"
+        texts += "</table:table>"
+    styles = (look.style(family) for look in looks if look for family in ("table-cell", "text"))
+    return ods(texts, styles=HIDDEN + "".join(styles))
+
+
+KINDS: Tuple[Callable[..., bytes], ...] = (of_xlsx, of_ods)
