@@ -130,7 +130,7 @@ class Book:
     """
 
     strings: Mapping[str, str | Runs]
-    looks: Looks
+    looks: Mapping[str, Look]
     formatter: Formatter
     is_from_1904: bool
     is_stale: bool
@@ -211,12 +211,12 @@ def sheets_of(archive: ZipFile, path: str, formatter: Formatter, talk: Talk) -> 
             is_stale = found.get("calcCompleted", "1") not in TRUE
     strings = strings_of(archive, parts.get("sharedStrings", ""))
     looks = looks_of(archive, parts.get("styles", ""))
-    book = Book(strings, looks, formatter, is_from_1904, is_stale, asks_again, talk)
+    book = Book(strings, looks.of_cells, formatter, is_from_1904, is_stale, asks_again, talk)
     for sheet in sheets:
         kind, part = targets[sheet["id"]]
         if kind == "worksheet":
             is_visible = sheet.get("state", "visible") == "visible"
-            reader = SheetReader(book, beside_of(archive, part, looks))
+            reader = SheetReader(book, beside_of(archive, part, looks.of_conditions))
             yield Sheet(sheet["name"], is_visible, reader.read(archive, part))
 
 
@@ -308,7 +308,7 @@ class Beside:
     has_condition: bool = False
 
 
-def beside_of(archive: ZipFile, path: str, looks: Looks) -> Beside:
+def beside_of(archive: ZipFile, path: str, of_conditions: Sequence[Form]) -> Beside:
     """Returns what a sheet has beside its rows, most of which is below them."""
     beside = Beside()
     targets: dict[str, Target] = {}
@@ -323,7 +323,7 @@ def beside_of(archive: ZipFile, path: str, looks: Looks) -> Beside:
             address = targets[found["id"]].path + place_in_page
             beside.links.setdefault(row, {})[place] = address
         elif name == "conditionalFormatting/cfRule" and "dxfId" in found:
-            form = looks.of_conditions[whole(found["dxfId"])]
+            form = of_conditions[whole(found["dxfId"])]
             beside.has_condition = beside.has_condition or form.mark in NO_LETTERS
     return beside
 
@@ -391,7 +391,7 @@ class SheetReader(Strings[Row]):
         place = place_of(reference.rstrip("0123456789")) if reference else len(cells)
         if place < len(cells):
             raise out_of_order(self.number)
-        look = self.book.looks.of_cells[self.cell.get("s", "0")]
+        look = self.book.looks[self.cell.get("s", "0")]
         cell = self.cell_by(look)
         filled(cells, place).append(cell)
         if isinstance(cell, str):
