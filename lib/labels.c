@@ -67,6 +67,10 @@ int labels_symbology_named(const char *name) { return place_of(name, symbologies
 
 int labels_level_named(const char *name) { return place_of(name, levels, LEVELS); }
 
+int labels_symbology_layout(int symbology, labels_layout *layout) {
+    return layout ? (int)labels_proved_layout((uint32_t)symbology, layout) : LABELS_BAD_ARGUMENT;
+}
+
 void labels_defaults(labels_options *options) {
     if (options)
         *options = defaults;

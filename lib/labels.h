@@ -131,6 +131,25 @@ typedef struct labels_found {
     uint32_t reserved[5];
 } labels_found;
 
+/* Modules from `left` on and before `right`, counted from the left edge of the left quiet zone. */
+typedef struct labels_span {
+    uint32_t left, right;
+} labels_span;
+
+/* Digits of the data from `first` on and before `last`, which are printed in the middle below a span. */
+typedef struct labels_digits {
+    uint32_t first, last;
+    labels_span span;
+} labels_digits;
+
+/* Where EAN and UPC symbols have longer bars and printed digits (ISO/IEC 15420). Code 128 and QR have neither. */
+typedef struct labels_layout {
+    uint32_t guards, groups; /* how many of the spans and of the groups below are used; the others are 0 */
+    uint32_t reserved[2];
+    labels_span guard[3];   /* bars that are longer than the others, by five modules */
+    labels_digits group[4]; /* digits that are printed together, of EAN-13 the first one beside the bars */
+} labels_layout;
+
 /* Returns the version of the library that runs, as "1.2.0". */
 LABELS_API const char *labels_version(void);
 
@@ -145,6 +164,10 @@ LABELS_API const char *labels_level_name(int level);
 /* Returns the symbology, or the level, that has this name, letter for letter; -1 where there is none, or with NULL. */
 LABELS_API int labels_symbology_named(const char *name);
 LABELS_API int labels_level_named(const char *name);
+
+/* Sets `layout` to that of a symbology. Returns LABELS_OK; LABELS_BAD_SYMBOLOGY where the number is that of none, and then
+ * all of it is 0; LABELS_BAD_ARGUMENT with NULL. */
+LABELS_API int labels_symbology_layout(int symbology, labels_layout *layout);
 
 /* Sets the options to their defaults: those of LABELS_DEFAULTS. With NULL it does nothing. */
 LABELS_API void labels_defaults(labels_options *options);

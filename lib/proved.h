@@ -28,5 +28,6 @@ void labels_proved_read_modules(uint32_t symbology, uint32_t width, uint32_t row
                                 char *out, size_t room, labels_answer *answer);
 void labels_proved_read_bits(const labels_region *region, const void *bits, size_t size, char *out, size_t room,
                              labels_found *found, labels_answer *answer);
+uint32_t labels_proved_layout(uint32_t symbology, labels_layout *layout);
 
 #endif

@@ -243,6 +243,38 @@ static void a_region_of_bits_is_read(void) {
     SEE(answer.code == LABELS_BAD_OPTION);
 }
 
+/* Widths in modules as ISO/IEC 15420 has them: the left quiet zone, guards of 3 and 5, and 7 a digit. */
+static void see_layout(uint32_t symbology, uint32_t zone, uint32_t digits, uint32_t beside) {
+    const uint32_t half = zone + 3 + digits * 7, end = half + 5 + digits * 7;
+    const uint32_t outer = symbology == LABELS_UPCA ? 7 : 0;
+    labels_layout layout;
+    memset(&layout, 9, sizeof layout);
+    SEE(labels_proved_layout(symbology, &layout) == LABELS_OK);
+    SEE(layout.guards == 3 && layout.reserved[0] == 0 && layout.reserved[1] == 0);
+    SEE(layout.guard[0].left == zone && layout.guard[0].right == zone + 3 + outer);
+    SEE(layout.guard[1].left == half && layout.guard[1].right == half + 5);
+    SEE(layout.guard[2].left == end - outer && layout.guard[2].right == end + 3);
+    const labels_digits *left = &layout.group[beside], *right = left + 1;
+    SEE(left->first == beside && left->span.left == zone + 3 + outer && left->span.right == half);
+    SEE(left->last == right->first && right->span.left == half + 5 && right->span.right == end - outer);
+    SEE((left->last - left->first) * 7 == left->span.right - left->span.left);
+    SEE((right->last - right->first) * 7 == right->span.right - right->span.left);
+    SEE(beside == 0 || (layout.group[0].first == 0 && layout.group[0].last == 1 && layout.group[0].span.right <= zone));
+}
+
+static void longer_bars_and_printed_digits_are_told(void) {
+    static const labels_layout none;
+    labels_layout layout;
+    see_layout(LABELS_EAN13, 11, 6, 1);
+    see_layout(LABELS_EAN8, 7, 4, 0);
+    see_layout(LABELS_UPCA, 9, 6, 1);
+    for (uint32_t symbology = LABELS_CODE128; symbology <= LABELS_QR + 1; symbology++) {
+        memset(&layout, 9, sizeof layout);
+        SEE(labels_proved_layout(symbology, &layout) == (symbology > LABELS_QR ? LABELS_BAD_SYMBOLOGY : LABELS_OK));
+        SEE(memcmp(&layout, &none, sizeof none) == 0);
+    }
+}
+
 /* A picture whose width has five digits and whose height has four takes all of its room. The largest symbol has as
  * many modules, and as much data, as the header says. */
 static void the_header_is_right(void) {
@@ -283,5 +315,6 @@ int main(void) {
     dots_are_read_back();
     modules_are_read_back();
     a_region_of_bits_is_read();
+    longer_bars_and_printed_digits_are_told();
     return 0;
 }

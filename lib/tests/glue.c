@@ -138,6 +138,12 @@ void labels_proved_read_bits(const labels_region *region, const void *bits, size
     found->turns = 3;
 }
 
+uint32_t labels_proved_layout(uint32_t symbology, labels_layout *layout) {
+    SEE(symbology == (uint32_t)given.symbology && (void *)layout == given.to);
+    memset(layout, MARK, sizeof *layout);
+    return LABELS_BAD_SYMBOLOGY;
+}
+
 /* The modules of the first QR version from one on that has room for so many bytes at level H, whose data codewords have
  * two bytes less: the mode and the count take 12 bits (ISO/IEC 18004, tables 2, 3 and 7). */
 static size_t most_of_qr(size_t version, size_t size) {
@@ -286,6 +292,17 @@ static void see_no_region(void) {
     SEE(labels_read_bits(NULL, NULL, 0, NULL, NULL, 0, NULL) == LABELS_BAD_ARGUMENT && given.calls == 0);
 }
 
+static void see_layout(void) {
+    char *memory = guarded();
+    for (int is_last = 0; is_last < 2; is_last++) {
+        given.to = guard_at(memory, sizeof(labels_layout), is_last, 0);
+        given.symbology = -1 - is_last;
+        SEE(labels_symbology_layout(given.symbology, (labels_layout *)given.to) == LABELS_BAD_SYMBOLOGY);
+        SEE(given.to[sizeof(labels_layout) - 1] == MARK);
+    }
+    SEE(labels_symbology_layout(LABELS_EAN13, NULL) == LABELS_BAD_ARGUMENT);
+}
+
 int main(void) {
     static const size_t sizes[] = {0, 1, 7, 8, FEW, 79, 80, 81, 98, 99};
     static const size_t rooms[] = {0, 1, FEW, LABELS_MAX_BARS, LABELS_MAX_MODULES, MANY};
@@ -299,6 +316,7 @@ int main(void) {
         see_bad(call);
     }
     see_no_region();
+    see_layout();
     printf("%d calls were passed on as they were made\n", done);
     return 0;
 }

@@ -65,6 +65,10 @@ for number, name in enumerate(liblabels.LEVELS):
     assert liblabels.line(f"qr,level={name} A").level == name
     assert LIBRARY.labels_level_name(number) == name.encode()
     assert LIBRARY.labels_level_named(name.encode()) == number
+for name, digits in (("ean13", 13), ("ean8", 8), ("upca", 12), ("code128", 0), ("qr", 0)):
+    layout = liblabels.layout(name)
+    printed = [place for first, last, *_ in layout.digits for place in range(first, last)]
+    assert printed == list(range(digits)) and len(layout.guards) == (3 if digits else 0), layout
 for wrong in (b"", b"ean1", b"ean133", b"EAN13", b"l", b"LM", None):
     assert (LIBRARY.labels_symbology_named(wrong), LIBRARY.labels_level_named(wrong)) == (-1, -1), wrong
 for wrong in (-(2**31), -1, 5, 2**31 - 1):

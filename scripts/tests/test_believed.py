@@ -50,7 +50,7 @@ class Believed(InCopy):
         found = re.findall(r"^(.*): (\d+) lines, (\d+) of definitions, (\d+) of code, (\d+) names$", said, re.M)
         lines = {what: [int(it) for it in numbers] for what, *numbers in found}
         clauses = [f"the clause `{name}` of `program`" for name in ("shows", "runs")]
-        both, exports = "both clauses of `program`", "the 9 exports of the C library"
+        both, exports = "both clauses of `program`", "the 10 exports of the C library"
         apart = ["apart: what stands behind the names of `clap`"]
         apart.append("apart: `main` and `arguments_of`, which have no clause")
         self.assertEqual([*lines], [*clauses, both, exports, *apart])

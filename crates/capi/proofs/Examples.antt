@@ -9,16 +9,19 @@ use Rattle.labelcore.specs.declared.options.Format.TheVariants.{Pbm, Ascii}
 use Rattle.labelcore.specs.declared.options.Options.{Options}
 use Rattle.labelcore.specs.declared.symbology.Symbology.TheVariants.{Ean13, Ean8, UpcA, Code128, Qr}
 use Rattle.qrdata.specs.declared.level.Level.TheVariants.{L, M, Q, H}
-use Rattle.linear.specs.Tables.{number_set_a}
+use Rattle.linear.specs.Modules.{modules}
+use Rattle.linear.specs.Tables.{number_set_a, left_half_sets}
 use Rattle.picture.specs.Picture.{Picture}
 use Rattle.picture.specs.Reading.{sample}
 use Rattle.capi.specs.Bits.{bits_fit, bits_size, byte_at, bytes_of, dot_at, put_bit_rows, row_size, row_step}
 use Rattle.capi.specs.Calls.{asked, options_asked}
+use Rattle.capi.specs.Layout.{between, in_quiet_zones, layout_of, longer_bars, modules_at, no_layout, printed}
 use Rattle.capi.specs.Line.{has_LF, line_asked, rows_put, with_rows_put}
 use Rattle.capi.specs.Modules.{height_told, is_nothing, modules_of, one_row}
 use Rattle.capi.specs.Numbers.{are_in_range, are_unused, code_of, flag_numbered, format_numbered, level_numbered, mask_numbered}
 use Rattle.capi.specs.Numbers.{options_numbered, place_of, symbology_numbered, wrong_option}
 use Rattle.capi.specs.Read.{bits_as, modules_asked, read_asked, region_numbered}
+use Rattle.capi.specs.declared.layout.Layout.{Layout}
 use Rattle.capi.specs.declared.numbers.CallOptions.{CallOptions}
 use Rattle.capi.specs.declared.numbers.CallRegion.{CallRegion}
 use Rattle.capi.specs.declared.numbers.SymbolInfo.{SymbolInfo}
@@ -108,6 +111,60 @@ codes_of_faults = refl
 places_of_faults : map place_of (NotADigit 9 ∷ NotAscii 9 ∷ BadEscape 9 ∷ UnknownSetting 9 ∷ BadValue 9 ∷ NoData ∷ [])
     ≡ 9 ∷ 9 ∷ 9 ∷ 9 ∷ 9 ∷ 0 ∷ []
 places_of_faults = refl
+
+-- ---- layouts
+
+-- the spans of a layout, and its digits, as numbers
+spans : Layout → List (List ℕ)
+spans layout = map (λ s. s.left ∷ s.right ∷ []) layout.guard
+
+digits : Layout → List (List ℕ)
+digits layout = map (λ g. g.first ∷ g.last ∷ g.span.left ∷ g.span.right ∷ []) layout.group
+
+-- the longer bars, and the digits below the others, as Zint 2.11.1 draws them; the digits beside the bars end two modules
+-- before them, of UPC-A three
+layouts_of_ean : (spans (layout_of Ean13) ≡ (11 ∷ 14 ∷ []) ∷ (56 ∷ 61 ∷ []) ∷ (103 ∷ 106 ∷ []) ∷ [])
+    × (spans (layout_of Ean8) ≡ (7 ∷ 10 ∷ []) ∷ (38 ∷ 43 ∷ []) ∷ (71 ∷ 74 ∷ []) ∷ [])
+    × (spans (layout_of UpcA) ≡ (9 ∷ 19 ∷ []) ∷ (54 ∷ 59 ∷ []) ∷ (94 ∷ 104 ∷ []) ∷ [])
+    × (digits (layout_of Ean13) ≡ (0 ∷ 1 ∷ 2 ∷ 9 ∷ []) ∷ (1 ∷ 7 ∷ 14 ∷ 56 ∷ []) ∷ (7 ∷ 13 ∷ 61 ∷ 103 ∷ [])
+    ∷ replicate 4 0 ∷ [])
+    × (digits (layout_of Ean8) ≡ (0 ∷ 4 ∷ 10 ∷ 38 ∷ []) ∷ (4 ∷ 8 ∷ 43 ∷ 71 ∷ []) ∷ replicate 4 0 ∷ replicate 4 0 ∷ [])
+    × (digits (layout_of UpcA) ≡ (0 ∷ 1 ∷ 1 ∷ 6 ∷ []) ∷ (1 ∷ 6 ∷ 19 ∷ 54 ∷ []) ∷ (6 ∷ 11 ∷ 59 ∷ 94 ∷ [])
+    ∷ (11 ∷ 12 ∷ 107 ∷ 112 ∷ []) ∷ [])
+unfolding layout_of spans digits
+layouts_of_ean = (refl, refl, refl, refl, refl, refl)
+
+counts_of_layouts : (map (λ s. (layout_of s).guards) (Ean13 ∷ Ean8 ∷ UpcA ∷ Code128 ∷ Qr ∷ []) ≡ 3 ∷ 3 ∷ 3 ∷ 0 ∷ 0 ∷ [])
+    × (map (λ s. (layout_of s).groups) (Ean13 ∷ Ean8 ∷ UpcA ∷ Code128 ∷ Qr ∷ []) ≡ 3 ∷ 2 ∷ 4 ∷ 0 ∷ 0 ∷ [])
+    × (no_layout.reserved ≡ 0 ∷ 0 ∷ []) × (spans no_layout ≡ replicate 3 (0 ∷ 0 ∷ []))
+    × (digits no_layout ≡ replicate 4 (replicate 4 0))
+unfolding layout_of spans digits
+counts_of_layouts = (refl, refl, refl, refl, refl)
+
+-- the quiet zones of EAN-13, and two modules of four
+modules_of_spans : (in_quiet_zones Ean13 (true ∷ []) ≡ replicate 11 false ++ (true ∷ replicate 7 false))
+    × (modules_at (false ∷ true ∷ true ∷ false ∷ []) (between 1 3) ≡ true ∷ true ∷ [])
+modules_of_spans = (refl, refl)
+
+-- `ean13 4006381333931`, `ean8 7351353` and `upca 036000291452`, as Zint 2.11.1 draws them
+bars_that_are_longer : (map (λ s. longer_bars s (codes "4006381333931")) (Ean13 ∷ Ean8 ∷ [])
+    ≡ replicate 2 (map modules (codes "101" ∷ codes "01010" ∷ codes "101" ∷ [])))
+    × (longer_bars UpcA (codes "036000291452")
+    ≡ map modules (codes "1010001101" ∷ codes "01010" ∷ codes "1101100101" ∷ []))
+unfolding number_set_a
+bars_that_are_longer = (refl, refl)
+
+printed_digits : (printed Ean13 (codes "4006381333931")
+    ≡ (0, 1, replicate 7 false) ∷ (1, 7, modules (codes "000110101001110101111011110100010010110011"))
+    ∷ (7, 13, modules (codes "100001010000101000010111010010000101100110")) ∷ [])
+    × (printed Ean8 (codes "73513537") ≡ (0, 4, modules (codes "0111011011110101100010011001"))
+    ∷ (4, 8, modules (codes "1000010100111010000101000100")) ∷ [])
+    × (printed UpcA (codes "036000291452") ≡ (0, 1, replicate 5 false)
+    ∷ (1, 6, modules (codes "01111010101111000110100011010001101"))
+    ∷ (6, 11, modules (codes "11011001110100110011010111001001110")) ∷ (11, 12, replicate 5 false) ∷ [])
+    × (map (λ s. printed s []) (Code128 ∷ Qr ∷ []) ≡ [] ∷ [] ∷ [])
+unfolding number_set_a left_half_sets
+printed_digits = (refl, refl, refl, refl)
 
 -- ---- lines
 

@@ -7,12 +7,13 @@
 ghost use Rattle.capi.specs.Bits.{AnswersBitsAsked, AnswersBitsLine, ReadsBits, ReadsBitsLine};
 ghost use Rattle.capi.specs.Calls.{Answers, ReadsAsked, asked};
 ghost use Rattle.capi.specs.Full.{PutsFullAsked, PutsFullLine};
+ghost use Rattle.capi.specs.Layout.{AnswersLayout};
 ghost use Rattle.capi.specs.Line.{AnswersDrawnLine, AnswersLine, NumbersLine, ReadsDrawnLine, ReadsLine, line_asked};
 ghost use Rattle.capi.specs.Modules.{AnswersAsked, NumbersAsked, ReadsModules, ToldAsked};
-ghost use Rattle.capi.specs.Numbers.{code_of};
+ghost use Rattle.capi.specs.Numbers.{code_of, symbology_numbered};
 ghost use Rattle.capi.specs.Read.{AnswersFound, AnswersRead, bits_asked, modules_asked, read_asked};
 
-use capi::{Answer, CallOptions, CallRegion, FoundInfo, SymbolInfo};
+use capi::{Answer, CallOptions, CallRegion, FoundInfo, Layout, SymbolInfo};
 
 /// Draws one symbol into `out`, or puts the reason why there is none into `message`.
 #[unsafe(no_mangle)]
@@ -212,4 +213,14 @@ pub extern "C" fn labels_proved_read_bits(
     let told = capi::read_bits_into(region, bits, out);
     *found = told.info;
     *answer = told.answer;
+}
+
+/// Tells where the longer bars and the printed digits of a symbology are. Returns the code.
+#[unsafe(no_mangle)]
+pub extern "C" fn labels_proved_layout(symbology: u32, layout: &mut Layout) -> u32
+    ensures { AnswersLayout result layout.new (symbology_numbered symbology) }
+{
+    let told = capi::layout_told(symbology);
+    *layout = told.layout;
+    told.code
 }

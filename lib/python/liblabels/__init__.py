@@ -36,6 +36,7 @@ __all__ = [
     "LEVELS",
     "SYMBOLOGIES",
     "Bitmap",
+    "Layout",
     "Reading",
     "Refused",
     "Symbol",
@@ -43,6 +44,7 @@ __all__ = [
     "bitmap_line",
     "draw",
     "draw_line",
+    "layout",
     "line",
     "read",
     "symbol",
@@ -197,6 +199,21 @@ class Bitmap:
         b'PNG'
         """
         return _pictures.png_of(self.width, self.height, self.bits, dpi)
+
+
+@dataclass(frozen=True)
+class Layout:
+    """Where EAN and UPC symbols have longer bars and printed digits (ISO/IEC 15420), in modules, from the left edge of
+    the left quiet zone on.
+
+    Attributes:
+        guards: from which module on and before which one bars are longer, by five modules.
+        digits: which digits of the data are printed together, from which one on and before which one, and from which
+            module on and before which one they are, in the middle.
+    """
+
+    guards: tuple[tuple[int, int], ...]
+    digits: tuple[tuple[int, int, int, int], ...]
 
 
 def _line_of(text: Data) -> bytes:
@@ -427,6 +444,21 @@ def draw_line(
     options = _binding.options_of(format, scale, height, level, min_version, mask, escapes)
     raw = _line_of(text)
     return _picture(LIBRARY.labels_draw_line, _binding.first_room(options), options, raw, len(raw))
+
+
+def layout(symbology: str) -> Layout:
+    """Returns where symbols of a symbology, one of SYMBOLOGIES, have longer bars and printed digits.
+
+    Code 128 and QR have neither. Raises ValueError for an unknown symbology.
+
+    >>> layout("ean8")
+    Layout(guards=((7, 10), (38, 43), (71, 74)), digits=((0, 4, 10, 38), (4, 8, 43, 71)))
+    """
+    told = _binding.Layout()
+    LIBRARY.labels_symbology_layout(_binding.index_of(SYMBOLOGIES, "symbology", symbology), ctypes.byref(told))
+    guards = [(span.left, span.right) for span in told.guard[: told.guards]]
+    digits = [(one.first, one.last, one.span.left, one.span.right) for one in told.group[: told.groups]]
+    return Layout(tuple(guards), tuple(digits))
 
 
 def version() -> str:

@@ -121,6 +121,42 @@ class Found(ctypes.Structure):
     ]
 
 
+class Span(ctypes.Structure):
+    """labels_span."""
+
+    left: int
+    right: int
+
+    _fields_ = [("left", ctypes.c_uint32), ("right", ctypes.c_uint32)]
+
+
+class Digits(ctypes.Structure):
+    """labels_digits."""
+
+    first: int
+    last: int
+    span: Span
+
+    _fields_ = [("first", ctypes.c_uint32), ("last", ctypes.c_uint32), ("span", Span)]
+
+
+class Layout(ctypes.Structure):
+    """labels_layout."""
+
+    guards: int
+    groups: int
+    guard: ctypes.Array[Span]
+    group: ctypes.Array[Digits]
+
+    _fields_ = [
+        ("guards", ctypes.c_uint32),
+        ("groups", ctypes.c_uint32),
+        ("reserved", ctypes.c_uint32 * 2),
+        ("guard", Span * 3),
+        ("group", Digits * 4),
+    ]
+
+
 def _load() -> ctypes.CDLL:
     library = ctypes.CDLL(os.environ.get("LABELS_LIBRARY", "liblabels.so.1"))
     size = ctypes.c_size_t
@@ -135,6 +171,7 @@ def _load() -> ctypes.CDLL:
     library.labels_line.argtypes = [*options, *data, *room, *answer, *answer]
     library.labels_bitmap.argtypes = [*options, ctypes.c_int, *data, *bits, *answer, *answer]
     library.labels_bitmap_line.argtypes = [*options, *data, *bits, *answer, *answer]
+    library.labels_symbology_layout.argtypes = [ctypes.c_int, *answer]
     library.labels_read_bits.argtypes = [ctypes.POINTER(Region), *data, *answer, *room, *answer]
     for call in (library.labels_version, library.labels_symbology_name, library.labels_level_name):
         call.restype = ctypes.c_char_p

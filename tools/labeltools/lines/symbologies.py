@@ -4,6 +4,8 @@ Modules are counted from the left edge of the picture that labels(1) draws, its 
 """
 
 from dataclasses import dataclass
+from functools import cached_property
+from typing import Any
 
 
 @dataclass(frozen=True)
@@ -31,10 +33,9 @@ class Symbology:
 
     A symbology of numbers has `digits` digits with its check digit, or one fewer without it, which
     labels(1) adds. One of free data has 0. `module` is the smallest narrow bar that scanners have
-    to read; bars are as high as `nominal`, or at least `lowest`. `guards` are the modules whose
-    bars are longer, `places` are the digits below the bars; `quiet` are the modules of the quiet
-    zone at the left and at the right. `settings` are the keys that labels(1) takes for it behind
-    the comma.
+    to read; bars are as high as `nominal`, or at least `lowest`. `quiet` are the modules of the
+    quiet zone at the left and at the right. `settings` are the keys that labels(1) takes for it
+    behind the comma.
     """
 
     name: str
@@ -43,8 +44,6 @@ class Symbology:
     module: float
     nominal: float
     lowest: float
-    guards: tuple[Span, ...]
-    places: tuple[Digits, ...]
     quiet: tuple[int, int]
     settings: tuple[str, ...]
 
@@ -52,6 +51,24 @@ class Symbology:
     def is_number(self) -> bool:
         """Whether its data is a number with a check digit."""
         return self.digits > 0
+
+    @cached_property
+    def guards(self) -> tuple[Span, ...]:
+        """The modules whose bars are longer, as liblabels tells."""
+        return tuple(Span(left, right) for left, right in layout_of(self).guards)
+
+    @cached_property
+    def places(self) -> tuple[Digits, ...]:
+        """The digits below the bars, as liblabels tells."""
+        told = layout_of(self).digits
+        return tuple(Digits(first, last, Span(left, right)) for first, last, left, right in told)
+
+
+def layout_of(symbology: Symbology) -> Any:
+    """Returns the layout that liblabels has for a symbology; raises `ToolError` without it."""
+    from labeltools.lines.engine import library  # not above: it reads lines by this table
+
+    return library().layout(symbology.name)
 
 
 # ISO/IEC 15420: the smallest module is 80 % of 0.33 mm; bars have their heights at 100 % and 80 %
@@ -62,12 +79,6 @@ EAN13 = Symbology(
     module=0.264,
     nominal=22.85,
     lowest=18.28,
-    guards=(Span(11, 14), Span(56, 61), Span(103, 106)),
-    places=(
-        Digits(0, 1, Span(2, 9)),
-        Digits(1, 7, Span(14, 56)),
-        Digits(7, 13, Span(61, 103)),
-    ),
     quiet=(11, 7),
     settings=("height",),
 )
@@ -78,11 +89,6 @@ EAN8 = Symbology(
     module=0.264,
     nominal=18.23,
     lowest=14.58,
-    guards=(Span(7, 10), Span(38, 43), Span(71, 74)),
-    places=(
-        Digits(0, 4, Span(10, 38)),
-        Digits(4, 8, Span(43, 71)),
-    ),
     quiet=(7, 7),
     settings=("height",),
 )
@@ -93,13 +99,6 @@ UPCA = Symbology(
     module=0.264,
     nominal=22.85,
     lowest=18.28,
-    guards=(Span(9, 19), Span(54, 59), Span(94, 104)),
-    places=(
-        Digits(0, 1, Span(1, 6)),
-        Digits(1, 6, Span(19, 54)),
-        Digits(6, 11, Span(59, 94)),
-        Digits(11, 12, Span(107, 112)),
-    ),
     quiet=(9, 9),
     settings=("height",),
 )
@@ -110,8 +109,6 @@ CODE128 = Symbology(
     module=0.25,
     nominal=15.0,
     lowest=6.0,
-    guards=(),
-    places=(),
     quiet=(10, 10),
     settings=("height",),
 )
@@ -122,8 +119,6 @@ QR = Symbology(
     module=0.25,
     nominal=0.0,
     lowest=0.0,
-    guards=(),
-    places=(),
     quiet=(4, 4),
     settings=("level", "min-version", "mask"),
 )
