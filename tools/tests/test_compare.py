@@ -361,9 +361,7 @@ FAULTS = {
         PEN + "Pen.fill_white",
         changed(
             pen.Pen.fill_white,
-            whites=lambda whites: [
-                one._replace(place=(one.place[0] + 1, one.place[1])) for one in whites
-            ],
+            whites=lambda whites: [(boxes, (left + 1, top)) for boxes, (left, top) in whites],
         ),
         ("pdf", "svg"),
         PAIR,
@@ -523,7 +521,7 @@ class OwnDesigns(unittest.TestCase):
         """In dots it is seen; in a drawing symbols are over it."""
         for form in DOTS:
             found = self.found(form, None, form in ("svg", "png"))
-            shown = changed(pen.Pen.show, top=lambda top: top + 150)
+            shown = changed(pen.Pen.show, corner=lambda corner: (corner[0], corner[1] + 150))
             with self.subTest(form=form), mock.patch(PEN + "Pen.show", shown):
                 with self.assertRaisesRegex(ToolError, "^row 2: its code is wrong"):
                     write(found)

@@ -1,4 +1,4 @@
-"""Lines of texts: they end alike in each form."""
+"""Lines of texts: glyphs are where Pango has them, and lines end alike in each form."""
 
 import random
 import tempfile
@@ -10,11 +10,14 @@ from unittest import mock
 import designs
 import support
 from designs import Label
-from labeltools.layout.fitting import LINE_END
+from labeltools.layout.fitting import Fitted, Fitter, LEFT, Style
+from labeltools.layout.glyphs import LINE_END
 from labeltools.layout.layout import LaidOut
+from labeltools.layout.letters import FONT, Letters
+from labeltools.layout.pango import UNIT
 from labeltools.common.messages import Silence
 from labeltools.drawing.own_pen import OwnPen
-from labeltools.drawing.pen import Placed
+from labeltools.drawing.pen import Medium, Placed, options_of
 
 WORDS = (
     "AVATAR Tafel Wörter Ägypten Ton Vase V. L'Y 12,5 Größe Übergröße Blatt kariert To Ty rot und "
@@ -27,6 +30,83 @@ def lines_in(layout: Any) -> list[str]:
     written = layout.get_text().encode()
     parts = [(line.start_index, line.length) for line in layout.get_lines_readonly()]
     return [written[at : at + size].decode().rstrip(" " + LINE_END) for at, size in parts]
+
+
+def places_of(layout: Any) -> list[tuple[float, float]]:
+    """Where Pango has the letters of a layout, but spaces at the ends of its lines: line by line,
+    from its corner, on their base lines.
+    """
+    found = []
+    lines = layout.get_iter()
+    written = layout.get_text().encode()
+    while True:
+        line = lines.get_line_readonly()
+        _, logical = lines.get_line_extents()
+        part = written[line.start_index : line.start_index + line.length].decode()
+        at = line.start_index
+        for letter in part.rstrip(" "):
+            place = logical.x + line.index_to_x(at, False)
+            found.append((place / UNIT, lines.get_baseline() / UNIT))
+            at += len(letter.encode())
+        if not lines.next_line():
+            return found
+
+
+def places_in(text: Fitted) -> list[tuple[float, float]]:
+    """Where the glyphs of a text are from its corner."""
+    corner = text._replace(x=0, y=0)
+    return [place[1:] for row, x, y in corner.lines() for place in row.glyphs(x, y)]
+
+
+class Glyphs(unittest.TestCase):
+    """Texts as glyphs: each is where Pango has it."""
+
+    SIGNS = [chr(code) for code in (*range(0x20, 0x7F), *range(0xA1, 0x250), 0x20AC)]
+
+    def compare(self, is_dots: bool, texts: Sequence[tuple[str, Style, int]]) -> int:
+        """Compares texts that are drawn as glyphs, and returns how many these are."""
+        known = 0
+        by = Fitter(Letters(FONT), options_of(Medium(300, is_dots)), is_dots)
+        for text, style, width in texts:
+            found = by.by_glyphs(text, style, width, 10 * style.size)
+            if found is None:
+                continue
+            wanted = by.by_pango(text, style, width, 10 * style.size)
+            self.assertEqual(found[:4], wanted[:4], text)
+            pairs = zip(places_in(found), places_of(wanted.layout), strict=True)
+            for (x, y), (left, base) in pairs:
+                self.assertLess(max(abs(x - left), abs(y - base)), 2 / UNIT, text)
+            known += 1
+        return known
+
+    def test_rows_are_as_pango_parts_them(self) -> None:
+        chosen = random.Random(8)
+        texts = []
+        for number in range(300):
+            text = " ".join(chosen.choices(WORDS, k=chosen.randrange(1, 9)))
+            size, lines = chosen.randrange(40, 130), chosen.randrange(0, 4)
+            style = Style(FONT, bool(number % 2), size, lines, number % 3 - 1, 0.5, 0)
+            texts.append((text.replace(" ", "\n", number % 5 == 0), style, 100 * (3 + number % 20)))
+        self.assertGreater(self.compare(False, texts), 60)
+        self.assertGreater(self.compare(True, texts), 60)
+
+    def test_letters_of_all_kinds(self) -> None:
+        chosen = random.Random(7)
+        texts = []
+        for number in range(200):
+            letters = chosen.choices(self.SIGNS[: 95 if number % 2 else None], k=1 + number % 29)
+            style = Style(FONT, bool(number % 3), chosen.choice((37, 75, 214)), 0, LEFT, 0.0, 0)
+            texts.append(("".join(letters).strip(), style, 9000))
+        self.assertGreater(self.compare(False, texts), 100)
+        self.assertGreater(self.compare(True, texts), 100)
+
+    def test_letters_that_are_one_glyph_are_left_to_pango(self) -> None:
+        by = Fitter(Letters(FONT), options_of(Medium(300, False)), False)
+        style = Style(FONT, True, 120, 1, LEFT, 0.0, 0)
+        for text in ("Profi", "Stoff", "Pfiff", "قلم", "鉛筆", "é̄", "a\u00adb"):
+            self.assertIsNone(by.by_glyphs(text, style, 9000, 900), text)
+        for text in ("Tafel", "Größe", "2,5 kg"):
+            self.assertIsNotNone(by.by_glyphs(text, style, 9000, 900), text)
 
 
 class Drawn(unittest.TestCase):

@@ -10,7 +10,8 @@ from functools import cache
 from statistics import median_high
 from typing import NamedTuple, Optional
 
-from labeltools.layout.fitting import LINE_END, Style
+from labeltools.layout.fitting import Style
+from labeltools.layout.glyphs import LINE_END
 from labeltools.layout.frames import Box, HINTING, LEAST_TEXT, LINE, share
 from labeltools.common.kept import Found
 from labeltools.layout.letters import BLANK, Letters, Sign, extent_of

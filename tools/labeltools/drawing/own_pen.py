@@ -15,7 +15,7 @@ from labeltools.layout.letters import Letters
 from labeltools.designs.design import BLACK, OwnDesign, lightness
 from labeltools.designs.layout import OwnLayout
 from labeltools.designs.places import Place
-from labeltools.drawing.pen import Codes, Medium, Page, Pen, Placed, White, white_of
+from labeltools.drawing.pen import Codes, Medium, Page, Pen, Placed, white_of
 
 UPRIGHT = cairo.Matrix()
 
@@ -107,7 +107,7 @@ class OwnPen(Pen):
             symbol, place = codes[0]
             box = white_of(symbol)[0]
             dot = Box(box.left + box.width // 2, box.top + box.height // 2, 1, 1)
-            self.fill_white(canvas, [White((dot,), symbol.box, symbol.place.quarters, place)], turn)
+            self.fill_white(canvas, [((dot,), place)], turn)
         super().draw_white(canvas, codes, turn)
 
     def texts(self, item: LaidOut) -> Iterator[Placed]:
@@ -116,9 +116,10 @@ class OwnPen(Pen):
         colours = self.colours(layout.absent) if layout.absent else {}
         for place, text, box, _, _, style, wide, high in layout.texts:
             colour = colours.get(place, place.colour)
-            fitted = self.fitter.found(text, style, wide, high)
             is_black = colour == BLACK
             is_edged = is_black and place in self.tinted
+            fit = self.fitter.by_pango if is_edged else self.fitter.found
+            fitted = fit(text, style, wide, high)
             shown = None if is_black else colour
             yield Placed(fitted, style, box, place.quarters, shown, is_edged)
 

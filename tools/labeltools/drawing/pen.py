@@ -5,7 +5,7 @@ import re
 from collections import defaultdict
 from dataclasses import dataclass
 from functools import cache, lru_cache
-from itertools import repeat
+from itertools import accumulate, repeat
 from typing import (
     Any,
     Iterable,
@@ -48,6 +48,7 @@ KNOWN = 1024  # boxes that are kept
 KNOWN_PAGES = 16  # of which the white is kept
 Page = Sequence[tuple[LaidOut, Dots]]  # labels, with the upper left corners of their areas
 Codes = Sequence[tuple[OwnSymbol, Dots]]  # symbols, with those of the areas of their labels
+Whites = Sequence[tuple[Sequence[Box], Dots]]  # boxes of labels, with those of their areas
 
 
 class Placed(NamedTuple):
@@ -61,17 +62,6 @@ class Placed(NamedTuple):
     quarters: int = 0
     colour: Optional[Colour] = None
     is_edged: bool = False
-
-
-class White(NamedTuple):
-    """White rectangles in a room of a label, which is turned to the right by some quarters, and
-    where the area of the label begins.
-    """
-
-    boxes: tuple[Box, ...]
-    room: Box
-    quarters: int
-    place: Dots
 
 
 # glyphs of many labels that are drawn together, by their faces and sizes: a call of Cairo takes as
@@ -146,11 +136,12 @@ class Pen:
             if "digits" in symbol.boxes:
                 self.draw_digits(canvas, symbol, place, runs)
         for item, place, symbols in labels:
+            taken = [box for symbol in symbols for box in white_of(symbol)]
             for text in self.texts(item):
-                if any([is_over(text.box, symbol) for symbol in symbols]):
+                if is_over(text.box, taken):
                     what = Text("{}: a text is over its code", item.label.record.place.text)
                     raise ToolError(what, FAULT, LABELS_FAILED)
-                self.draw_text(canvas, text, place)
+                self.draw_text(canvas, text, place, runs)
         self.show_runs(canvas, runs)
         turned = canvas.get_matrix()
         if codes and not self.medium.is_dots:
@@ -276,20 +267,18 @@ class Pen:
         """Draws what is white below the codes of a page, so that nothing is over them, and makes
         black the colour. A PDF has it once for all pages that have their codes in the same places.
         """
-        whites = [
-            White(white_of(symbol), symbol.box, symbol.place.quarters, place)
-            for symbol, place in codes
-        ]
+        whites: Whites = [(white_of(symbol), place) for symbol, place in codes]
         if self.medium.is_pdf:
             canvas.set_source_surface(self.recorded_white(tuple(whites), turn))
             canvas.paint()
             # the first one is drawn once more, since the colour is said behind it
-            whites = [whites[0]._replace(boxes=whites[0].boxes[:1])]
+            boxes, place = whites[0]
+            whites = [(boxes[:1], place)]
         canvas.set_source_rgb(1, 1, 1)
         self.fill_white(canvas, whites, turn)
         canvas.set_source_rgb(0, 0, 0)
 
-    def new_recorded_white(self, whites: Sequence[White], turn: int) -> cairo.RecordingSurface:
+    def new_recorded_white(self, whites: Whites, turn: int) -> cairo.RecordingSurface:
         """Returns what is white below codes."""
         anywhere: Any = None
         drawing = cairo.RecordingSurface(cairo.CONTENT_COLOR_ALPHA, anywhere)
@@ -298,30 +287,26 @@ class Pen:
         self.fill_white(canvas, whites, turn)
         return drawing
 
-    def fill_white(self, canvas: Any, whites: Sequence[White], turn: int) -> None:
-        """Fills rectangles of symbols, which are in the boxes of labels; the canvas is that of a
-        page, and `turn` as in `draw`.
-        """
+    def fill_white(self, canvas: Any, whites: Whites, turn: int) -> None:
+        """Fills boxes of labels; the canvas is that of a page, and `turn` as in `draw`."""
         whole = canvas.get_matrix()
         if turn:
             canvas.transform(upright_from(turn))
-        upright = canvas.get_matrix()
-        for boxes, room, quarters, place in whites:
-            left, top = turn_to(canvas, room, quarters, place)
+        for boxes, (left, top) in whites:
             for box in boxes:
                 canvas.rectangle(left + box.left, top + box.top, box.width, box.height)
-            canvas.set_matrix(upright)
         canvas.set_matrix(whole)
         canvas.fill()
 
-    def draw_text(self, canvas: Any, placed: Placed, place: Dots) -> None:
+    def draw_text(self, canvas: Any, placed: Placed, place: Dots, runs: Runs) -> None:
         """Draws a text of a label whose area begins at a place; in dots it is black, or takes black
         dots away.
         """
         text, style, box, quarters, colour, is_edged = placed
         if not quarters and colour is None and not is_edged:
-            self.show(canvas, text, style, place[0] + box.left, place[1] + box.top)
+            self.show(canvas, text, style, (place[0] + box.left, place[1] + box.top), runs)
             return
+        own: Runs = defaultdict(list)
         canvas.save()
         corner = turn_to(canvas, box, quarters, place)
         if is_edged:
@@ -332,11 +317,20 @@ class Pen:
             canvas.set_source_rgb(*colour)
         elif colour and is_light(colour):
             canvas.set_operator(cairo.Operator.DEST_OUT)
-        self.show(canvas, text, style, *corner)
+        self.show(canvas, text, style, corner, own)
+        self.show_runs(canvas, own)
         canvas.restore()
 
-    def show(self, canvas: Any, text: Fitted, style: Style, left: int, top: int) -> None:
-        """Shows a text in a box that begins there, as shapes where its font needs that."""
+    def show(self, canvas: Any, text: Fitted, style: Style, corner: Dots, runs: Runs) -> None:
+        """Shows a text in a box that begins at a corner, as shapes where its font needs that;
+        glyphs are shown with those of other texts.
+        """
+        left, top = corner
+        if text.glyphs:
+            found = runs[text.glyphs.face, text.size]
+            for row, x, y in text.lines():
+                found += row.glyphs(left + x, top + y)
+            return
         canvas.move_to(left + text.x, top + text.y)
         if style.family in self.medium.outlines:
             PangoCairo.layout_path(canvas, text.layout)
@@ -345,12 +339,12 @@ class Pen:
             show_layout(canvas, text.layout)
 
     def show_runs(self, canvas: Any, runs: Runs) -> None:
-        """Shows glyphs, as shapes where their font needs that."""
+        """Shows glyphs, as shapes if their font needs that."""
         canvas.set_font_options(self.options)
         for (face, size), glyphs in runs.items():
             canvas.set_font_face(face)
             canvas.set_font_size(size)
-            if face is self.digits_face and DIGITS_FONT in self.medium.outlines:
+            if face.get_family().strip() in self.medium.outlines:
                 canvas.glyph_path(glyphs)
                 canvas.fill()
             else:
@@ -390,15 +384,14 @@ class Pen:
             size = round(DIGITS_SIZE * module)
             style = Style(DIGITS_FONT, False, size, 0, MIDDLE, 0.3, 0)
             text = self.fitter.fitted(data.translate(SHOWN), style, box.width, box.height)
-            self.show(canvas, text, style, left, top)
+            self.show(canvas, text, style, (left, top), runs)
             return
         base = top + round((DIGITS_TOP + DIGITS_SIZE * self.digit_height) * module)
         for first, last, size, start in self.digit_places(symbol.symbology.name, module):
             glyphs, wide = self.digits_of_size(size)
-            x = left + start
-            runs[self.digits_face, size] += [
-                (glyphs[digit], x + at * wide, base) for at, digit in enumerate(data[first:last])
-            ]
+            places = accumulate(repeat(wide), initial=left + start)
+            numbers = map(glyphs.__getitem__, data[first:last])
+            runs[self.digits_face, size] += zip(numbers, places, repeat(base))
 
     def new_digits(self, size: int) -> tuple[dict[str, int], float]:
         """Returns the glyphs of digits in a size, and how far each one is from the next."""
@@ -476,39 +469,33 @@ def upright_from(turn: int) -> cairo.Matrix:
 
 
 def white_of(symbol: OwnSymbol) -> tuple[Box, ...]:
-    """Returns the boxes of a symbol: that of its bars, and those of what guards are longer."""
-    return boxes_of(symbol.boxes["bars"], symbol.module, symbol.symbology.name)
+    """Returns where a symbol is on its label: its bars, and what guards are longer."""
+    bars, room = symbol.boxes["bars"], symbol.box
+    return boxes_of(bars, symbol.module, symbol.symbology.name, room, symbol.place.quarters)
 
 
 @lru_cache(KNOWN)
-def boxes_of(bars: Box, module: int, symbology: str) -> tuple[Box, ...]:
-    """Returns the boxes of bars, whose modules have so many dots, and of what guards are longer."""
-    guards = (
-        Box(bars.left + span.left * module, bars.bottom, (span.right - span.left) * module, longer)
-        for longer, span in zip(repeat(GUARD * module), SYMBOLOGIES[symbology].guards)
-    )
-    return bars, *guards
-
-
-def is_over(text: Box, symbol: OwnSymbol) -> bool:
-    """Returns whether a text in a box of a label is over a symbol of it."""
-    return meets(text, white_of(symbol), symbol.box, symbol.place.quarters)
-
-
-@lru_cache(KNOWN)
-def meets(text: Box, boxes: tuple[Box, ...], room: Box, quarters: int) -> bool:
-    """Returns whether a text is over one of some boxes in a room of its label that is turned to the
-    right by some quarters.
+def boxes_of(bars: Box, module: int, symbology: str, room: Box, quarters: int) -> tuple[Box, ...]:
+    """Returns where bars, whose modules have so many dots, and what guards are longer are on a
+    label, from a room on that is turned to the right by some quarters.
     """
-    wide, high = room.width, room.height
-    if quarters % 2:
-        wide, high = high, wide
-    for box in boxes:
-        left, top, right, low = box.left, box.top, box.right, box.bottom
-        for down in (high, wide, high)[:quarters]:
-            left, top, right, low = down - low, left, down - top, right
-        across = text.left < room.left + right and room.left + left < text.right
-        if across and text.top < room.top + low and room.top + top < text.bottom:
+    boxes = [bars]
+    for span in SYMBOLOGIES[symbology].guards:
+        left, width = bars.left + span.left * module, (span.right - span.left) * module
+        boxes.append(Box(left, bars.bottom, width, GUARD * module))
+    wide, high = (room.width, room.height)[:: -1 if quarters % 2 else 1]
+    for down in (high, wide, high)[:quarters]:
+        boxes = [Box(down - box.bottom, box.left, box.height, box.width) for box in boxes]
+    moved = (box._replace(left=room.left + box.left, top=room.top + box.top) for box in boxes)
+    return tuple(moved)
+
+
+def is_over(text: Box, taken: Iterable[Box]) -> bool:
+    """Returns whether a text in a box of a label is over what is taken there."""
+    left, top, width, height = text
+    right, low = left + width, top + height
+    for x, y, wide, high in taken:
+        if left < x + wide and x < right and top < y + high and y < low:
             return True
     return False
 

@@ -1,29 +1,25 @@
 """Fits texts into boxes by Pango, for all designs. Lengths are in dots."""
 
 import re
-from functools import cache, lru_cache
-from typing import Any, Hashable, NamedTuple, Optional
+from functools import cache
+from math import ceil, floor
+from typing import Any, Hashable, Iterator, NamedTuple, Optional, Sequence
 
 import cairo
 
 from labeltools.layout.frames import Box, LINE
+from labeltools.layout.glyphs import BY_PAIRS, Glyphs, LINE_END, Row
 from labeltools.common.kept import Kept
 from labeltools.layout.letters import Letters
 from labeltools.layout.pango import Pango, UNIT, pango_context
 
 NOT_LATIN = re.compile("[^\0-\u024f]")  # letters that may leave their line
-LINE_END = "\u2028"  # of a line that is not the last one of its paragraph
 ELLIPSIS = 1 << 1  # PANGO_ANALYSIS_FLAG_IS_ELLIPSIS of a run
 SIDE = 16  # lines have this part of the size of letters as room at their sides
 # letters that do not fit lose this part of their size: in a box, and on a base line
 STEP = 20
 FINE_STEP = 40
 KEPT = 1536  # texts that are kept as they are laid out
-LINES_KEPT = 32_768  # of which is known how many rows they take
-SPACE = 0.4  # more than the width of a space in dots
-# by how much letters may be wider than they are measured: in dots, and else
-HINTED = 1.04
-PLAIN = 1.005
 LEFT = -1
 MIDDLE = 0
 RIGHT = 1
@@ -52,15 +48,28 @@ class Style(NamedTuple):
 
 
 class Fitted(NamedTuple):
-    """A text in letters of a size, as Pango lays it out; where it begins in its box, and how high
-    it is.
+    """A text in letters of a size, where it begins in its box, and how high it is: rows of glyphs,
+    which are moved in their room by a part of what they leave of it, or else a layout of Pango.
     """
 
     size: int
-    layout: Any
     x: int
     y: int
     height: int
+    layout: Any
+    glyphs: Optional[Glyphs] = None
+    rows: Sequence[Row] = ()
+    room: int = 0
+    part: float = 0.0
+
+    def lines(self) -> Iterator[tuple[Row, float, float]]:
+        """Yields its rows of glyphs, with where they begin on their base lines."""
+        assert self.glyphs
+        base = self.y + self.glyphs.base
+        for row in self.rows:
+            shift = (self.room - row.width) * self.part
+            yield row, self.x + (floor(shift + 0.5) if row.width.is_integer() else shift), base
+            base += self.glyphs.high
 
 
 class Fitter:
@@ -69,25 +78,70 @@ class Fitter:
     def __init__(self, letters: Letters, options: cairo.FontOptions, is_dots: bool) -> None:
         self.letters = letters
         self.is_dots = is_dots
+        self.options = options
         self.context = pango_context(options, is_dots)
         self.blank = cache(self.new_blank)
-        self.line = cache(self.new_line)
-        self.rows_of = lru_cache(LINES_KEPT)(self.new_rows_of)
+        self.glyphs = cache(self.new_glyphs)
+        self.font = cache(self.new_font)
         self.kept: Kept[Hashable, Fitted] = Kept(KEPT)
-
-    def found(self, text: str, style: Style, width: int, height: int) -> Fitted:
-        """Returns what fitted() does. A text that comes again is kept as it is fitted."""
-        key = text, style, width, height
-        return self.kept.get(key, lambda _: self.fitted(text, style, width, height), copied)
 
     def fitted(self, text: str, style: Style, width: int, height: int) -> Fitted:
         """Returns a text as it fits a box: smaller where its ink would leave it."""
+        found = self.by_glyphs(text, style, width, height)
+        return found or self.by_pango(text, style, width, height)
+
+    def found(self, text: str, style: Style, width: int, height: int) -> Fitted:
+        """Returns what fitted() does. A text of Pango that comes again is kept as it is fitted."""
+        found = self.by_glyphs(text, style, width, height)
+        if found:
+            return found
+        key = text, style, width, height
+        return self.kept.get(key, lambda _: self.by_pango(text, style, width, height), copied)
+
+    def by_glyphs(self, text: str, style: Style, width: int, height: int) -> Optional[Fitted]:
+        """Returns a text of plain letters; None where Pango has to say it, or another size."""
+        glyphs = self.glyphs(style)
+        is_on_base = style.base is not None
+        if glyphs is None or is_on_base and style.lines:
+            return None
         size = style.size
-        if self.is_one_line(text, style, width):
-            layout, high = self.line(style)  # which takes less time than one that wraps
-            if high <= height:
-                layout.set_text(text, -1)
-                return Fitted(size, layout, size // SIDE, int((height - high) * style.down), high)
+        if style.lines:
+            rows = self.rows(glyphs, text, style, width)
+            high = ceil(len(rows) * glyphs.high)
+            if not rows or high > height:
+                return None
+            side = size // SIDE
+            part = (style.across + 1) / 2
+            y = int((height - high) * style.down)
+            return Fitted(size, side, y, high, None, glyphs, rows, width - 2 * side, part)
+        row = glyphs.row(text)
+        if row is None:
+            return None
+        ink = glyphs.ink_of(row)
+        if ink.width > width or ink.height > height:
+            return None
+        extents = (ceil(row.width), ceil(glyphs.high), floor(glyphs.base))
+        x, y = corner_of(style, extents, ink, width, height)
+        return Fitted(size, x, y, extents[1], None, glyphs, (row,))
+
+    def rows(self, glyphs: Glyphs, text: str, style: Style, width: int) -> list[Row]:
+        """Returns the rows of a text in lines, if all are whole; none where Pango has to say
+        them.
+        """
+        if not text.isascii() and NOT_LATIN.search(text.replace(LINE_END, "")):
+            return []
+        room = width - 2 * (style.size // SIDE)
+        whole = []
+        for paragraph in text.split("\n"):
+            found = glyphs.rows(paragraph, room)
+            if not 0 < len(found) <= style.lines:
+                return []
+            whole += found
+        return whole
+
+    def by_pango(self, text: str, style: Style, width: int, height: int) -> Fitted:
+        """Returns a text as Pango fits it."""
+        size = style.size
         is_on_base = style.base is not None
         while True:
             layout = self.laid_out(text, style, width, size)
@@ -97,58 +151,21 @@ class Fitter:
             if (ink.width <= width and ink.height <= height) or size <= 1:
                 break
             size -= max(1, size // (FINE_STEP if is_on_base else STEP))
-        if style.base is not None:
-            x = (width - ink.width) * (style.across + 1) // 2 - ink.left
-            y = style.base - layout.get_baseline() // UNIT
-        else:
-            x = size // SIDE if style.lines else (width - across) * (style.across + 1) // 2
-            y = int((height - high) * style.down)
-        return Fitted(size, layout, *inside(x, y, ink, width, height), high)
+        extents = (across, high, layout.get_baseline() // UNIT)
+        x, y = corner_of(style._replace(size=size), extents, ink, width, height)
+        return Fitted(size, x, y, high, layout)
 
     def is_cut(self, text: str, style: Style, width: int, height: int) -> bool:
         """Returns whether a text ends in an ellipsis as it fits a box."""
-        if not style.lines:
+        glyphs = self.glyphs(style)
+        if not style.lines or glyphs and self.rows(glyphs, text, style, width):
             return False
-        rows = [self.rows_of(line, style, width) for line in text.split("\n")]
-        if all(0 < count <= style.lines for count in rows):
-            return False
-        return bool(self.fitted(text, style, width, height).layout.is_ellipsized())
-
-    def is_one_line(self, text: str, style: Style, width: int) -> bool:
-        """Returns whether a text is a line of plain letters at the left for certain."""
-        is_plain = style.lines > 0 and style.base is None and style.across == LEFT
-        if not is_plain or "\n" in text or NOT_LATIN.search(text):
-            return False
-        return self.rows_of(text, style, width) == 1
-
-    def new_rows_of(self, line: str, style: Style, width: int) -> int:
-        """Returns how many rows a line takes by the widths of its words, which is quick to see; 0
-        where that is not certain.
-        """
-        if style.family != self.letters.family:
-            return 0
-        wider = HINTED if self.is_dots else PLAIN
-        room = (width - 2 * (style.size // SIDE)) / (style.size * wider)
-        words = self.letters.words[style.is_bold]
-        space = SPACE if self.is_dots else self.letters.spaces[style.is_bold]
-        lines = 0
-        for row in line.split(LINE_END):
-            lines += 1
-            used = 0.0
-            for word in row.split(" "):
-                sign = words[word]
-                if sign is None or sign.advance > room:
-                    return 0
-                if used + sign.advance > room:
-                    lines += 1
-                    used = 0.0
-                used += sign.advance + space * bool(word)
-        return lines
+        return bool(self.by_pango(text, style, width, height).layout.is_ellipsized())
 
     def shown(self, text: str, style: Style, width: int, height: int) -> str:
         """Returns a text as it is seen in a box: up to the ellipsis, where it has one."""
         is_cut = self.is_cut(text, style, width, height)
-        seen = seen_in(self.fitted(text, style, width, height).layout) if is_cut else text
+        seen = seen_in(self.by_pango(text, style, width, height).layout) if is_cut else text
         return seen.replace(LINE_END, " ")
 
     def new_blank(self, style: Style, width: int, size: int) -> Any:
@@ -168,11 +185,21 @@ class Fitter:
         layout.set_attributes(attributes_of(style, size))
         return layout
 
-    def new_line(self, style: Style) -> tuple[Any, int]:
-        """Returns a layout of Pango for texts of one line, and how high it is."""
-        layout = self.new_blank(style, -1, style.size)
-        layout.set_text("x", -1)
-        return layout, layout.get_pixel_size()[1]
+    def new_glyphs(self, style: Style) -> Optional[Glyphs]:
+        """Returns the glyphs of a style, in a font whose letters are nearer by pairs."""
+        is_of_pairs = style.family.lower().startswith(BY_PAIRS) and not style.struck
+        how = (style.family, style.is_bold, style.size, style.lines > 0)
+        return self.font(*how) if is_of_pairs else None
+
+    def new_font(self, family: str, is_bold: bool, size: int, has_lines: bool) -> Glyphs:
+        """Returns the glyphs of a font in a size, for lines that are a number of dots high."""
+        weight = cairo.FONT_WEIGHT_BOLD if is_bold else cairo.FONT_WEIGHT_NORMAL
+        # Cairo keeps a face as it was first used: in dots these have a name that no other one has
+        face = cairo.ToyFontFace(family + "  " * self.is_dots, cairo.FONT_SLANT_NORMAL, weight)
+        scale = cairo.Matrix(size, 0, 0, size)
+        font = cairo.ScaledFont(face, scale, cairo.Matrix(), self.options)
+        style = Style(family, is_bold, size, int(has_lines), LEFT, 0.0, 0)
+        return Glyphs(face, font, self.new_blank(style, -1, size))
 
     def laid_out(self, text: str, style: Style, width: int, size: int) -> Any:
         """Returns a text in a style and size, until another one is laid out so."""
@@ -187,10 +214,21 @@ def copied(text: Fitted) -> Fitted:
     return text._replace(layout=text.layout.copy())
 
 
-def inside(x: int, y: int, ink: Box, width: int, height: int) -> tuple[int, int]:
-    """Returns where a text begins, moved so that its ink is within a box."""
-    across = max(-ink.left, min(x, width - ink.width - ink.left))
-    return across, max(-ink.top, min(y, height - ink.height - ink.top))
+def corner_of(
+    style: Style, extents: tuple[int, int, int], ink: Box, width: int, height: int
+) -> tuple[int, int]:
+    """Returns where a text begins in a box, so that its ink is within it; its width, height and
+    first base line are given.
+    """
+    across, high, base = extents
+    if style.base is not None:
+        x = (width - ink.width) * (style.across + 1) // 2 - ink.left
+        y = style.base - base
+    else:
+        x = style.size // SIDE if style.lines else (width - across) * (style.across + 1) // 2
+        y = int((height - high) * style.down)
+    x = max(-ink.left, min(x, width - ink.width - ink.left))
+    return x, max(-ink.top, min(y, height - ink.height - ink.top))
 
 
 def line_step(size: int) -> int:
