@@ -10,8 +10,8 @@ from labeltools.common.messages import Silence
 from labeltools.designs.fit import OwnText
 from labeltools.designs.layout import OwnLayout
 from labeltools.drawing.pen import Medium
-from labeltools.printing.press import pen_of
-from labeltools.printing.job import Prepared, PrintOptions, labels_of, planned
+from labeltools.printing.job import PrintOptions, planned
+from labeltools.printing.press import Prepared, labels_of, pen_of
 from reading import fault_of
 
 FOLDER = support.TOP / "designs"
@@ -66,7 +66,7 @@ def prepared(
     chosen |= {"design": str(design), **options}
     wished = PrintOptions(**chosen)
     found = labels_of(wished, planned(wished), "lines", lines_of(labels), Silence())
-    pen = pen_of(found.job, Medium(found.job.plan.dpi, True), found.letters)
+    pen = pen_of(found.job, Medium(found.job.plan.dpi, True), found.pens[0].letters)
     for item in found.labels if is_read else ():
         if fault := fault_of(item, found.laid_out.area, pen):
             raise AssertionError(fault)
@@ -76,8 +76,8 @@ def prepared(
 def dots_of(found: Prepared, number: int = 0) -> jobs.Dots:
     """The dots of a label on its page, as they go out."""
     press = found.press(Silence())
-    with press.document([(found.labels[number], found.job.plan.places[0])]) as file:
-        return jobs.pictures_of_pbm(file.read())[0]
+    (document,) = press.documents(press.part(found.labels[number], 1))
+    return jobs.pictures_of_pbm(document)[0]
 
 
 def texts_of(found: Prepared) -> list[OwnText]:

@@ -13,6 +13,7 @@ from types import MappingProxyType
 from typing import IO, List, Mapping, Sequence, Union
 from unittest import mock
 
+import jobs
 import support
 from labeltools.lines.file import read_lines
 from labeltools.printing.journal import Journal, code_of
@@ -25,21 +26,21 @@ TICKETS = b"".join(b"qr T%05d\n" % number for number in range(1, 31))
 START = """
 import fcntl, os, resource, signal, sys
 from labeltools.printing import journal, network, stream
-from labeltools.commands.start import main
-from labeltools.printing.sending import StandardOutput
+from labeltools.common.command_line import start
+from labeltools.printing.outlets import Broken, StandardOutput
 from labeltools.common.text import Text
 
 def end():
     os.kill(os.getpid(), signal.SIGTERM)
 
 def broken():
-    raise network.Broken(Text("it is off"))
+    raise Broken(Text("it is off"))
 
 def limit(size):
     resource.setrlimit(resource.RLIMIT_FSIZE, (size, size))
 
 {code}
-main()
+start("label-print", "labeltools.commands.label_print")
 """
 # Where the lines of a program come from, and what it writes goes: a file or its number, PIPE, NULL.
 End = Union[int, IO[bytes]]
@@ -53,6 +54,11 @@ def printed(*words: str, input: bytes = TICKETS) -> "support.Finished[bytes]":
 def labels_in(done: "support.Finished[bytes]") -> List[bytes]:
     """The labels on standard output."""
     return LABEL.findall(done.stdout)
+
+
+def on_paper(done: "support.Finished[bytes]") -> List[bytes]:
+    """The dots of the labels on standard output, each as often as it is printed."""
+    return [dots.tobytes() for dots in jobs.dots_of_zpl(done.stdout)]
 
 
 def program(code: str = "") -> Sequence[str]:
@@ -144,7 +150,7 @@ class Desk(unittest.TestCase):
 
     def other(self, code: str, *words: str) -> "subprocess.Popen[bytes]":
         """Starts other code, which can have a journal of its own; it ends with the test."""
-        command = ["/usr/bin/python3", "-c", START.replace("main()", "").format(code=code)]
+        command = ["/usr/bin/python3", "-c", START.rpartition("start(")[0].format(code=code)]
         run = subprocess.Popen([*command, *words], stdin=PIPE, stdout=PIPE, cwd=support.TOOLS)
         self.addCleanup(ended, run)
         self.addCleanup(run.kill)

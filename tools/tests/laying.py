@@ -10,8 +10,8 @@ from labeltools.drawing.dots import drawn_page
 from labeltools.layout.layout import LaidOut
 from labeltools.common.messages import Silence
 from labeltools.drawing.pen import Medium, Pen
-from labeltools.printing.press import PrintJob
-from labeltools.printing.job import Prepared, PrintOptions, labels_of, planned
+from labeltools.printing.job import Job, PrintOptions, planned
+from labeltools.printing.press import Prepared, labels_of
 from reading import fault_of
 
 AROUND = 40  # dots of white in which ink would be seen that leaves the area
@@ -22,7 +22,7 @@ NO_EDGES = (0.0, 0.0, 0.0, 0.0)
 class Laid:
     """Labels that are laid out, and what draws them in dots."""
 
-    job: PrintJob
+    job: Job
     prepared: Prepared
     pen: Pen
 
@@ -66,7 +66,14 @@ def laid_out(data: bytes, cell: tuple[float, float], dpi: int = 300, **options: 
         )
     job = planned(sheet)
     prepared = labels_of(sheet, job, "lines", data, Silence())
-    return Laid(job, prepared, Pen(Medium(dpi, True), prepared.letters))
+    return Laid(job, prepared, Pen(Medium(dpi, True), prepared.pens[0].letters))
+
+
+def documents_of(found: Prepared) -> list[bytes]:
+    """What goes out of labels: files that are whole by themselves."""
+    press = found.press(Silence())
+    parts = enumerate(press.parts(found.prints))
+    return [data for number, part in parts for data in press.documents(part, number == 0)]
 
 
 def look(test: unittest.TestCase, laid: Laid, item: LaidOut) -> None:

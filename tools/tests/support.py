@@ -31,7 +31,7 @@ LOCALES = ("C", "C.UTF-8")
 SECONDS = 600  # that a program may take on a busy machine: one that hangs is ended
 # The modules of the tools that can run in this process.
 MODULES = {
-    "label-print": "labeltools.commands.start",
+    "label-print": "labeltools.commands.label_print",
     "label-table": "labeltools.commands.label_table",
 }
 os.environ["LC_ALL"] = "C.UTF-8"  # of these too: their dates are those of the locale
@@ -247,7 +247,7 @@ printed = partial(run_here, "label-print")
 def status_of(tool: str) -> int:
     """The status with which a tool ends in this process."""
     try:
-        import_module(MODULES[tool]).main()
+        import_module("labeltools.common.command_line").start(tool, MODULES[tool])
     except SystemExit as end:
         return int(end.code or 0)
     raise AssertionError(f"{tool} has no end")

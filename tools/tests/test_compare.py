@@ -13,6 +13,7 @@ from typing import Any, Callable, Iterator, Optional, Sequence
 from unittest import mock
 
 import support
+from laying import documents_of
 from labeltools.checking import compare, decode
 from labeltools.lines import engine
 from labeltools.designs import layout as own_layout
@@ -25,7 +26,8 @@ from labeltools.drawing.dots import Picture
 from labeltools.layout.frames import Box
 from labeltools.common.kept import Kept
 from labeltools.common.messages import Silence, ToolError
-from labeltools.printing.job import Prepared, PrintOptions, labels_of, planned
+from labeltools.printing.job import PrintOptions, planned
+from labeltools.printing.press import Prepared, labels_of
 from labeltools.common.text import Text, translated
 
 SHOP: list[tuple[str, dict[str, Any]]] = [
@@ -65,8 +67,8 @@ def options_of(form: str, **others: Any) -> PrintOptions:
         "dpi": 203,
         "to": form,
         "edge": (0.0, 0.0, 0.0, 0.0),
-        "dots": 900,
         **sheet,
+        **({"dots": 900} if form == "escpos" else {}),
     }
     return PrintOptions(**{**chosen, **others})
 
@@ -78,15 +80,6 @@ def found_of(options: PrintOptions, labels: Sequence[Any] = SHOP) -> Prepared:
     if found.left_out:
         raise AssertionError(str(found.left_out[0].reason))
     return found
-
-
-def write(found: Prepared) -> list[bytes]:
-    """The documents of labels."""
-    documents = []
-    for document in found.press(Silence()).documents(found.prints):
-        with document as file:
-            documents.append(file.read())
-    return documents
 
 
 @contextmanager
@@ -189,13 +182,10 @@ def drawn_wrong(number: int, other: Optional[Modules] = None) -> Callable[..., A
     return call
 
 
-def mixed(data: bytes, words: Any, talk: Any) -> Any:
-    """`run_labels` that exchanges two pictures."""
-    drawn = RUN_LABELS(data, words, talk)
-    first, last = min(drawn.pictures), max(drawn.pictures)
-    pictures = drawn.pictures
-    pictures[first], pictures[last] = pictures[last], pictures[first]
-    return drawn
+def mixed(lines: Any, is_escaped: bool, talk: Any) -> Any:
+    """`drawn` that exchanges the modules of the first line and the last one."""
+    first, *others, last = DRAWN(lines, is_escaped, talk)
+    return [last, *others, first]
 
 
 def without_zone(self: Any, line: bytes) -> Any:
@@ -273,7 +263,7 @@ DRAW = pen.Pen.draw
 RUN_LENGTHS = zpl.run_lengths
 DRAW_MODULES = pen.Pen.draw_modules
 DRAW_WHITE = pen.Pen.draw_white
-RUN_LABELS = engine.run_labels
+DRAWN = engine.drawn
 ENGINE_DRAW = engine.Engine.draw
 PAGE = press.Press.page
 IMAGE = escpos.image
@@ -336,7 +326,7 @@ FAULTS = {
     ),
     "half a dot too wide": Fault(PEN + "INSET", -0.5, ("svg",)),
     "a code twice in its place": Fault(PEN + "Pen.draw_modules", twice, ("pdf",)),
-    "lines mixed up": Fault("labeltools.printing.job.run_labels", mixed, FORMS, PAIR),
+    "lines mixed up": Fault("labeltools.lines.file.drawn", mixed, FORMS, PAIR),
     "a quiet zone a module short": Fault(
         "labeltools.lines.engine.Engine.draw", without_zone, FORMS
     ),
@@ -402,14 +392,14 @@ class Planted(unittest.TestCase):
                 with self.subTest(name=name, form=form), mock.patch(fault.target, fault.wrong):
                     found = found_of(options_of(form), fault.labels)
                     with self.assertRaises(ToolError) as caught:
-                        write(found)
+                        documents_of(found)
                     self.assertEqual(caught.exception.status, 3)
                     self.assertRegex(str(caught.exception.what), r"^row \d+: ")
 
     def test_nothing_is_stopped_without_a_fault(self) -> None:
         for form in FORMS:
             with self.subTest(form=form):
-                self.assertTrue(write(found_of(options_of(form), COPIES)))
+                self.assertTrue(documents_of(found_of(options_of(form), COPIES)))
 
 
 class Named(unittest.TestCase):
@@ -417,10 +407,10 @@ class Named(unittest.TestCase):
 
     def message(self, form: str, labels: Sequence[Any], **others: Any) -> Text:
         """The message of two labels whose symbols are mixed up."""
-        with mock.patch("labeltools.printing.job.run_labels", mixed):
+        with mock.patch("labeltools.lines.file.drawn", mixed):
             found = found_of(options_of(form, **others), labels)
         with self.assertRaises(ToolError) as caught:
-            write(found)
+            documents_of(found)
         return caught.exception.what
 
     def test_in_each_form_and_direction(self) -> None:
@@ -478,7 +468,7 @@ class OwnDesigns(unittest.TestCase):
             sheets = (True,) if form in ("svg", "png") else (False, form in ("pdf", "pbm"))
             for turn, is_sheet in product((None, True), sheets):
                 with self.subTest(form=form, turn=turn, is_sheet=is_sheet):
-                    self.assertTrue(write(self.found(form, turn, is_sheet)))
+                    self.assertTrue(documents_of(self.found(form, turn, is_sheet)))
 
     def test_a_fault_in_any_symbol_is_seen(self) -> None:
         """The symbols of a label in their order: the code, and three others."""
@@ -488,7 +478,7 @@ class OwnDesigns(unittest.TestCase):
                 wrong = drawn_wrong(number)
                 with mock.patch(PEN + "Pen.draw_modules", wrong):
                     with self.assertRaisesRegex(ToolError, "^row 2: its code is wrong"):
-                        write(found)
+                        documents_of(found)
 
     def test_another_symbol(self) -> None:
         lines = (b"code128 B-12-03", b"code128 B-12-03", b"qr B-12-03", b"qr,level=H B-12-03")
@@ -498,7 +488,7 @@ class OwnDesigns(unittest.TestCase):
                 wrong = drawn_wrong(number, engine.Engine(False).draw(line))
                 with mock.patch(PEN + "Pen.draw_modules", wrong):
                     with self.assertRaisesRegex(ToolError, "^row 2: its code is wrong"):
-                        write(found)
+                        documents_of(found)
 
     def test_texts_of_another_row(self) -> None:
         """A second symbol that says another row's text."""
@@ -515,7 +505,7 @@ class OwnDesigns(unittest.TestCase):
             with mock.patch("labeltools.designs.layout.values_of", texts):
                 found = labels_of(options, job, "lines", lines, Silence())
         with self.assertRaisesRegex(ToolError, "^row 3: its code says other data than its line"):
-            write(found)
+            documents_of(found)
 
     def test_a_title_over_a_symbol(self) -> None:
         """In dots it is seen; in a drawing symbols are over it."""
@@ -524,7 +514,7 @@ class OwnDesigns(unittest.TestCase):
             shown = changed(pen.Pen.show, corner=lambda corner: (corner[0], corner[1] + 150))
             with self.subTest(form=form), mock.patch(PEN + "Pen.show", shown):
                 with self.assertRaisesRegex(ToolError, "^row 2: its code is wrong"):
-                    write(found)
+                    documents_of(found)
 
 
 class LongTexts(unittest.TestCase):
@@ -564,10 +554,10 @@ class LongTexts(unittest.TestCase):
         for script, text in self.SCRIPTS.items():
             for chosen in self.PAGES:
                 with self.subTest(script=script, **chosen):
-                    self.assertTrue(write(self.found(text, **chosen)))
+                    self.assertTrue(documents_of(self.found(text, **chosen)))
             for is_sheet in (False, True):
                 with self.subTest(script=script, is_sheet=is_sheet):
-                    self.assertTrue(write(self.in_own_design(text, is_sheet)))
+                    self.assertTrue(documents_of(self.in_own_design(text, is_sheet)))
 
     def test_a_fault_is_seen(self) -> None:
         """The code of another label."""
@@ -577,7 +567,7 @@ class LongTexts(unittest.TestCase):
             with self.subTest(script=script, is_sheet=is_sheet):
                 with mock.patch(PEN + "Pen.draw_modules", drawn_wrong(0, other)):
                     with self.assertRaisesRegex(ToolError, r"^row \d+: its code is wrong"):
-                        write(found)
+                        documents_of(found)
 
 
 class Again(unittest.TestCase):
@@ -600,9 +590,9 @@ class Again(unittest.TestCase):
         with own_design() as design:
             options = options_of("zpl", design=design, paper=(100.0, 60.0))
             found = found_of(options, OwnDesigns.LABELS)
-        copied = write(found)
+        copied = documents_of(found)
         with mock.patch("labeltools.drawing.own_pen.UPRIGHT", None):
-            self.assertEqual(write(found), copied)
+            self.assertEqual(documents_of(found), copied)
 
 
 def rows_of(symbol: Any) -> tuple[list[str], list[str], int]:
@@ -682,7 +672,7 @@ class Read(unittest.TestCase):
     def test_a_picture_that_is_another_one(self) -> None:
         found = found_of(options_of("pdf"), PAIR[:1])
         comparison = found.press(Silence()).comparison
-        (page,) = pages_of(write(found)[0], 203, [1])
+        (page,) = pages_of(documents_of(found)[0], 203, [1])
         (code,) = page.codes
         wanted = [*comparison.wanted_on([(found.labels[0], found.job.plan.places[0])])]
         corners = tuple((x + 0.5, y) for x, y in code.corners)

@@ -16,10 +16,12 @@ import numpy
 import designs
 import support
 from designs import CODE, Label, dots_of, reasons_of, said_of, texts_of
+from laying import documents_of
 from labeltools.common.messages import Silence, ToolError
 from labeltools.designs import drawing
 from labeltools.designs.layout import OwnLayout
-from labeltools.printing.job import Prepared, PrintOptions, labels_of, planned
+from labeltools.printing.job import PrintOptions, planned
+from labeltools.printing.press import Prepared, labels_of
 
 TITLE = '<rect id="title" {}/>' + CODE
 WIDE = 'x="2" y="2" width="56" height="10"'
@@ -786,9 +788,8 @@ class Drawings(OwnPages):
     def test_a_link_and_white_letters_are_drawn_in_a_pdf(self) -> None:
         link = '<a href="https://example.org"><path d="M2 15H9V19Z"/></a>'
         found = self.found(link + self.BAND.format("black"), to="pdf")
-        (document,) = found.press(Silence()).documents(found.prints)
-        self.assertTrue(document.read().startswith(b"%PDF"))
-        document.close()
+        (document,) = documents_of(found)
+        self.assertTrue(document.startswith(b"%PDF"))
 
     def test_a_picture_is_drawn(self) -> None:
         found = self.found(PICTURE.format("png", png_of(8, 8)).replace("<image", "<path/><image"))
@@ -919,10 +920,8 @@ class Papers(OwnPages):
         for form, paper in cases:
             found = self.found(body, [ONE, ("code128 B", {"title": "b"})], to=form, **paper)
             self.assertEqual(reasons_of(found), [], (form, paper))
-            documents = list(found.press(Silence()).documents(found.prints))
-            self.assertEqual(len(documents), 2 if "cell" not in paper and form != "pdf" else 1)
-            for document in documents:
-                document.close()
+            count = 2 if "cell" not in paper and form != "pdf" else 1
+            self.assertEqual(len(documents_of(found)), count)
 
 
 if __name__ == "__main__":

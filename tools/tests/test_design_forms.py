@@ -14,8 +14,8 @@ import numpy
 import designs
 import jobs
 import support
-from labeltools.common.messages import Silence
 from labeltools.designs.layout import OwnLayout
+from laying import documents_of
 from reading import fault_in
 from test_forms import dots_of_svg, rendered
 
@@ -112,9 +112,8 @@ class Drawings(unittest.TestCase):
             found = designs.prepared(
                 path, [("code128 A", {})], to="pdf", dpi=600, columns=2, rows=2, **sheet
             )
-            (file,) = found.press(Silence()).documents(found.prints)
-        with file:
-            dots = rendered(["pdftoppm", "-r", "600", "-mono", "FILE", "out"], file.read())
+            (document,) = documents_of(found)
+        dots = rendered(["pdftoppm", "-r", "600", "-mono", "FILE", "out"], document)
         (across,) = numpy.nonzero(dots[int(15 / 25.4 * 600)])
         for end, wanted in ((across.min(), 60.0), (across.max() + 1, 70.0)):
             self.assertAlmostEqual(float(end) / 600 * 25.4, wanted, delta=0.1)

@@ -4,6 +4,7 @@ fails there.
 
 import functools
 import os
+import re
 import threading
 import unittest
 from pathlib import Path
@@ -17,11 +18,18 @@ from labeltools.printing.journal import Journal, escaped
 from labeltools.lines.file import read_lines
 from labeltools.common.messages import Silence, ToolError
 from labeltools.printing.network import NetworkPrinter
-from labeltools.printing.job import PrintOptions, labels_of, planned
+from labeltools.printing.job import PrintOptions, planned
+from labeltools.printing.press import labels_of
 from labeltools.printing.selection import selection_of
 from labeltools.printing.sending import Sender
 from printers import Printer
 
+# How many labels a printer took, and what may be missing or half there then.
+BROKEN = (
+    r"broke off: it took (\d+) labels whole; lines 1-(\d+) may be missing: look at the last one on "
+    r"paper, and print what follows it by --after N; line (\d+) may be on paper: look there; with "
+    r"--after (\d+) the same command goes on at it\n"
+)
 SHORT = functools.partial(NetworkPrinter, stuck=0.5)
 
 
@@ -121,14 +129,18 @@ class Network(Desk):
     def test_the_row_to_go_on_from(self) -> None:
         printer = Printer(cut=10).start()
         done = printed("--print", printer.name)
-        self.said(done, 1, r"broke off: it took \d+ labels? whole; look at the last one on paper")
-        self.assertRegex(done.stderr, rb"then print from line (\d+) on by --only \1-\n")
+        found = re.search(BROKEN, done.stderr.decode())
+        assert found is not None, done.stderr
+        taken, last, first, after = map(int, found.groups())
+        self.assertEqual((taken, last, first), (after, after, after + 1))
+        rest = labels_in(printed("--after", f"{after}"))
+        self.assertEqual(rest, labels_in(printed())[after:])
 
     def test_one_that_hangs(self) -> None:
         printer = Printer(stuck=3).start()
-        with mock.patch("labeltools.commands.label_print.NetworkPrinter", SHORT):
+        with mock.patch("labeltools.printing.sending.NetworkPrinter", SHORT):
             done = printed("--print", printer.name, "--dpi", "600")
-        self.said(done, 1, "takes nothing for 0 seconds: it took .* print from line")
+        self.said(done, 1, "takes nothing for 0 seconds: it took .* may be missing: look at")
 
     def test_names(self) -> None:
         self.assertEqual(NetworkPrinter("tcp://[::1]:9101").address, ("::1", 9101))
@@ -184,12 +196,12 @@ class Journals(Desk):
         words = ("--journal", self.path, "--print", printer.name)
         done = printed(*words)
         self.said(done, 1, "line [0-9]+ may be on paper: look there, then give the same")
-        self.said(done, 1, "look that line [0-9]+ is on paper, or print what is missing by --only")
+        self.said(done, 1, "lines 1-[0-9]+ may be missing: look there, and print what is by --only")
         doubtful = self.events().count("sending") - self.events().count("taken")
         self.assertEqual(doubtful, 1)
         done = printed(*words)
         self.said(
-            done, 1, r"line ([0-9]+): may be on paper, from tcp://127.* give --only \1 --again"
+            done, 1, r"line ([0-9]+): may be on paper, from tcp://127.* it by --only \1 --again"
         )
         self.assertEqual(len(printer.labels), len(set(printer.labels)))
         self.assertGreaterEqual(len(printer.labels), 29)
@@ -326,6 +338,7 @@ class Journals(Desk):
             """Keeps what happens, and the events in the journal then."""
 
             name = "tcp://a"
+            is_direct = True
 
             def open(self) -> None:
                 order.append("open")
@@ -343,7 +356,7 @@ class Journals(Desk):
         found = labels_of(options, planned(options), "lines", TICKETS[:21], Silence())
         sender = Sender(Recorder(), Journal(self.path, "tcp://a"))
         with mock.patch("os.fdatasync", lambda file: order.append("synced")):
-            sender.send_all(found.press(Silence()), found.prints)
+            sender.send_all(found, Silence())
         self.assertEqual(order, ["open", "synced", "sent after sending"] * 2 + ["close"])
         self.assertEqual(self.events(), ["sending", "taken"] * 2)
 

@@ -14,14 +14,16 @@ import threading
 import time
 import unittest
 from pathlib import Path
+from typing import Sequence
 from unittest import mock
 
 import support
-from desk import PIPE, ROLL, TICKETS, Desk, labels_in, printed
+from desk import PIPE, ROLL, TICKETS, Desk, labels_in, on_paper, printed
 from labeltools.printing import journal as journals
 from labeltools.printing.journal import Journal
 from labeltools.common.messages import ToolError
-from labeltools.printing.network import NetworkPrinter, Unreachable
+from labeltools.printing.network import NetworkPrinter
+from labeltools.printing.outlets import Unreachable
 from labeltools.common.text import Text
 from printers import BROKEN, LABEL, Printer
 
@@ -40,12 +42,10 @@ class Printers(Desk):
         """A connection that is reset says that bytes were thrown away."""
         printer = Printer(rude=True).start()
         done = printed("--print", printer.name)
-        self.said(done, 1, "the printer broke off at the end: it took 30 labels whole; look that")
-        self.said(
-            done, 1, "look that line 30 is on paper, or print what is missing by --only ROWS\n"
-        )
+        self.said(done, 1, "the printer broke off at the end: it took 30 labels whole; lines 1-30 ")
+        self.said(done, 1, "may be missing: .*, and print what follows it by --after N\n")
         done = printed("--print", printer.name, "--journal", self.path)
-        self.said(done, 1, f"line 30 is on .* is missing by --only ROWS --again {printer.name}\n")
+        self.said(done, 1, f"lines 1-30 may be .* is by --only ROWS --again {printer.name}\n")
 
     def test_a_stream_to_one_that_hangs_up(self) -> None:
         """Its system takes each label, and it reads none."""
@@ -106,29 +106,55 @@ class Rows(Desk):
         self.said(done, 1, "the printer broke off")
         return done.stderr.decode()
 
-    def test_those_that_were_chosen(self) -> None:
-        said = self.broken_off(TICKETS, "--only", "2-9,20")
-        first = int(said.partition("then print from line ")[2].split()[0])
-        self.assertTrue(said.endswith(f"by --only {first}-9,20\n"), said)
-
-    def test_rows_in_any_order(self) -> None:
-        lines = b"".join(b'#{"row":%d}\nqr R%d\n' % (row, row) for row in (9, 3, 8, 2, 7))
-        said = self.broken_off(lines)
-        self.assertRegex(said, "from row (8 on by --only 2,7-8|2 on by --only 2,7)\n")
-
-    def test_rows_of_several_tables(self) -> None:
+    def test_the_rest_whatever_chose_the_labels(self) -> None:
+        """The same command with --after prints what was not taken, and nothing else."""
+        codes = [word for row in (2, 5, 9, 12, 15) for word in ("--only-code", f"T{row:05}")]
+        any_order = b"".join(b'#{"row":%d}\nqr R%d\n' % (row, row) for row in (9, 3, 8, 2, 7))
         rows = [(f"qr {table}{row}", {"row": row}) for table in "AB" for row in (2, 3, 4, 5)]
-        tables = [support.file_of(some) for some in (rows[:4], rows[4:])]
-        pattern = "from row [45] on by --only-code @FILE\n"
-        self.assertRegex(self.broken_off(b"".join(tables)), pattern)
-        first = Printer(cut=1).start()  # the next row is that of two labels
-        done = printed("--print", first.name, input=b"".join(tables))
-        self.said(done, 1, r"then print from row \d on by --only-code @FILE\n")
-        lines = tables[0].replace(b"articles.xlsx", b"A.csv") + tables[1]
-        pattern = "from A.csv, row [45] on by --only-code @FILE\n"
-        self.assertRegex(self.broken_off(lines), pattern)
-        pattern = r"look that A.csv, row \d is on paper, or print what is missing by --only-code @F"
-        self.assertRegex(self.broken_off(lines, "--journal", self.path), pattern)
+        tables = support.file_of(rows[:4]).replace(b"articles.xlsx", b"A.csv")
+        tables += support.file_of(rows[4:])
+        chosen = [word for code in ("A2", "B3", "B4", "B5") for word in ("--only-code", code)]
+        alike = tables.replace(b"qr B", b"qr A")
+        copies = support.file_of([(f"qr {row}", {"copies": row}) for row in range(1, 6)])
+        cases: Sequence[tuple[bytes, Sequence[str]]] = (
+            (TICKETS, ["--only", "2-9,20"]),
+            (TICKETS, codes),
+            (TICKETS, ["--only", "20-22", *codes]),
+            (any_order, []),
+            (tables, []),
+            (tables, chosen),
+            (alike, []),
+            (alike, ["--unique"]),
+            (copies, []),
+        )
+        for lines, words in cases:
+            with self.subTest(words=words, lines=lines):
+                said = self.broken_off(lines, *words)
+                found = re.search(r"; ([^;]+) may be on paper: .* with --after (\d+) the", said)
+                assert found is not None, said
+                rest = printed(*words, "--after", found[2], input=lines)
+                every = on_paper(printed(*words, input=lines))
+                self.assertEqual(on_paper(rest), every[int(found[2]) :])
+                first = f"--after {found[2]}: the first label is {found[1]}\n"
+                self.assertIn(first, rest.stderr.decode())
+
+    def test_copies_that_are_on_paper(self) -> None:
+        """They are counted, each of them; after all labels there is none."""
+        lines = support.file_of([("qr A", {"copies": 3}), ("qr B", {"copies": 2})])
+        every = on_paper(printed(input=lines))
+        for count in range(5):
+            done = printed("--after", f"{count}", input=lines)
+            self.assertEqual(on_paper(done), every[count:])
+        self.said(printed("--after", "5", input=lines), 1, "there is no label to print")
+
+    def test_labels_of_a_journal_in_several_tables(self) -> None:
+        """Those that may be missing are chosen by their codes."""
+        rows = [(f"qr {table}{row}", {"row": row}) for table in "AB" for row in (2, 3, 4, 5)]
+        lines = support.file_of(rows[:4]).replace(b"articles.xlsx", b"A.csv")
+        said = self.broken_off(lines + support.file_of(rows[4:]), "--journal", self.path)
+        self.assertRegex(
+            said, r"A.csv, rows? 2.* may be missing: .* by --only-code @FILE --again t"
+        )
 
     def test_again_breaks_off(self) -> None:
         """The same command would print the first of them twice."""
@@ -138,38 +164,12 @@ class Rows(Desk):
         printer.cut = len(printer.labels) + 3
         again = ("--only", "20-", "--again", printer.name)
         done = printed(*words, *again)
-        pattern = f"then print from line (2[123]) on by --only \\1-30 --again {printer.name}\n"
-        self.said(done, 1, pattern)
-
-    def test_rows_in_place_of_codes(self) -> None:
-        """Codes of the same command would be printed again beside the rows."""
-        codes = [word for row in (2, 5, 9, 12, 15) for word in ("--only-code", f"T{row:05}")]
-        said = self.broken_off(TICKETS, *codes)
-        pattern = r"from line (\d+) on, in place of --only-code, by --only (\1[\d,-]*)\n"
-        rows = re.search(pattern, said)
-        assert rows is not None, said
-        self.assertEqual(len(labels_in(printed("--only", rows[2]))), rows[2].count(",") + 1)
-        both = self.broken_off(TICKETS, "--only", "20-22", *codes)
-        self.assertRegex(both, pattern)
-
-    def test_rows_that_others_have(self) -> None:
-        """Rows and codes of another table, of which nothing was asked."""
-        rows = [(f"qr {table}{row}", {"row": row}) for table in "AB" for row in (2, 3, 4, 5)]
-        parts = [support.file_of(rows[:4]), support.file_of(rows[4:])]
-        parts[0] = parts[0].replace(b"articles.xlsx", b"A.csv")
-        words = [word for code in ("A2", "B3", "B4", "B5") for word in ("--only-code", code)]
-        pattern = r"row \d on, in place of --only-code, by --only-code @FILE\n"
-        self.assertRegex(self.broken_off(b"".join(parts), *words), pattern)
-        alike = b"".join(parts).replace(b"qr B", b"qr A")
-        said = self.broken_off(alike)
-        self.assertRegex(said, r"print a file of A.csv, row \d and what follows it alone: others")
-        done = printed("--unique", input=alike)
-        self.said(done, 1, "articles.xlsx, row 2: has the code of A.csv, row 2\n")
-        first = Printer(cut=1).start()  # codes of the rest are those of two labels
-        done = printed("--print", first.name, input=alike)
-        self.said(done, 1, r"print a file of A.csv, row \d and what follows it alone: others")
-        said = self.broken_off(alike, "--unique")
-        self.assertRegex(said, r"print from A.csv, row \d on by --only-code @FILE\n|by --only \d-")
+        self.said(done, 1, "lines? 20.* may be missing: .* is by --only ROWS --again tcp://")
+        self.said(done, 1, "line 2[123] may be on paper: look there; with --after [123] the same ")
+        after = re.findall(r"--after (\d)", done.stderr.decode())[0]
+        before = len(printer.labels)
+        self.said(printed(*words, *again, "--after", after), 0, "labels? taken by")
+        self.assertEqual(len(printer.labels) - before, 11 - int(after))
 
     def test_a_signal_after_the_last_label(self) -> None:
         """Without a word it would look as if nothing had gone out."""
@@ -213,13 +213,14 @@ class Rows(Desk):
             done.clear()
             printed("--print", printer.name, "--journal", self.path)
             done.clear()
-            pattern = f"not sent; .* print from line 5 on by --only 5-9 --again {printer.name}\n"
+            pattern = "line 5 .* not sent; .*with --after 2 the same command goes on there\n"
             self.said(printed("--print", printer.name, *again), 1, pattern)
 
     def test_labels_of_a_roll_on_a_full_disk(self) -> None:
         words = " ".join([str(support.TOOLS / "label-print"), *ROLL])
         done = support.run("/bin/sh", "-c", f"{words} > /dev/full", input=TICKETS)
-        self.said(done, 1, "No space left on device: it took 0 labels whole; .* by --only 1-\n")
+        self.said(done, 1, "No space left on device: it took 0 labels whole: line 1 .*")
+        self.said(done, 1, "were not sent; with --after 0 the same command goes on there\n")
 
     def test_rows_that_no_table_has(self) -> None:
         for rows in ("9-7", "0-", "0", "2,0-3", "00"):
@@ -305,7 +306,7 @@ class Editors(Desk):
     def test_a_journal_that_goes_while_a_label_goes_out(self) -> None:
         """The label was sent: nothing else may be said."""
         with mock.patch(
-            "labeltools.printing.sending.send", lambda file, output: os.unlink(self.path)
+            "labeltools.printing.outlets.send", lambda file, output: os.unlink(self.path)
         ):
             done = printed("--journal", self.path)
         self.said(done, 1, "it took 0 labels whole; line 1 may be on paper; it has not line 1")
@@ -391,12 +392,9 @@ class Reprints(Desk):
         words = ("--journal", self.path, "--print", printer.name)
         done = printed(*words, "--only", "3-", "--again", "standard output")
         last, first = self.events_of(printer.name)
-        missing = f"look that line {last} is on paper, or print what is missing by --only ROWS"
-        rest = f"then print from line {first} on by --only {first}-30 --again 'standard output'\n"
-        if first == 30:
-            rest = rest.replace("30-30", "30")
-        look = "look at the last one on paper"
-        self.said(done, 1, f"{missing} --again {printer.name}; {look}, {rest}")
+        gone = f"lines 3-{last} may be missing: look there, and print what is by --only ROWS"
+        rest = f"line {first} may be on paper: look there; with --after {last - 2} the same command"
+        self.said(done, 1, f"{gone} --again {printer.name}; {rest}")
         thrown = len(printer.labels)
         done = printed(*words, "--only", f"3-{last}", "--again", printer.name)
         self.said(done, 1, f"{last - 2} labels taken by {printer.name}")
@@ -566,7 +564,7 @@ class Streams(Desk):
 
     def test_a_mark_that_the_journal_does_not_take(self) -> None:
         with mock.patch(
-            "labeltools.printing.sending.send", lambda file, output: os.unlink(self.path)
+            "labeltools.printing.outlets.send", lambda file, output: os.unlink(self.path)
         ):
             done = printed("--stream", "--journal", self.path)
         self.said(done, 1, r"\Adoubtful 1 .*another program has changed it.*\n\Z")

@@ -18,7 +18,8 @@ from desk import PIPE, ROLL, TICKETS, Desk, labels_in, open_files, printed, prog
 from labeltools.common import files
 from labeltools.printing import network, stream
 from labeltools.printing.journal import Journal
-from labeltools.printing.network import Broken, NetworkPrinter
+from labeltools.printing.network import NetworkPrinter
+from labeltools.printing.outlets import Broken
 from printers import LABEL, Printer
 
 MANY_FILES = """
@@ -160,13 +161,9 @@ class Doubts(Desk):
 
     def test_those_outside_of_what_is_printed(self) -> None:
         """Each run names all of a journal, until they are printed or their lines say `taken`."""
-        for words, gone in (
-            (("--only", "3-"), ""),
-            (("--only-code", "T00002"), ", in place of --only-code,"),
-            ((), ""),
-        ):
+        for words in (("--only", "3-"), ("--only-code", "T00002"), ()):
             done = printed("--journal", self.waiting("tcp://a"), *words)
-            hint = f"if it is not there, give{gone} --only 1 --again tcp://a"
+            hint = "if it is not there, print only it by --only 1 --again tcp://a"
             self.said(done, 1, f"line 1: may be on paper, from tcp://a: look for it; {hint}")
         done = printed("--journal", self.path, "--only", "1", "--again", "tcp://a")
         self.assertNotIn(b"may be on paper", done.stderr)
@@ -202,9 +199,11 @@ class Doubts(Desk):
         with open(self.path, "a") as file:
             file.write("2026-11-27T09:30:00Z\tsending\tlane 1\tstandard output\tline 2\tqr X1\n")
         words = ("--journal", self.path)
-        self.assertIn("give --only-code 'qr X1' --again", self.answers(b"qr X1\n", *words)[0])
+        self.assertIn(
+            "print only it by --only-code 'qr X1' --again", self.answers(b"qr X1\n", *words)[0]
+        )
         done = printed(*words, input=lines)
-        self.said(done, 1, "line 2: may be on paper, from .* give --only 2 --again 'standard")
+        self.said(done, 1, "line 2: may be on paper, from .* it by --only 2 --again 'standard")
         kept = Path(self.path).read_bytes()
         for choice in (("--only", "2"), ("--only-code", "qr X1")):
             Path(self.path).write_bytes(kept)
@@ -222,7 +221,7 @@ class Doubts(Desk):
         line = "2026-11-27T09:30:00Z\tsending\tlane 1\ttcp://a\trow 3\tqr b2\n"
         Path(self.path).write_text(f"#labels journal 1\n{line}")
         done = printed("--journal", self.path, input=lines)
-        self.said(done, 1, "b.xlsx, row 3: may be on paper, .* give --only-code 'qr b2' --again")
+        self.said(done, 1, "b.xlsx, row 3: may be on paper, .* it by --only-code 'qr b2' --again")
 
     def test_those_of_many_printers(self) -> None:
         """The printer of each is named, and those of one printer are together."""
@@ -256,7 +255,7 @@ class Doubts(Desk):
 
     def test_what_can_be_typed(self) -> None:
         done = printed("--journal", self.waiting("standard output"), input=TICKETS[:10])
-        self.said(done, 1, "give --only 1 --again 'standard output'\n")
+        self.said(done, 1, "print only it by --only 1 --again 'standard output'\n")
         self.waiting("standard output")
         words = ("--journal", self.path, "--only-code", "T00001", "--again", "standard output")
         self.assertEqual(len(labels_in(printed(*words, input=TICKETS[:10]))), 1)
@@ -316,15 +315,15 @@ class Ends(Desk):
     def test_a_way_out_that_breaks_off_after_a_signal(self) -> None:
         """The signal ends the tool, and the row is named all the same."""
         done = self.run_alone(code="StandardOutput.send = lambda outlet, data: end() or broken()")
-        self.said(done, -signal.SIGTERM, "label-print: it is off: it took 0 labels whole; look at")
-        self.said(done, -signal.SIGTERM, "then print from line 1 on by --only 1-\n")
+        self.said(done, -signal.SIGTERM, "it is off: it took 0 labels whole; line 1 may be on pap")
+        self.said(done, -signal.SIGTERM, "with --after 0 the same command goes on at it\n")
 
     def test_a_way_out_that_breaks_off_before_a_label(self) -> None:
         """As of a printer that has ended the connection: of that label nothing was sent."""
-        code = "StandardOutput.open = lambda outlet, left=[0, 0]: left.pop() if left else broken()"
+        code = "StandardOutput.open = lambda outlet, left=[1] * 4: left.pop() if left else broken()"
         done = self.run_alone("--journal", self.path, code=code)
         self.said(done, 1, "it is off: it took 2 labels whole: line 3 and what follows it were not")
-        self.said(done, 1, "not sent; look that line 2 is on paper, or print what is missing by")
+        self.said(done, 1, "not sent; lines 1-2 may be missing: look there, and print what is by")
         self.assertEqual(self.events(), ["sending", "taken"] * 2)
 
     def test_a_way_out_that_breaks_off_after_no_label(self) -> None:
@@ -373,7 +372,7 @@ class Ends(Desk):
                 order.append(" ".join([names.get(file) or Path(path).name, *events]))
 
             with mock.patch.multiple("os", fsync=sync, fdatasync=sync):
-                with mock.patch("labeltools.printing.sending.standard_output", lambda: labels):
+                with mock.patch("labeltools.printing.outlets.standard_output", lambda: labels):
                     done = printed("--journal", self.path, input=TICKETS[:10])
         self.assertEqual(done.returncode, 0, done.stderr)
         folder = Path(self.folder).name

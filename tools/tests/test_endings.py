@@ -57,8 +57,7 @@ def said_after(form: str, labels: int) -> Tuple[str, ...]:
     row = labels + 2
     message = (
         f"label-print: standard output: it took {whole} whole: row {row} and what follows it were"
-        " not sent; look at the last one on paper, then print from"
-        f" row {row} on by --only {row}-\n"
+        f" not sent; with --after {labels} the same command goes on there\n"
     )
     return (message,) if labels else ("", message)
 

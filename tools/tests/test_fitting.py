@@ -10,12 +10,12 @@ from unittest import mock
 import designs
 import support
 from designs import Label
+from laying import documents_of
 from labeltools.layout.fitting import Fitted, Fitter, LEFT, Style
 from labeltools.layout.glyphs import LINE_END
 from labeltools.layout.layout import LaidOut
 from labeltools.layout.letters import FONT, Letters
 from labeltools.layout.pango import UNIT
-from labeltools.common.messages import Silence
 from labeltools.drawing.own_pen import OwnPen
 from labeltools.drawing.pen import Medium, Placed, options_of
 
@@ -128,8 +128,8 @@ class Drawn(unittest.TestCase):
             found = designs.prepared(
                 design, [("ean8 7351353", {"title": title})], to="pdf", is_read=False
             )
-        with found.press(Silence()).document([(found.labels[0], (0, 0))]) as file:
-            self.assertEqual(file.read(5), b"%PDF-")
+        (document,) = documents_of(found)
+        self.assertTrue(document.startswith(b"%PDF-"))
 
 
 class OwnLines(unittest.TestCase):
@@ -161,8 +161,7 @@ class OwnLines(unittest.TestCase):
         size = designs.size_of(design.stem)
         found = designs.prepared(design, labels, paper=size, to=form, dpi=dpi)
         with mock.patch.object(OwnPen, "texts", noted):
-            for document in found.press(Silence()).documents(found.prints):
-                document.close()
+            documents_of(found)
         wanted = [
             text.text.replace(LINE_END, "\n").split("\n")
             for text in designs.texts_of(found)

@@ -16,7 +16,8 @@ import jobs
 import support
 from labeltools.layout.layout import LaidOut
 from labeltools.common.messages import Silence
-from labeltools.printing.job import PrintOptions, labels_of, planned
+from labeltools.printing.job import PrintOptions, planned
+from labeltools.printing.press import labels_of
 
 LINES = (
     "ean13 400638133393",

@@ -67,6 +67,9 @@ class Pages(unittest.TestCase):
         support.needs("mandoc")
         named = {
             "--edge": job.EDGE,
+            "--page": job.A4,
+            "--gap": job.NO_GAP,
+            "--dots": job.RECEIPT_DOTS,
             "--to": "pdf",
             "--decimal": "LC_NUMERIC",
             "--symbology": "auto",

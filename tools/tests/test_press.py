@@ -8,8 +8,10 @@ from typing import Any
 
 import support
 from labeltools.common.messages import Cancelled, Place, Silence
-from labeltools.printing.press import Press, once, with_copies
-from labeltools.printing.job import PrintOptions, labels_of, planned
+from labeltools.printing.job import PrintOptions, planned
+from labeltools.printing.press import labels_of, once
+from labeltools.printing.sending import save_to
+from laying import documents_of
 from labeltools.common.text import Text
 
 LABELS: list[tuple[str, dict[str, Any]]] = [
@@ -44,28 +46,26 @@ class Pages(unittest.TestCase):
         self.options = PrintOptions(stock="l7160", first=5)
         self.job = planned(self.options)
         self.found = labels_of(self.options, self.job, "lines", self.data, Silence())
-        self.press = Press(self.job, self.found.laid_out, self.found.letters, Silence())
-        self.prints = with_copies(self.found.laid_out.labels)
 
     def test_a_page_by_its_number(self) -> None:
-        pages = list(self.press.pages(self.prints))
-        self.assertEqual(sum(map(len, pages)), len(self.prints))
-        self.assertEqual(len(pages[0]), 21 - 4)
-        for number, page in enumerate(pages):
-            self.assertEqual(self.press.page(number, self.prints), page, number)
-        self.assertEqual(self.press.page(len(pages), self.prints), [])
+        press = self.found.press(Silence())
+        prints = self.found.prints
+        (whole,) = press.parts(prints)
+        self.assertEqual(whole.count, len(prints))
+        self.assertEqual(len(whole.pages[0]), 21 - 4)
+        for number, page in enumerate(whole.pages):
+            self.assertEqual(press.page(number, prints), page, number)
+        self.assertEqual(press.page(len(whole.pages), prints), [])
 
     def test_what_is_saved_is_what_the_command_writes(self) -> None:
         for form in ("pdf", "zpl", "pbm", "escpos"):
             sheet = ("--paper", "60x40", "--dpi", "203", "--to", form)
             written = support.printed(*sheet, input=self.data).stdout
             options = PrintOptions(paper=(60.0, 40.0), dpi=203, to=form)
-            job = planned(options)
-            found = labels_of(options, job, "lines", self.data, Silence())
-            press = Press(job, found.laid_out, found.letters, Silence())
+            found = labels_of(options, planned(options), "lines", self.data, Silence())
             with tempfile.TemporaryDirectory() as folder:
                 path = Path(folder, "labels")
-                press.save(with_copies(found.laid_out.labels), path)
+                save_to(found, path, Silence())
                 self.assertTrue(path.read_bytes() == written and written, form)
                 self.assertEqual(os.listdir(folder), ["labels"])
 
@@ -78,10 +78,9 @@ class Pages(unittest.TestCase):
 
     def test_work_that_is_stopped_leaves_no_file(self) -> None:
         for end in (1, 2, 3):
-            press = Press(self.job, self.found.laid_out, self.found.letters, Stopping(end))
             with tempfile.TemporaryDirectory() as folder:
                 with self.assertRaises(Cancelled):
-                    press.save(self.prints, Path(folder, "labels.pdf"))
+                    save_to(self.found, Path(folder, "labels.pdf"), Stopping(end))
                 self.assertEqual(os.listdir(folder), [])
         with self.assertRaises(Cancelled):
             labels_of(self.options, self.job, "lines", self.data, Stopping(1))
@@ -89,16 +88,12 @@ class Pages(unittest.TestCase):
     def test_one_form_after_another_in_one_run(self) -> None:
         """Cairo keeps a font as it was first used: dots are the same after a PDF was drawn."""
         roll = PrintOptions(paper=(60.0, 40.0), dpi=203, to="pbm")
-        job = planned(roll)
-        found = labels_of(roll, job, "lines", self.data, Silence())
+        found = labels_of(roll, planned(roll), "lines", self.data, Silence())
         written = support.run(
             "label-print", "--paper", "60x40", "--dpi", "203", "--to", "pbm", input=self.data
         ).stdout
-        for document in self.press.documents(self.prints):
-            document.close()
-        press = Press(job, found.laid_out, found.letters, Silence())
-        prints = with_copies(found.laid_out.labels)
-        again = b"".join(document.read() for document in press.documents(prints))
+        documents_of(self.found)
+        again = b"".join(documents_of(found))
         self.assertTrue(again == written and written)
         self.assertEqual(len(once(found.laid_out.labels)), 30)
 

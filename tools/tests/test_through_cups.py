@@ -20,9 +20,9 @@ import drivers
 import support
 from jobs import Dots, JobError
 from labeltools.common.messages import Silence
-from labeltools.printing.press import Press, with_copies
-from labeltools.commands.label_print import command_line
-from labeltools.printing.job import PrintOptions, labels_of, planned
+from labeltools.commands.label_print import options_of
+from labeltools.printing.job import planned
+from labeltools.printing.press import labels_of
 
 DRIVERS = "/usr/share/cups/drv/sample.drv"
 CUPSFILTER = "/usr/sbin/cupsfilter"
@@ -81,13 +81,11 @@ class Bars:
 
 def bars_of(queue: Queue, dpi: int) -> Iterator[Bars]:
     """The bars of all labels on the sheet of a queue, as label-print places them."""
-    arguments = vars(command_line().parse_args([*queue.sheet, "--dpi", f"{dpi}"]))
-    names = PrintOptions.__dataclass_fields__
-    options = PrintOptions(**{name: arguments[name] for name in arguments if name in names})
-    job = planned(options)
-    prepared = labels_of(options, job, "lines", LINES, Silence())
-    press = Press(job, prepared.laid_out, prepared.letters, Silence())
-    for number, page in enumerate(press.pages(with_copies(prepared.laid_out.labels))):
+    options = options_of([*queue.sheet, "--dpi", f"{dpi}"])
+    prepared = labels_of(options, planned(options), "lines", LINES, Silence())
+    press = prepared.press(Silence())
+    (part,) = press.parts(prepared.prints)
+    for number, page in enumerate(part.pages):
         for item, (left, top) in page:
             box, modules = item.layout.boxes["bars"], item.label.modules
             bits = drivers.rows_of(modules.packed, modules.row_size)[:, : modules.width]

@@ -1,6 +1,5 @@
 """The command label-print: its arguments, and where labels go."""
 
-import argparse
 import fcntl
 import gc
 import os
@@ -11,10 +10,8 @@ import time
 from contextlib import suppress
 from dataclasses import replace
 from pathlib import Path
-from typing import Any, Callable, Iterable, Mapping, Optional, Sequence
+from typing import Any, Callable, Optional, Sequence
 
-from labeltools.common.text import Text, counted, joined
-from labeltools.paper.area import DESIGNS
 from labeltools.common.command_line import (
     CommandTalk,
     Parser,
@@ -24,31 +21,23 @@ from labeltools.common.command_line import (
     standard_output,
     wrong_argument,
 )
-from labeltools.common.files import save, send
-from labeltools.drawing.forms import ESCPOS, FORMS
-from labeltools.printing.journal import Journal
+from labeltools.common.messages import BAD_ARGUMENTS, ToolError, sentence, write_message
+from labeltools.common.report import places_text, report
+from labeltools.common.text import Text, counted, joined
+from labeltools.designs.design import is_file
+from labeltools.drawing.forms import FORMS
 from labeltools.layout.layout import LaidOut
 from labeltools.lines.file import LineRecord
-from labeltools.common.messages import BAD_ARGUMENTS, ToolError, sentence, write_message
-from labeltools.printing.device import Device, is_device
-from labeltools.printing.network import NetworkPrinter, SCHEME, address_of
-from labeltools.designs.design import is_file
-from labeltools.printing.press import Press, PrintJob, Prints, once
-from labeltools.printing.job import (
-    DRAWING_DPI,
-    Prepared,
-    PrintOptions,
-    drawn_lines,
-    form_of,
-    planned,
-    prepared,
-)
-from labeltools.printing.cups import NOTHING_CHOSEN, Queue, SentJob, lp_words, print_by, queue_of
-from labeltools.printing.cups import typed
-from labeltools.common.report import places_text, report
-from labeltools.printing.selection import ROWS, selection_of
-from labeltools.printing.sending import OUTPUT, Outlet, Sender, StandardOutput, doubts
+from labeltools.paper.area import DESIGNS
 from labeltools.paper.stock import forget, list_stock
+from labeltools.printing.cups import Queue, lp_words, queue_of, typed
+from labeltools.printing.job import DRAWING_DPI, Job, PrintOptions, form_of, planned
+from labeltools.printing.journal import Journal
+from labeltools.printing.network import SCHEME, address_of
+from labeltools.printing.outlets import Files, OUTPUT, Outlet, StandardOutput
+from labeltools.printing.press import Prepared, check_count, labels_of
+from labeltools.printing.selection import ROWS, selection_of
+from labeltools.printing.sending import Sender, direct_outlet, doubts, labels_text, print_on
 
 TOOL = "label-print"
 USAGE = """label-print --stock NAME [OPTIONS] [LINES]
@@ -62,18 +51,11 @@ EXAMPLES = """examples:
   label-print --paper 60x40 --dpi 203 --to zpl --print tcp://HOST articles.lines
 
 man label-print has all details."""
-MOST_NAME = 100  # letters of the data in the name of a file
-MOST_LABELS = 1_000_000  # of one run, with copies
 # seconds after which progress is shown, and between two times that it is
 QUIET = 2.0
 BETWEEN = 0.2
 NUMBER = r"-?\d{1,4}(?:\.\d{1,4})?"
 MOST_NAMED = 10  # labels that a summary names
-# options that do something only for a grid, or for receipt printers
-GRID = ("columns", "rows", "page", "margin", "gap")
-RECEIPT = ("dots", "is_cut")
-OPTIONS = {"is_cut": "--no-cut"}
-NUMBERED = re.compile(r"%(0?\d?)d|%s")
 
 
 class PrintTalk(CommandTalk):
@@ -184,7 +166,7 @@ def command_line() -> Parser:
     lines = "the file of label-table, or lines (standard input)"
     add("lines", metavar="LINES", nargs="?", help=lines)
     summary = "report what was written and how to print it (always on a terminal)"
-    add("--summary", action="store_true", help=summary)
+    add("--summary", action="store_true", dest="is_summed", help=summary)
     return parser
 
 
@@ -206,11 +188,11 @@ def add_sheet_options(parser: Parser) -> None:
     add("--columns", metavar="N", type=count, help="cells side by side")
     add("--rows", metavar="N", type=count, help="cells below one another")
     page = "the size of the page (210x297)"
-    add("--page", metavar="WxH", type=size, default=PrintOptions.page, help=page)
+    add("--page", metavar="WxH", type=size, help=page)
     margin = "where the first cell begins (all are in the middle)"
     add("--margin", metavar="LEFTxTOP", type=reads("7x15"), help=margin)
     gap = "between two cells (0x0)"
-    add("--gap", metavar="XxY", type=reads("7x15"), default=PrintOptions.gap, help=gap)
+    add("--gap", metavar="XxY", type=reads("7x15"), help=gap)
     edge = "white at the edges of a page: one for all, or left,top,right,bottom (5; of a roll 0)"
     add("--edge", metavar="MM", type=edges, help=edge)
     shift = "move all, for a printer that feeds askew"
@@ -258,6 +240,9 @@ def add_choice_options(parser: Parser) -> None:
         dest="codes",
         help=code,
     )
+    after = "skip so many labels, which are on paper already (0)"
+    number = reads("9", 0, int)
+    add("--after", metavar="N", type=number, default=PrintOptions.after, help=after)
     unique = "skip a line whose code was there before, as on tickets and serial numbers"
     add("--unique", action="store_true", dest="is_unique", help=unique)
     escapes = "read escapes in data, as labels --escapes does"
@@ -284,229 +269,57 @@ def add_output_options(parser: Parser) -> None:
     stream = "print each label as soon as its line has come in, and answer on standard error"
     add("--stream", action="store_true", dest="is_stream", help=stream)
     dots = "escpos: dots across the paper (576)"
-    add("--dots", metavar="N", type=count, default=PrintOptions.dots, help=dots)
+    add("--dots", metavar="N", type=count, help=dots)
     cut = "escpos: do not cut after each label"
     add("--no-cut", action="store_false", dest="is_cut", help=cut)
 
 
-def paths_of(items: Iterable[LaidOut], name: str) -> list[Path]:
-    """Returns the file of each label, in a folder that is new or empty; raises `ToolError` where
-    two would be one.
+def options_of(words: Optional[Sequence[str]] = None) -> PrintOptions:
+    """Returns what words ask for, or else the arguments of this program; raises `ToolError` and
+    `OSError`.
     """
-    folder = Path(name).parent
-    if folder == Path() or "%" in str(folder):
-        raise ToolError(Text("--each"), Text("name a folder for the files, as in labels/%s.png"))
-    paths: dict[str, Path] = {}
-    for number, item in enumerate(items, 1):
-        path = Path(file_name(name, number, item.label.record.data))
-        if paths.setdefault(path.name.lower(), path) is not path:
-            raise ToolError(
-                Text("--each: two labels would be the file {}", path), Text("put %d into the name")
-            )
-    folder.mkdir(parents=True, exist_ok=True)
-    if any(folder.iterdir()):
-        what = Text("--each: the folder {} is not empty", folder)
-        raise ToolError(what, Text("old labels would be among the new ones"))
-    return list(paths.values())
-
-
-def file_name(name: str, number: int, data: bytes) -> str:
-    """Returns the name of the file of a label."""
-    text = data.decode("latin-1")
-    safe = re.sub(r"[^\w.-]|^[.-]", "_", text, flags=re.ASCII)[:MOST_NAME]
-
-    def part(match: re.Match[str]) -> str:
-        return safe if match[0] == "%s" else f"{number:{match[1]}d}"
-
-    return NUMBERED.sub(part, name)
-
-
-def write(
-    press: Press, prints: Prints, chosen: Sequence[str], records: Sequence[LineRecord]
-) -> None:
-    """Writes labels to standard output, which are some of a file where they are chosen. A signal
-    waits for the end of a document.
-    """
-    if press.job.form.is_roll:
-        Sender(StandardOutput(), chosen=chosen, records=records).send_all(press, prints)
-        return
-    output = standard_output().fileno()
-    for document in press.documents(prints):
-        with document as file, hold_signals():
-            send(file, output)
-
-
-def write_files(press: Press, items: Iterable[LaidOut], paths: Iterable[Path]) -> None:
-    """Writes each label into its file."""
-    at = press.job.plan.places[0]
-    for number, (item, path) in enumerate(zip(items, paths), 1):
-        with press.document([(item, at)]) as file, hold_signals():
-            save(file, path, number)
-        press.talk.go_on(number, 0)
-
-
-def print_on(
-    press: Press, prints: Prints, queue: Queue, chosen: Mapping[str, str] = NOTHING_CHOSEN
-) -> tuple[SentJob, Text]:
-    """Prints labels on a queue of CUPS, with options that are chosen for it; returns the job, and
-    what is said of it.
-    """
-    with press.spooled(prints) as whole:
-        job = print_by(press.job, queue, whole, chosen)
-    labels = counted("{} label", "{} labels", len(prints))
-    dpi = press.job.plan.dpi
-    text = Text("{} sent to {}, at {} dpi: job {}", labels, queue.name, dpi, job.number)
-    return job, joined("; ", filter(None, (text, queue.doubt(press.job))))
-
-
-def is_direct(printer: str) -> bool:
-    """Returns whether a printer takes labels one by one, and is no queue of CUPS."""
-    return printer.startswith(SCHEME) or is_device(printer)
-
-
-def direct_outlet(printer: str) -> Outlet:
-    """Returns the way to a printer in the network, or one that is a file."""
-    if printer.startswith(SCHEME):
-        return NetworkPrinter(printer)
-    return Device(printer)
-
-
-def send_to(press: Press, prints: Prints, name: str) -> Text:
-    """Sends labels one by one to a printer, and returns what it took; raises `ToolError`."""
-    sender = Sender(direct_outlet(name))
-    sender.send_until((), press, prints)
-    return Text("{} taken by {}", counted("{} label", "{} labels", sender.taken), name)
-
-
-def say(found: Prepared) -> None:
-    """Writes why labels are left out, and what else is to be said of the others."""
-    remarks = [remark.text for remark in found.remarks]
-    for message in [*report(found.left_out, found.tables), *remarks]:
-        write_message(TOOL, message)
-
-
-def check_count(job: PrintJob, prints: Prints, is_each: bool) -> None:
-    """Raises `ToolError` where there are no labels, or more than one run or one file takes."""
-    if not prints.items:
-        raise ToolError(Text("there is no label to print"))
-    count = len(prints)
-    if count > MOST_LABELS:
-        hint = Text("print a part of them by --only")
-        raise ToolError(
-            Text("{:,} labels with their copies: the maximum is {:,}", count, MOST_LABELS), hint
-        )
-    if job.form.is_one_page and not is_each and job.pages_of(count) > 1:
-        hint = Text("print fewer labels by --only, or a file of each by --each")
-        raise ToolError(Text("--to {} has one page", job.form.name), hint)
-
-
-def summary_of(job: PrintJob, prints: Prints, items: Sequence[LaidOut] = ()) -> Text:
-    """Returns what was written, with the names of labels, and the line that prints it."""
-    text = with_names(counted("{} label", "{} labels", len(prints)), items)
-    if not job.form.is_roll:
-        pages = counted("{} page", "{} pages", job.pages_of(len(prints)))
-        text = Text("{} on {}", text, pages)
-    if lp_words(job, "NAME"):
-        text = Text("{}; print the file by: {}", text, typed(job, "NAME"))
-    return text
-
-
-def options_of(arguments: argparse.Namespace) -> PrintOptions:
-    """Returns the options that the arguments are."""
-    names = PrintOptions.__dataclass_fields__
-    given = {name: value for name, value in vars(arguments).items() if name in names}
-    given["only"] = selection_of(arguments.rows_only, arguments.codes)
-    given["is_unique"] = arguments.is_unique or arguments.journal is not None
+    given = vars(command_line().parse_args(words))
+    given["only"] = selection_of(given.pop("rows_only"), given.pop("codes"))
     return PrintOptions(**given)
 
 
-def check_arguments(arguments: argparse.Namespace, job: PrintJob) -> None:
-    """Raises `ToolError` where arguments do not go together."""
-    form = job.form
-    if not arguments.cell:
-        require_none_of(arguments, GRID, Text("only for a grid of --cell"))
-    if form != ESCPOS:
-        require_none_of(arguments, RECEIPT, Text("only for --to escpos"))
-    queue: str = arguments.queue or ""
-    is_one_by_one = is_direct(queue)
-    wants = "--journal" if arguments.journal else "--stream" if arguments.is_stream else ""
-    if (is_one_by_one or wants) and not form.is_roll:
-        what = Text("{} needs labels one by one", wants or queue)
-        raise ToolError(what, Text("give --to zpl or escpos"), BAD_ARGUMENTS)
-    if wants and arguments.each:
-        what = Text("{} and --each do not go together", wants)
-        raise ToolError(what, status=BAD_ARGUMENTS)
-    if wants and queue and not is_one_by_one:
-        what = Text("{}: {} is a queue of CUPS", wants, queue)
-        hint = Text(
-            "CUPS prints a broken run again from its beginning; give --print tcp://HOST or "
-            "/dev/usb/lp0"
-        )
-        raise ToolError(what, hint, BAD_ARGUMENTS)
-    if arguments.again and not (arguments.journal and chosen_by(arguments)):
-        what = Text("--again needs --journal and rows or codes")
-        hint = Text("say what is printed again by --only or --only-code")
-        raise ToolError(what, hint, BAD_ARGUMENTS)
-    if arguments.is_stream and chosen_by(arguments):
-        what = Text("--stream prints each line")
-        raise ToolError(what, Text("leave out --only"), BAD_ARGUMENTS)
+def run() -> int:
+    """Returns 0 where each label is printed, 1 where one is left out."""
+    make_streams_wait()
+    options = options_of()
+    if options.is_stream:
+        keep_standard_error()
+    if options.list_stock is not None:
+        return listed(options.list_stock)
+    queue = queue_asked(options)
+    if queue and options.dpi is None:
+        is_sheet = bool(options.stock or options.cell) and not form_of(options).is_roll
+        options = replace(options, dpi=queue.dpi_for(is_sheet) or None)
+    job = planned(options)
+    forget()
+    check_way(options, job, queue)
+    if options.is_stream:
+        from labeltools.printing import stream
+
+        return stream.run(options, job, sender_of(options, direct_way(options, job), ()))
+    gc.disable()  # no label leaves a cycle behind, and to look for them takes time
+    return print_lines(options, job, queue, PrintTalk())
 
 
-def require_none_of(arguments: argparse.Namespace, names: Sequence[str], only: Text) -> None:
-    """Raises `ToolError` where one of some options is given, which would do nothing."""
-    given = [name for name in names if getattr(arguments, name) != getattr(PrintOptions, name)]
-    if given:
-        found = ", ".join(OPTIONS.get(name, f"--{name}") for name in given)
-        raise ToolError(Text("{}: {}", found, only), Text("leave out {}", found), BAD_ARGUMENTS)
-
-
-def lines_of(arguments: argparse.Namespace, found: Prepared) -> Sequence[LineRecord]:
-    """Returns the lines of a file that may be printed: with --unique the first one of each code."""
-    if not (arguments.is_unique or arguments.journal):
-        return found.records
-    return tuple({record.key: record for record in reversed(found.records)}.values())
-
-
-def sender_of(arguments: argparse.Namespace, records: Sequence[LineRecord] = ()) -> Sender:
-    """Returns what sends labels of a file of lines one by one."""
-    queue: str = arguments.queue or ""
-    outlet: Outlet = StandardOutput(is_synced=arguments.journal is not None)
-    if queue:
-        outlet = direct_outlet(queue)
-    journal = Journal(arguments.journal, outlet.name) if arguments.journal else None
-    if journal is not None:
-        check_journal(arguments, journal)
-    return Sender(outlet, journal, arguments.again, chosen_by(arguments), records)
-
-
-def chosen_by(arguments: argparse.Namespace) -> tuple[str, ...]:
-    """Returns the options that choose some labels of a file."""
-    given = {"--only": arguments.rows_only, "--only-code": arguments.codes}
-    return tuple(name for name, value in given.items() if value)
-
-
-def check_journal(arguments: argparse.Namespace, journal: Journal) -> None:
-    """Says what was wrong with a journal, and that a file has lost what it had before; raises
-    `ToolError` where labels cannot be printed by it.
-    """
-    if journal.mended:
-        write_message(TOOL, Text("{}: {}", arguments.journal, journal.mended))
-    if arguments.again and arguments.again not in journal.printers():
-        names = ", ".join(sorted(journal.printers())) or Text("nothing")
-        what = Text("{} has no label of {}", arguments.journal, arguments.again)
-        raise ToolError(what, Text("--again: the journal has these printers: {}", names))
-    if not arguments.queue:
-        output = standard_output().fileno()
-        state = os.fstat(output)
-        if os.path.samestat(state, os.fstat(journal.file)):
-            what = Text("{} is the journal and standard output", arguments.journal)
-            raise ToolError(what, Text("name another file for one of them"))
-        is_added = fcntl.fcntl(output, fcntl.F_GETFL) & os.O_APPEND
-        is_new = stat.S_ISREG(state.st_mode) and not state.st_size and not is_added
-        if is_new and OUTPUT in journal.printers() and not arguments.is_stream:
-            what = Text("{} has labels of an earlier file", arguments.journal)
-            hint = Text("with > that file has lost them, with >> it keeps them")
-            write_message(TOOL, sentence(what, hint))
+def print_lines(options: PrintOptions, job: Job, queue: Optional[Queue], talk: PrintTalk) -> int:
+    """Prints the lines of a file; returns 1 where a label is left out or doubtful."""
+    found = labels_of(options, job, *read_input(options.lines), talk)
+    for message in [*report(found.left_out, found.tables), *(one.text for one in found.remarks)]:
+        write_message(TOOL, message)
+    check_count(job, found.prints)
+    if job.after:
+        place = places_text([found.prints.items[0].label.record.place], len(found.tables) > 1)
+        write_message(TOOL, Text("--after {}: the first label is {}", job.after, place))
+    if queue is None:
+        return give_out(options, found, talk)
+    sent, text = print_on(found, queue, talk)
+    write_message(TOOL, joined("; ", filter(None, (text, sent.state().trouble))))
+    return 1 if found.left_out else 0
 
 
 def listed(wanted: str) -> int:
@@ -521,41 +334,6 @@ def listed(wanted: str) -> int:
     return 0
 
 
-def run() -> int:
-    """Returns 0 where each label is printed, 1 where one is left out."""
-    arguments = command_line().parse_args()
-    make_streams_wait()
-    if arguments.is_stream:
-        keep_standard_error()
-    options = options_of(arguments)
-    if arguments.list_stock is not None:
-        return listed(arguments.list_stock)
-    queue = queue_asked(arguments)
-    if queue and options.dpi is None:
-        is_sheet = bool(options.stock or options.cell) and not form_of(options).is_roll
-        options = replace(options, dpi=queue.dpi_for(is_sheet) or None)
-    job = planned(options)
-    forget()
-    check_arguments(arguments, job)
-    check_output(arguments, job, queue)
-    if arguments.is_stream:
-        from labeltools.printing import stream
-
-        return stream.run(options, job, arguments.lines, sender_of(arguments))
-    gc.disable()  # no label leaves a cycle behind, and to look for them takes time
-    talk = PrintTalk()
-    found = found_labels(options, job, arguments.lines, talk)
-    say(found)
-    return give_out(arguments, found, queue, talk)
-
-
-def queue_asked(arguments: argparse.Namespace) -> Optional[Queue]:
-    """Returns what the queue of CUPS says on which labels are printed, if they are."""
-    if arguments.queue is None or arguments.is_stream or is_single(arguments):
-        return None
-    return queue_of(arguments.queue)
-
-
 def make_streams_wait() -> None:
     """Makes standard input, output and error streams that wait: who gave them may have made them
     such as do not.
@@ -565,46 +343,121 @@ def make_streams_wait() -> None:
             os.set_blocking(stream.fileno(), True)
 
 
-def is_single(arguments: argparse.Namespace) -> bool:
-    """Returns whether labels are sent one by one."""
-    return bool(arguments.journal or is_direct(arguments.queue or ""))
+def queue_asked(options: PrintOptions) -> Optional[Queue]:
+    """Returns what the queue of CUPS says on which labels are printed, if they are."""
+    if options.queue is None or options.is_stream or options.is_sent_singly:
+        return None
+    return queue_of(options.queue)
 
 
-def check_output(arguments: argparse.Namespace, job: PrintJob, queue: Optional[Queue]) -> None:
-    """Raises `ToolError` where labels cannot go out, before the input is read."""
+def check_way(options: PrintOptions, job: Job, queue: Optional[Queue]) -> None:
+    """Raises `ToolError` where a queue does not print a job, or standard output is closed or would
+    show a drawing.
+    """
     if queue is not None:
-        if lp_words(job, queue.name) is None:
-            what = Text("--print: printers do not take {}", job.form.name)
-            raise ToolError(what, Text("give --to pdf, zpl or escpos"), BAD_ARGUMENTS)
         queue.options(job)
-    elif arguments.queue is None and arguments.each is None:
+    elif options.queue is None and options.each is None:
         if standard_output().isatty() and not job.form.is_roll:
             hint = Text("add > labels.{}", job.form.name)
             raise ToolError(Text("standard output is a terminal"), hint, BAD_ARGUMENTS)
 
 
-def give_out(
-    arguments: argparse.Namespace, found: Prepared, queue: Optional[Queue], talk: PrintTalk
-) -> int:
-    """Writes labels, prints them or sends them; returns 1 where one is left out or doubtful."""
+def direct_way(options: PrintOptions, job: Job) -> Outlet:
+    """Returns the way to a printer, or else standard output."""
+    if options.queue:
+        return direct_outlet(options.queue)
+    return StandardOutput(job.form.is_roll, is_synced=options.journal is not None)
+
+
+def sender_of(options: PrintOptions, outlet: Outlet, records: Sequence[LineRecord]) -> Sender:
+    """Returns what sends the labels of some lines, after a look at the journal."""
+    journal = Journal(options.journal, outlet.name) if options.journal else None
+    if journal is not None:
+        check_journal(options, journal)
+    return Sender(outlet, journal, options.again, records)
+
+
+def check_journal(options: PrintOptions, journal: Journal) -> None:
+    """Says what was wrong with a journal, and that a file has lost what it had before; raises
+    `ToolError` where labels cannot be printed by it.
+    """
+    if journal.mended:
+        write_message(TOOL, Text("{}: {}", journal.path, journal.mended))
+    if options.again and options.again not in journal.printers():
+        names = ", ".join(sorted(journal.printers())) or Text("nothing")
+        what = Text("{} has no label of {}", journal.path, options.again)
+        raise ToolError(what, Text("--again: the journal has these printers: {}", names))
+    if not options.queue:
+        output = standard_output().fileno()
+        state = os.fstat(output)
+        if os.path.samestat(state, os.fstat(journal.file)):
+            what = Text("{} is the journal and standard output", journal.path)
+            raise ToolError(what, Text("name another file for one of them"))
+        is_added = fcntl.fcntl(output, fcntl.F_GETFL) & os.O_APPEND
+        is_new = stat.S_ISREG(state.st_mode) and not state.st_size and not is_added
+        if is_new and OUTPUT in journal.printers() and not options.is_stream:
+            what = Text("{} has labels of an earlier file", journal.path)
+            hint = Text("with > that file has lost them, with >> it keeps them")
+            write_message(TOOL, sentence(what, hint))
+
+
+def give_out(options: PrintOptions, found: Prepared, talk: PrintTalk) -> int:
+    """Writes labels or sends them; returns 1 where one is left out or doubtful."""
+    outlet = direct_way(options, found.job)
+    if options.each is not None:
+        outlet = Files(options.each, [item.label.record.data for item in found.prints.items])
+    sender = sender_of(options, outlet, found.records)
+    try:
+        send(sender, found, talk)
+    finally:
+        doubtful = sender.doubtful()
+        for message in doubts(doubtful, found.records, len(found.tables) > 1):
+            write_message(TOOL, message)
+    known = len(sender.known - doubtful.keys())
+    is_asked = options.is_summed or sys.stderr.isatty()
+    if options.each is None and (known or options.queue or is_asked):
+        write_message(TOOL, summary_of(options, found, sender, known))
+    return 1 if found.left_out or doubtful else 0
+
+
+def send(sender: Sender, found: Prepared, talk: PrintTalk) -> None:
+    """Sends labels; raises `ToolError`. If they go out one by one a signal ends it after the label
+    that is on its way: that is such an error, which is said here, since the signal then ends the
+    tool.
+    """
+    if not sender.outlet.is_direct:
+        sender.send_all(found, talk)
+        return
+    with hold_signals() as came:
+        try:
+            sender.send_all(found, talk, came)
+        except ToolError as error:
+            if came:
+                talk.say(error.what, error.hint)
+            raise
+        if came:
+            talk.say(Text("{}: {}, and these are all", sender.outlet.name, sender.so_far()))
+
+
+def summary_of(options: PrintOptions, found: Prepared, sender: Sender, known: int) -> Text:
+    """Returns what was written or sent, with the names of labels that were asked for, how many the
+    journal had, and else the line that prints a file.
+    """
     job = found.job
-    press = found.press(talk)
-    items = found.labels
-    prints = found.prints if arguments.each is None else once(items)
-    check_count(job, prints, arguments.each is not None)
-    if arguments.each is not None:
-        write_files(press, items, paths_of(items, arguments.each))
-    elif is_single(arguments):
-        return send_each(arguments, press, found)
-    elif queue is not None:
-        sent, text = print_on(press, prints, queue)
-        write_message(TOOL, joined("; ", filter(None, (text, sent.state().trouble))))
-    else:
-        write(press, prints, chosen_by(arguments), lines_of(arguments, found))
-        if arguments.summary or sys.stderr.isatty():
-            only = arguments.rows_only or arguments.codes
-            write_message(TOOL, summary_of(job, prints, items if only else ()))
-    return 1 if found.left_out else 0
+    text = labels_text(sender.taken)
+    if options.queue:
+        text = Text("{} taken by {}", text, options.queue)
+    if options.only:
+        text = with_names(text, sender.sent if options.is_sent_singly else found.prints.items)
+    if not job.form.is_roll:
+        pages = counted("{} page", "{} pages", job.pages_of(sender.taken))
+        text = Text("{} on {}", text, pages)
+    if known:
+        there = counted("{} label in {} already", "{} labels in {} already", known, options.journal)
+        text = joined("; ", (text, there))
+    if not options.is_sent_singly and lp_words(job, "NAME"):
+        text = Text("{}; print the file by: {}", text, typed(job, "NAME"))
+    return text
 
 
 def with_names(text: Text, items: Sequence[LaidOut]) -> Text:
@@ -619,39 +472,3 @@ def with_names(text: Text, items: Sequence[LaidOut]) -> Text:
     codes = (one.data.decode("utf-8", "backslashreplace") for one in records)
     names = [joined(", ", both) for both in zip(places, codes)]
     return Text("{}: {}", text, joined("; ", names))
-
-
-def send_each(arguments: argparse.Namespace, press: Press, found: Prepared) -> int:
-    """Sends labels one by one; returns 1 where one is left out or doubtful."""
-    sender = sender_of(arguments, lines_of(arguments, found))
-    prints = found.prints
-    chosen = chosen_by(arguments)
-    try:
-        sender.send_all(press, prints)
-    finally:
-        doubtful = sender.doubtful()
-        for message in doubts(doubtful, found.records, len(found.tables) > 1, chosen):
-            write_message(TOOL, message)
-    text = counted("{} label", "{} labels", sender.taken)
-    is_printer = sender.outlet.name != OUTPUT
-    if is_printer:
-        text = Text("{} taken by {}", text, sender.outlet.name)
-    if chosen:
-        text = with_names(text, sender.sent)
-    known = len(sender.known - doubtful.keys())
-    if known:
-        there = counted(
-            "{} label in {} already", "{} labels in {} already", known, arguments.journal
-        )
-        text = joined("; ", (text, there))
-    if known or is_printer or arguments.summary or sys.stderr.isatty():
-        write_message(TOOL, text)
-    return 1 if found.left_out or doubtful else 0
-
-
-def found_labels(
-    options: PrintOptions, job: PrintJob, path: Optional[str], talk: PrintTalk
-) -> Prepared:
-    """Returns the labels of a file, or of standard input; what was read is freed."""
-    lines = drawn_lines(options, *read_input(path), talk)
-    return prepared(options, job, lines, talk)

@@ -7,6 +7,7 @@ import os
 import signal
 import sys
 from contextlib import contextmanager
+from importlib import import_module
 from io import RawIOBase, TextIOWrapper
 from pathlib import Path
 from typing import Any, BinaryIO, Callable, Iterator, Mapping, NoReturn, Optional
@@ -23,6 +24,7 @@ from labeltools.common.messages import (
 )
 
 STANDARD_ERROR = 2
+DRAWING = ("python3-gi-cairo", "gir1.2-pango-1.0")  # the packages that draw labels
 AsWritten = argparse.RawDescriptionHelpFormatter  # what stands around the options
 ENDING = (signal.SIGHUP, signal.SIGINT, signal.SIGTERM)
 HELD: list[list[int]] = []  # the signals that came while they are held back, where they are
@@ -122,6 +124,23 @@ def standard_output() -> BinaryIO:
     if sys.stdout is None:
         raise ToolError(Text("standard output is closed"))
     return sys.stdout.buffer
+
+
+def start(tool: str, module: str, *packages: str) -> NoReturn:
+    """Runs the tool of a module to its end; if this computer lacks what the module needs, a message
+    names packages: those that are given, and those that draw labels.
+    """
+
+    def run() -> Optional[int]:
+        try:
+            command = import_module(module)
+        except (ImportError, ValueError) as missing:
+            names = " ".join((*packages, *DRAWING))
+            raise ToolError(Text("{}", missing), Text("apt-get install {}", names)) from missing
+        status: Optional[int] = command.run()
+        return status
+
+    main_of(tool, run)
 
 
 def main_of(tool: str, function: Callable[[], Optional[int]]) -> NoReturn:

@@ -49,20 +49,17 @@ def save(file: IO[bytes], path: Path, number: int = 1) -> None:
         raise
 
 
-def send(file: IO[bytes], output: int) -> None:
-    """Writes a whole file to an open one, which gets nothing where it does not take all; raises
+def send(data: bytes, output: int) -> None:
+    """Writes bytes to an open file, which gets nothing where it does not take all; raises
     `Unwritten` where that is so, and `OSError`.
     """
     size = os.fstat(output).st_size
-    data = b""
-    done = 0
+    rest = memoryview(data)
     try:
-        while data := data or file.read(BLOCK):
-            written = os.write(output, data)
-            data = data[written:]
-            done += written
+        while rest:
+            rest = rest[os.write(output, rest) :]
     except OSError as error:
-        if take_back(output, size, done):
+        if take_back(output, size, len(data) - len(rest)):
             raise Unwritten(error.errno, error.strerror) from error
         raise
 

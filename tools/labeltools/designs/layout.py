@@ -11,7 +11,7 @@ from operator import itemgetter
 from typing import Iterable, Iterator, Mapping, NamedTuple, Sequence
 
 from labeltools.paper.area import Area, LARGEST_MODULE, TINY
-from labeltools.lines.engine import Modules, run_labels
+from labeltools.lines.engine import Modules, drawn
 from labeltools.layout.frames import Box, DIGITS_ROOM, Frame, LOWEST
 from labeltools.layout.layout import ASKED, LaidOut, LaidOutFile, Layout, PrintLabel, short
 from labeltools.layout.letters import Letters
@@ -194,12 +194,10 @@ class OwnLayouts:
         if not wanted:
             return {}
         lines = [line_of(place, text) for place, text in wanted]
-        drawn = run_labels(b"".join(line + b"\n" for line in lines), True, talk)
         found: Made = {}
-        for number, (key, line) in enumerate(zip(wanted, lines), 1):
-            modules = drawn.pictures.get(number)
+        for key, line, one in zip(wanted, lines, drawn(lines, True, talk)):
             _, data = symbology_and_data(line, True)
-            found[key] = (modules, data) if modules else drawn.refused[number]
+            found[key] = one if isinstance(one, Text) else (one, data)
         return found
 
     def layout(

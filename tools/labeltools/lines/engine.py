@@ -10,7 +10,6 @@ from pathlib import Path
 from typing import Any, Callable, Iterable, Iterator, Optional
 
 from labeltools.common.text import Text
-from labeltools.lines.file import lines_of
 from labeltools.lines.reasons import reason_of
 from labeltools.common.messages import Talk, ToolError
 
@@ -43,16 +42,6 @@ class Modules:
         """Returns the rows."""
         size = self.row_size
         return [self.packed[start : start + size] for start in range(0, len(self.packed), size)]
-
-
-@dataclass(frozen=True)
-class Drawn:
-    """What liblabels made of a file: pictures, and reasons why others are refused, by the numbers
-    of their lines from 1.
-    """
-
-    pictures: dict[int, Modules]
-    refused: dict[int, Text]
 
 
 class Refused(Exception):
@@ -134,27 +123,17 @@ class Engine:
         return Modules(left + symbol.width + right, high, symbol.packed(quiet_zones=True))
 
 
-def run_labels(data: bytes, is_escaped: bool, talk: Talk, numbers: Iterable[int] = ()) -> Drawn:
-    """Draws a file, a module being a pixel; `is_escaped` is --escapes of labels(1), `numbers` are
-    those of the lines, where the first one is not 1.
+def drawn(lines: Iterable[bytes], is_escaped: bool, talk: Talk) -> Iterator[Modules | Text]:
+    """Yields the modules of each line, all of which have data, or why it is refused; `is_escaped`
+    is --escapes of labels(1).
 
     Raises `ToolError` where the library is not there, and what `talk.go_on` raises.
     """
     engine = Engine(is_escaped)
-    pictures: dict[int, Modules] = {}
-    refused: dict[int, Text] = {}
-    for done, (number, line) in enumerate(lines_with_data(data, numbers)):
+    for done, line in enumerate(lines):
         if done % ASKED == 0:
             talk.go_on(0, 0)
         try:
-            pictures[number] = engine.draw(line)
+            yield engine.draw(line)
         except Refused as error:
-            refused[number] = reason_of(str(error))
-    return Drawn(pictures, refused)
-
-
-def lines_with_data(data: bytes, numbers: Iterable[int]) -> Iterator[tuple[int, bytes]]:
-    """Yields the lines that labels(1) draws or refuses, with their numbers: no remarks."""
-    for number, line in lines_of(data, numbers):
-        if line and not line.startswith(b"#"):
-            yield number, line
+            yield reason_of(str(error))

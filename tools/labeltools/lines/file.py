@@ -15,14 +15,15 @@ import itertools
 import json
 import re
 import sys
-from dataclasses import dataclass, field
+from dataclasses import dataclass, field, replace
 from io import BytesIO
 from operator import methodcaller
-from typing import Any, Iterable, Iterator, NamedTuple, Sequence
+from typing import Any, Iterable, Iterator, NamedTuple, Optional, Sequence
 
 from labeltools import VERSION
 from labeltools.common.text import NOTHING, Text
-from labeltools.common.messages import Place, ToolError, quoted
+from labeltools.common.messages import Place, Talk, ToolError, quoted
+from labeltools.lines.engine import Modules, drawn
 from labeltools.lines.symbologies import SYMBOLOGIES, check_digit
 
 MOST_COPIES = 9999
@@ -86,6 +87,7 @@ class LineRecord(NamedTuple):
 
     `number` is that of the line in its file, from 1; `data` has the check digit, and no escapes any
     more; `table` is the name of its table, where that is known; `line` is the line as it stands.
+    Once it is drawn it has the modules of its code, or why it is refused.
     """
 
     number: int
@@ -94,6 +96,8 @@ class LineRecord(NamedTuple):
     table: str
     label: Label
     line: bytes
+    modules: Optional[Modules] = None
+    refused: Text = NOTHING
 
     @property
     def key(self) -> tuple[str, bytes]:
@@ -196,6 +200,21 @@ def read_lines(
         elif line and not line.startswith(b"#"):
             reader.take_line(number, line)
     return reader.whole(is_own and not data.endswith(b"\n"))
+
+
+def drawn_lines(
+    data: bytes, name: str, has_escapes: bool, talk: Talk, numbers: Iterable[int] = ()
+) -> LinesFile:
+    """Returns the lines of a file, each of them drawn; raises as `read_lines`, and what
+    `talk.go_on` raises.
+    """
+    lines = read_lines(data, name, has_escapes, numbers)
+    found = drawn((record.line for record in lines.records), has_escapes, talk)
+    records = (
+        record._replace(refused=one) if isinstance(one, Text) else record._replace(modules=one)
+        for record, one in zip(lines.records, found)
+    )
+    return replace(lines, records=tuple(records))
 
 
 @dataclass

@@ -13,8 +13,7 @@ from typing import IO, Any
 from labeltools.common.messages import BAD_ARGUMENTS, ToolError
 from labeltools.common.text import NOTHING, Text
 from labeltools.paper.stock import Size
-from labeltools.printing.job import DRAWING_DPI
-from labeltools.printing.press import PrintJob
+from labeltools.printing.job import DRAWING_DPI, Job
 
 # sizes of paper that CUPS has names of, in millimetres
 NAMED = {
@@ -74,7 +73,7 @@ class Queue:
             return DRAWING_DPI
         return self.dpi or max(known, default=0)
 
-    def options(self, job: PrintJob) -> dict[str, str]:
+    def options(self, job: Job) -> dict[str, str]:
         """Returns the options of CUPS by which a job is printed dot for dot; raises `ToolError` if
         the queue does not have its resolution. Each dot may be several of the printer's.
         """
@@ -98,7 +97,7 @@ class Queue:
         what = Text("the queue {} prints at {} dpi, and the labels have {}", self.name, found, dpi)
         return ToolError(what, Text("leave out --dpi, or give one of these"), BAD_ARGUMENTS)
 
-    def doubt(self, job: PrintJob) -> Text:
+    def doubt(self, job: Job) -> Text:
         """Returns what is reported of a job if it is not known at which resolution it is printed,
         or nothing.
         """
@@ -208,7 +207,7 @@ def resolution_of(driver: Any) -> str:
     return str(default.value)
 
 
-def lp_words(job: PrintJob, queue: str) -> list[str] | None:
+def lp_words(job: Job, queue: str) -> list[str] | None:
     """Returns the words of lp(1) that print what a job writes in its own size, on a queue of which
     nothing is known; None for a form that printers do not take.
     """
@@ -236,7 +235,7 @@ def media_of(page: Size) -> str:
     return f"Custom.{page[0]:g}x{page[1]:g}mm"
 
 
-def typed(job: PrintJob, queue: str) -> str:
+def typed(job: Job, queue: str) -> str:
     """Returns the line that prints a file of a job."""
     return " ".join([*(lp_words(job, queue) or []), f"FILE.{job.form.name}"])
 
@@ -247,7 +246,7 @@ def queues() -> list[str]:
 
 
 def print_by(
-    job: PrintJob, queue: Queue, file: IO[bytes], chosen: Mapping[str, str] = NOTHING_CHOSEN
+    job: Job, queue: Queue, file: IO[bytes], chosen: Mapping[str, str] = NOTHING_CHOSEN
 ) -> SentJob:
     """Prints a file that a job has written, with options that are chosen for it, and returns the
     job of CUPS; raises `ToolError` if CUPS does not take it.

@@ -16,6 +16,7 @@ from contextlib import suppress
 
 from labeltools.common.messages import BAD_ARGUMENTS, ToolError
 from labeltools.common.text import Text
+from labeltools.printing.outlets import Broken, Unreachable
 
 SCHEME = "tcp://"
 NAME = re.compile(r"tcp://(\[[0-9A-Fa-f:.%]+\]|[^\s/:\[\]]+)(?::([0-9]{1,5}))?/?", re.ASCII)
@@ -30,14 +31,6 @@ BREAK = 0  # no event but that a connection breaks off
 SHORT = 0.0005  # seconds between two looks, at first
 LONG = 0.02  # and later
 HEARD = 65_536  # bytes that are read at a time of what a printer says
-
-
-class Unreachable(ToolError):
-    """A printer that is not there: nothing was sent."""
-
-
-class Broken(ToolError):
-    """A printer that took a part of a label, or all of it without saying so."""
 
 
 def address_of(name: str) -> tuple[str, int]:
@@ -57,6 +50,8 @@ def address_of(name: str) -> tuple[str, int]:
 
 class NetworkPrinter:
     """A printer named as tcp://HOST[:PORT]; `stuck` are seconds in which it may take nothing."""
+
+    is_direct = True
 
     def __init__(self, name: str, stuck: float = STUCK) -> None:
         self.address = address_of(name)

@@ -1,49 +1,36 @@
-"""Draws pages of labels and writes them in one of the forms."""
+"""Makes labels of lines: lays them out, draws pages, and writes these in the form of a job."""
 
-import tempfile
 from bisect import bisect_right
-from contextlib import contextmanager
-from dataclasses import dataclass
+from dataclasses import dataclass, replace
 from functools import cached_property
-from io import BytesIO
 from itertools import accumulate
-from pathlib import Path
-from shutil import copyfileobj
-from typing import IO, Any, Iterator, Optional, Sequence
+from typing import Any, Iterable, Iterator, Mapping, Optional, Sequence
 
-from labeltools.paper.area import Plan
 from labeltools.checking.compare import Comparison, Document
-from labeltools.common.files import BLOCK, save, temporary
-from labeltools.drawing.forms import ESCPOS, Form, PBM, PDF, PNG, SVG, ZPL
+from labeltools.common.files import temporary
+from labeltools.common.messages import Talk, ToolError
+from labeltools.common.report import LeftOut, places_text
+from labeltools.common.text import Text
+from labeltools.designs.layout import OwnLayouts
 from labeltools.drawing.dots import Picture, drawn_page, pbm, png
 from labeltools.drawing.escpos import escpos
-from labeltools.drawing.pdf import Paper, drawing
-from labeltools.drawing.zpl import zpl
-from labeltools.layout.layout import LaidOut, LaidOutFile
-from labeltools.layout.letters import DIGITS_FONT, FONT, Letters
-from labeltools.common.messages import Talk
-from labeltools.designs.design import OwnDesign
+from labeltools.drawing.forms import ESCPOS, PBM, PDF, PNG, SVG, ZPL
 from labeltools.drawing.own_pen import OwnPen
+from labeltools.drawing.pdf import Paper, drawing
 from labeltools.drawing.pen import Medium, Page, Pen
+from labeltools.drawing.zpl import zpl
+from labeltools.layout.layout import LaidOut, LaidOutFile, PrintLabel, lay_out, print_label
+from labeltools.layout.letters import DIGITS_FONT, Letters
+from labeltools.lines.file import LineRecord, LinesFile, drawn_lines
+from labeltools.printing.job import Job, PrintOptions
+from labeltools.printing.remarks import Remark, remarks_on
+from labeltools.printing.selection import Selection
 
-
-@dataclass(frozen=True)
-class PrintJob:
-    """How labels go out: on which sheet, in which form and font, from which cell of the first page
-    on; whether ESC/POS cuts after each label; whether data have escapes; a design of a file.
-    """
-
-    plan: Plan
-    form: Form = PDF
-    font: str = FONT
-    first: int = 1
-    is_cut: bool = True
-    is_escaped: bool = False
-    design: Optional[OwnDesign] = None
-
-    def pages_of(self, labels: int) -> int:
-        """Returns how many pages so many labels take."""
-        return -(-(labels + self.first - 1) // len(self.plan.places))
+MOST_LABELS = 1_000_000  # of one run, with copies
+WORKBOOK = b"PK\x03\x04"  # what .xlsx and .ods begin with
+UNKNOWN = "unknown symbology"  # what labels(1) says
+TABLE_FIRST = Text("a table goes through label-table first")
+CUT_OFF = Text("has no line end, so it may be cut off: end it with a line feed")
 
 
 @dataclass(frozen=True)
@@ -70,6 +57,12 @@ class Prints:
         if len(self) == len(self.items):
             return self.items[first:last]
         return [self[number] for number in range(first, min(last, len(self)))]
+
+    def behind(self, count: int) -> "Prints":
+        """Returns all but the first `count` labels, with their copies."""
+        start = bisect_right(self.ends, count)
+        left = [end - count for end in self.ends[start : start + 1]]
+        return Prints(self.items[start:], [*left, *self.copies[start + 1 :]])
 
     def runs(self) -> Iterator[tuple[LaidOut, int]]:
         """Yields labels that differ from the one before, with how many follow one another that are
@@ -106,20 +99,217 @@ def is_same(one: LaidOut, other: LaidOut) -> bool:
     return is_drawn and one.label.texts == other.label.texts and one.layout == other.layout
 
 
+@dataclass(frozen=True)
+class Prepared:
+    """How labels go out; those that can be printed, with their layouts; those that cannot;
+    what is reported of others; the tables that they are from; what draws them; all lines of the
+    input.
+    """
+
+    job: Job
+    laid_out: LaidOutFile
+    left_out: tuple[LeftOut, ...]
+    remarks: tuple[Remark, ...]
+    tables: frozenset[str]
+    pens: Sequence[Pen]
+    records: tuple[LineRecord, ...]
+
+    @property
+    def labels(self) -> Sequence[LaidOut]:
+        """The labels that can be printed, once each."""
+        return self.laid_out.labels
+
+    @property
+    def prints(self) -> Prints:
+        """The labels with their copies, or a file of each, but those that are on paper already."""
+        every = once(self.labels) if self.job.is_each else with_copies(self.labels)
+        return every.behind(self.job.after)
+
+    def press(self, talk: Talk) -> "Press":
+        """Returns what writes them."""
+        return Press(self.job, self.laid_out, self.pens, talk)
+
+
+def labels_of(options: PrintOptions, job: Job, name: str, data: bytes, talk: Talk) -> Prepared:
+    """Returns the labels of a file of lines, laid out alike whether all or some of them are
+    printed.
+
+    Raises `ToolError` if the file is not whole, a font is not there, or the library is not, and
+    what `talk.go_on` raises.
+    """
+    if data.startswith(WORKBOOK):
+        raise ToolError(Text("{} is a workbook", name), TABLE_FIRST)
+    lines = drawn_lines(data, name, options.is_escaped, talk)
+    *others, last = lines.records or (None,)
+    if last is not None and not data.endswith(b"\n"):
+        last = last._replace(modules=None, refused=CUT_OFF)
+        lines = replace(lines, records=(*others, last))
+    if lines.records and all(record.refused == UNKNOWN for record in lines.records):
+        raise ToolError(
+            Text("{}: no line begins with a symbology, such as ean13", name), TABLE_FIRST
+        )
+    return prepared(options, job, lines, talk)
+
+
+def prepared(
+    options: PrintOptions,
+    job: Job,
+    lines: LinesFile,
+    talk: Talk,
+    pens: Sequence[Pen] = (),
+    is_remarked: bool = True,
+) -> Prepared:
+    """Returns the labels of lines that are drawn, laid out; `pens` may be those of an earlier call.
+    Nobody hears of texts that are shortened, and the like, unless `is_remarked`.
+    """
+    pens = pens or pens_of(job, Letters(job.font))
+    letters = pens[0].letters
+    labels = [
+        print_label(record, record.modules, options.note)
+        for record in lines.records
+        if record.modules is not None and record.label.copies
+    ]
+    reasons = {record.number: record.refused for record in lines.records if record.refused}
+    own = own_layouts(options, job, lines.empty, letters)
+    reasons.update(without_letters(labels, own, letters))
+    if options.is_each_once:
+        reasons.update(doubles(lines, reasons))
+    if reasons:
+        labels = [label for label in labels if label.record.number not in reasons]
+    area = job.plan.area
+    laid_out = own.lay_out(labels, talk) if own else lay_out(labels, area, letters, talk)
+    reasons.update(laid_out.left_out)
+    only = options.only
+    wanted = [item for item in laid_out.labels if is_wanted(item.label.record, only)]
+    left_out = (*without_line(lines, only), *refused_labels(lines, reasons, only))
+    tables = frozenset(record.table for record in lines.records if record.table)
+    remarks: Iterable[Remark] = ()
+    if is_remarked:
+        remarks = remarks_on(wanted, laid_out, only, len(tables) > 1, pens[0])
+    found = replace(laid_out, labels=tuple(wanted))
+    return Prepared(job, found, left_out, tuple(remarks), tables, pens, lines.records)
+
+
+def own_layouts(
+    options: PrintOptions, job: Job, empty: frozenset[str], letters: Letters
+) -> Optional[OwnLayouts]:
+    """Returns what lays labels out by the design of a file, if that is wished; the columns of texts
+    are given that are empty.
+    """
+    if job.design is None:
+        return None
+    area = job.plan.area.turned() if job.design.is_turned else job.plan.area
+    return OwnLayouts(job.design, area, letters, options.note, empty)
+
+
+def without_letters(
+    labels: Sequence[PrintLabel], own: Optional[OwnLayouts], letters: Letters
+) -> Mapping[int, Text]:
+    """Returns why labels are left out that have letters which no font has; in a design of a file
+    only those of its places.
+    """
+    found = letters.missing({label.record.number: label.texts for label in labels})
+    return letters.missing(own.texts_in_places(labels)) if own and found else found
+
+
+def doubles(lines: LinesFile, refused: Mapping[int, Text]) -> Mapping[int, Text]:
+    """Returns why lines are left out that have the code of an earlier one, or copies."""
+    first: dict[tuple[str, bytes], LineRecord] = {}
+    found: dict[int, Text] = {}
+    for record in lines.records:
+        if record.number in refused or not record.label.copies:
+            continue
+        if record.label.copies > 1:
+            found[record.number] = Text("has copies, and each code is printed once")
+            continue
+        earlier = first.setdefault(record.key, record)
+        if earlier is not record:
+            named = places_text([earlier.place], earlier.table != record.table)
+            found[record.number] = Text("has the code of {}", named)
+    return found
+
+
+def without_line(lines: LinesFile, only: Optional[Selection]) -> Iterable[LeftOut]:
+    """Yields what is not printed without a line of its own: what is asked for and not there, and
+    the rows that label-table left out.
+    """
+    named = list(lines.left_out)
+    count = lines.left_out_count
+    if only is not None:
+        yield from only.missing(lines.records, named)
+        named = [place for place in named if only.has_row(place)]
+        count = len(named)
+    reason = Text("left out by label-table")
+    if count > len(named):
+        reason = Text("{}, and {} rows more", reason, count - len(named))
+    for place in named:
+        yield LeftOut(place, "", reason)
+    if count and not named:
+        yield LeftOut(None, "", Text("{}: {}", Text("some rows"), reason))
+
+
+def is_wanted(record: LineRecord, only: Optional[Selection]) -> bool:
+    """Returns whether the label of a line is printed."""
+    return only is None or only.has(record)
+
+
+def refused_labels(
+    lines: LinesFile, reasons: Mapping[int, Text], only: Optional[Selection]
+) -> Iterable[LeftOut]:
+    """Yields the lines that are not printed, with their reasons."""
+    for record in lines.records:
+        reason = reasons.get(record.number)
+        if reason is not None and is_wanted(record, only):
+            data = record.data.decode("utf-8", "backslashreplace")
+            yield LeftOut(record.place, data, reason)
+
+
+def check_count(job: Job, prints: Prints) -> None:
+    """Raises `ToolError` if there are no labels, or more than one run or one file takes."""
+    if not prints.items:
+        raise ToolError(Text("there is no label to print"))
+    count = len(prints)
+    if count > MOST_LABELS:
+        hint = Text("print a part of them by --only")
+        raise ToolError(
+            Text("{:,} labels with their copies: the maximum is {:,}", count, MOST_LABELS), hint
+        )
+    if job.form.is_one_page and not job.is_each and job.pages_of(count) > 1:
+        hint = Text("print fewer labels by --only, or a file of each by --each")
+        raise ToolError(Text("--to {} has one page", job.form.name), hint)
+
+
+@dataclass(frozen=True, slots=True)
+class Part:
+    """What goes out as a whole: pages of labels, or one label and its number of copies."""
+
+    pages: Sequence[Page]
+    copies: int = 1
+
+    @property
+    def item(self) -> LaidOut:
+        """Its first label."""
+        return self.pages[0][0][0]
+
+    @property
+    def count(self) -> int:
+        """How many labels it has."""
+        return sum(map(len, self.pages)) * self.copies
+
+
 class Press:
     """Draws labels of a file, and writes them in the form of a job.
 
-    A press belongs to the thread that made it. `go_on` of the talk is called for each page and may
-    stop the work.
+    A press belongs to the thread that made it, and its pens. `go_on` of the talk is called for each
+    page and may stop the work.
     """
 
-    def __init__(self, job: PrintJob, laid_out: LaidOutFile, letters: Letters, talk: Talk) -> None:
+    def __init__(self, job: Job, laid_out: LaidOutFile, pens: Sequence[Pen], talk: Talk) -> None:
         self.job = job
-        self.letters = letters
+        self.pens = pens
         self.talk = talk
         area = laid_out.area
         self.turn = area.height if area.is_turned else 0
-        self.pens = pens_of(job, letters)
         how = (job.plan, job.form.name, job.is_escaped, area.is_turned)
         self.comparison = Comparison(*how, talk)
 
@@ -135,73 +325,57 @@ class Press:
         first = max(0, start)
         return list(zip(prints.between(first, start + len(places)), places[first - start :]))
 
-    def pages(self, prints: Prints) -> Iterator[Page]:
-        """Yields labels in the cells of one page after another."""
-        done = 0
-        for number in range(self.job.pages_of(len(prints))):
-            page = self.page(number, prints)
-            yield page
-            done += len(page)
-            self.talk.go_on(done, len(prints))
-
     def draw(self, canvas: Any, page: Page) -> None:
         """Draws a page on a canvas of Cairo, whose units are dots."""
         self.pen.draw(canvas, page, self.turn)
 
-    def documents(self, prints: Prints) -> Iterator[IO[bytes]]:
-        """Yields files that are whole by themselves: one PDF, or each page of another form, or each
-        label of ZPL with its number of copies.
+    def parts(self, prints: Prints) -> Iterator[Part]:
+        """Yields what goes out as a whole: a label with its copies, or each page of another form,
+        or all pages of a PDF.
         """
-        if self.job.form == PDF:
-            file = self.drawing([], prints)
-            pages = range(self.job.pages_of(len(prints)))
-            labels = [self.page(number, prints) for number in pages]
-            self.comparison.check(Document(file.read(), labels))
-            file.seek(0)
-            yield file
-        elif self.job.form == SVG:
-            for page in self.pages(prints):
-                yield self.document(page)
-        else:
-            yield from map(self.compared, self.in_dots(prints))
-
-    def document(self, page: Page, is_first: bool = True) -> IO[bytes]:
-        """Returns a file of one page; `is_first` is whether it begins a job. Raises `ToolError`
-        where it has not the codes of its labels.
-        """
-        if not self.job.form.is_drawn:
-            return self.compared(self.written(page, is_first))
-        file = self.drawing([page], None)
-        self.comparison.check(Document(file.read(), [page]))
-        file.seek(0)
-        return file
-
-    def label(self, item: LaidOut, copies: int) -> IO[bytes]:
-        """Returns a file of one label of ZPL; raises as `document`."""
-        page = [(item, self.job.plan.places[0])]
-        return self.compared(self.written(page, True, copies))
-
-    def compared(self, page: Document) -> IO[bytes]:
-        """Returns the file of a page in dots once it was compared; raises as `document`."""
-        self.comparison.check(page)
-        return BytesIO(page.data)
-
-    def in_dots(self, prints: Prints) -> Iterator[Document]:
-        """Yields pages in dots, or each label of ZPL with its number of copies."""
-        if self.job.form != ZPL:
-            for number, page in enumerate(self.pages(prints)):
-                yield self.written(page, number == 0)
+        if self.job.form.is_roll and not self.job.is_each:
+            for item, copies in prints.runs():
+                yield self.part(item, copies)
             return
-        done = 0
-        for item, copies in prints.runs():
-            yield self.written([(item, self.job.plan.places[0])], True, copies)
-            done += copies
-            self.talk.go_on(done, len(prints))
+        pages = [self.page(number, prints) for number in range(self.job.pages_of(len(prints)))]
+        if self.job.form == PDF and not self.job.is_each:
+            yield Part(pages)
+        else:
+            yield from (Part([page]) for page in pages)
 
-    def written(self, page: Page, is_first: bool, copies: int = 1) -> Document:
-        """Returns a page in dots in the form of the job."""
-        picture = drawn_page(self.job.plan.page, self.pen, page, self.turn)
-        return Document(self.form_of(picture, is_first, copies), [page], copies, picture.packed)
+    def part(self, item: LaidOut, copies: int) -> Part:
+        """Returns a label that goes out by itself, with its copies."""
+        return Part([[(item, self.job.plan.places[0])]], copies)
+
+    def documents(self, part: Part, is_first: bool = True) -> Iterator[bytes]:
+        """Yields files that are whole by themselves: one for a part, or for each copy of ESC/POS;
+        `is_first` is whether it begins a job. Raises `ToolError` if one has not the codes of its
+        labels.
+        """
+        for number in range(1 if self.job.form == ZPL else part.copies):
+            document = self.document(part, is_first and number == 0)
+            self.comparison.check(document)
+            yield document.data
+
+    def document(self, part: Part, is_first: bool) -> Document:
+        """Returns what a part is in the form of the job, or a copy of it."""
+        if not self.job.form.is_drawn:
+            copies = part.copies if self.job.form == ZPL else 1
+            picture = drawn_page(self.job.plan.page, self.pen, part.pages[0], self.turn)
+            data = self.form_of(picture, is_first, copies)
+            return Document(data, part.pages, copies, picture.packed)
+        paper = Paper(self.job.plan.sheet.page, self.job.plan.dpi, self.turn)
+        is_svg = self.job.form == SVG
+        with temporary(), drawing(paper, self.pens, lambda: self.told(part), is_svg) as file:
+            return Document(file.read(), part.pages)
+
+    def told(self, part: Part) -> Iterator[Page]:
+        """Yields pages, and says before each one how many labels are drawn."""
+        done = 0
+        for page in part.pages:
+            self.talk.go_on(done, part.count)
+            yield page
+            done += len(page)
 
     def form_of(self, picture: Picture, is_first: bool, copies: int) -> bytes:
         """Returns dots in the form of the job."""
@@ -215,34 +389,8 @@ class Press:
         assert form == PBM
         return pbm(picture)
 
-    def drawing(self, pages: Sequence[Page], prints: "Prints | None") -> IO[bytes]:
-        """Returns a drawing of some pages, or of all of them."""
-        paper = Paper(self.job.plan.sheet.page, self.job.plan.dpi, self.turn)
-        with temporary():
-            return drawing(
-                paper,
-                self.pens,
-                lambda: self.pages(prints) if prints is not None else pages,
-                self.job.form == SVG,
-            )
 
-    @contextmanager
-    def spooled(self, prints: Prints) -> Iterator[IO[bytes]]:
-        """Gives a temporary file with all labels, at its begin."""
-        with temporary(), tempfile.TemporaryFile() as whole:
-            for document in self.documents(prints):
-                with document as file:
-                    copyfileobj(file, whole, BLOCK)
-            whole.seek(0)
-            yield whole
-
-    def save(self, prints: Prints, path: Path) -> None:
-        """Writes all labels to a file, which has its name once it is whole; raises `OSError`."""
-        with self.spooled(prints) as whole:
-            save(whole, path)
-
-
-def pens_of(job: PrintJob, letters: Letters) -> list[Pen]:
+def pens_of(job: Job, letters: Letters) -> list[Pen]:
     """Returns what draws a form: for PDF also pens that draw letters as shapes, for fonts that
     Cairo cannot embed.
     """
@@ -255,7 +403,7 @@ def pens_of(job: PrintJob, letters: Letters) -> list[Pen]:
     return [pen_of(job, Medium(dpi, False, is_smooth, shapes), letters) for shapes in wanted]
 
 
-def pen_of(job: PrintJob, medium: Medium, letters: Letters) -> Pen:
+def pen_of(job: Job, medium: Medium, letters: Letters) -> Pen:
     """Returns what draws labels of a job on a medium."""
     if job.design:
         return OwnPen(medium, letters, job.design)

@@ -1,86 +1,29 @@
-"""Sends labels one by one, to a printer in the network or standard output, with a journal or
-without one.
-"""
+"""Sends labels: one loop for every way out, with a journal or without one."""
 
-import os
 import shlex
-import stat
 from collections import Counter
 from contextlib import contextmanager, suppress
-from io import BytesIO
-from typing import Any, Iterable, Iterator, Mapping, Optional, Protocol, Sequence, Sized
+from functools import partial
+from pathlib import Path
+from typing import Any, Iterable, Iterator, Mapping, Optional, Sequence, Sized
 
-from labeltools.common.command_line import hold_signals, standard_output
-from labeltools.common.files import Unwritten, send
-from labeltools.drawing.forms import ZPL
-from labeltools.printing.journal import Entry, Journal, SENDING, code_of
+from labeltools.common.files import save
+from labeltools.common.messages import Talk, ToolError, sentence
+from labeltools.common.report import MOST_RANGES, places_text
+from labeltools.common.text import NOTHING, Text, counted, joined
 from labeltools.layout.layout import LaidOut
 from labeltools.lines.file import LineRecord
-from labeltools.common.messages import ToolError, sentence
-from labeltools.printing.network import Broken
-from labeltools.printing.press import Press, Prints
-from labeltools.common.report import MOST_RANGES, places_text
-from labeltools.printing.selection import FILE, words_of_rest
-from labeltools.common.text import NOTHING, Text, counted, joined
-
-OUTPUT = "standard output"
-
-
-class Untaken(ToolError):
-    """Standard output that took nothing of a label."""
-
-
-class Outlet(Protocol):
-    """Where labels go. `open` is called before a label is written into the journal."""
-
-    name: str
-
-    def open(self) -> object:
-        """Makes sure that there is a way out; raises `ToolError` where nothing can be sent."""
-
-    def send(self, data: bytes) -> None:
-        """Sends a whole label; raises `Broken` where a part of it may have gone out."""
-
-    def close(self) -> None:
-        """Ends the way out after what was sent; raises `Broken` where it broke off before."""
-
-    def drop(self) -> None:
-        """Ends the way out at once, where nothing was sent."""
-
-
-class StandardOutput:
-    """Standard output; with `is_synced` each label of a file is on the disk once it is sent."""
-
-    name = OUTPUT
-
-    def __init__(self, is_synced: bool = False) -> None:
-        self.is_synced = is_synced
-
-    def open(self) -> object:
-        """Raises `ToolError` where it is closed."""
-        return standard_output()
-
-    def send(self, data: bytes) -> None:
-        """Writes a whole label; raises `Untaken` where nothing of it is there, and `Broken`."""
-        output = standard_output().fileno()
-        try:
-            send(BytesIO(data), output)
-            if self.is_synced and stat.S_ISREG(os.fstat(output).st_mode):
-                os.fdatasync(output)
-        except OSError as error:
-            kind = Untaken if isinstance(error, Unwritten) else Broken
-            raise kind(Text("{}: {}", OUTPUT, error.strerror)) from error
-
-    def close(self) -> None:
-        """Does nothing: it is closed at the end of the tool."""
-
-    def drop(self) -> None:
-        """Does nothing, as `close`."""
+from labeltools.printing.cups import NOTHING_CHOSEN, Queue, SentJob, print_by
+from labeltools.printing.journal import Entry, Journal, SENDING, code_of
+from labeltools.printing.network import NetworkPrinter, SCHEME
+from labeltools.printing.outlets import Broken, Collected, Device, OUTPUT, Outlet, Untaken
+from labeltools.printing.press import Part, Prepared, Press
+from labeltools.printing.selection import FILE
 
 
 class Sender:
-    """Sends labels that a press writes; `again` is a printer whose labels of earlier runs are sent
-    once more.
+    """Sends labels by an outlet; `again` is a printer whose labels of earlier runs are sent once
+    more.
     """
 
     def __init__(
@@ -88,62 +31,45 @@ class Sender:
         outlet: Outlet,
         journal: Optional[Journal] = None,
         again: Optional[str] = None,
-        chosen: Sequence[str] = (),
         records: Sequence[LineRecord] = (),
     ) -> None:
-        """Takes what labels go out by, the options that choose some labels of a file, and all lines
-        of that.
-        """
+        """Takes all lines of the input, too."""
         self.outlet = outlet
         self.journal = journal
         self.again = again
-        self.chosen = chosen
         self.records = records
         self.has_tables = len({record.table for record in records}) > 1
         self.sent: list[LaidOut] = []
+        self.on_way: list[LaidOut] = []  # since the way out was made: they may be thrown away
+        self.way: object = None
+        self.done = 0  # labels of the input, with those that are on paper or in the journal
         self.taken = 0
         self.known: set[bytes] = set()  # the codes that the journal had
         self.is_at_end = False  # whether standard output takes no more
 
-    def send_all(self, press: Press, prints: Prints) -> None:
-        """Sends labels with their copies; raises `ToolError` where the printer does not take them,
-        with what to do then. A signal ends it after the label that goes out: that is such an error,
-        which is said here, since the signal then ends the tool.
+    def send_all(self, found: Prepared, talk: Talk, came: Sized = ()) -> None:
+        """Sends labels with their copies until a signal came. Raises `ToolError` if they are not
+        taken: of labels that are sent one by one with what to do then.
         """
-        with hold_signals() as came:
+        press = found.press(talk)
+        prints = found.prints
+        self.done = found.job.after
+        for part in press.parts(prints):
             try:
-                self.send_until(came, press, prints)
-            except ToolError as error:
                 if came:
-                    press.talk.say(error.what, error.hint)
-                raise
-            if came:
-                press.talk.say(Text("{}: {}, and these are all", self.outlet.name, self.so_far()))
-
-    def send_until(self, came: Sized, press: Press, prints: Prints) -> None:
-        """Sends labels until a signal came; raises `ToolError` as `send_all`."""
-        done = 0
-        for item, copies in prints.runs():
-            if came:
-                self.end()
-                raise self.stopped(item, prints)
-            try:
-                self.send(press, item, copies, not self.sent)
-            except (Broken, Untaken) as error:
-                what = Text("{}: {}", error.what, self.so_far())
-                raise ToolError(what, self.advice(error, item, prints)) from error
+                    self.end()
+                    raise ToolError(Text("{}: {}", self.outlet.name, self.so_far()))
+                self.send(press, part, not self.sent)
             except ToolError as error:
-                place = self.named(item)
-                what = Text("{}: {} and what follows it were not sent", error.what, place)
-                hints = error.hint, self.way_on(item, prints) if self.sent else NOTHING
-                hint = joined("; ", filter(None, hints))
-                raise ToolError(what, hint, error.status) from error
-            done += copies
-            press.talk.go_on(done, len(prints))
+                if not self.outlet.is_direct:
+                    raise
+                raise self.told(error, self.named([part.item])) from error
+            self.done += part.count
+            talk.go_on(self.done - found.job.after, len(prints))
         self.end()
 
     def end(self) -> None:
-        """Ends the way out after what was sent; raises `ToolError` where it broke off before."""
+        """Ends the way out after what was sent; raises `ToolError` if it broke off before."""
         with self.nothing_begun():
             self.outlet.close()
 
@@ -154,32 +80,37 @@ class Sender:
             yield
         except Broken as error:
             what = Text("{}: {}", error.what, self.so_far())
-            raise ToolError(what, self.last_on_paper()) from error
+            raise ToolError(what, self.may_be_missing()) from error
 
-    def send(
-        self, press: Press, item: LaidOut, copies: int, is_first: bool, is_last: bool = False
-    ) -> int:
-        """Sends a label, and returns how many bytes it has; 0 where the journal has it. The way out
-        ends after the last label, which is taken where that ends well.
+    def send(self, press: Press, part: Part, is_first: bool, is_last: bool = False) -> int:
+        """Sends what goes out as a whole, and returns how many bytes it has; 0 if the journal has
+        its label. The way out ends after the last one, which is taken if that ends well.
         """
-        record = item.label.record
-        if self.journal is not None and self.is_known(item):
+        record = part.item.label.record
+        if self.journal is not None and self.is_known(record):
             self.known.add(code_of(record))
             return 0
-        documents = list(written(press, item, copies, is_first))
+        documents = list(press.documents(part, is_first))
         with self.nothing_begun():
-            self.outlet.open()
+            way = self.outlet.open()
+        if way is not self.way:
+            self.way = way
+            self.on_way.clear()
         if not self.claim(record, is_last):
             self.known.add(code_of(record))
             return 0
         self.give(record, documents, is_last)
-        self.taken += copies
-        self.sent.append(item)
+        self.taken += part.count
+        self.sent.append(part.item)
+        self.on_way.append(part.item)
+        if is_last:
+            self.sent.clear()
+            self.on_way.clear()
         return sum(map(len, documents))
 
     def claim(self, record: LineRecord, is_last: bool) -> bool:
         """Returns whether a label is for this lane, which the journal then has as sent. The way out
-        is left to others where nothing more goes out by it. Raises `ToolError`.
+        is left to others if nothing more goes out by it. Raises `ToolError`.
         """
         is_ours = self.journal is None
         try:
@@ -191,7 +122,7 @@ class Sender:
 
     def give(self, record: LineRecord, documents: Iterable[bytes], is_last: bool) -> None:
         """Gives a label to the printer, and writes that it was taken; raises `Broken`, and
-        `Untaken` where the journal has nothing of it either.
+        `Untaken` if the journal has nothing of it either.
         """
         is_begun = self.journal is not None
         try:
@@ -214,97 +145,87 @@ class Sender:
                 raise Broken(error.what, error.hint) from error
 
     def give_up(self) -> None:
-        """Leaves a label in doubt, in the journal too; what is wrong with that is not said, since
-        something else is.
+        """Leaves a label in doubt, in the journal too; what is wrong with that is not reported,
+        since something else is.
         """
         if self.journal is not None:
             with suppress(ToolError):
                 self.journal.give_up()
 
-    def is_known(self, item: LaidOut) -> bool:
+    def is_known(self, record: LineRecord) -> bool:
         """Returns whether the journal is known to have a label, without looking into it again."""
         assert self.journal is not None
-        return self.again is None and self.journal.entry(item.label.record) is not None
+        return self.again is None and self.journal.entry(record) is not None
 
     def so_far(self) -> Text:
         """Returns how many labels went out whole."""
         return counted("it took {} label whole", "it took {} labels whole", self.taken)
 
-    def advice(self, error: ToolError, item: LaidOut, prints: Prints) -> Text:
-        """Returns what to do where a label went out in part."""
-        place = self.named(item)
+    def named(self, items: Iterable[LaidOut]) -> Text:
+        """Returns what messages call labels, with their tables if there are several."""
+        return places_text([item.label.record.place for item in items], self.has_tables)
+
+    @property
+    def is_journal_enough(self) -> bool:
+        """Whether the same command prints what is missing; it would print again what `again` has
+        printed once more.
+        """
+        return self.journal is not None and self.again is None
+
+    def told(self, error: ToolError, place: Text) -> ToolError:
+        """Returns an error at a label with what to do."""
+        what = error.what
+        if isinstance(error, (Broken, Untaken)):
+            what = Text("{}: {}", what, self.so_far())
+        if isinstance(error, Broken):
+            return ToolError(what, self.advice(error, place))
+        way_on = NOTHING
+        if self.sent or not error.hint:
+            way_on = Text("with --after {} the same command goes on there", self.done)
+            if self.is_journal_enough:
+                way_on = Text("the same command prints what is missing")
+        hint = joined("; ", filter(None, (error.hint, way_on)))
+        what = Text("{}: {} and what follows it were not sent", what, place)
+        return ToolError(what, hint, error.status)
+
+    def advice(self, error: ToolError, place: Text) -> Text:
+        """Returns what to do if a label went out in part."""
         if error.hint:
             return Text("{} may be on paper; {}", place, error.hint)
-        if self.journal is not None and self.again is None:
-            text = Text("{} may be on paper: look there, then give the same command again", place)
-            return joined("; ", filter(None, (self.last_on_paper(), text)))
-        missing = self.last_on_paper() if self.again is not None else NOTHING
-        return joined("; ", filter(None, (missing, self.rest(item, prints))))
-
-    def rest(self, item: LaidOut, prints: Prints) -> Text:
-        """Returns how a label and those behind it are printed."""
-        records = [one.label.record for one in prints.items]
-        start = next(number for number, one in enumerate(prints.items) if one is item)
-        rest = {record.number: record for record in records[start:]}
-        others = (record for record in self.records if record.number not in rest)
-        words = words_of_rest([*rest.values()], others, bool(self.chosen))
-        if not words:
-            return Text(
-                "look at the last one on paper, then print a file of {} and what follows it alone: "
-                "others have the same rows and codes",
-                self.named(item),
+        way_on = Text("{} may be on paper: look there, then give the same command again", place)
+        if not self.is_journal_enough:
+            way_on = Text(
+                "{} may be on paper: look there; with --after {} the same command goes on at it",
+                *(place, self.done),
             )
-        again = f" --again {typed(self.again)}" if self.again else ""
-        found = (self.named(item), words + again)
-        if gone := in_place_of(words, self.chosen):
-            return Text(
-                "look at the last one on paper, then print from {} on, in place of {}, by {}",
-                *(found[0], gone, found[1]),
-            )
-        return Text("look at the last one on paper, then print from {} on by {}", *found)
+        return joined("; ", filter(None, (self.may_be_missing(), way_on)))
 
-    def stopped(self, item: LaidOut, prints: Prints) -> ToolError:
-        """Returns what is said where a signal came before a label."""
-        place = self.named(item)
-        done = Text("{}: {}", self.outlet.name, self.so_far())
-        what = Text("{}: {} and what follows it were not sent", done, place)
-        return ToolError(what, self.way_on(item, prints))
-
-    def way_on(self, item: LaidOut, prints: Prints) -> Text:
-        """Returns how a label that was not sent and those behind it are printed."""
-        if self.journal is not None and self.again is None:
-            return Text("the same command prints what is missing")
-        return self.rest(item, prints)
-
-    def named(self, item: LaidOut) -> Text:
-        """Returns what messages call a label, with its table where there are several."""
-        return places_text([item.label.record.place], self.has_tables)
-
-    def last_on_paper(self) -> Text:
-        """Returns how labels are printed that a printer forgot which took them; nothing where it
-        took none.
+    def may_be_missing(self) -> Text:
+        """Returns what to do about labels that a printer took, and may have thrown away when it
+        broke off; nothing if it took none.
         """
-        if not self.sent:
+        if not self.on_way:
             return NOTHING
-        last = self.named(self.sent[-1])
-        again = f" --again {typed(self.outlet.name)}" if self.journal is not None else ""
+        labels = self.named(self.on_way)
+        if self.journal is None:
+            return Text(
+                "{} may be missing: look at the last one on paper, and print what follows it by "
+                "--after N",
+                labels,
+            )
         numbers = {record.place.number for record in self.records}
         is_clear = len(numbers) == len(self.records)
-        words = f"--only ROWS{again}" if is_clear else f"--only-code {FILE}FILE{again}"
-        if gone := in_place_of(words, self.chosen):
-            return Text(
-                "look that {} is on paper, or print what is missing, in place of {}, by {}",
-                *(last, gone, words),
-            )
-        return Text("look that {} is on paper, or print what is missing by {}", last, words)
+        words = "--only ROWS" if is_clear else f"--only-code {FILE}FILE"
+        again = f"{words} --again {typed(self.outlet.name)}"
+        return Text("{} may be missing: look there, and print what is by {}", labels, again)
 
     def doubt(self, record: LineRecord) -> Text:
-        """Returns what to do about a label that was sent, but is not known to be taken; nothing
-        where it is.
+        """Returns what to do about a label that was sent, but is not known to be taken; nothing if
+        it is.
         """
         printer = self.sent_to(record)
         if printer and code_of(record) in self.doubtful():
-            return may_be_on_paper(printer, by_code(code_of(record)), self.chosen)
+            return may_be_on_paper(printer, by_code(code_of(record)))
         if printer := self.sent_to(record):  # it was not taken meanwhile
             what = Text("{} is sending it", printer)
             return sentence(what, Text("send the line again to see whether it was taken"))
@@ -322,15 +243,52 @@ class Sender:
         return self.journal.doubtful() if self.journal else {}
 
 
+def direct_outlet(printer: str) -> Outlet:
+    """Returns the way to a printer in the network, or to one that is a file."""
+    if printer.startswith(SCHEME):
+        return NetworkPrinter(printer)
+    return Device(printer)
+
+
+def send_to(found: Prepared, printer: str, talk: Talk) -> Text:
+    """Sends labels one by one to a printer, and returns what it took; raises `ToolError`."""
+    sender = Sender(direct_outlet(printer))
+    sender.send_all(found, talk)
+    return Text("{} taken by {}", labels_text(sender.taken), printer)
+
+
+def save_to(found: Prepared, path: Path, talk: Talk) -> None:
+    """Writes all labels to a file, which has its name once it is whole; raises `ToolError` and
+    `OSError`.
+    """
+    Sender(Collected(path.name, partial(save, path=path))).send_all(found, talk)
+
+
+def print_on(
+    found: Prepared, queue: Queue, talk: Talk, chosen: Mapping[str, str] = NOTHING_CHOSEN
+) -> tuple[SentJob, Text]:
+    """Prints labels on a queue of CUPS, with options that are chosen for it; returns the job, and
+    what is reported of it.
+    """
+    outlet = Collected(queue.name, partial(print_by, found.job, queue, chosen=chosen))
+    sender = Sender(outlet)
+    sender.send_all(found, talk)
+    sent: SentJob = outlet.given
+    how = (queue.name, found.job.plan.dpi, sent.number)
+    text = Text("{} sent to {}, at {} dpi: job {}", labels_text(sender.taken), *how)
+    return sent, joined("; ", filter(None, (text, queue.doubt(found.job))))
+
+
+def labels_text(count: int) -> Text:
+    """Returns how many labels there are."""
+    return counted("{} label", "{} labels", count)
+
+
 def doubts(
-    doubtful: Mapping[bytes, Entry],
-    records: Sequence[LineRecord],
-    has_tables: bool,
-    chosen: Sequence[str],
+    doubtful: Mapping[bytes, Entry], records: Sequence[LineRecord], has_tables: bool
 ) -> Iterator[Text]:
     """Yields messages that name all labels in doubt: those of a file of lines by their places, and
-    by their codes too where other codes have these numbers, as the rows of several tables have.
-    The options are given by which the run has chosen labels.
+    by their codes too if other codes have these numbers, as the rows of several tables have.
     """
     printers: dict[str, list[bytes]] = {}
     for code, entry in doubtful.items():
@@ -343,12 +301,11 @@ def doubts(
         alone = sorted(places[code] for code in there if numbers[places[code].number] == 1)
         for some in parts_of(alone):
             words = "--only ROW" if len(some) > 1 else f"--only {some[0].number}"
-            hint = may_be_on_paper(printer, words, chosen)
-            yield Text("{}: {}", places_text(some, has_tables), hint)
+            yield Text("{}: {}", places_text(some, has_tables), may_be_on_paper(printer, words))
         for code in there:
             if numbers[places[code].number] > 1:
                 place = places_text([places[code]], has_tables)
-                yield Text("{}: {}", place, may_be_on_paper(printer, by_code(code), chosen))
+                yield Text("{}: {}", place, may_be_on_paper(printer, by_code(code)))
         for others in parts_of([code.decode() for code in codes if code not in places]):
             yield Text(
                 "{}: may be on paper, from {}, and not in the input: look for it; if it is there, "
@@ -364,27 +321,13 @@ def parts_of(found: Sequence[Any]) -> Iterator[Sequence[Any]]:
     return (found[start : start + MOST_RANGES] for start in range(0, len(found), MOST_RANGES))
 
 
-def may_be_on_paper(printer: str, words: str, chosen: Sequence[str]) -> Text:
+def may_be_on_paper(printer: str, words: str) -> Text:
     """Returns what to do about labels that were sent to a printer, and may be on paper; `words`
-    choose them, in a run that has chosen labels by some options.
+    choose them.
     """
     reason = Text("may be on paper, from {}: look for it", printer)
-    words = f"{words} --again {typed(printer)}"
-    hint = Text("if it is not there, give {}", words)
-    if gone := in_place_of(words, chosen):
-        hint = Text("if it is not there, give, in place of {}, {}", gone, words)
-    return sentence(reason, hint)
-
-
-def in_place_of(words: str, chosen: Sequence[str]) -> str:
-    """Returns the options of a run that have to go where others choose labels: rows take the place
-    of rows, and all else would add to them.
-
-    >>> in_place_of("--only 9", ["--only"]), in_place_of("--only 9", ["--only", "--only-code"])
-    ('', '--only-code')
-    """
-    first = words.split(" ")[0]
-    return ", ".join(one for one in chosen if (one, first) != ("--only", "--only"))
+    again = f"{words} --again {typed(printer)}"
+    return sentence(reason, Text("if it is not there, print only it by {}", again))
 
 
 def by_code(code: bytes) -> str:
@@ -399,15 +342,3 @@ def typed(printer: str) -> str:
     ('tcp://till-3:9100', "'standard output'")
     """
     return shlex.quote(printer)
-
-
-def written(press: Press, item: LaidOut, copies: int, is_first: bool) -> Iterator[bytes]:
-    """Yields what a label with its copies is in the form of a job; raises `ToolError`."""
-    if press.job.form == ZPL:
-        with press.label(item, copies) as file:
-            yield file.read()
-        return
-    page = [(item, press.job.plan.places[0])]
-    for number in range(copies):
-        with press.document(page, is_first and number == 0) as file:
-            yield file.read()

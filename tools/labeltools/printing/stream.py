@@ -25,15 +25,16 @@ from threading import Thread
 from typing import Any, BinaryIO, Iterator, NamedTuple, NoReturn, Optional, Sequence
 
 from labeltools.common.command_line import ENDING, hold_signals, standard_output
-from labeltools.lines.engine import Engine, LABELS_FAILED, run_labels
+from labeltools.lines.engine import Engine, LABELS_FAILED
 from labeltools.layout.letters import Letters
-from labeltools.lines.file import LineRecord, OBJECT, read_lines
+from labeltools.lines.file import LineRecord, OBJECT, drawn_lines
 from labeltools.common.messages import Silence, ToolError, sentence, visible, write_message
-from labeltools.printing.network import Broken
-from labeltools.printing.press import Press, PrintJob
-from labeltools.printing.job import DrawnLines, Prepared, PrintOptions, prepared
+from labeltools.printing.job import Job, PrintOptions
+from labeltools.printing.outlets import Broken, OUTPUT
+from labeltools.printing.press import Prepared, Press, pens_of, prepared
+from labeltools.printing.remarks import SHORTENED
 from labeltools.common.report import places_text
-from labeltools.printing.sending import OUTPUT, Sender
+from labeltools.printing.sending import Sender
 from labeltools.common.text import NOTHING, Text, translated
 
 SKIPPED = (b'#{"labels"', b'#{"end"')
@@ -216,7 +217,7 @@ def jobs(source: Source) -> Iterator[Sequence[Part]]:
 class Stream:
     """Prints lines one by one."""
 
-    def __init__(self, name: str, options: PrintOptions, job: PrintJob, sender: Sender) -> None:
+    def __init__(self, name: str, options: PrintOptions, job: Job, sender: Sender) -> None:
         """Takes what lines come from, and how they are printed; raises `ToolError` where none can
         be.
         """
@@ -225,7 +226,7 @@ class Stream:
         self.options = options
         self.job = job
         self.sender = sender
-        self.letters = Letters(job.font)
+        self.pens = pens_of(job, Letters(job.font))
         self.presses: dict[bool, Press] = {}
         self.seen: set[tuple[str, bytes]] = set()
         self.said: set[str] = set()
@@ -266,16 +267,16 @@ class Stream:
             if part.fault:
                 raise Refused(part.fault)
         record, found = self.laid_out(parts)
-        if self.options.is_unique and record.key in self.seen:
+        if self.options.is_each_once and record.key in self.seen:
             raise Known
         size = 0
         for item in found.labels:
             copies = item.label.record.label.copies
-            size = self.sender.send(self.press(found), item, copies, True, True)
-            self.sender.sent.clear()
+            press = self.press(found)
+            size = self.sender.send(press, press.part(item, copies), True, True)
             if not size:
                 self.raise_known(record)
-        if self.options.is_unique and self.sender.journal is None:
+        if self.options.is_each_once and self.sender.journal is None:
             self.seen.add(record.key)
         self.latest = found
         return size
@@ -294,7 +295,7 @@ class Stream:
         pen = self.press(found).pen
         if any(map(pen.is_shortened, found.labels)):
             place = found.records[0].place
-            yield Text("{}: shortened to fit, with an ellipsis", places_text([place], False))
+            yield Text("{}: {}", places_text([place], False), SHORTENED)
 
     def require_reader(self) -> None:
         """Raises `ToolError` where labels go to standard output, and nobody reads it."""
@@ -315,10 +316,8 @@ class Stream:
         data = b"".join(part.line + b"\n" for part in parts)
         numbers = [part.number for part in parts]
         try:
-            lines = read_lines(data, self.name, self.options.is_escaped, numbers)
-            drawn = run_labels(data, self.options.is_escaped, Silence(), numbers)
-            found = DrawnLines(lines, drawn)
-            done = prepared(self.options, self.job, found, Silence(), self.letters, False)
+            lines = drawn_lines(data, self.name, self.options.is_escaped, Silence(), numbers)
+            done = prepared(self.options, self.job, lines, Silence(), self.pens, False)
         except ToolError as error:
             if error.status == LABELS_FAILED:
                 raise
@@ -346,8 +345,8 @@ def has_reader(file: int) -> bool:
     return not look.poll(0)
 
 
-def run(options: PrintOptions, job: PrintJob, path: Optional[str], sender: Sender) -> int:
-    """Prints the lines of a source and answers each; returns 1 where one is not printed. It ends
+def run(options: PrintOptions, job: Job, sender: Sender) -> int:
+    """Prints the lines that come in and answers each; returns 1 where one is not printed. It ends
     where nobody takes its labels, or reads its answers, any more: a line without an answer would be
     sent again, and its label be there twice. So a signal, too, waits for the answer, and it is
     looked before each label whether standard error is read.
@@ -355,7 +354,7 @@ def run(options: PrintOptions, job: PrintJob, path: Optional[str], sender: Sende
     if sys.__stderr__ is None:
         return 1
     status = 0
-    name, source = source_of(path)
+    name, source = source_of(options.lines)
     stream = Stream(name, options, job, sender)
     for parts in jobs(source):
         if not has_reader(sys.stderr.fileno()):

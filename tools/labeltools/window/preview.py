@@ -11,8 +11,7 @@ from labeltools.drawing.dots import drawn_surface
 from labeltools.layout.letters import Letters
 from labeltools.common.messages import Silence
 from labeltools.drawing.pen import Page
-from labeltools.printing.press import Press, once
-from labeltools.printing.job import Prepared
+from labeltools.printing.press import Prepared, Press, once, pens_of
 
 USED = (0.90, 0.91, 0.92)
 EDGE = (0.80, 0.83, 0.87)
@@ -35,7 +34,7 @@ class Preview:
             self.size = self.sheet.cell
             self.corner = self.sheet.places[0]
         self.count = max(1, job.pages_of(len(self.prints)))  # of pages
-        self.press = Press(job, labels.laid_out, Letters(job.font), Silence())
+        self.press = Press(job, labels.laid_out, pens_of(job, Letters(job.font)), Silence())
 
     def cell_at(self, x: float, y: float) -> int:
         """Returns the number of the cell at a place of a page, from 1; 0 for none."""

@@ -17,7 +17,8 @@ from labeltools.lines.engine import option_words
 from labeltools.tables.guess import guess_of
 from labeltools.lines.file import LineRecord, first_remark, label_lines, last_remark, read_lines
 from labeltools.common.messages import Cancelled, Place, ToolError, quoted
-from labeltools.printing.job import Prepared, labels_of, planned
+from labeltools.printing.job import planned
+from labeltools.printing.press import Prepared, labels_of
 from labeltools.common.report import LeftOut
 from labeltools.tables.money import NotMoney, parse
 from labeltools.tables.prices import PricePattern
@@ -118,7 +119,7 @@ class Table:
                 hint = Text("choose its column")
                 raise ToolError(Text("{} may be in one of {}", OF_KINDS[kind], named), hint)
         to_print = print_words(choices)
-        options = print_command.options_of(print_command.command_line().parse_args(to_print))
+        options = print_command.options_of(to_print)
         job = planned(options)
         since = {"new-since": str(self.printed) if choices["new-only"] else ""}
         words = [*words_of(since), *table_words(choices)]

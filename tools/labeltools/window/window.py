@@ -23,9 +23,10 @@ from labeltools.window.menu import Menu, add_recent
 from labeltools.designs.design import is_file
 from labeltools.window.preview import Preview
 from labeltools.printing.network import SCHEME, address_of
-from labeltools.commands.label_print import check_count, is_direct, print_on, send_to
-from labeltools.printing.job import Prepared
 from labeltools.printing.cups import JobState, Queue, SentJob, queue_of, queues
+from labeltools.printing.outlets import is_direct
+from labeltools.printing.press import Prepared, check_count
+from labeltools.printing.sending import print_on, save_to, send_to
 from labeltools.window.shop import COLUMNS, PAPER, Choices, Table, Talk
 from labeltools.paper.stock import list_stock
 from labeltools.common.words import _
@@ -470,7 +471,7 @@ class Window(Gtk.ApplicationWindow):
         self.below.set_visible(table.notes)
         self.show_view()
         self.result.show()
-        check_count(labels.job, labels.prints, False)
+        check_count(labels.job, labels.prints)
         self.has_labels = True
         self.on_stop()
 
@@ -571,7 +572,7 @@ class Window(Gtk.ApplicationWindow):
         done = _("{file} is written").format(file=path.name)
 
         def work(talk: Talk) -> None:
-            labels.press(talk).save(labels.prints, path)
+            save_to(labels, path, talk)
 
         self.start(work, lambda _none: self.say(done))
 
@@ -618,7 +619,7 @@ class Window(Gtk.ApplicationWindow):
             return
 
         def work(talk: Talk) -> tuple[SentJob, Text]:
-            return print_on(labels.press(talk), labels.prints, queue, chosen)
+            return print_on(labels, queue, talk, chosen)
 
         self.start(work, self.on_sent)
 
@@ -663,7 +664,7 @@ class Window(Gtk.ApplicationWindow):
         labels = self.labels
 
         def work(talk: Talk) -> Text:
-            return send_to(labels.press(talk), labels.prints, printer)
+            return send_to(labels, printer, talk)
 
         if is_direct(printer):
             self.start(work, lambda text: self.say(translated(text)))

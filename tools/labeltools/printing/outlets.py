@@ -1,0 +1,259 @@
+"""Where labels go: standard output, files, a printer that is a file of the system; and what is
+collected in a temporary file until all of it is there.
+"""
+
+import os
+import re
+import stat
+import tempfile
+from collections.abc import Callable, Sequence
+from io import BytesIO
+from pathlib import Path
+from typing import IO, Any, Optional, Protocol
+
+from labeltools.common.command_line import hold_signals, standard_output
+from labeltools.common.files import Unwritten, save, send, temporary
+from labeltools.common.messages import ToolError
+from labeltools.common.text import NOTHING, Text
+
+OUTPUT = "standard output"
+MOST_NAME = 100  # letters of the data in the name of a file
+NUMBERED = re.compile(r"%(0?\d?)d|%s")
+HINTS = {
+    FileNotFoundError: Text("is it on, and connected?"),
+    PermissionError: Text("sudo adduser $USER lp, then log in again"),
+}
+
+
+class Unreachable(ToolError):
+    """A way out that is not there: nothing was sent."""
+
+
+class Untaken(ToolError):
+    """A way out that took nothing of a label."""
+
+
+class Broken(ToolError):
+    """A way out that took a part of a label, or all of it without saying so."""
+
+
+class Outlet(Protocol):
+    """Where labels go. `is_direct` is whether each is there for certain once it was sent, whatever
+    comes after it. `open` is called before a label is written into the journal.
+    """
+
+    name: str
+    is_direct: bool
+
+    def open(self) -> object:
+        """Returns the way out, which is another one once it was made anew after a good end; raises
+        `ToolError` if nothing can be sent.
+        """
+
+    def send(self, data: bytes) -> None:
+        """Sends what is whole by itself; raises `Untaken` if nothing of it is there, and `Broken`
+        if a part of it may have gone out.
+        """
+
+    def close(self) -> None:
+        """Ends the way out after what was sent; raises `Broken` if it broke off before."""
+
+    def drop(self) -> None:
+        """Ends the way out at once, if nothing was sent."""
+
+
+class OpenFile:
+    """What is written to an open file; each label of a file on a disk is there once it is sent."""
+
+    name: str
+    is_direct = True
+    is_synced = True
+
+    def open(self) -> int:
+        """Returns its number."""
+        raise NotImplementedError
+
+    def send(self, data: bytes) -> None:
+        """Writes a whole label; raises `Broken`, and what `open` does."""
+        file = self.open()
+        try:
+            send(data, file)
+            if self.is_synced and stat.S_ISREG(os.fstat(file).st_mode):
+                os.fdatasync(file)
+        except OSError as error:
+            self.drop()
+            raise self.broken(error) from error
+
+    def broken(self, error: OSError) -> ToolError:
+        """Returns what an error of the system means."""
+        return Broken(Text("{}: {}", self.name, error.strerror))
+
+    def close(self) -> None:
+        """Does nothing."""
+
+    def drop(self) -> None:
+        """Does nothing."""
+
+
+class StandardOutput(OpenFile):
+    """Standard output, which is closed at the end of the tool."""
+
+    name = OUTPUT
+
+    def __init__(self, is_direct: bool = False, is_synced: bool = False) -> None:
+        self.is_direct = is_direct
+        self.is_synced = is_synced
+
+    def open(self) -> int:
+        """Returns its number; raises `ToolError` if it is closed."""
+        return standard_output().fileno()
+
+    def send(self, data: bytes) -> None:
+        """Writes what is whole, for which a signal waits; raises `Untaken` and `Broken`."""
+        with hold_signals():
+            super().send(data)
+
+    def broken(self, error: OSError) -> ToolError:
+        """Returns what an error means: of a file all is taken back that is not whole."""
+        kind = Untaken if isinstance(error, Unwritten) else Broken
+        return kind(Text("{}: {}", OUTPUT, error.strerror))
+
+
+class Device(OpenFile):
+    """A printer named by a path, such as /dev/usb/lp0, or a file that is there, to which labels are
+    added. A label counts as taken once the system has all of its bytes; a printer without paper
+    takes none: the run waits for it.
+    """
+
+    def __init__(self, name: str) -> None:
+        self.name = name
+        self.file: Optional[int] = None
+
+    def open(self) -> int:
+        """Returns its number, and opens it if it is not open; raises `Unreachable`."""
+        if self.file is None:
+            try:
+                self.file = os.open(self.name, os.O_WRONLY | os.O_APPEND)
+            except OSError as error:
+                what = Text("{}: {}", self.name, error.strerror)
+                raise Unreachable(what, HINTS.get(type(error), NOTHING)) from error
+        return self.file
+
+    def close(self) -> None:
+        """Closes it after what was sent; raises `Broken`."""
+        try:
+            self.drop()
+        except OSError as error:
+            raise self.broken(error) from error
+
+    def drop(self) -> None:
+        """Closes it at once."""
+        file, self.file = self.file, None
+        if file is not None:
+            os.close(file)
+
+
+class Files:
+    """A file for each label, whose data are given in the order of the labels; `name` has %d for the
+    number of one, or %s for its data.
+    """
+
+    is_direct = False
+
+    def __init__(self, name: str, data: Sequence[bytes]) -> None:
+        """Makes their folder, if it is not there; raises `ToolError` if it is not empty, or if two
+        files have one name.
+        """
+        self.name = name
+        self.paths = enumerate(paths_of(name, data), 1)
+
+    def open(self) -> object:
+        """Returns the folder."""
+        return Path(self.name).parent
+
+    def send(self, data: bytes) -> None:
+        """Writes the file of the next label, for which a signal waits; raises `OSError`."""
+        number, path = next(self.paths)
+        with hold_signals():
+            save(BytesIO(data), path, number)
+
+    def close(self) -> None:
+        """Does nothing: each file is whole."""
+
+    def drop(self) -> None:
+        """Does nothing, as `close`."""
+
+
+class Collected:
+    """A temporary file, which is given away once all labels are in it: by a function whose result
+    is kept.
+    """
+
+    is_direct = False
+
+    def __init__(self, name: str, give: Callable[[IO[bytes]], Any]) -> None:
+        """Raises `ToolError` if there is no room for temporary files."""
+        self.name = name
+        self.give = give
+        self.given: Any = None
+        with temporary():
+            self.file = tempfile.TemporaryFile()
+
+    def open(self) -> object:
+        """Returns the file."""
+        return self.file
+
+    def send(self, data: bytes) -> None:
+        """Collects what is whole; raises `ToolError`."""
+        with temporary():
+            self.file.write(data)
+
+    def close(self) -> None:
+        """Gives all away; raises what the function does."""
+        with self.file:
+            with temporary():
+                self.file.seek(0)
+            self.given = self.give(self.file)
+
+    def drop(self) -> None:
+        """Forgets what was collected."""
+        self.file.close()
+
+
+def is_direct(printer: str) -> bool:
+    """Returns whether a printer takes labels one by one: tcp://HOST, or a path, which no queue of
+    CUPS is.
+    """
+    return "/" in printer
+
+
+def paths_of(name: str, data: Sequence[bytes]) -> list[Path]:
+    """Returns the file of each label, in a folder that is new or empty; raises `ToolError` if two
+    would be one.
+    """
+    folder = Path(name).parent
+    if folder == Path() or "%" in str(folder):
+        raise ToolError(Text("--each"), Text("name a folder for the files, as in labels/%s.png"))
+    paths: dict[str, Path] = {}
+    for number, one in enumerate(data, 1):
+        path = Path(file_name(name, number, one))
+        if paths.setdefault(path.name.lower(), path) is not path:
+            raise ToolError(
+                Text("--each: two labels would be the file {}", path), Text("put %d into the name")
+            )
+    folder.mkdir(parents=True, exist_ok=True)
+    if any(folder.iterdir()):
+        what = Text("--each: the folder {} is not empty", folder)
+        raise ToolError(what, Text("old labels would be among the new ones"))
+    return list(paths.values())
+
+
+def file_name(name: str, number: int, data: bytes) -> str:
+    """Returns the name of the file of a label."""
+    text = data.decode("latin-1")
+    safe = re.sub(r"[^\w.-]|^[.-]", "_", text, flags=re.ASCII)[:MOST_NAME]
+
+    def part(match: re.Match[str]) -> str:
+        return safe if match[0] == "%s" else f"{number:{match[1]}d}"
+
+    return NUMBERED.sub(part, name)

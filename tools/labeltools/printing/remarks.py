@@ -1,0 +1,102 @@
+"""What is reported of labels that are printed, each once for a file."""
+
+from collections import Counter
+from dataclasses import dataclass
+from typing import Iterable, Iterator, Optional, Sequence
+
+from labeltools.common.messages import Place, quoted
+from labeltools.common.names import listed
+from labeltools.common.report import places_text
+from labeltools.common.text import Text
+from labeltools.drawing.pen import Pen
+from labeltools.layout.layout import LaidOut, LaidOutFile
+from labeltools.paper.area import ARTICLE, Area
+from labeltools.printing.selection import Selection
+
+DENSE = 0.33  # millimetres: modules of QR below it are reported
+SHORTENED = Text("shortened to fit, with an ellipsis")
+
+
+@dataclass(frozen=True)
+class Remark:
+    """What is reported of labels that are printed, and the place of the first of them."""
+
+    first: Place
+    text: Text
+
+
+def remarks_on(
+    items: Sequence[LaidOut],
+    laid_out: LaidOutFile,
+    only: Optional[Selection],
+    has_tables: bool,
+    pen: Pen,
+) -> Iterator[Remark]:
+    """Yields what is reported of labels that are printed, some of which may be asked for."""
+    places = [item.label.record.place for item in items]
+    yield from several(places, only)
+    for place, said in laid_out.said:
+        yield Remark(place, said)
+    for some, what in found_on(items, laid_out.area, pen):
+        if some:
+            places = [item.label.record.place for item in some]
+            yield Remark(places[0], Text("{}: {}", places_text(places, has_tables), what))
+
+
+def several(places: Iterable[Place], only: Optional[Selection]) -> Iterator[Remark]:
+    """Yields that rows that are asked for are in several tables of the file."""
+    first: dict[int, Place] = {}
+    counts: Counter[int] = Counter()
+    for place in places:
+        if only is not None and only.has_row(place):
+            first.setdefault(place.number, place)
+            counts[place.number] += 1
+    rows = sorted(number for number, count in counts.items() if count > 1)
+    if rows:
+        text = Text("{}: in several tables, and printed of each", listed(rows))
+        yield Remark(first[rows[0]], text)
+
+
+def found_on(
+    items: Sequence[LaidOut], area: Area, pen: Pen
+) -> Iterator[tuple[Sequence[LaidOut], Text]]:
+    """Yields labels, which may be none, and what is to be said of them."""
+    if area.wishes.design == ARTICLE:
+        low = [item for item in items if has_low_bars(item)]
+        bars = min((item.layout.boxes["bars"].height for item in low), default=0) * area.dot
+        hint = Text("hand scanners read them, a till that reads in all directions may not")
+        yield low, Text("bars of {:.1f} mm: {}", bars, hint)
+    dense = [item for item in items if is_dense(item, area.dot)]
+    finest = min((item.layout.module for item in dense), default=0) * area.dot
+    hint = Text("some phones may not read them: shorten the data, or take a larger label")
+    yield dense, Text("QR with modules of {:.2f} mm: {}", finest, hint)
+    small = [item for item in items if item.layout.is_small_price]
+    yield small, Text("a wide price is smaller than the others")
+    shortened = [item for item in items if pen.is_shortened(item)]
+    yield shortened, SHORTENED
+    yield from alike(shortened, pen)
+
+
+def alike(items: Sequence[LaidOut], pen: Pen) -> Iterator[tuple[Sequence[LaidOut], Text]]:
+    """Yields which labels show the same title and text once these are shortened, though their own
+    differ.
+    """
+    found: dict[tuple[str, ...], list[LaidOut]] = {}
+    for item in items:
+        found.setdefault(pen.shown_texts(item), []).append(item)
+    for shown, same in found.items():
+        if len({(item.label.title, item.label.text) for item in same}) > 1:
+            text = quoted(" ".join(shown))
+            yield same, Text("the same once shortened, {}: put what differs in front", text)
+
+
+def has_low_bars(item: LaidOut) -> bool:
+    """Returns whether a label is for a till and its bars are lower than half their width."""
+    symbology = item.layout.symbology
+    modules = item.label.modules.width - sum(symbology.quiet)
+    return symbology.is_number and item.layout.has_low_bars(modules)
+
+
+def is_dense(item: LaidOut, dot: float) -> bool:
+    """Returns whether a label has a QR symbol of small modules."""
+    return not item.layout.symbology.nominal and item.layout.module * dot < DENSE
