@@ -9,7 +9,7 @@ from typing import Any
 import support
 from labeltools.common.messages import Cancelled, Place, Silence
 from labeltools.printing.job import PrintOptions, planned
-from labeltools.printing.press import labels_of, once
+from labeltools.printing.press import labels_of
 from labeltools.printing.sending import save_to
 from laying import documents_of
 from labeltools.common.text import Text
@@ -95,7 +95,7 @@ class Pages(unittest.TestCase):
         documents_of(self.found)
         again = b"".join(documents_of(found))
         self.assertTrue(again == written and written)
-        self.assertEqual(len(once(found.laid_out.labels)), 30)
+        self.assertEqual(len(found.labels), 30)
 
 
 if __name__ == "__main__":

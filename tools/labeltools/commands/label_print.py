@@ -313,7 +313,7 @@ def print_lines(options: PrintOptions, job: Job, queue: Optional[Queue], talk: P
         write_message(TOOL, message)
     check_count(job, found.prints)
     if job.after:
-        place = places_text([found.prints.items[0].label.record.place], len(found.tables) > 1)
+        place = places_text([found.prints[0].label.record.place], len(found.tables) > 1)
         write_message(TOOL, Text("--after {}: the first label is {}", job.after, place))
     if queue is None:
         return give_out(options, found, talk)
@@ -405,7 +405,7 @@ def give_out(options: PrintOptions, found: Prepared, talk: PrintTalk) -> int:
     """Writes labels or sends them; returns 1 where one is left out or doubtful."""
     outlet = direct_way(options, found.job)
     if options.each is not None:
-        outlet = Files(options.each, [item.label.record.data for item in found.prints.items])
+        outlet = Files(options.each, [item.label.record.data for item in found.prints])
     sender = sender_of(options, outlet, found.records)
     try:
         send(sender, found, talk)
@@ -448,7 +448,7 @@ def summary_of(options: PrintOptions, found: Prepared, sender: Sender, known: in
     if options.queue:
         text = Text("{} taken by {}", text, options.queue)
     if options.only:
-        text = with_names(text, sender.sent if options.is_sent_singly else found.prints.items)
+        text = with_names(text, sender.sent if options.is_sent_singly else found.prints)
     if not job.form.is_roll:
         pages = counted("{} page", "{} pages", job.pages_of(sender.taken))
         text = Text("{} on {}", text, pages)

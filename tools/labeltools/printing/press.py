@@ -1,9 +1,8 @@
 """Makes labels of lines: lays them out, draws pages, and writes these in the form of a job."""
 
-from bisect import bisect_right
 from dataclasses import dataclass, replace
-from functools import cached_property
-from itertools import accumulate
+from itertools import groupby
+from operator import attrgetter
 from typing import Any, Iterable, Iterator, Mapping, Optional, Sequence
 
 from labeltools.checking.compare import Comparison, Document
@@ -28,86 +27,23 @@ from labeltools.printing.selection import Selection
 
 MOST_LABELS = 1_000_000  # of one run, with copies
 WORKBOOK = b"PK\x03\x04"  # what .xlsx and .ods begin with
+# what the dots of a label are made of
+DOTS_OF = attrgetter("label.record.data", "label.modules", "label.texts", "layout")
 UNKNOWN = "unknown symbology"  # what labels(1) says
 TABLE_FIRST = Text("a table goes through label-table first")
 CUT_OFF = Text("has no line end, so it may be cut off: end it with a line feed")
 
 
 @dataclass(frozen=True)
-class Prints:
-    """Labels in their order, and how often each of them is printed."""
-
-    items: Sequence[LaidOut]
-    copies: Sequence[int]
-
-    @cached_property
-    def ends(self) -> list[int]:
-        """How many labels there are when all copies of each one are printed."""
-        return list(accumulate(self.copies))
-
-    def __len__(self) -> int:
-        return self.ends[-1] if self.ends else 0
-
-    def __getitem__(self, number: int) -> LaidOut:
-        """Returns a label by its number from 0 among all copies."""
-        return self.items[bisect_right(self.ends, number)]
-
-    def between(self, first: int, last: int) -> Sequence[LaidOut]:
-        """Returns labels from a number up to another one among all copies."""
-        if len(self) == len(self.items):
-            return self.items[first:last]
-        return [self[number] for number in range(first, min(last, len(self)))]
-
-    def behind(self, count: int) -> "Prints":
-        """Returns all but the first `count` labels, with their copies."""
-        start = bisect_right(self.ends, count)
-        left = [end - count for end in self.ends[start : start + 1]]
-        return Prints(self.items[start:], [*left, *self.copies[start + 1 :]])
-
-    def runs(self) -> Iterator[tuple[LaidOut, int]]:
-        """Yields labels that differ from the one before, with how many follow one another that are
-        the same.
-        """
-        last = None
-        count = 0
-        for item, copies in zip(self.items, self.copies):
-            if last is not None and is_same(last, item):
-                count += copies
-                continue
-            if last is not None:
-                yield last, count
-            last = item
-            count = copies
-        if last is not None:
-            yield last, count
-
-
-def with_copies(items: Sequence[LaidOut]) -> Prints:
-    """Returns labels as often as their lines say."""
-    return Prints(items, [item.label.record.label.copies for item in items])
-
-
-def once(items: Sequence[LaidOut]) -> Prints:
-    """Returns labels once each."""
-    return Prints(items, [1] * len(items))
-
-
-def is_same(one: LaidOut, other: LaidOut) -> bool:
-    """Returns whether two labels have the same dots."""
-    is_code = one.label.record.data == other.label.record.data
-    is_drawn = is_code and one.label.modules == other.label.modules
-    return is_drawn and one.label.texts == other.label.texts and one.layout == other.layout
-
-
-@dataclass(frozen=True)
 class Prepared:
-    """How labels go out; those that can be printed, with their layouts; those that cannot;
-    what is reported of others; the tables that they are from; what draws them; all lines of the
-    input.
+    """How labels go out; those that can be printed, with their layouts, and in their order with
+    copies, but for those on paper already; those that cannot; what is reported of others; the
+    tables that they are from; what draws them; all lines of the input.
     """
 
     job: Job
     laid_out: LaidOutFile
+    prints: Sequence[LaidOut]
     left_out: tuple[LeftOut, ...]
     remarks: tuple[Remark, ...]
     tables: frozenset[str]
@@ -119,12 +55,6 @@ class Prepared:
         """The labels that can be printed, once each."""
         return self.laid_out.labels
 
-    @property
-    def prints(self) -> Prints:
-        """The labels with their copies, or a file of each, but those that are on paper already."""
-        every = once(self.labels) if self.job.is_each else with_copies(self.labels)
-        return every.behind(self.job.after)
-
     def press(self, talk: Talk) -> "Press":
         """Returns what writes them."""
         return Press(self.job, self.laid_out, self.pens, talk)
@@ -134,8 +64,8 @@ def labels_of(options: PrintOptions, job: Job, name: str, data: bytes, talk: Tal
     """Returns the labels of a file of lines, laid out alike whether all or some of them are
     printed.
 
-    Raises `ToolError` if the file is not whole, a font is not there, or the library is not, and
-    what `talk.go_on` raises.
+    Raises `ToolError` if the file is not whole, if a font or the library is not there, or if labels
+    are more than one run takes, and what `talk.go_on` raises.
     """
     if data.startswith(WORKBOOK):
         raise ToolError(Text("{} is a workbook", name), TABLE_FIRST)
@@ -187,7 +117,8 @@ def prepared(
     if is_remarked:
         remarks = remarks_on(wanted, laid_out, only, len(tables) > 1, pens[0])
     found = replace(laid_out, labels=tuple(wanted))
-    return Prepared(job, found, left_out, tuple(remarks), tables, pens, lines.records)
+    prints = repeated(wanted, job)
+    return Prepared(job, found, prints, left_out, tuple(remarks), tables, pens, lines.records)
 
 
 def own_layouts(
@@ -264,17 +195,24 @@ def refused_labels(
             yield LeftOut(record.place, data, reason)
 
 
-def check_count(job: Job, prints: Prints) -> None:
-    """Raises `ToolError` if there are no labels, or more than one run or one file takes."""
-    if not prints.items:
-        raise ToolError(Text("there is no label to print"))
-    count = len(prints)
+def repeated(items: Sequence[LaidOut], job: Job) -> Sequence[LaidOut]:
+    """Returns labels as often as they are printed, once if each is a file, but for the first ones
+    that are on paper already; raises `ToolError` if they are more than one run takes.
+    """
+    copies = [1 if job.is_each else item.label.record.label.copies for item in items]
+    count = sum(copies)
     if count > MOST_LABELS:
-        hint = Text("print a part of them by --only")
-        raise ToolError(
-            Text("{:,} labels with their copies: the maximum is {:,}", count, MOST_LABELS), hint
-        )
-    if job.form.is_one_page and not job.is_each and job.pages_of(count) > 1:
+        what = Text("{:,} labels with their copies: the maximum is {:,}", count, MOST_LABELS)
+        raise ToolError(what, Text("print a part of them by --only"))
+    every = [item for item, often in zip(items, copies) for _ in range(often)]
+    return every[job.after :]
+
+
+def check_count(job: Job, prints: Sequence[LaidOut]) -> None:
+    """Raises `ToolError` if there are no labels, or more than one file takes."""
+    if not prints:
+        raise ToolError(Text("there is no label to print"))
+    if job.form.is_one_page and not job.is_each and job.pages_of(len(prints)) > 1:
         hint = Text("print fewer labels by --only, or a file of each by --each")
         raise ToolError(Text("--to {} has one page", job.form.name), hint)
 
@@ -318,24 +256,25 @@ class Press:
         """What draws the form of the job."""
         return self.pens[0]
 
-    def page(self, number: int, prints: Prints) -> Page:
+    def page(self, number: int, prints: Sequence[LaidOut]) -> Page:
         """Returns a page by its number, from 0."""
         places = self.job.plan.places
         start = number * len(places) - (self.job.first - 1)
         first = max(0, start)
-        return list(zip(prints.between(first, start + len(places)), places[first - start :]))
+        return list(zip(prints[first : start + len(places)], places[first - start :]))
 
     def draw(self, canvas: Any, page: Page) -> None:
         """Draws a page on a canvas of Cairo, whose units are dots."""
         self.pen.draw(canvas, page, self.turn)
 
-    def parts(self, prints: Prints) -> Iterator[Part]:
-        """Yields what goes out as a whole: a label with its copies, or each page of another form,
-        or all pages of a PDF.
+    def parts(self, prints: Sequence[LaidOut]) -> Iterator[Part]:
+        """Yields what goes out as a whole: a label with how many follow one another that have the
+        same dots, or each page of another form, or all pages of a PDF.
         """
         if self.job.form.is_roll and not self.job.is_each:
-            for item, copies in prints.runs():
-                yield self.part(item, copies)
+            for _, same in groupby(prints, DOTS_OF):
+                item, *copies = same
+                yield self.part(item, 1 + len(copies))
             return
         pages = [self.page(number, prints) for number in range(self.job.pages_of(len(prints)))]
         if self.job.form == PDF and not self.job.is_each:

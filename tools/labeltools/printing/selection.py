@@ -11,7 +11,7 @@ from typing import Iterable, Iterator, Optional, Sequence
 from labeltools.printing.journal import code_of
 from labeltools.lines.file import LineRecord
 from labeltools.common.messages import Place, ToolError
-from labeltools.common.report import LeftOut, MOST_RANGES, few, range_text, ranges_of
+from labeltools.common.report import LeftOut, few, range_text
 from labeltools.common.text import Text
 
 Ranges = tuple[tuple[int, int], ...]  # the first and the last number of each, in order, apart
@@ -128,25 +128,6 @@ def rows_text(ranges: Ranges) -> Text:
     count = sum(last - first + 1 for first, last in ranges)
     named = few([range_text(first, last) for first, last in ranges], count)
     return Text("row {}", named) if count == 1 else Text("rows {}", named)
-
-
-def words_of_rest(rest: Sequence[LineRecord], others: Iterable[LineRecord], is_chosen: bool) -> str:
-    """Returns the words that choose some labels of a file, those at its end unless `is_chosen`, and
-    none of its others, also where the first of them is on paper; nothing where neither rows nor
-    codes tell labels apart.
-    """
-    others = list(others)
-    rows = sorted({record.place.number for record in rest})
-    done = {record.place.number for record in others}
-    is_clear = len(rows) == len(rest)
-    if is_clear and not is_chosen and max(done, default=0) < rows[0]:
-        return f"--only {rows[0]}-"
-    ranges = ranges_of(rows)
-    if is_clear and len(ranges) <= MOST_RANGES and done.isdisjoint(rows):
-        return f"--only {','.join(range_text(first, last) for first, last in ranges)}"
-    codes = {code_of(record) for record in rest}
-    is_told = len(codes) == len(rest) and codes.isdisjoint(map(code_of, others))
-    return f"--only-code {FILE}FILE" if is_told else ""
 
 
 def codes_of(argument: str) -> set[bytes]:

@@ -11,7 +11,7 @@ from labeltools.drawing.dots import drawn_surface
 from labeltools.layout.letters import Letters
 from labeltools.common.messages import Silence
 from labeltools.drawing.pen import Page
-from labeltools.printing.press import Prepared, Press, once, pens_of
+from labeltools.printing.press import Prepared, Press, pens_of
 
 USED = (0.90, 0.91, 0.92)
 EDGE = (0.80, 0.83, 0.87)
@@ -30,7 +30,7 @@ class Preview:
         self.corner = (0.0, 0.0)
         if is_single:
             job = replace(job, plan=replace(job.plan, places=job.plan.places[:1]), first=1)
-            self.prints = once(labels.labels)
+            self.prints = labels.labels
             self.size = self.sheet.cell
             self.corner = self.sheet.places[0]
         self.count = max(1, job.pages_of(len(self.prints)))  # of pages
@@ -46,11 +46,9 @@ class Preview:
 
     def page_of(self, row: str) -> int:
         """Returns the number of the page, from 1, that has the label of a row; 0 for none."""
-        before = 0
-        for item, copies in zip(self.prints.items, self.prints.copies):
+        for number, item in enumerate(self.prints, 1):
             if str(item.label.record.place.number) == row:
-                return self.press.job.pages_of(before + 1)
-            before += copies
+                return self.press.job.pages_of(number)
         return 0
 
     def draw(self, canvas: Any, number: int) -> None:
