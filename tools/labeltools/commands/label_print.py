@@ -7,7 +7,6 @@ import re
 import stat
 import sys
 import time
-from contextlib import suppress
 from dataclasses import replace
 from pathlib import Path
 from typing import Any, Callable, Optional, Sequence
@@ -285,7 +284,6 @@ def options_of(words: Optional[Sequence[str]] = None) -> PrintOptions:
 
 def run() -> int:
     """Returns 0 where each label is printed, 1 where one is left out."""
-    make_streams_wait()
     options = options_of()
     if options.is_stream:
         keep_standard_error()
@@ -332,15 +330,6 @@ def listed(wanted: str) -> int:
         return 1
     print(*lines, sep="\n")
     return 0
-
-
-def make_streams_wait() -> None:
-    """Makes standard input, output and error streams that wait: who gave them may have made them
-    such as do not.
-    """
-    for stream in (sys.stdin, sys.stdout, sys.stderr):
-        with suppress(AttributeError, OSError):  # it is closed, or it is no file
-            os.set_blocking(stream.fileno(), True)
 
 
 def queue_asked(options: PrintOptions) -> Optional[Queue]:

@@ -6,7 +6,7 @@ import argparse
 import os
 import signal
 import sys
-from contextlib import contextmanager
+from contextlib import contextmanager, suppress
 from importlib import import_module
 from io import RawIOBase, TextIOWrapper
 from pathlib import Path
@@ -149,6 +149,7 @@ def main_of(tool: str, function: Callable[[], Optional[int]]) -> NoReturn:
     """
     on_signals()
     fill_standard_streams()
+    make_streams_wait()
     if sys.stderr is None:  # Python would write messages to standard output, which may be a printer
         sys.stderr = open(os.devnull, "w", encoding="utf-8")
     status = status_of(tool, function)
@@ -164,6 +165,15 @@ def fill_standard_streams() -> None:
     while (file := os.open(os.devnull, os.O_RDWR)) <= STANDARD_ERROR:
         pass
     os.close(file)
+
+
+def make_streams_wait() -> None:
+    """Makes standard input, output and error streams that wait: who gave them may have made them
+    such as do not.
+    """
+    for stream in (sys.stdin, sys.stdout, sys.stderr):
+        with suppress(AttributeError, OSError):  # it is closed, or it is no file
+            os.set_blocking(stream.fileno(), True)
 
 
 def status_of(tool: str, function: Callable[[], Optional[int]]) -> int:

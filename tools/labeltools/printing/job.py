@@ -128,7 +128,9 @@ def planned(options: PrintOptions) -> Job:
     if edges is None:
         edge = 0.0 if sheet.is_single else EDGE
         edges = edge, edge, edge, edge
-    own = own_design(options, sheet, edges) if is_file(options.design) else None
+    own = None
+    if is_file(options.design):
+        own = read_design(options.design, sheet.cell, white_of(sheet, edges), options.turn)
     wishes = Wishes(
         OWN if own else DESIGNS[options.design],
         options.module,
@@ -228,11 +230,6 @@ def dpi_of(options: PrintOptions, form: Form) -> int:
     if dpi > MOST_DPI:
         raise ToolError(Text("--dpi {}: the maximum is {}", dpi, MOST_DPI), status=BAD_ARGUMENTS)
     return dpi
-
-
-def own_design(options: PrintOptions, sheet: Sheet, edges: Edges) -> OwnDesign:
-    """Returns the design that a file is; raises `ToolError` where it is none."""
-    return read_design(options.design, sheet.cell, white_of(sheet, edges), options.turn)
 
 
 def sheet_of(options: PrintOptions, form: Form) -> Sheet:

@@ -12,8 +12,8 @@ knows which of them have ended; and one more byte while it reads and writes. A l
 label up leaves its number with it, and no lane takes a number that a label waits with.
 
 A last line that was cut off is taken out: the label of `sending` was not sent, that of `taken` is
-in doubt. Where all fields are there an editor may have left out the end alone: the line stays, and
-is a mark only of a label that waits for it. Ends of lines may be those of Windows.
+in doubt. Only a line of `sending` that has all its fields stays: an editor may have left out its
+end, and its label is in doubt. Ends of lines may be those of Windows.
 """
 
 import fcntl
@@ -25,7 +25,7 @@ from codecs import BOM_UTF8
 from contextlib import contextmanager, suppress
 from itertools import count
 from pathlib import Path
-from typing import Iterator, Mapping, NamedTuple, Optional, Sequence
+from typing import Iterator, Mapping, NamedTuple, Optional
 
 from labeltools.lines.file import LineRecord
 from labeltools.common.messages import ToolError
@@ -44,7 +44,6 @@ FAR = 1 << 62  # of a file: bytes that are locked and never written
 NO_JOURNAL = Text("give a file that label-print --journal has made, or a new name")
 CUT_OFF = Text("its last line was cut off, and was taken out")
 NO_END = Text("its last line had no end")
-NOT_SENT = Text("its label was not sent")
 NOT_WRITTEN = Text("see that it can be written, then give the same command again")
 NO_LOCKS = Text("put the journal on a disk that locks files")
 STRANGE = re.compile(rb"[^ -\[\]-~]| (?= *\Z)")  # what is written as escapes: blanks at the end too
@@ -231,22 +230,17 @@ class Journal:
             self.mend(last.rstrip(ENDS))
 
     def mend(self, line: bytes) -> None:
-        """Takes out a last line without its end, where fields are missing or it may be the mark of
-        a longer code. Else it is written anew, and its label is in doubt unless the line is the
-        mark of one that waits for it.
+        """Ends a last line without its end if all fields are there and its label was sent, which is
+        in doubt then. Any other one is taken out: that of a label that was not sent yet, and the
+        mark of one that waits for it in a line before, since its code may be cut.
         """
         found = entry_in(line, self.lines + 1)
-        now, _, rest = line.partition(b"\t")
-        marked = [
-            (code, entry) for code, entry in self.left().items() if is_mark(rest, code, entry)
-        ]
-        if found is None or any(code != found[0] for code, _ in marked):
-            self.mended = Text("{}: {}", CUT_OFF, on_paper(marked) if marked else NOT_SENT)
+        if found is None or found[1].event == TAKEN:
+            self.mended = CUT_OFF
             os.ftruncate(self.file, self.end)
             return
-        self.mended = NOTHING if marked else Text("{}: {}", NO_END, on_paper([found]))
-        code, entry = found
-        self.append_entry(now, code, entry._replace(event=TAKEN if marked else SENDING))
+        self.mended = NO_END
+        self.append_entry(line.partition(b"\t")[0], *found)
         os.ftruncate(self.file, self.end)  # it was longer where it had blanks at its end
 
     def is_in_place(self) -> bool:
@@ -347,17 +341,6 @@ def fields_of(code: bytes, entry: Entry) -> bytes:
     """Returns the line of a code without its time and its end."""
     texts = f"lane {entry.lane}\t{entry.printer}\t{entry.place}".encode("utf-8", "replace")
     return b"\t".join((entry.event, texts, code))
-
-
-def is_mark(rest: bytes, code: bytes, entry: Entry) -> bool:
-    """Returns whether the mark of a label begins as a line does behind its time."""
-    return fields_of(code, entry._replace(event=TAKEN)).startswith(rest)
-
-
-def on_paper(found: Sequence[tuple[bytes, Entry]]) -> Text:
-    """Returns which labels may be on paper."""
-    names = [f"{entry.place} ({code.decode()})" for code, entry in found]
-    return Text("{} may be on paper", few(names, len(names)))
 
 
 def code_of(record: LineRecord) -> bytes:

@@ -16,7 +16,7 @@ from contextlib import suppress
 
 from labeltools.common.messages import BAD_ARGUMENTS, ToolError
 from labeltools.common.text import Text
-from labeltools.printing.outlets import Broken, Unreachable
+from labeltools.printing.outlets import Broken, Outlet, Unreachable
 
 SCHEME = "tcp://"
 NAME = re.compile(r"tcp://(\[[0-9A-Fa-f:.%]+\]|[^\s/:\[\]]+)(?::([0-9]{1,5}))?/?", re.ASCII)
@@ -48,7 +48,7 @@ def address_of(name: str) -> tuple[str, int]:
     raise ToolError(what, status=BAD_ARGUMENTS)
 
 
-class NetworkPrinter:
+class NetworkPrinter(Outlet):
     """A printer named as tcp://HOST[:PORT]; `stuck` are seconds in which it may take nothing."""
 
     is_direct = True

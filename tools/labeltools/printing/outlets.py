@@ -9,7 +9,7 @@ import tempfile
 from collections.abc import Callable, Sequence
 from io import BytesIO
 from pathlib import Path
-from typing import IO, Any, Optional, Protocol
+from typing import IO, Any, Optional
 
 from labeltools.common.command_line import hold_signals, standard_output
 from labeltools.common.files import Unwritten, save, send, temporary
@@ -37,23 +37,25 @@ class Broken(ToolError):
     """A way out that took a part of a label, or all of it without saying so."""
 
 
-class Outlet(Protocol):
+class Outlet:
     """Where labels go. `is_direct` is whether each is there for certain once it was sent, whatever
     comes after it. `open` is called before a label is written into the journal.
     """
 
     name: str
-    is_direct: bool
+    is_direct = False
 
     def open(self) -> object:
-        """Returns the way out, which is another one once it was made anew after a good end; raises
+        """Returns the way out, which is another one once it was made again after a good end; raises
         `ToolError` if nothing can be sent.
         """
+        raise NotImplementedError
 
     def send(self, data: bytes) -> None:
         """Sends what is whole by itself; raises `Untaken` if nothing of it is there, and `Broken`
         if a part of it may have gone out.
         """
+        raise NotImplementedError
 
     def close(self) -> None:
         """Ends the way out after what was sent; raises `Broken` if it broke off before."""
@@ -62,10 +64,9 @@ class Outlet(Protocol):
         """Ends the way out at once, if nothing was sent."""
 
 
-class OpenFile:
+class OpenFile(Outlet):
     """What is written to an open file; each label of a file on a disk is there once it is sent."""
 
-    name: str
     is_direct = True
     is_synced = True
 
@@ -87,12 +88,6 @@ class OpenFile:
     def broken(self, error: OSError) -> ToolError:
         """Returns what an error of the system means."""
         return Broken(Text("{}: {}", self.name, error.strerror))
-
-    def close(self) -> None:
-        """Does nothing."""
-
-    def drop(self) -> None:
-        """Does nothing."""
 
 
 class StandardOutput(OpenFile):
@@ -153,12 +148,10 @@ class Device(OpenFile):
             os.close(file)
 
 
-class Files:
+class Files(Outlet):
     """A file for each label, whose data are given in the order of the labels; `name` has %d for the
     number of one, or %s for its data.
     """
-
-    is_direct = False
 
     def __init__(self, name: str, data: Sequence[bytes]) -> None:
         """Makes their folder, if it is not there; raises `ToolError` if it is not empty, or if two
@@ -177,19 +170,11 @@ class Files:
         with hold_signals():
             save(BytesIO(data), path, number)
 
-    def close(self) -> None:
-        """Does nothing: each file is whole."""
 
-    def drop(self) -> None:
-        """Does nothing, as `close`."""
-
-
-class Collected:
+class Collected(Outlet):
     """A temporary file, which is given away once all labels are in it: by a function whose result
     is kept.
     """
-
-    is_direct = False
 
     def __init__(self, name: str, give: Callable[[IO[bytes]], Any]) -> None:
         """Raises `ToolError` if there is no room for temporary files."""

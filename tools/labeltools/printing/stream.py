@@ -22,7 +22,7 @@ import sys
 from io import BufferedReader, RawIOBase
 from queue import Queue
 from threading import Thread
-from typing import Any, BinaryIO, Iterator, NamedTuple, NoReturn, Optional, Sequence
+from typing import Any, BinaryIO, Iterator, NamedTuple, Optional, Sequence
 
 from labeltools.common.command_line import ENDING, hold_signals, standard_output
 from labeltools.lines.engine import Engine, LABELS_FAILED
@@ -62,11 +62,7 @@ class Refused(Exception):
         self.reason = reason
 
 
-class Known(Exception):
-    """A line whose code was sent before."""
-
-
-class Part(NamedTuple):
+class InputLine(NamedTuple):
     """A line, or the object before it, with its number, and why it is refused where it is."""
 
     number: int
@@ -193,11 +189,11 @@ def fault_of(line: bytes, source: Source) -> Text:
     return TOO_LONG
 
 
-def jobs(source: Source) -> Iterator[Sequence[Part]]:
+def jobs(source: Source) -> Iterator[Sequence[InputLine]]:
     """Yields each line with data as soon as it is there, behind the object before it where there is
     one; of a FIFO, for ever.
     """
-    before: list[Part] = []
+    before: list[InputLine] = []
     number = 0
     while (line := next_line(source)) or isinstance(source, Ahead):
         if not line:
@@ -208,9 +204,9 @@ def jobs(source: Source) -> Iterator[Sequence[Part]]:
         data = line.removesuffix(b"\n")
         if data.startswith(OBJECT) and fault is not CUT_OFF:
             wrong = LONG_OBJECT if fault else TWO_OBJECTS if before else NOTHING
-            before = [] if data.startswith(SKIPPED) else [Part(number, data, wrong)]
+            before = [] if data.startswith(SKIPPED) else [InputLine(number, data, wrong)]
         elif data and (fault is CUT_OFF or not data.startswith(b"#")):
-            yield [*before, Part(number, data, fault)]
+            yield [*before, InputLine(number, data, fault)]
             before = []
 
 
@@ -233,13 +229,12 @@ class Stream:
         self.latest: Optional[Prepared] = None
         self.status = 0
 
-    def answer(self, parts: Sequence[Part]) -> tuple[str, Text]:
+    def answer(self, parts: Sequence[InputLine]) -> tuple[str, Text]:
         """Prints a line, and returns the word and the text of its answer."""
         text = parts[-1].line.decode("utf-8", "backslashreplace")
         try:
-            return TAKEN, Text("{} {}", self.print(parts), text)
-        except Known:
-            return KNOWN, Text("{}", text)
+            size = self.print(parts)
+            return (TAKEN, Text("{} {}", size, text)) if size else (KNOWN, Text("{}", text))
         except Refused as refused:
             return REFUSED, refused.reason
         except Broken as error:
@@ -258,9 +253,9 @@ class Stream:
         is_lost = journal is not None and journal.is_lost
         return bool(self.status) or self.sender.is_at_end or is_lost
 
-    def print(self, parts: Sequence[Part]) -> int:
-        """Prints a label and returns how many bytes it has; raises `Refused`, `Known`, `ToolError`
-        where nothing went out, and `Broken`.
+    def print(self, parts: Sequence[InputLine]) -> int:
+        """Prints a label and returns how many bytes it has, 0 if its code was sent before; raises
+        `Refused`, `ToolError` where nothing went out, and `Broken`.
         """
         self.require_reader()
         for part in parts:
@@ -268,17 +263,15 @@ class Stream:
                 raise Refused(part.fault)
         record, found = self.laid_out(parts)
         if self.options.is_each_once and record.key in self.seen:
-            raise Known
-        size = 0
-        for item in found.labels:
-            copies = item.label.record.label.copies
-            press = self.press(found)
-            size = self.sender.send(press, press.part(item, copies), True, True)
-            if not size:
-                self.raise_known(record)
+            return 0
+        press = self.press(found)
+        (label,) = press.parts(found.prints)
+        size = self.sender.send(press, label, True, True)
+        if reason := NOTHING if size else self.sender.doubt(record):
+            raise Broken(reason)
         if self.options.is_each_once and self.sender.journal is None:
             self.seen.add(record.key)
-        self.latest = found
+        self.latest = found if size else None
         return size
 
     def notes(self) -> Iterator[Text]:
@@ -303,15 +296,7 @@ class Stream:
             self.sender.is_at_end = True
             raise ToolError(Text("{}: {}", OUTPUT, os.strerror(errno.EPIPE)))
 
-    def raise_known(self, record: LineRecord) -> NoReturn:
-        """Raises `Known` for a line that the journal has, or `Broken` where its label is in doubt,
-        and nobody has printed it since.
-        """
-        if reason := self.sender.doubt(record):
-            raise Broken(reason)
-        raise Known
-
-    def laid_out(self, parts: Sequence[Part]) -> tuple[LineRecord, Prepared]:
+    def laid_out(self, parts: Sequence[InputLine]) -> tuple[LineRecord, Prepared]:
         """Returns a line with its label; raises `Refused`."""
         data = b"".join(part.line + b"\n" for part in parts)
         numbers = [part.number for part in parts]
