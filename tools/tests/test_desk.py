@@ -8,7 +8,6 @@ import re
 import threading
 import unittest
 from pathlib import Path
-from typing import Optional
 from unittest import mock
 
 import designs
@@ -21,7 +20,7 @@ from labeltools.printing.network import NetworkPrinter
 from labeltools.printing.job import PrintOptions, planned
 from labeltools.printing.outlets import Outlet
 from labeltools.printing.press import labels_of
-from labeltools.printing.selection import selection_of
+from labeltools.printing.selection import ranges_in, selection_of
 from labeltools.printing.sending import Sender
 from printers import Printer
 
@@ -41,8 +40,8 @@ def setUpModule() -> None:
 class Chosen(Desk):
     """--only, --only-code and --unique; the library; a line that is cut off."""
 
-    def rows(self, rows: Optional[str], *codes: str) -> list[int]:
-        only = selection_of(rows, codes)
+    def rows(self, rows: str, *codes: str) -> list[int]:
+        only = selection_of(ranges_in(rows), codes)
         records = read_lines(b"ean13 4006381333931\n" + TICKETS, "lines").records
         return [record.number for record in records if only and only.has(record)]
 
@@ -50,11 +49,11 @@ class Chosen(Desk):
         self.assertEqual(self.rows("2,29-"), [2, 29, 30, 31])
         self.assertEqual(self.rows("3-4", "T00030", "400638133393"), [1, 3, 4, 31])
         for digits in ("400638133393", "4006381333931"):
-            self.assertEqual(self.rows(None, f"ean13 {digits}", f"qr {digits}"), [1])
+            self.assertEqual(self.rows("", f"ean13 {digits}", f"qr {digits}"), [1])
         codes = Path(self.folder, "codes")
         for data in (b"T00005\r\n\nT00001\n", b"\xef\xbb\xbfT00001\r\nT00005"):
             codes.write_bytes(data)
-            self.assertEqual(self.rows(None, f"@{codes}"), [2, 6])
+            self.assertEqual(self.rows("", f"@{codes}"), [2, 6])
 
     def test_what_is_not_there_is_said(self) -> None:
         done = printed("--only", "40-", "--only-code", "T9", "--only-code", "T00001")

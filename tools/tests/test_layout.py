@@ -13,7 +13,7 @@ import numpy
 import support
 from labeltools.paper.area import ROLL_SMALLEST
 from labeltools.layout.letters import FONT, Letters
-from labeltools.printing.selection import selection_of
+from labeltools.printing.selection import Selection
 from labeltools.lines.symbologies import SYMBOLOGIES
 from jobs import Dots
 from laying import AROUND, laid_out, look
@@ -173,7 +173,7 @@ class Frames(unittest.TestCase):
         wide = {"title": LONG, "price": "1.299,00 €"}
         data = filed(PRICED, *[wide] * 5)
         whole = laid_out(data, (60.0, 40.0), 300)
-        again = laid_out(data, (60.0, 40.0), 300, only=selection_of("2", ()))
+        again = laid_out(data, (60.0, 40.0), 300, only=Selection(((2, 2),)))
         alone = laid_out(filed(PRICED), (60.0, 40.0), 300)
         self.assertEqual([item.label.record.place.number for item in again.labels], [2])
         self.assertEqual(again.labels[0].layout, whole.labels[0].layout)

@@ -14,7 +14,7 @@ from unittest import mock
 import jobs
 import support
 from labeltools.printing.job import PrintOptions, planned
-from labeltools.printing.cups import SentJob, lp_words, queue_of, queues
+from labeltools.printing.cups import SentJob, lp_line, queue_of, queues
 from drivers import pages_of_pcl
 from laying import laid_out, look
 from printers import Printer
@@ -35,23 +35,21 @@ def setUpModule() -> None:
 class Lines(unittest.TestCase):
     """The line of lp(1) that prints what was written."""
 
-    def words(self, **options: Any) -> Optional[str]:
-        words = lp_words(planned(PrintOptions(**options)), "NAME")
-        return " ".join(words) if words else None
+    def words(self, **options: Any) -> str:
+        return lp_line(planned(PrintOptions(**options)), "NAME")
 
     def test_each_form(self) -> None:
-        end = "-o Resolution=203dpi -o print-scaling=none"
+        end = "-o Resolution=203dpi -o print-scaling=none FILE.pdf"
         roll = {"paper": (60.0, 40.0), "dpi": 203}
         self.assertEqual(self.words(**roll), f"lp -d NAME -o media=Custom.60x40mm {end}")
-        self.assertEqual(self.words(**roll, to="zpl"), "lp -d NAME -o raw")
-        self.assertEqual(self.words(**roll, to="escpos"), "lp -d NAME -o raw")
+        self.assertEqual(self.words(**roll, to="zpl"), "lp -d NAME -o raw FILE.zpl")
+        self.assertEqual(self.words(**roll, to="escpos"), "lp -d NAME -o raw FILE.escpos")
         for form in ("png", "svg", "pbm"):
-            self.assertIsNone(self.words(**roll, to=form))
+            self.assertEqual(self.words(**roll, to=form), "")
         grid = {"cell": (63.5, 38.1), "columns": 3, "rows": 7}
-        line = "lp -d NAME -o media=A4 -o Resolution=600dpi -o print-scaling=none"
+        line = "lp -d NAME -o media=A4 -o Resolution=600dpi -o print-scaling=none FILE.pdf"
         self.assertEqual(self.words(**grid), line)
-        letter = self.words(**grid, page=(215.9, 279.4))
-        self.assertIn("media=Letter", str(letter))
+        self.assertIn("media=Letter", self.words(**grid, page=(215.9, 279.4)))
 
     def test_it_is_said_by_summary(self) -> None:
         done = support.printed("--paper", "60x40", "--dpi", "203", "--summary", input=LINES)

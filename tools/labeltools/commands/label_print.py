@@ -29,13 +29,13 @@ from labeltools.layout.layout import LaidOut
 from labeltools.lines.file import LineRecord
 from labeltools.paper.area import DESIGNS
 from labeltools.paper.stock import forget, list_stock
-from labeltools.printing.cups import Queue, lp_words, queue_of, typed
+from labeltools.printing.cups import Queue, lp_line, queue_of
 from labeltools.printing.job import DRAWING_DPI, Job, PrintOptions, form_of, planned
 from labeltools.printing.journal import Journal
 from labeltools.printing.network import SCHEME, address_of
 from labeltools.printing.outlets import Files, OUTPUT, Outlet, StandardOutput
 from labeltools.printing.press import Prepared, check_count, labels_of
-from labeltools.printing.selection import ROWS, selection_of
+from labeltools.printing.selection import Ranges, ranges_in, selection_of
 from labeltools.printing.sending import Sender, direct_outlet, doubts, labels_text, print_on
 
 TOOL = "label-print"
@@ -104,26 +104,23 @@ def design_of(argument: str) -> str:
     """Returns the name of a design, or the file of a user's own, which may be one of those that are
     installed with this package.
     """
-    if argument not in DESIGNS and not is_file(argument):
+    if argument in DESIGNS:
+        return argument
+    if not is_file(argument):
         known = ", ".join(DESIGNS)
         what = Text("{!r} is none of {}, or a file such as rack.svg", argument, known)
         raise wrong_argument(what)
     share = Path(__file__).resolve().parents[3]  # of a checkout, or PREFIX/share
-    folders = (share / "designs", share / "doc/labels/designs")
-    named = [folder / argument for folder in folders if "/" not in argument]
-    if argument in DESIGNS or Path(argument).exists():
-        return argument
-    return next((str(path) for path in named if path.exists()), argument)
+    folders = (Path(), share / "designs", share / "doc/labels/designs")
+    paths = [folder / argument for folder in (folders if "/" not in argument else folders[:1])]
+    return next((str(path) for path in paths if path.exists()), argument)
 
 
-def rows(argument: str) -> str:
+def rows(argument: str) -> Ranges:
     """Returns rows such as 2,7-9 or 7-."""
-    ranges = re.findall(r"(\d+)-(\d+)", argument)
-    is_backward = any(int(first) > int(last) for first, last in ranges)
-    has_zero = 0 in map(int, re.findall(r"\d+", argument))
-    if not ROWS.fullmatch(argument) or is_backward or has_zero:
-        raise wrong_argument(Text("{!r}: write rows as 2,7-9 or 7-", argument))
-    return argument
+    if found := ranges_in(argument):
+        return found
+    raise wrong_argument(Text("{!r}: write rows as 2,7-9 or 7-", argument))
 
 
 def filled(argument: str) -> str:
@@ -225,7 +222,7 @@ def add_choice_options(parser: Parser) -> None:
     count = reads("3", 1, int)
     add("--first", metavar="N", type=count, default=PrintOptions.first, help=first)
     only = "print only these rows of the table, such as 2,7-9, or 7- for all from 7 on"
-    add("--only", metavar="ROWS", type=rows, dest="rows_only", help=only)
+    add("--only", metavar="ROWS", type=rows, dest="rows_only", default=(), help=only)
     code = (
         "print the label with this code, or those of @FILE, a code on each line; with --only those "
         "of either"
@@ -444,8 +441,9 @@ def summary_of(options: PrintOptions, found: Prepared, sender: Sender, known: in
     if known:
         there = counted("{} label in {} already", "{} labels in {} already", known, options.journal)
         text = joined("; ", (text, there))
-    if not options.is_sent_singly and lp_words(job, "NAME"):
-        text = Text("{}; print the file by: {}", text, typed(job, "NAME"))
+    line = lp_line(job, "NAME")
+    if line and not options.is_sent_singly:
+        text = Text("{}; print the file by: {}", text, line)
     return text
 
 

@@ -12,6 +12,7 @@ from typing import IO, Any
 
 from labeltools.common.messages import BAD_ARGUMENTS, ToolError
 from labeltools.common.text import NOTHING, Text
+from labeltools.drawing.forms import PDF
 from labeltools.paper.stock import Size
 from labeltools.printing.job import DRAWING_DPI, Job
 
@@ -73,7 +74,7 @@ class Queue:
             return DRAWING_DPI
         return self.dpi or max(known, default=0)
 
-    def options(self, job: Job) -> dict[str, str]:
+    def options(self, job: Job) -> Mapping[str, str]:
         """Returns the options of CUPS by which a job is printed dot for dot; raises `ToolError` if
         the queue does not have its resolution. Each dot may be several of the printer's.
         """
@@ -82,14 +83,14 @@ class Queue:
             if self.dpi and dpi not in (self.dpi, *self.words):
                 raise self.refusal(dpi)
             return RAW
-        options = {"media": media_of(job.plan.sheet.page), "print-scaling": "none"}
+        options = {"media": media_of(job.plan.sheet.page)}
         if not self.dpi or self.dpi % dpi:
             words = [word for dots, word in sorted(self.words.items()) if dots % dpi == 0]
             if words:
                 options[RESOLUTION] = words[0]
             elif self.dpi:
                 raise self.refusal(dpi)
-        return options
+        return {**options, "print-scaling": "none"}
 
     def refusal(self, dpi: int) -> ToolError:
         """Returns why labels cannot be printed here."""
@@ -207,20 +208,16 @@ def resolution_of(driver: Any) -> str:
     return str(default.value)
 
 
-def lp_words(job: Job, queue: str) -> list[str] | None:
-    """Returns the words of lp(1) that print what a job writes in its own size, on a queue of which
-    nothing is known; None for a form that printers do not take.
+def lp_line(job: Job, name: str) -> str:
+    """Returns the line of lp(1) that prints a file of a job in its own size, on a queue of which
+    nothing is known; nothing for a form that printers do not take.
     """
-    if job.form.is_roll:
-        return ["lp", "-d", queue, "-o", "raw"]
-    if job.form.name != "pdf":
-        return None
-    media = f"media={media_of(job.plan.sheet.page)}"
-    resolution = f"Resolution={job.plan.dpi}dpi"
-    words = ["lp", "-d", queue]
-    for option in (media, resolution, "print-scaling=none"):
-        words += ["-o", option]
-    return words
+    if job.form != PDF and not job.form.is_roll:
+        return ""
+    dpi = job.plan.dpi
+    options = Queue(name, 0, {dpi: f"{dpi}dpi"}).options(job)
+    words = ["raw"] if options is RAW else [f"{name}={value}" for name, value in options.items()]
+    return " -o ".join([f"lp -d {name}", *words]) + f" FILE.{job.form.name}"
 
 
 def media_of(page: Size) -> str:
@@ -233,11 +230,6 @@ def media_of(page: Size) -> str:
         if max(abs(page[0] - sides[0]), abs(page[1] - sides[1])) <= NEAR:
             return name
     return f"Custom.{page[0]:g}x{page[1]:g}mm"
-
-
-def typed(job: Job, queue: str) -> str:
-    """Returns the line that prints a file of a job."""
-    return " ".join([*(lp_words(job, queue) or []), f"FILE.{job.form.name}"])
 
 
 def queues() -> list[str]:

@@ -69,29 +69,30 @@ def names_of(record: LineRecord) -> set[bytes]:
     return {whole, *names, *(kind + b" " + name for name in names)}
 
 
-def selection_of(rows: Optional[str], codes: Iterable[str]) -> Optional[Selection]:
-    """Returns what is asked for: rows such as 2,7-9 or 7-, and codes or files of them; None where
-    nothing is. Raises `ToolError` and `OSError`.
+def selection_of(rows: Ranges, codes: Iterable[str]) -> Optional[Selection]:
+    """Returns what is asked for: rows, and codes or files of them; None if nothing is. Raises
+    `ToolError` and `OSError`.
     """
-    wanted: set[bytes] = set()
-    for code in codes:
-        wanted |= codes_of(code)
-    if rows is None and not wanted:
-        return None
-    return Selection(ranges_in(rows or ""), frozenset(wanted))
+    wanted = frozenset(code for argument in codes for code in codes_of(argument))
+    return Selection(rows, wanted) if rows or wanted else None
 
 
 def ranges_in(rows: str) -> Ranges:
-    """Returns the ranges that an argument names.
+    """Returns the ranges that an argument such as 2,7-9 or 7- names; none if it names no rows.
 
-    >>> ranges_in("7-9,2,8-12"), ranges_in("30-,2-40") == ((2, ENDLESS),)
+    >>> ranges_in("7-9,2,8-12"), ranges_in("2-40,30-") == ((2, ENDLESS),)
     (((2, 2), (7, 12)), True)
+    >>> ranges_in("9-7"), ranges_in("0"), ranges_in("2;3")
+    ((), (), ())
     """
+    if not ROWS.fullmatch(rows):
+        return ()
     found: list[tuple[int, int]] = []
-    for part in filter(None, rows.split(",")):
+    for part in rows.split(","):
         first, dash, last = part.partition("-")
-        end = ENDLESS if dash and not last else int(last or first)
-        found.append((int(first), end))
+        found.append((int(first), ENDLESS if dash and not last else int(last or first)))
+    if any(not 0 < start <= end for start, end in found):
+        return ()
     apart: list[tuple[int, int]] = []
     for start, end in sorted(found):
         if apart and start <= apart[-1][1]:
