@@ -61,21 +61,47 @@ def on_paper(done: "support.Finished[bytes]") -> List[bytes]:
     return [dots.tobytes() for dots in jobs.dots_of_zpl(done.stdout)]
 
 
+def entry(
+    event: str, code: str, place: str = "line 1", printer: str = "tcp://a", lane: int = 1
+) -> str:
+    """A line of a journal."""
+    return f"2026-11-27T09:30:00Z\t{event}\tlane {lane}\t{printer}\t{place}\t{code}\n"
+
+
 def program(code: str = "") -> Sequence[str]:
     """The command label-print, with some code before it."""
     tool = [str(support.TOOLS / "label-print")]
     return ["/usr/bin/python3", "-c", START.format(code=code)] if code else tool
 
 
-def ended(run: "subprocess.Popen[bytes]") -> None:
-    """Waits for the end of a program, and closes its pipes."""
-    for pipe in (run.stdin, run.stdout, run.stderr):
-        if pipe is not None:
-            pipe.close()
-    run.wait(support.SECONDS)
+class Program(subprocess.Popen[bytes]):
+    """A program that runs, with its pipes."""
+
+    stdin: IO[bytes]
+    stdout: IO[bytes]
+    stderr: IO[bytes]
+
+    def end(self) -> None:
+        """Kills it, waits for its end, and closes its pipes."""
+        self.kill()
+        for pipe in (self.stdin, self.stdout, self.stderr):
+            if pipe is not None:
+                pipe.close()
+        self.wait(support.SECONDS)
+
+    def write(self, lines: bytes) -> None:
+        """Writes lines."""
+        self.stdin.write(lines)
+        self.stdin.flush()
+
+    def answer(self, line: bytes = b"") -> str:
+        """The next answer of a stream, after a line is written."""
+        if line:
+            self.write(line)
+        return self.stderr.readline().decode()
 
 
-def open_files(run: "subprocess.Popen[bytes]", path: str) -> int:
+def open_files(run: Program, path: str) -> int:
     """How many open files of a program are this one."""
     names = Path(f"/proc/{run.pid}/fd").iterdir()
     return sum(name.exists() and name.samefile(path) for name in names)
@@ -99,6 +125,11 @@ class Desk(unittest.TestCase):
         """The events of the journal."""
         lines = Path(self.path).read_text().splitlines()[1:]
         return [line.split("\t")[1] for line in lines]
+
+    def journal(self, *entries: str) -> str:
+        """Writes the journal, and returns its name."""
+        Path(self.path).write_text("".join(["#labels journal 1\n", *entries]))
+        return self.path
 
     def said(self, done: "support.Finished[bytes]", status: int, pattern: str) -> None:
         """Compares a status and a message."""
@@ -134,9 +165,9 @@ class Desk(unittest.TestCase):
         stdout: End = NULL,
         stderr: End = PIPE,
         variables: Mapping[str, str] = MappingProxyType({}),
-    ) -> "subprocess.Popen[bytes]":
+    ) -> Program:
         """Starts label-print on a roll, with some code before it; it ends with the test."""
-        run = subprocess.Popen(
+        run = Program(
             [*program(code), *ROLL, *words],
             stdin=stdin,
             stdout=stdout,
@@ -144,34 +175,29 @@ class Desk(unittest.TestCase):
             env={**support.environment(), **variables},
             cwd=support.TOOLS,
         )
-        self.addCleanup(ended, run)
-        self.addCleanup(run.kill)
+        self.addCleanup(run.end)
         return run
 
-    def other(self, code: str, *words: str) -> "subprocess.Popen[bytes]":
+    def other(self, code: str, *words: str) -> Program:
         """Starts other code, which can have a journal of its own; it ends with the test."""
         command = ["/usr/bin/python3", "-c", START.rpartition("start(")[0].format(code=code)]
-        run = subprocess.Popen([*command, *words], stdin=PIPE, stdout=PIPE, cwd=support.TOOLS)
-        self.addCleanup(ended, run)
-        self.addCleanup(run.kill)
+        run = Program([*command, *words], stdin=PIPE, stdout=PIPE, cwd=support.TOOLS)
+        self.addCleanup(run.end)
         return run
 
-    def holding(self) -> "subprocess.Popen[bytes]":
+    def holding(self) -> Program:
         """A lane that keeps the journal until its standard input ends."""
         code = (
             "with journal.Journal(sys.argv[1], 'tcp://b').locked():\n"
             "    print('locked', flush=True); sys.stdin.read()\n"
         )
         lane = self.other(code, self.path)
-        assert lane.stdout is not None
         self.assertEqual(lane.stdout.readline(), b"locked\n")
         return lane
 
     # ---- streams
 
-    def start(
-        self, *words: str, code: str = "", stdout: End = NULL, stderr: End = PIPE
-    ) -> "subprocess.Popen[bytes]":
+    def start(self, *words: str, code: str = "", stdout: End = NULL, stderr: End = PIPE) -> Program:
         """Starts a stream."""
         return self.begin("--stream", *words, code=code, stdout=stdout, stderr=stderr)
 
@@ -181,20 +207,13 @@ class Desk(unittest.TestCase):
         self.assertEqual(done.stderr.count(b"\n"), len(done.stderr.splitlines()))
         return done.stderr.decode().splitlines()
 
-    def answer(self, stream: "subprocess.Popen[bytes]", line: bytes) -> str:
-        """The answer to a line."""
-        assert stream.stdin and stream.stderr
-        stream.stdin.write(line)
-        stream.stdin.flush()
-        return stream.stderr.readline().decode()
-
     def fifo(self) -> str:
         """A new FIFO in the folder."""
         path = f"{self.folder}/till"
         os.mkfifo(path)
         return path
 
-    def written(self, stream: "subprocess.Popen[bytes]", fifo: str, data: bytes) -> None:
+    def written(self, stream: Program, fifo: str, data: bytes) -> None:
         """Writes into a FIFO, as a writer that comes and goes, and waits until its stream has read
         that, and waits for the next writer, as one itself.
         """

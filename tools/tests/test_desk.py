@@ -12,10 +12,10 @@ from unittest import mock
 
 import designs
 import support
-from desk import NULL, PIPE, ROLL, TICKETS, Desk, labels_in, printed
+from desk import NULL, PIPE, ROLL, TICKETS, Desk, entry, labels_in, printed
 from labeltools.printing.journal import Journal, escaped
 from labeltools.lines.file import read_lines
-from labeltools.common.messages import Silence, ToolError
+from labeltools.common.messages import Silence
 from labeltools.printing.network import NetworkPrinter
 from labeltools.printing.job import PrintOptions, planned
 from labeltools.printing.outlets import Outlet
@@ -106,16 +106,16 @@ class Network(Desk):
     """--print tcp://HOST."""
 
     def test_each_label_arrives(self) -> None:
-        printer = Printer().start()
-        self.said(printed("--print", printer.name), 0, "30 labels taken by tcp://127")
-        self.assertEqual(len(set(printer.labels)), 30)
-
-    def test_a_slow_one_and_one_that_talks(self) -> None:
+        """At a slow printer too, at one that talks, and at one that waits until it is heard."""
+        says = b"\x02030,0,0\x03\r\n"
         for printer in (
-            Printer(slow=0.02).start(),
-            Printer(says=b"\x02030,0,0\x03\r\n" * 200).start(),
+            Printer(),
+            Printer(slow=0.02),
+            Printer(says=says * 200),
+            Printer(says=says * 40_000),
         ):
-            self.said(printed("--print", printer.name), 0, "30 labels taken")
+            done = printed("--print", printer.start().name)
+            self.said(done, 0, "30 labels taken by tcp://127")
             self.assertEqual(len(set(printer.labels)), 30)
 
     def test_off(self) -> None:
@@ -143,11 +143,20 @@ class Network(Desk):
         self.said(done, 1, "takes nothing for 0 seconds: it took .* may be missing: look at")
 
     def test_names(self) -> None:
-        self.assertEqual(NetworkPrinter("tcp://[::1]:9101").address, ("::1", 9101))
-        self.assertEqual(NetworkPrinter("tcp://till-3").address, ("till-3", 9100))
-        for name in ("tcp://", "tcp://a:b", "tcp://a:70000", "tcp://a/b"):
-            with self.assertRaises(ToolError):
-                NetworkPrinter(name)
+        for name, address in (("[::1]:9101", ("::1", 9101)), ("till-3", ("till-3", 9100))):
+            self.assertEqual(NetworkPrinter(f"tcp://{name}").address, address)
+        long = "x" * 64
+        for name in (
+            *("tcp://", "tcp://a:b", "tcp://a:70000", "tcp://a/b", "tcp://a:0", "tcp://a..b"),
+            *(f"tcp://{long}", "tcp://\u00fc..b", "tcp://[::1", "", " "),
+            *("socket://till-3", "ipp://till-3/ipp"),
+        ):
+            self.said(printed("--print", name), 2, "argument --print: ")
+        self.said(printed("--print", "TCP://no.invalid"), 1, "line 1 and what follows it were not")
+        printer = Printer().start()
+        words = ("--print", printer.name.upper(), "--journal", self.path, "--only", "1")
+        for again in ((), ("--again", printer.name.upper())):
+            self.said(printed(*words, *again), 0, "1 label taken by tcp://127")
 
     def test_a_queue_and_other_forms_are_refused(self) -> None:
         for words in (("--journal", self.path), ("--stream",)):
@@ -277,12 +286,10 @@ class Journals(Desk):
 
     def test_a_mark_that_is_cut_to_another_code(self) -> None:
         """It is the mark of no label but the one that waits for it."""
-        line = "2026-11-27T09:30:00Z\t{}\tlane {}\ttcp://a\trow {}\tqr {}\n"
-        sent = line.format("sending", 1, 12, "T00012")
-        other = line.format("sending", 2, 1, "T0001")
-        cut = line.format("taken", 1, 12, "T0001")[:-1]
+        sent = entry("sending", "qr T00012", "row 12")
+        other = entry("sending", "qr T0001", "row 1", lane=2)
         for before in (sent, other + sent):
-            Path(self.path).write_text(f"#labels journal 1\n{before}{cut}")
+            self.journal(before, entry("taken", "qr T0001", "row 12")[:-1])
             done = printed("--journal", self.path, input=b"qr T0001\nqr T00012\n")
             self.said(done, 1, "its last line was cut off, and was taken out\n")
             self.said(done, 1, "lines? (1-)?2: may be on paper, from tcp://a: look for it")
@@ -305,15 +312,6 @@ class Journals(Desk):
         done = printed("--journal", self.path)
         self.said(done, 1, "line 3 is no line of a journal; correct it; delete it only if")
         self.assertEqual(labels_in(done), [])
-
-    def test_an_editor_that_writes_a_new_file(self) -> None:
-        journal = Journal(self.path, "tcp://a")
-        self.assertTrue(journal.claim(self.records[0]))
-        new = f"{self.folder}/new"
-        Path(new).write_bytes(Path(self.path).read_bytes())
-        os.rename(new, self.path)
-        with self.assertRaisesRegex(ToolError, "another program has changed it"):
-            journal.claim(self.records[1])
 
     def test_a_label_is_written_down_before_it_goes_out(self) -> None:
         """On the disk, and marked after it went: a power cut leaves one label in doubt at most."""
@@ -375,14 +373,8 @@ class FullDisks(Desk):
         done = printed("--journal", self.path, "--only", "1")
         self.assertEqual(done.returncode, 0)
         head, first, mark = Path(self.path).read_bytes().splitlines(keepends=True)
-        sizes = [
-            4,
-            len(head),
-            len(head + first) - 1,
-            len(head + first),
-            len(head + first + mark) + 5,
-        ]
-        for size in sizes:
+        both = len(head + first)
+        for size in (4, len(head), both - 1, both, both + len(mark) + 5):
             with self.subTest(size=size):
                 os.unlink(self.path)
                 done = self.run_alone("--journal", self.path, code=f"limit({size})")
@@ -390,11 +382,10 @@ class FullDisks(Desk):
                 went = labels_in(done)
                 rest = printed("--journal", self.path)
                 labels = [*went, *labels_in(rest)]
-                self.assertEqual(len(labels), len(set(labels)))
+                self.assertEqual((len(labels), len(set(labels))), (30, 30))
                 is_doubtful = b"may be on paper" in rest.stderr
-                self.assertEqual(len(labels) == 30, True)
                 self.assertEqual(rest.returncode, int(is_doubtful), rest.stderr)
-                self.assertEqual(is_doubtful, size == len(head + first))
+                self.assertEqual(is_doubtful, size == both)
 
 
 class Streams(Desk):
@@ -407,10 +398,8 @@ class Streams(Desk):
             b"ean13 4006381333932\n",
         ]
         stream = self.start("--unique", stdout=PIPE)
-        assert stream.stdin and stream.stdout and stream.stderr
         for line, word in zip([*lines, b"qr A\n"], ("taken", "taken", "refused", "known")):
-            stream.stdin.write(line)
-            stream.stdin.flush()
+            stream.write(line)
             answer = stream.stderr.readline().decode().split()
             self.assertEqual(answer[0], word)
             if word == "taken":
@@ -486,7 +475,6 @@ class Streams(Desk):
         os.set_blocking(source, False)
         stream = self.begin("--stream", stdin=source, stdout=PIPE)
         os.close(source)
-        assert stream.stdout and stream.stderr
         for code in (b"A", b"B"):
             os.write(target, b"qr " + code + b"\n")
             answer = stream.stderr.readline().split()
@@ -496,29 +484,9 @@ class Streams(Desk):
         self.assertEqual(stream.stderr.read(), b"")
         self.assertEqual(stream.wait(), 0)
 
-    def test_nobody_reads_the_labels(self) -> None:
-        stream = self.start(stdout=PIPE)
-        assert stream.stdin and stream.stdout and stream.stderr
-        stream.stdout.close()
-        stream.stdin.write(b"qr A\nqr B\n")
-        stream.stdin.close()
-        self.assertEqual(stream.stderr.read(), b"unsent 1 standard output: Broken pipe\n")
-        self.assertEqual(stream.wait(), 1)
-
-    def test_nobody_reads_the_answers(self) -> None:
-        """It ends before a label: a line without an answer would be sent again."""
-        stream = self.start(stdout=PIPE)
-        assert stream.stdin and stream.stdout and stream.stderr
-        stream.stderr.close()
-        stream.stdin.write(TICKETS)
-        stream.stdin.close()
-        self.assertEqual(stream.stdout.read(), b"")
-        self.assertEqual(stream.wait(), 1)
-
     def test_a_fifo_is_kept_open(self) -> None:
         fifo = self.fifo()
         stream = self.start(fifo, stdout=PIPE)
-        assert stream.stderr and stream.stdout
         for code in ("A", "B"):
             self.written(stream, fifo, f"qr {code}\n".encode())
             answer = stream.stderr.readline().split()
@@ -529,14 +497,12 @@ class Streams(Desk):
     @support.slow
     def test_memory_and_descriptors_are_level(self) -> None:
         stream = self.start(stdout=PIPE)
-        assert stream.stdin and stream.stdout and stream.stderr
         status = Path(f"/proc/{stream.pid}/status")
         found = []
         spent = []
         for number in range(900):
             start = processor_time(stream.pid)
-            stream.stdin.write(b"ean13 400638133393\n" if number % 4 == 0 else b"qr %d\n" % number)
-            stream.stdin.flush()
+            stream.write(b"ean13 400638133393\n" if number % 4 == 0 else b"qr %d\n" % number)
             answer = stream.stderr.readline().split()
             stream.stdout.read(int(answer[2]))
             spent.append(processor_time(stream.pid) - start)

@@ -9,16 +9,15 @@ import random
 import re
 import signal
 import socket
-import subprocess
 import threading
 import time
 import unittest
 from pathlib import Path
-from typing import Sequence
+from typing import Callable, Sequence
 from unittest import mock
 
 import support
-from desk import PIPE, ROLL, TICKETS, Desk, labels_in, on_paper, printed
+from desk import PIPE, ROLL, TICKETS, Desk, Program, entry, labels_in, on_paper, printed
 from labeltools.printing import journal as journals
 from labeltools.printing.journal import Journal
 from labeltools.common.messages import ToolError
@@ -56,11 +55,6 @@ class Printers(Desk):
         self.assertEqual(self.events(), ["sending"] * 30)
         self.assertEqual(printer.labels, [])
 
-    def test_one_that_waits_until_it_is_heard(self) -> None:
-        printer = Printer(says=b"\x02030,0,0\x03\r\n" * 40_000).start()
-        self.said(printed("--print", printer.name), 0, "30 labels taken")
-        self.assertEqual(len(set(printer.labels)), 30)
-
     def test_a_label_that_takes_longer_than_a_printer_may_rest(self) -> None:
         printer = Printer().start()
         outlet = NetworkPrinter(printer.name, stuck=50.0)
@@ -79,17 +73,6 @@ class Printers(Desk):
         self.said(done, 1, "timed out: line 1 and what follows it were not sent; is it on")
         ((_, seconds), _) = connect.call_args
         self.assertLessEqual(seconds, 30)
-
-    def test_names(self) -> None:
-        long = "x" * 64
-        names = ("tcp://a:0", "tcp://a..b", f"tcp://{long}", "tcp://\u00fc..b", "tcp://[::1", "")
-        for name in (*names, " ", "socket://till-3", "ipp://till-3/ipp"):
-            self.said(printed("--print", name), 2, "argument --print: ")
-        self.said(printed("--print", "TCP://no.invalid"), 1, "line 1 and what follows it were not")
-        printer = Printer().start()
-        words = ("--print", printer.name.upper(), "--journal", self.path, "--only", "1")
-        for again in ((), ("--again", printer.name.upper())):
-            self.said(printed(*words, *again), 0, "1 label taken by tcp://127")
 
     def test_what_a_variable_without_a_value_leaves_empty(self) -> None:
         for word in ("--journal", "--again", "--only-code"):
@@ -175,15 +158,13 @@ class Rows(Desk):
         """Without a word it would look as if nothing had gone out."""
         printer = Printer(lingers=True).start()
         run = self.begin("--print", printer.name, code=f"network.FAREWELL = {support.SECONDS}.0")
-        assert run.stdin
         run.stdin.write(TICKETS)
         run.stdin.close()
-        run.stdin = None
         printer.at_end.wait()
         run.send_signal(signal.SIGTERM)
         printer.told.set()
-        said = run.communicate()[1]
-        self.assertEqual(run.returncode, -signal.SIGTERM)
+        said = run.stderr.read()
+        self.assertEqual(run.wait(support.SECONDS), -signal.SIGTERM)
         self.assertIn(b"it took 30 labels whole, and these are all\n", said)
 
     def test_one_row_twice(self) -> None:
@@ -263,8 +244,7 @@ class Editors(Desk):
 
     def test_a_journal_of_version_1_1_0(self) -> None:
         """It has a UPC-A as its line has it."""
-        line = "2026-11-27T09:30:00Z\ttaken\tlane 1\ttcp://a\tline 1\tupca 036000291452\n"
-        Path(self.path).write_text(f"#labels journal 1\n{line}")
+        self.journal(entry("taken", "upca 036000291452"))
         for code in (b"upca 03600029145", b"ean13 0036000291452"):
             done = printed("--journal", self.path, input=code + b"\n")
             self.said(done, 0, "^label-print: 0 labels; 1 label in .* already\n$")
@@ -338,9 +318,7 @@ class Lanes(Desk):
 
     def test_a_number_that_a_label_waits_with(self) -> None:
         """A lane that takes it would make others believe that the label is being sent."""
-        line = "2026-11-27T09:30:00Z\tsending\tlane 1\ttcp://a\tline 1\tqr T00001\n"
-        Path(self.path).write_text(f"#labels journal 1\n{line}")
-        journal = Journal(self.path, "tcp://b")
+        journal = Journal(self.journal(entry("sending", "qr T00001")), "tcp://b")
         self.assertEqual(journal.lane, 2)
         self.assertTrue(journal.claim(self.records[1]))
         journal.give_up()
@@ -360,7 +338,6 @@ class Lanes(Desk):
             done, 1, "another lane keeps it for 0 seconds; is that process stopped[?] continue it"
         )
         self.assertEqual(labels_in(done), [])
-        assert other.stdin
         other.stdin.close()
         self.assertEqual(len(labels_in(printed("--journal", self.path))), 30)
 
@@ -415,14 +392,14 @@ class Streams(Desk):
         printer = Printer(hangs_up=True).start()
         words = ("--journal", self.path, "--print", printer.name)
         stream = self.start(*words)
-        self.assertRegex(self.answer(stream, b"qr T00001\n"), "^doubtful 1 .* broke off")
+        self.assertRegex(stream.answer(b"qr T00001\n"), "^doubtful 1 .* broke off")
         printer.hangs_up = False
-        self.assertRegex(self.answer(stream, b"qr T00001\n"), "^doubtful 2 may be on paper, from")
+        self.assertRegex(stream.answer(b"qr T00001\n"), "^doubtful 2 may be on paper, from")
         again = ("--only-code", "T00001", "--again", printer.name)
         done = support.run("label-print", *ROLL, *words, *again, input=TICKETS)
         self.said(done, 0, "1 label taken by .*: line 1, T00001\n")
-        self.assertEqual(self.answer(stream, b"qr T00001\n"), "known 3 qr T00001\n")
-        self.assertRegex(self.answer(stream, b"qr T00002\n"), "^taken 4 ")
+        self.assertEqual(stream.answer(b"qr T00001\n"), "known 3 qr T00001\n")
+        self.assertRegex(stream.answer(b"qr T00002\n"), "^taken 4 ")
         self.assertEqual(len(printer.labels), 2)
 
     def test_nobody_reads_the_answers_any_more(self) -> None:
@@ -431,16 +408,13 @@ class Streams(Desk):
         ours, theirs = socket.socketpair()
         for answers in (PIPE, theirs.fileno()):
             stream = self.start("--print", printer.name, "--journal", self.path, stderr=answers)
-            assert stream.stdin
-            stream.stdin.write(b"qr %d\n" % (answers == PIPE))
-            stream.stdin.flush()
+            stream.write(b"qr %d\n" % (answers == PIPE))
             said = stream.stderr if stream.stderr else ours.makefile("rb")
             self.assertRegex(said.readline(), b"^taken 1 ")
             said.close()
             for end in (ours, theirs) if answers != PIPE else ():
                 end.close()
-            stream.stdin.write(b"qr T00002\n")
-            stream.stdin.flush()
+            stream.write(b"qr T00002\n")
             self.assertEqual(stream.wait(support.SECONDS), 1)
         self.assertEqual(self.events(), ["sending", "taken"] * 2)
         self.assertEqual(len(printer.labels), 2)
@@ -448,11 +422,10 @@ class Streams(Desk):
     def test_nobody_reads_the_labels_any_more(self) -> None:
         """The label has not gone out, and is not in doubt."""
         stream = self.start("--journal", self.path, stdout=PIPE)
-        assert stream.stdout
-        self.assertRegex(self.answer(stream, b"qr A\n"), "^taken 1 ")
+        self.assertRegex(stream.answer(b"qr A\n"), "^taken 1 ")
         stream.stdout.close()
         said = "unsent 2 standard output: Broken pipe\n"
-        self.assertEqual(self.answer(stream, b"qr B\n"), said)
+        self.assertEqual(stream.answer(b"qr B\n"), said)
         self.assertEqual(stream.wait(support.SECONDS), 1)
         self.assertEqual(self.events(), ["sending", "taken"])
 
@@ -463,9 +436,7 @@ class Streams(Desk):
         for _ in range(12):
             printer = Printer().start()
             stream = self.start("--print", printer.name)
-            assert stream.stdin and stream.stderr
-            stream.stdin.write(TICKETS)
-            stream.stdin.flush()
+            stream.write(TICKETS)
             printer.wait(1)
             time.sleep(moments.uniform(0.0, 0.1))
             stream.send_signal(moments.choice(ENDINGS))
@@ -478,7 +449,6 @@ class Streams(Desk):
         """It is not one line with that of the next writer."""
         fifo = self.fifo()
         stream = self.start(fifo)
-        assert stream.stderr
         for line, pattern in (
             (b"qr A\n", b"taken 1 "),
             (b"qr T000", b"refused 2 cut off before its line end"),
@@ -502,7 +472,7 @@ class Streams(Desk):
         run = self.start(stderr=target)
         self.assertEqual(self.late(run, source, target).count(b"taken "), 400)
 
-    def late(self, run: "subprocess.Popen[bytes]", source: int, target: int) -> bytes:
+    def late(self, run: Program, source: int, target: int) -> bytes:
         """What a program writes that has many lines to print, and is read late."""
         os.close(target)
         lines = b"".join(b"qr W%05d\n" % number for number in range(400))
@@ -513,9 +483,8 @@ class Streams(Desk):
         self.assertEqual(run.wait(support.SECONDS), 0)
         return found
 
-    def write(self, run: "subprocess.Popen[bytes]", lines: bytes) -> None:
+    def write(self, run: Program, lines: bytes) -> None:
         """Writes lines to a program, and ends them."""
-        assert run.stdin
         run.stdin.write(lines)
         run.stdin.close()
 
@@ -538,7 +507,6 @@ class Streams(Desk):
             line, _ = server.accept()
         with line:
             run = self.begin("--stream", stdin=line.fileno())
-        assert run.stderr
         client.sendall(b"qr A\n")
         self.assertRegex(run.stderr.readline(), b"^taken 1 ")
         client.setsockopt(socket.SOL_SOCKET, socket.SO_LINGER, BROKEN)
@@ -547,20 +515,17 @@ class Streams(Desk):
         self.assertEqual(run.wait(support.SECONDS), 1)
         self.assertRegex(said, b"^label-print: the lines cannot be read: Connection reset by peer")
 
-    def test_another_journal_ends_it_with_an_answer(self) -> None:
-        stream = self.start("--journal", self.path)
-        self.assertRegex(self.answer(stream, b"qr A\n"), "^taken 1 ")
-        os.unlink(self.path)
-        self.assertRegex(self.answer(stream, b"qr B\n"), "^unsent 2 .*another program has changed")
-        self.assertEqual(stream.wait(support.SECONDS), 1)
-
-    def test_a_line_of_another_program_ends_it_with_an_answer(self) -> None:
-        stream = self.start("--journal", self.path)
-        self.assertRegex(self.answer(stream, b"qr A\n"), "^taken 1 ")
-        with open(self.path, "ab") as file:
-            file.write(b"printed by hand: B\n")
-        self.assertRegex(self.answer(stream, b"qr B\n"), "^unsent 2 .*line 4 is no line of a")
-        self.assertEqual(stream.wait(support.SECONDS), 1)
+    def test_a_journal_that_another_program_has_written_ends_it_with_an_answer(self) -> None:
+        changes: Sequence[tuple[Callable[[str], object], str]] = (
+            (os.unlink, "another program has changed"),
+            (printed_by_hand, "line 4 is no line of a"),
+        )
+        for change, said in changes:
+            stream = self.start("--journal", self.path)
+            self.assertRegex(stream.answer(b"qr A\n"), "^taken 1 ")
+            change(self.path)
+            self.assertRegex(stream.answer(b"qr B\n"), f"^unsent 2 .*{said}")
+            self.assertEqual(stream.wait(support.SECONDS), 1)
 
     def test_a_mark_that_the_journal_does_not_take(self) -> None:
         with mock.patch(
@@ -592,10 +557,15 @@ class Streams(Desk):
         self.said(done, 0, rf"\Alabel-print: .*/journal: {said}\ntaken 1 .*\n\Z")
 
 
-def stream_size(stream: "subprocess.Popen[bytes]", fifo: str, lines: bytes) -> int:
+def printed_by_hand(path: str) -> None:
+    """Adds a line to a journal that is none."""
+    with open(path, "ab") as file:
+        file.write(b"printed by hand: B\n")
+
+
+def stream_size(stream: Program, fifo: str, lines: bytes) -> int:
     """The bytes of the label that a stream prints for what a writer writes into its FIFO."""
     Path(fifo).write_bytes(lines)
-    assert stream.stderr
     return int(stream.stderr.readline().split()[2])
 
 

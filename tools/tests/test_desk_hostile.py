@@ -14,7 +14,7 @@ from typing import Callable
 from unittest import mock
 
 import support
-from desk import PIPE, ROLL, TICKETS, Desk, labels_in, open_files, printed, program
+from desk import PIPE, ROLL, TICKETS, Desk, entry, labels_in, open_files, printed, program
 from labeltools.common import files
 from labeltools.printing import network, stream
 from labeltools.printing.journal import Journal
@@ -107,14 +107,14 @@ class Connections(Desk):
         printer = Printer()
         words = ("--print", printer.start().name, "--journal", self.path)
         stream = self.start(*words)
-        self.assertRegex(self.answer(stream, b"qr T00001\n"), "^taken 1 ")
+        self.assertRegex(stream.answer(b"qr T00001\n"), "^taken 1 ")
         done = printed(*words, "--only", "2")
         self.assertEqual(done.returncode, 0, done.stderr)
-        self.assertEqual(self.answer(stream, b"qr T00002\n"), "known 2 qr T00002\n")
+        self.assertEqual(stream.answer(b"qr T00002\n"), "known 2 qr T00002\n")
         while printer.ended < 3:
             time.sleep(0.01)
         self.assertEqual(printer.connections, 3)
-        self.assertRegex(self.answer(stream, b"qr T00003\n"), "^taken 3 ")
+        self.assertRegex(stream.answer(b"qr T00003\n"), "^taken 3 ")
 
     def test_more_open_files_than_select_takes(self) -> None:
         """A program that starts the tool may hand on as many as it has."""
@@ -122,7 +122,6 @@ class Connections(Desk):
         printer = Printer(slow=0.02).start()
         stream = self.start("--print", printer.name, "--dpi", "600", fifo, code=MANY_FILES)
         Path(fifo).write_bytes(b"qr A\n")
-        assert stream.stderr
         self.assertRegex(stream.stderr.readline(), b"^taken 1 ")
 
 
@@ -131,9 +130,7 @@ class Doubts(Desk):
 
     def waiting(self, printer: str) -> str:
         """A journal with the first label of TICKETS in doubt."""
-        line = f"2026-11-27T09:30:00Z\tsending\tlane 1\t{printer}\tline 1\tqr T00001\n"
-        Path(self.path).write_text(f"#labels journal 1\n{line}")
-        return self.path
+        return self.journal(entry("sending", "qr T00001", printer=printer))
 
     def test_a_lane_that_has_ended_since_the_journal_was_read(self) -> None:
         """Its label was taken meanwhile: nobody has to look for it."""
@@ -197,7 +194,7 @@ class Doubts(Desk):
         lines = b"code128 X1\nqr X1\n"
         printed("--journal", self.path, "--only", "1", input=lines)
         with open(self.path, "a") as file:
-            file.write("2026-11-27T09:30:00Z\tsending\tlane 1\tstandard output\tline 2\tqr X1\n")
+            file.write(entry("sending", "qr X1", "line 2", "standard output"))
         words = ("--journal", self.path)
         self.assertIn(
             "print only it by --only-code 'qr X1' --again", self.answers(b"qr X1\n", *words)[0]
@@ -218,17 +215,18 @@ class Doubts(Desk):
             )
             for name in "ab"
         )
-        line = "2026-11-27T09:30:00Z\tsending\tlane 1\ttcp://a\trow 3\tqr b2\n"
-        Path(self.path).write_text(f"#labels journal 1\n{line}")
-        done = printed("--journal", self.path, input=lines)
+        done = printed("--journal", self.journal(entry("sending", "qr b2", "row 3")), input=lines)
         self.said(done, 1, "b.xlsx, row 3: may be on paper, .* it by --only-code 'qr b2' --again")
 
     def test_those_of_many_printers(self) -> None:
         """The printer of each is named, and those of one printer are together."""
         names = [f"tcp://lane-{number % 12}" for number in range(1, 25)]
-        line = "2026-11-27T09:30:00Z\tsending\tlane {0}\t{1}\tline {0}\tqr T{0:05}\n"
-        lines = "".join(line.format(number, name) for number, name in enumerate(names, 1))
-        Path(self.path).write_text(f"#labels journal 1\n{lines}")
+        self.journal(
+            *(
+                entry("sending", f"qr T{number:05}", f"line {number}", name, number)
+                for number, name in enumerate(names, 1)
+            )
+        )
         done = printed("--journal", self.path)
         for number in range(12):
             rows = f"{number or 12}, {(number or 12) + 12}"
@@ -239,19 +237,17 @@ class Doubts(Desk):
         printer = Printer(stuck=1).start()
         words = ("--print", printer.name, "--journal", self.path, "--dpi", "1200")
         busy = self.start(*words, code=PATIENT)
-        assert busy.stdin and busy.stderr
-        busy.stdin.write(b"qr T00001\nqr T00002\n")
-        busy.stdin.flush()
+        busy.write(b"qr T00001\nqr T00002\n")
         self.assertRegex(busy.stderr.readline(), b"^taken 1 ")
         while self.events() != ["sending", "taken", "sending"]:
             time.sleep(0.01)
         other = self.start("--journal", self.path)
-        self.assertEqual(self.answer(other, b"qr T00001\n"), "known 1 qr T00001\n")
+        self.assertEqual(other.answer(b"qr T00001\n"), "known 1 qr T00001\n")
         text = "is sending it: send the line again to see whether it was taken"
-        self.assertEqual(self.answer(other, b"qr T00002\n"), f"doubtful 2 {printer.name} {text}\n")
+        self.assertEqual(other.answer(b"qr T00002\n"), f"doubtful 2 {printer.name} {text}\n")
         busy.kill()
         busy.wait()
-        self.assertRegex(self.answer(other, b"qr T00002\n"), "^doubtful 3 may be on paper, from")
+        self.assertRegex(other.answer(b"qr T00002\n"), "^doubtful 3 may be on paper, from")
 
     def test_what_can_be_typed(self) -> None:
         done = printed("--journal", self.waiting("standard output"), input=TICKETS[:10])
@@ -267,15 +263,15 @@ class Doubts(Desk):
         size = Path(self.waiting(printer.name)).stat().st_size
         os.unlink(self.path)
         stream = self.start(*words, code=f"limit({size + 2})")
-        self.assertRegex(self.answer(stream, b"qr T00001\n"), "^doubtful 1 .*File too large")
-        self.assertRegex(self.answer(stream, b"qr T00002\n"), "^unsent 2 .*File too large")
+        self.assertRegex(stream.answer(b"qr T00001\n"), "^doubtful 1 .*File too large")
+        self.assertRegex(stream.answer(b"qr T00002\n"), "^unsent 2 .*File too large")
         lines = TICKETS[:10]
         done = support.run("label-print", *ROLL, *words, input=lines)
         self.said(done, 1, "line 1: may be on paper, from tcp://")
         again = ("--only", "1", "--again", printer.name)
         done = support.run("label-print", *ROLL, *words, *again, input=lines)
         self.said(done, 0, "1 label taken by")
-        self.assertEqual(self.answer(stream, b"qr T00001\n"), "known 3 qr T00001\n")
+        self.assertEqual(stream.answer(b"qr T00001\n"), "known 3 qr T00001\n")
 
     def test_a_stream_to_standard_output_goes_on(self) -> None:
         """What is in doubt is one label, and standard output takes others."""
@@ -285,21 +281,19 @@ class Doubts(Desk):
     def test_a_line_that_a_stream_has_printed_itself(self) -> None:
         """Whoever is told to send it again would print it twice."""
         stream = self.start("--journal", self.path)
-        self.assertRegex(self.answer(stream, b"qr T00001\n"), "^taken 1 ")
+        self.assertRegex(stream.answer(b"qr T00001\n"), "^taken 1 ")
         os.rename(self.path, f"{self.path}.old")
-        self.assertEqual(self.answer(stream, b"qr T00001\n"), "known 2 qr T00001\n")
-        self.assertRegex(self.answer(stream, b"qr T00002\n"), "^unsent 3 .* has changed it")
+        self.assertEqual(stream.answer(b"qr T00001\n"), "known 2 qr T00001\n")
+        self.assertRegex(stream.answer(b"qr T00002\n"), "^unsent 3 .* has changed it")
 
     def test_a_place_in_other_letters(self) -> None:
         """An editor may have written it, and another program the journal."""
         journal = Path(self.waiting("tcp://a"))
         journal.write_bytes(journal.read_bytes().replace(b"line 1\t", b"Zeile \xfc\t"))
         stream = self.start("--journal", self.path)
-        self.assertRegex(self.answer(stream, b"qr T00002\n"), "^taken 1 ")
+        self.assertRegex(stream.answer(b"qr T00002\n"), "^taken 1 ")
         os.unlink(self.path)
-        self.assertRegex(
-            self.answer(stream, b"qr T00003\n"), "^unsent 2 .* it has not Zeile \ufffd"
-        )
+        self.assertRegex(stream.answer(b"qr T00003\n"), "^unsent 2 .* it has not Zeile \ufffd")
 
 
 class Ends(Desk):
@@ -444,7 +438,6 @@ class Streams(Desk):
         for line in (b"qr A\n", b"qr T000", b"qr B\n"):
             self.written(stream, fifo, line)
         printer.told.set()
-        assert stream.stderr
         for pattern in (b"^taken 1 ", b"^refused 2 cut off before its line end$", b"^taken 3 "):
             self.assertRegex(stream.stderr.readline(), pattern)
 
@@ -464,9 +457,9 @@ class Streams(Desk):
     def test_what_libraries_say_is_no_answer(self) -> None:
         """Fontconfig warns of this locale, which a ssh from another system may set."""
         stream = self.begin("--stream", variables={"LC_ALL": "UTF-8"})
-        self.assertRegex(self.answer(stream, b"qr A\n"), "^taken 1 ")
+        self.assertRegex(stream.answer(b"qr A\n"), "^taken 1 ")
         stream = self.begin("--stream", variables={"FONTCONFIG_FILE": "/no/such"})
-        self.assertRegex(self.answer(stream, b"qr A\n"), "^taken 1 ")
+        self.assertRegex(stream.answer(b"qr A\n"), "^taken 1 ")
 
     def test_standard_error_is_closed(self) -> None:
         command = ["/bin/sh", "-c", 'exec "$@" 2>&-', "sh", *program(), *ROLL, "--stream"]
@@ -511,7 +504,6 @@ class Streams(Desk):
         for make in makers:
             os.mkfifo(fifo)
             stream = self.start(str(fifo))
-            assert stream.stderr
             with fifo.open("wb", buffering=0) as writer:
                 writer.write(b"qr A\n")
                 self.assertRegex(stream.stderr.readline(), b"^taken 1 ")
@@ -525,7 +517,6 @@ class Streams(Desk):
         fifo = self.fifo()
         stream = self.start(fifo, code="stream.LOOK = 0.1")
         Path(fifo).write_bytes(b"qr A\n")
-        assert stream.stderr
         self.assertRegex(stream.stderr.readline(), b"^taken 1 ")
         while open_files(stream, fifo) < 2:
             time.sleep(0.01)  # it waits for the next writer when it is one itself
@@ -541,7 +532,6 @@ class Streams(Desk):
         fifo = Path(self.folder, "till")
         os.mkfifo(fifo)
         stream = self.start(str(fifo), code="stream.LOOK = 0.1")
-        assert stream.stderr
         with fifo.open("wb", buffering=0) as writer:
             while open_files(stream, str(fifo)) < 1:
                 time.sleep(0.01)
