@@ -1,19 +1,26 @@
 """What drivers of CUPS send to their printers, turned back into dots: ZPL, EPL2, the language of a
 Dymo LabelWriter, and PCL without compression.
 
-A page is rows of 0 and 1. A job that has any other command raises JobError.
+A page is rows of 0 and 1. A job that has any other command raises JobError. The bars of labels are
+found in a page, wherever the driver has moved them to.
 """
 
 import re
-from typing import Callable, Iterator, List, Sequence, Tuple
+from dataclasses import dataclass
+from typing import Callable, Iterator, List, Optional, Sequence, Tuple
 
 import numpy
 
 from jobs import Dots, JobError, data_of_run_lengths
+from labeltools.commands.label_print import options_of
+from labeltools.common.messages import Silence
+from labeltools.printing.job import planned
+from labeltools.printing.press import labels_of
 
 # The commands of a language, and what each does. The number in it, of digits or of one byte, is
 # that of the bytes or dots of a row, of rows that are skipped, or of the bytes of the row after it.
 BYTES, DOTS, SKIP, ROW, END, OTHER = range(6)
+NEAR = 320  # dots by which a driver may move a page: its margins
 Language = Sequence[Tuple[bytes, int]]
 EPL: Language = ((rb"GW0,\d+,(\d+),1\n", ROW), (rb"P\d+\n", END), (rb"[^\n]*\n", OTHER))
 DYMO: Language = (
@@ -90,3 +97,56 @@ def pages_of_dymo(job: bytes) -> Iterator[Dots]:
 def pages_of_pcl(job: bytes) -> Iterator[Dots]:
     """The pages of PCL."""
     return pages_of(job, PCL)
+
+
+@dataclass(frozen=True)
+class Bars:
+    """The bars of a label: the number of its page, where they are on it, and their dots."""
+
+    page: int
+    left: int
+    top: int
+    dots: Dots
+
+
+def bars_of(words: Sequence[str], lines: bytes) -> Iterator[Bars]:
+    """The bars of all labels on a sheet, as label-print places them by these words."""
+    options = options_of(words)
+    prepared = labels_of(options, planned(options), "lines", lines, Silence())
+    press = prepared.press(Silence())
+    (part,) = press.parts(prepared.prints)
+    for number, page in enumerate(part.pages):
+        for item, (left, top) in page:
+            box, modules = item.layout.boxes["bars"], item.label.modules
+            bits = rows_of(modules.packed, modules.row_size)[:, : modules.width]
+            dots = bits.repeat(box.width // modules.width, axis=1)
+            dots = dots.repeat(box.height // len(bits), axis=0)
+            if press.turn:  # to the right
+                place = left + press.turn - box.bottom, top + box.left
+                dots = numpy.rot90(dots, -1)
+            else:
+                place = left + box.left, top + box.top
+            yield Bars(number, *place, dots)
+
+
+def shift_of(page: Dots, bars: Bars) -> Optional[Tuple[int, int]]:
+    """By how much bars are moved on a page, to the right and down, where each of their dots is
+    there; None where they are nowhere.
+    """
+    high, wide = bars.dots.shape
+    wanted = bars.dots[0].tobytes()
+    begin = max(0, bars.left - NEAR)
+    for top in range(max(0, bars.top - NEAR), min(len(page) - high, bars.top + NEAR) + 1):
+        row = page[top, begin : bars.left + wide + NEAR].tobytes()
+        at = row.find(wanted)
+        while at >= 0:
+            left = begin + at
+            if numpy.array_equal(page[top : top + high, left : left + wide], bars.dots):
+                return left - bars.left, top - bars.top
+            at = row.find(wanted, at + 1)
+    return None
+
+
+def with_end(page: Dots) -> Dots:
+    """A page with white rows at its end, which drivers leave out."""
+    return numpy.pad(page, ((0, 2 * NEAR), (0, 0)))

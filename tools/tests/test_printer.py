@@ -8,21 +8,36 @@ import subprocess
 import tempfile
 import unittest
 from pathlib import Path
-from typing import Any, Optional
+from typing import Any, Callable, Dict, Iterator, Sequence, Tuple
 from unittest import mock
 
 import jobs
+import numpy
 import support
+import drivers
 from labeltools.printing.job import PrintOptions, planned
 from labeltools.printing.cups import SentJob, lp_line, queue_of, queues
-from drivers import pages_of_pcl
+from drivers import NEAR, Bars, bars_of, shift_of, with_end
 from laying import laid_out, look
 from printers import Printer
+from jobs import Dots, JobError
 from scheduler import Scheduler, raster_of
-from test_through_cups import LINES as FIVE
-from test_through_cups import Bars, Queue, bars_of, shift_of, with_end
 
 DPI = (203, 300, 360, 600)
+Pages = Callable[[bytes], Iterator[Dots]]
+# two rows of 16 dots
+ROWS = numpy.array([[1, 0] * 8, [0] * 8 + [1] * 8], dtype=numpy.uint8)
+LABELS = (
+    ("ean13 400638133393", {"title": "Bleistift, weich, 2B", "price": "0,80 €", "text": ["rot"]}),
+    ("ean8 7351353", {"title": "Kaugummi", "price": "0,30 €"}),
+    (
+        "upca 03600029145",
+        {"title": "Seife aus Übersee", "price": "2,95 €", "unit": "1 l = 11,80 €"},
+    ),
+    ("code128 LOT 7", {"title": "Los"}),
+    ("qr https://example.com/7", {"title": "Regal 7", "price": "1,20 €"}),
+)
+FIVE = support.file_of(LABELS)
 LINES = support.file_of(
     [(f"ean13 {support.ean13(400638000000 + number)}", {"title": "Seife"}) for number in range(3)]
 )
@@ -102,6 +117,17 @@ class Queues(unittest.TestCase):
         "raw": (0, 600, 0, None),
     }
     SHEET = ("--stock", "Avery L7160")
+    ROLL = ("--paper", "60x40")
+    # 6 mm at both ends are not printed
+    DYMO = ("--paper", "35.63x88.9", "--turn", "--edge", "1.5,6,1.5,6")
+    # drivers of CUPS: what they are tried with, and what turns their language back into pages
+    LANGUAGES: Dict[str, Tuple[Sequence[str], Pages, Sequence[int]]] = {
+        "zebra": (ROLL, drivers.pages_of_zpl, (203, 300, 600)),
+        "zebraep2": (ROLL, drivers.pages_of_epl, (203, 300)),
+        "dymo": (DYMO, drivers.pages_of_dymo, (300,)),
+        "generpcl": (SHEET, drivers.pages_of_pcl, (300, 600)),
+        "laserjet": (SHEET, drivers.pages_of_pcl, (600,)),
+    }
 
     @classmethod
     def setUpClass(cls) -> None:
@@ -117,13 +143,16 @@ class Queues(unittest.TestCase):
                 cls.scheduler.add_driverless(name)
             else:
                 cls.scheduler.add(name, "" if name == "raw" else name, device)
+        for name in cls.LANGUAGES:
+            cls.scheduler.add(f"file-{name}", name)
 
     def printed(self, *arguments: str) -> "support.Finished[bytes]":
         """Runs label-print with five labels."""
         return support.printed(*arguments, input=FIVE)
 
     def test_what_each_kind_says(self) -> None:
-        self.assertEqual(queues(), sorted(self.SAID))
+        files = [f"file-{name}" for name in self.LANGUAGES]
+        self.assertEqual(queues(), sorted([*self.SAID, *files]))
         sheet = planned(PrintOptions(stock="Avery L7160"))
         for name, (dpi, on_sheets, on_rolls, word) in self.SAID.items():
             queue = queue_of(name)
@@ -140,7 +169,7 @@ class Queues(unittest.TestCase):
 
     def test_labels_arrive_dot_for_dot(self) -> None:
         """But of queues of which nothing is known: what these print has a remark."""
-        found = {dpi: [*bars_of(Queue("", self.SHEET, "A4", pages_of_pcl, ()), dpi)] for dpi in DPI}
+        found = {dpi: [*bars_of([*self.SHEET, "--dpi", f"{dpi}"], FIVE)] for dpi in DPI}
         for name, (own, dpi, _, _) in self.SAID.items():
             if name in ("generpcl", "zebra", "raw"):
                 continue
@@ -156,12 +185,19 @@ class Queues(unittest.TestCase):
                         wanted = larger(bars, across // dpi, down // dpi)
                         self.assertIsNotNone(shift_of(page, wanted), bars.top)
 
-    def test_a_driver_gets_its_own_word(self) -> None:
-        done = self.printed(*self.SHEET, "--print", "generpcl")
-        self.assertIn(b"at 600 dpi", done.stderr)
-        pages = [with_end(page) for page in pages_of_pcl(self.scheduler.printed("generpcl"))]
-        for bars in bars_of(Queue("", self.SHEET, "A4", pages_of_pcl, ()), 600):
-            self.assertIsNotNone(shift_of(pages[0], bars))
+    def test_each_language_has_all_bars(self) -> None:
+        """At each resolution that a driver has; labels of another one are seen."""
+        for name, (sheet, pages_of, resolutions) in self.LANGUAGES.items():
+            for dpi in resolutions:
+                with self.subTest(driver=name, dpi=dpi):
+                    words = (*sheet, "--dpi", f"{dpi}")
+                    self.assertEqual(self.printed(*words, "--print", f"file-{name}").returncode, 0)
+                    job = self.scheduler.printed(f"file-{name}")
+                    pages = [with_end(page) for page in pages_of(job)]
+                    found = [shift_of(pages[bars.page], bars) for bars in bars_of(words, FIVE)]
+                    self.assertEqual((len(found), found.count(None)), (5, 0), found)
+        other = bars_of([*sheet, "--dpi", "300"], FIVE)
+        self.assertEqual([shift_of(pages[0], bars) for bars in other], [None] * 5)
 
     def test_a_job_for_the_printer_itself(self) -> None:
         words = ("--paper", "60x40", "--to", "zpl")
@@ -276,6 +312,58 @@ class Networks(unittest.TestCase):
                 done = support.printed(*Devices.WORDS, "--print", name, input=LINES)
         self.assertEqual((done.returncode, waited), (1, [10]))
         self.assertIn(f"{name}: timed out: row 2 and what follows it", done.stderr.decode())
+
+
+class Languages(unittest.TestCase):
+    """Jobs as the manuals of the printers describe them, written by hand."""
+
+    def check(self, pages: Iterator[Dots]) -> None:
+        (page,) = pages
+        self.assertTrue(numpy.array_equal(page[:2, :16], ROWS), page)
+
+    def test_zpl(self) -> None:
+        self.check(drivers.pages_of_zpl(b"~DGR:CUPS.GRF,4,2,\nJA00!^XA^XZ\n"))
+        job = b"~DGR:CUPS.GRF,6,2,\nAAAA00FF:^XA\n"
+        (page,) = drivers.pages_of_zpl(job)
+        self.assertTrue(numpy.array_equal(page[2], ROWS[1]))
+        with self.assertRaises(JobError):
+            list(drivers.pages_of_zpl(b"~DGR:CUPS.GRF,9,2,\nAAAA00FF^XA\n"))
+
+    def test_epl(self) -> None:
+        rows = b"GW0,0,2,1\n\x55\x55\nGW0,1,2,1\n\xff\x00\n"
+        self.check(drivers.pages_of_epl(b"\nN\nq16\n" + rows + b"P1\n"))
+
+    def test_dymo(self) -> None:
+        rows = b"\x16\xaa\xaa\x16\x00\xff"
+        self.check(
+            drivers.pages_of_dymo(b"\x1b\x1b@\x1bL\x04\x1a\x1bD\x02\x1be\x1bq1" + rows + b"\x1bE")
+        )
+        (page,) = drivers.pages_of_dymo(b"\x1b@\x1bD\x02\x1bf\x01\x03" + rows + b"\x1bE")
+        self.assertEqual((page.shape, int(page[:3].sum())), ((5, 16), 0))
+
+    def test_pcl(self) -> None:
+        rows = b"\x1b*b2W\xaa\xaa\x1b*b2W\x00\xff"
+        self.check(drivers.pages_of_pcl(b"\x1bE\x1b*r16S\x1b*r1A" + rows + b"\x1b*r0B\x0c\x1bE"))
+        (page,) = drivers.pages_of_pcl(b"\x1b*r16S\x1b*r1A\x1b*b4Y" + rows + b"\x1b*r0B")
+        self.assertEqual((page.shape, int(page[:4].sum())), ((6, 16), 0))
+
+
+class Shifts(unittest.TestCase):
+    def setUp(self) -> None:
+        generator = numpy.random.default_rng(7)
+        self.bars = Bars(0, 20, 30, generator.integers(0, 2, (40, 60)).astype(numpy.uint8))
+        self.page = numpy.zeros((200, 200), dtype=numpy.uint8)
+        self.page[28:68, 25:85] = self.bars.dots
+
+    def test_bars_are_found_where_they_are(self) -> None:
+        self.assertEqual(shift_of(self.page, self.bars), (5, -2))
+
+    def test_one_dot_that_is_wrong(self) -> None:
+        self.page[50, 60] ^= 1
+        self.assertIsNone(shift_of(self.page, self.bars))
+
+    def test_white_rows_at_the_end_are_given_back(self) -> None:
+        self.assertEqual(with_end(self.page[:68]).shape, (68 + 2 * NEAR, 200))
 
 
 class Edges(unittest.TestCase):
