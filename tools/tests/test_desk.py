@@ -12,7 +12,7 @@ from unittest import mock
 
 import designs
 import support
-from desk import NULL, PIPE, ROLL, TICKETS, Desk, entry, labels_in, printed
+from desk import NULL, PIPE, TICKETS, Desk, entry, labels_in, printed
 from labeltools.printing.journal import Journal, escaped
 from labeltools.lines.file import read_lines
 from labeltools.common.messages import Silence
@@ -96,10 +96,6 @@ class Chosen(Desk):
         done = printed(input=b"code128 PALLET-4711\ncode128 PALLET-47")
         self.said(done, 1, "line 2: has no line end, so it may be cut off")
         self.assertEqual(len(labels_in(done)), 1)
-
-    def test_the_library_is_not_there(self) -> None:
-        done = support.run("label-print", *ROLL, input=TICKETS, LABELS_LIBRARY="/no/such.so")
-        self.said(done, 1, "the library liblabels is not there: .*python3-liblabels")
 
 
 class Network(Desk):

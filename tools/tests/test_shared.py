@@ -128,7 +128,15 @@ class LinesFile(unittest.TestCase):
             ("copies", "10000"),
             ("copies", "true"),
             ("row", "-1"),
+            ("row", '"2"'),
+            ("row", "true"),
+            ("title", "1"),
             ("title", '"a\\u0007"'),
+            ("title", '"a\\u0000b"'),
+            ("title", '"a\\u2028b"'),
+            ("title", '"\\ud800"'),
+            ("text", '"no list"'),
+            ("text", "[1]"),
         ):
             text = self.file().replace(b'"row":4', f'"row":4,"{key}":{value}'.encode())
             self.assertRegex(self.refused(text), "^x: line 4: not understood: ")
