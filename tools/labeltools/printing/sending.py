@@ -87,8 +87,9 @@ class Sender:
         its label. The way out ends after the last one, which is taken if that ends well.
         """
         record = part.item.label.record
-        if self.journal is not None and self.is_known(record):
-            self.known.add(code_of(record))
+        journal = self.journal
+        if journal is not None and self.again is None and journal.entry(record) is not None:
+            self.known.add(code_of(record))  # as it was when the journal was last read
             return 0
         documents = list(press.documents(part, is_first))
         with self.nothing_begun():
@@ -96,7 +97,7 @@ class Sender:
         if way is not self.way:
             self.way = way
             self.on_way.clear()
-        if not self.claim(record, is_last):
+        if journal is not None and not journal.claim(record, self.again):
             self.known.add(code_of(record))
             return 0
         self.give(record, documents, is_last)
@@ -108,21 +109,9 @@ class Sender:
             self.on_way.clear()
         return sum(map(len, documents))
 
-    def claim(self, record: LineRecord, is_last: bool) -> bool:
-        """Returns whether a label is for this lane, which the journal then has as sent. The way out
-        is left to others if nothing more goes out by it. Raises `ToolError`.
-        """
-        is_ours = self.journal is None
-        try:
-            is_ours = self.journal is None or self.journal.claim(record, self.again)
-        finally:
-            if is_last and not is_ours:
-                self.outlet.drop()
-        return is_ours
-
     def give(self, record: LineRecord, documents: Iterable[bytes], is_last: bool) -> None:
-        """Gives a label to the printer, and writes that it was taken; raises `Broken`, and
-        `Untaken` if the journal has nothing of it either.
+        """Gives a label to the printer, and writes that it was taken. Raises `Broken`, and leaves
+        it in doubt in the journal, too; or what the printer does if nothing of it is there.
         """
         is_begun = self.journal is not None
         try:
@@ -131,31 +120,17 @@ class Sender:
                 is_begun = True
             if is_last:
                 self.outlet.close()
-        except (Broken, Untaken) as error:
-            self.is_at_end = self.outlet.name == OUTPUT
-            self.give_up()
+            if self.journal is not None:
+                self.journal.take(record)
+        except ToolError as error:
+            is_of_outlet = isinstance(error, (Broken, Untaken))
+            self.is_at_end = is_of_outlet and self.outlet.name == OUTPUT
+            if self.journal is not None:
+                with suppress(ToolError):  # something else is reported
+                    self.journal.give_up()
             if is_begun:
                 raise Broken(error.what, error.hint) from error
             raise
-        if self.journal is not None:
-            try:
-                self.journal.take(record)
-            except ToolError as error:
-                self.give_up()
-                raise Broken(error.what, error.hint) from error
-
-    def give_up(self) -> None:
-        """Leaves a label in doubt, in the journal too; what is wrong with that is not reported,
-        since something else is.
-        """
-        if self.journal is not None:
-            with suppress(ToolError):
-                self.journal.give_up()
-
-    def is_known(self, record: LineRecord) -> bool:
-        """Returns whether the journal is known to have a label, without looking into it again."""
-        assert self.journal is not None
-        return self.again is None and self.journal.entry(record) is not None
 
     def so_far(self) -> Text:
         """Returns how many labels went out whole."""
@@ -216,7 +191,7 @@ class Sender:
         numbers = {record.place.number for record in self.records}
         is_clear = len(numbers) == len(self.records)
         words = "--only ROWS" if is_clear else f"--only-code {FILE}FILE"
-        again = f"{words} --again {typed(self.outlet.name)}"
+        again = f"{words} --again {shlex.quote(self.outlet.name)}"
         return Text("{} may be missing: look there, and print what is by {}", labels, again)
 
     def doubt(self, record: LineRecord) -> Text:
@@ -326,19 +301,10 @@ def may_be_on_paper(printer: str, words: str) -> Text:
     choose them.
     """
     reason = Text("may be on paper, from {}: look for it", printer)
-    again = f"{words} --again {typed(printer)}"
+    again = f"{words} --again {shlex.quote(printer)}"
     return sentence(reason, Text("if it is not there, print only it by {}", again))
 
 
 def by_code(code: bytes) -> str:
     """Returns the words that choose the label of a code of a journal, and no other one."""
     return f"--only-code {shlex.quote(code.decode())}"
-
-
-def typed(printer: str) -> str:
-    """Returns the name of a printer as a shell takes it.
-
-    >>> typed("tcp://till-3:9100"), typed("standard output")
-    ('tcp://till-3:9100', "'standard output'")
-    """
-    return shlex.quote(printer)

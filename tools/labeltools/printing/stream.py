@@ -243,6 +243,8 @@ class Stream:
             if error.status == LABELS_FAILED:
                 self.status = error.status
             return UNSENT, sentence(error.what, error.hint)
+        finally:
+            self.sender.outlet.drop()  # it is left to others if nothing went out by it
 
     @property
     def is_at_end(self) -> bool:
