@@ -66,6 +66,8 @@ class Chosen(Desk):
         """Rows and codes together are the labels of either."""
         done = printed("--only", "3", "--only-code", "T00007", "--summary")
         self.said(done, 0, "2 labels: line 3, T00003; line 7, T00007")
+        copies = support.file_of([("qr A", {"copies": 3})])
+        self.said(printed("--only", "2", "--summary", input=copies), 0, "3 labels: row 2, A; print")
 
     def test_each_code_once(self) -> None:
         lines = b"qr 4006381333931\nean13 4006381333931\nean13 400638133393\nqr A\nqr A\n"

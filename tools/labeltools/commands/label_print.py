@@ -434,7 +434,8 @@ def summary_of(options: PrintOptions, found: Prepared, sender: Sender, known: in
     if options.queue:
         text = Text("{} taken by {}", text, options.queue)
     if options.only:
-        text = with_names(text, sender.sent if options.is_sent_singly else found.prints)
+        printed = {id(item): item for item in found.prints}
+        text = with_names(text, sender.sent if options.is_sent_singly else [*printed.values()])
     if not job.form.is_roll:
         pages = counted("{} page", "{} pages", job.pages_of(sender.taken))
         text = Text("{} on {}", text, pages)
