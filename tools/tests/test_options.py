@@ -231,7 +231,11 @@ class Cells(unittest.TestCase):
             ("--stock", "l7160", "--gap", "1x0"),
             ("--paper", "60x40", "--margin", "1x1"),
             ("--stock", "l7160", "--page", "200x297"),
+            ("--paper", "60x40", "--page", "210x297"),
+            ("--stock", "l7160", "--gap", "0x0"),
             ("--paper", "60x40", "--dots", "384"),
+            ("--paper", "60x40", "--dots", "576"),
+            ("--paper", "60x40", "--dpi", "203", "--to", "zpl", "--stream", "--after", "1"),
             ("--paper", "60x40", "--to", "zpl", "--dpi", "203", "--no-cut"),
         ):
             done = support.printed(*bad, input=b"ean8 7351353\n")
