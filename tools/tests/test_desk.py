@@ -112,8 +112,7 @@ class Network(Desk):
             Printer(says=says * 200),
             Printer(says=says * 40_000),
         ):
-            done = printed("--print", printer.start().name)
-            self.said(done, 0, "30 labels taken by tcp://127")
+            self.said(printed("--print", printer.start().name), 0, "30 labels taken by tcp://127")
             self.assertEqual(len(set(printer.labels)), 30)
 
     def test_off(self) -> None:
