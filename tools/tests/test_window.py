@@ -1001,12 +1001,13 @@ class WindowTest(unittest.TestCase):
     def test_a_wrong_picture_stops_the_print(self) -> None:
         self.open()
         made = self.window.labels
-        first, *others = made.laid_out.labels
+        first = made.labels[0]
         packed = bytearray(first.label.modules.packed)
         packed[len(packed) // 2] ^= 0b00111100
         wrong = replace(first.label, modules=replace(first.label.modules, packed=bytes(packed)))
-        laid_out = replace(made.laid_out, labels=(replace(first, label=wrong), *others))
-        self.window.labels = replace(made, laid_out=laid_out)
+        bad = replace(first, label=wrong)
+        prints = [bad if item is first else item for item in made.prints]
+        self.window.labels = replace(made, prints=prints)
         path = self.folder / "wrong.pdf"
         self.assertIn("row 2", self.said_after(self.window.save, path))
         self.assertFalse(path.exists())
