@@ -44,6 +44,7 @@ application: Any = None
 dialog: Any = None
 menu: Any = None
 window: Any = None
+Gdk: Any = None
 Gio: Any = None
 GLib: Any = None
 Gtk: Any = None
@@ -78,13 +79,13 @@ def setUpModule() -> None:
 
 def load() -> None:
     """Loads the window, where there is a screen."""
-    global application, dialog, menu, window, Gio, GLib, Gtk
+    global application, dialog, menu, window, Gdk, Gio, GLib, Gtk
     sys.path.insert(0, str(support.TOOLS))
     application, dialog, menu, window, gtk = (
         import_module(f"labeltools.window.{name}")
         for name in ("application", "dialog", "menu", "window", "gtk")
     )
-    Gio, GLib, Gtk = gtk.Gio, gtk.GLib, gtk.Gtk
+    Gdk, Gio, GLib, Gtk = gtk.Gdk, gtk.Gio, gtk.GLib, gtk.Gtk
     Gtk.init([])
 
 
@@ -878,8 +879,10 @@ class WindowTest(unittest.TestCase):
             "“Sheet” X: no such sheet\nthe names are in row 3: give “Row of the names” 3",
         )
         for hint, typed in (
-            ("otherwise give --decimal , or .", "--decimal ,"),
+            ("else give --decimal comma or point", "--decimal comma"),
             ("give --hidden to print them", "--hidden"),
+            ("give --date-as dd.mm.yyyy, or another pattern", "--date-as dd.mm.yyyy"),
+            ("give --encoding utf-16-le: try it", "--encoding utf-16-le"),
             ("give --sheet 'May 2026'", "--sheet 'May 2026'"),
         ):
             self.assertEqual(text(Text(hint)), f"{hint}\nFurther options: {typed}")
@@ -890,7 +893,7 @@ class WindowTest(unittest.TestCase):
         self.open(TABLE.replace(" €", ""))
         self.assertIn("3 prices without a currency", self.counted())
         shown = [row[0] for row in self.window.patterns]
-        self.assertEqual(shown[:3], ["0,80", "0,80 €", "€0.80"])
+        self.assertEqual(shown[:3], ["as in the table  –  0,80", "0,80 €", "€0.80"])
         self.change(price_as="€0.00")
         self.assertNotIn("without", self.counted())
         self.assertEqual(self.window.labels.labels[0].label.price, "€0.80")
@@ -901,6 +904,19 @@ class WindowTest(unittest.TestCase):
         self.assertEqual(self.window.choices()["price-as"], "")
         self.open(TABLE.replace("€", "CHF"))
         self.assertNotIn("0,80 €", [row[0] for row in self.window.patterns])
+
+    def test_the_wheel_changes_no_choice(self) -> None:
+        """It scrolls what the controls are in."""
+        self.open()
+        before = self.window.choices()
+        for name in ("title", "design", "first"):
+            control = self.window.control(name)
+            event = Gdk.Event.new(Gdk.EventType.SCROLL)
+            event.window = control.get_window()
+            event.direction = Gdk.ScrollDirection.DOWN
+            self.assertFalse(control.event(event))
+            settle(0.1)
+        self.assertEqual(self.window.choices(), before)
 
     def test_reasons_wrap_at_the_edge_of_the_list(self) -> None:
         self.open()

@@ -186,15 +186,12 @@ class Table:
         else:
             FILES.forget(self.path.name)
 
-    def price_patterns(self, column: str) -> Iterator[tuple[str, str]]:
-        """Yields how the prices of a column may be printed: the first of them as it would be, and
-        its pattern, which is empty for that as it is.
-        """
-        example = self.guess.examples[int(column) - 1] if column else ""
-        yield example, ""
-        for pattern in PATTERNS:
-            with suppress(NotMoney):
-                yield PricePattern.of(pattern).write(parse(example)), pattern
+
+def price_patterns(example: str) -> Iterator[tuple[str, str]]:
+    """Yields how prices like one may be printed: that one as it would be, and the pattern."""
+    for pattern in PATTERNS:
+        with suppress(NotMoney):
+            yield PricePattern.of(pattern).write(parse(example)), pattern
 
 
 def file_of(records: Sequence[LineRecord]) -> bytes:

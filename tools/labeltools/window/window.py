@@ -26,7 +26,7 @@ from labeltools.printing.network import SCHEME, address_of
 from labeltools.commands.label_print import check_count, is_direct, print_on, send_to
 from labeltools.printing.job import Prepared
 from labeltools.printing.cups import JobState, Queue, SentJob, queue_of, queues
-from labeltools.window.shop import COLUMNS, PAPER, Choices, Table, Talk
+from labeltools.window.shop import COLUMNS, PAPER, Choices, Table, Talk, price_patterns
 from labeltools.paper.stock import list_stock
 from labeltools.common.words import _
 
@@ -68,6 +68,11 @@ class List(Gtk.ListStore):
         super().__init__(str, str)
 
 
+def leave_wheel(control: Any, _event: Any) -> None:
+    """Leaves a turn of the mouse wheel to what the control is in: it would change unseen."""
+    control.stop_emission_by_name("scroll-event")
+
+
 class Number(Gtk.SpinButton):
     """A whole number."""
 
@@ -75,6 +80,7 @@ class Number(Gtk.SpinButton):
 
     def __init__(self, **properties: Any) -> None:
         super().__init__(**properties)
+        self.connect("scroll-event", leave_wheel)
         self.set_width_chars(3)
         self.set_increments(1, 10)
         self.set_range(0, 10_000)
@@ -87,6 +93,7 @@ class Choice(Gtk.ComboBox):
 
     def __init__(self, **properties: Any) -> None:
         super().__init__(**properties)
+        self.connect("scroll-event", leave_wheel)
         self.set_hexpand(True)
         letters = Gtk.CellRendererText(ellipsize=Pango.EllipsizeMode.END, width_chars=LETTERS)
         self.pack_start(letters, True)
@@ -318,8 +325,7 @@ class Window(Gtk.ApplicationWindow):
         self.columns.append([_("none"), ""])
         for number, (name, example) in enumerate(zip(guess.names, guess.examples), 1):
             name = name or _("column {number}").format(number=number)
-            shown = f"{name}  \u2013  {example}" if example else name
-            self.columns.append([shown, str(number)])
+            self.columns.append([with_example(name, example), str(number)])
         columns = {option: str(place + 1) for option, place in guess.columns.items()}
         self.take({**dict.fromkeys(COLUMNS, ""), "code": "1", **columns})
         self.take(dict.fromkeys(guess.doubts))  # only the keeper knows
@@ -386,7 +392,10 @@ class Window(Gtk.ApplicationWindow):
     def offer_patterns(self, table: Table) -> None:
         """Offers how the prices of the column may be printed."""
         self.patterns.clear()
-        for shown, pattern in table.price_patterns(self.choices()["price"] or ""):
+        price = self.choices()["price"]
+        example = table.guess.examples[int(price) - 1] if price else ""
+        self.patterns.append([with_example(_("as in the table"), example), ""])
+        for shown, pattern in price_patterns(example):
             self.patterns.append([shown, pattern])
         self.take({"price-as": ""})
 
@@ -732,6 +741,11 @@ def printers(is_roll: bool, _talk: Talk) -> list[str]:
     with suppress(ToolError):  # CUPS is not there
         return [*queues(), *found]
     return found
+
+
+def with_example(name: str, example: str) -> str:
+    """Returns a name for a choice, with an example after it if there is one."""
+    return f"{name}  \u2013  {example}" if example else name
 
 
 def lacking(window: Any) -> list[str]:
