@@ -49,8 +49,8 @@ class Chosen(Desk):
 
     def test_what_is_not_there_is_said(self) -> None:
         done = printed("--only", "40-", "--only-code", "T9", "--only-code", "T00001")
-        self.said(done, 1, "row 40: of --only, but not in the input")
-        self.said(done, 1, "label-print: T9: of --only-code, but not in the input")
+        self.said(done, 1, "row 40: named by --only, but not in the input")
+        self.said(done, 1, "label-print: T9: named by --only-code, but not in the input")
         self.assertEqual(len(labels_in(done)), 1)
         self.said(printed("--only-code", f"@{self.folder}/no"), 1, "no: No such file")
 
@@ -91,7 +91,7 @@ class Chosen(Desk):
 
     def test_the_library_is_not_there(self) -> None:
         done = support.run("label-print", *ROLL, input=TICKETS, LABELS_LIBRARY="/no/such.so")
-        self.said(done, 1, "the library liblabels is not there: .*python3-liblabels")
+        self.said(done, 1, "the library liblabels cannot be loaded: .*python3-liblabels")
 
 
 class Network(Desk):
@@ -114,7 +114,7 @@ class Network(Desk):
         printer = Printer().start()
         printer.off()
         done = printed("--print", printer.name, "--journal", self.path)
-        self.said(done, 1, "refused: line 1 and what follows it were not sent; is it on")
+        self.said(done, 1, "refused: line 1 and what follows it were not sent; is it switched on")
         self.assertEqual(self.events(), [])
         self.said(printed("--print", "tcp://no.invalid"), 1, "line 1 and what follows it")
 
@@ -122,13 +122,13 @@ class Network(Desk):
         printer = Printer(cut=10).start()
         done = printed("--print", printer.name)
         self.said(done, 1, r"broke off: it took \d+ labels? whole; look at the last one on paper")
-        self.assertRegex(done.stderr, rb"then print from line (\d+) on by --only \1-\n")
+        self.assertRegex(done.stderr, rb"then print from line (\d+) on with --only \1-\n")
 
     def test_one_that_hangs(self) -> None:
         printer = Printer(stuck=3).start()
         with mock.patch("labeltools.commands.label_print.NetworkPrinter", SHORT):
             done = printed("--print", printer.name, "--dpi", "600")
-        self.said(done, 1, "takes nothing for 0 seconds: it took .* print from line")
+        self.said(done, 1, "has taken nothing for 0 seconds: it took .* print from line")
 
     def test_names(self) -> None:
         self.assertEqual(NetworkPrinter("tcp://[::1]:9101").address, ("::1", 9101))
@@ -160,7 +160,7 @@ class Journals(Desk):
         printed("--journal", self.path)
         done = printed("--journal", self.path, "--only", "5", "--again", "tcp://lane-1")
         self.said(done, 1, "has no label of tcp://lane-1: --again: .* printers: standard output")
-        self.said(printed("--journal", self.path, "--again", "tcp://lane-1"), 2, "by --only")
+        self.said(printed("--journal", self.path, "--again", "tcp://lane-1"), 2, "with --only")
 
     def test_a_jam(self) -> None:
         """Two lanes; the first forgets the labels in its memory, and those alone are printed once
@@ -184,7 +184,9 @@ class Journals(Desk):
         words = ("--journal", self.path, "--print", printer.name)
         done = printed(*words)
         self.said(done, 1, "line [0-9]+ may be on paper: look there, then give the same")
-        self.said(done, 1, "look that line [0-9]+ is on paper, or print what is missing by --only")
+        self.said(
+            done, 1, "check that line [0-9]+ is on paper, or print what is missing with --only"
+        )
         doubtful = self.events().count("sending") - self.events().count("taken")
         self.assertEqual(doubtful, 1)
         done = printed(*words)
@@ -293,19 +295,21 @@ class Journals(Desk):
     def test_other_files_are_kept(self) -> None:
         for data in (b"Code;Name\n", b"#labels journal 2\n", b"#labels journal 1 x\n", b"\0" * 99):
             Path(self.path).write_bytes(data)
-            self.said(printed("--journal", self.path), 1, "journal is no journal: give a file that")
+            self.said(
+                printed("--journal", self.path), 1, "journal is not a journal: give a file that"
+            )
             self.assertEqual(Path(self.path).read_bytes(), data)
         os.unlink(self.path)
         os.mkfifo(self.path)
-        self.said(printed("--journal", self.path), 1, "journal is no journal")
-        self.said(printed("--journal", "/dev/null"), 1, "/dev/null is no journal")
+        self.said(printed("--journal", self.path), 1, "journal is not a journal")
+        self.said(printed("--journal", "/dev/null"), 1, "/dev/null is not a journal")
         self.said(printed("--journal", self.folder), 1, "Is a directory")
         self.said(printed("--journal", f"{self.folder}/no/journal"), 1, "No such file")
 
     def test_a_line_that_is_none(self) -> None:
         Path(self.path).write_bytes(b"#labels journal 1\n# my remark\nT00001\n")
         done = printed("--journal", self.path)
-        self.said(done, 1, "line 3 is no line of a journal; correct it; delete it only if")
+        self.said(done, 1, "line 3 is not a line of a journal; correct it; delete it only if")
         self.assertEqual(labels_in(done), [])
 
     def test_an_editor_that_writes_a_new_file(self) -> None:
@@ -477,7 +481,7 @@ class Streams(Desk):
         self.assertRegex(doubtful, "^doubtful 2 may be on paper, from tcp://.*; if it is not there")
         printer.off()
         said = self.answers(b"qr NEW\nqr T1\n", *words)
-        self.assertRegex(said[0], "^unsent 1 tcp://.*refused; is it on")
+        self.assertRegex(said[0], "^unsent 1 tcp://.*refused; is it switched on")
         self.assertEqual(said[1], "known 2 qr T1")
         self.assertNotIn("NEW", Path(self.path).read_text())
 

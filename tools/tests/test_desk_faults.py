@@ -40,12 +40,12 @@ class Printers(Desk):
         """A connection that is reset says that bytes were thrown away."""
         printer = Printer(rude=True).start()
         done = printed("--print", printer.name)
-        self.said(done, 1, "the printer broke off at the end: it took 30 labels whole; look that")
+        self.said(done, 1, "the printer broke off at the end: it took 30 labels whole; check that")
         self.said(
-            done, 1, "look that line 30 is on paper, or print what is missing by --only ROWS\n"
+            done, 1, "check that line 30 is on paper, or print what is missing with --only ROWS\n"
         )
         done = printed("--print", printer.name, "--journal", self.path)
-        self.said(done, 1, f"line 30 is on .* is missing by --only ROWS --again {printer.name}\n")
+        self.said(done, 1, f"line 30 is on .* is missing with --only ROWS --again {printer.name}\n")
 
     def test_a_stream_to_one_that_hangs_up(self) -> None:
         """Its system takes each label, and it reads none."""
@@ -76,7 +76,7 @@ class Printers(Desk):
         error = TimeoutError(errno.ETIMEDOUT, "Connection timed out")
         with mock.patch("socket.create_connection", side_effect=error) as connect:
             done = printed("--print", "tcp://till-3")
-        self.said(done, 1, "timed out: line 1 and what follows it were not sent; is it on")
+        self.said(done, 1, "timed out: line 1 and what follows it were not sent; is it switched on")
         ((_, seconds), _) = connect.call_args
         self.assertLessEqual(seconds, 30)
 
@@ -109,25 +109,27 @@ class Rows(Desk):
     def test_those_that_were_chosen(self) -> None:
         said = self.broken_off(TICKETS, "--only", "2-9,20")
         first = int(said.partition("then print from line ")[2].split()[0])
-        self.assertTrue(said.endswith(f"by --only {first}-9,20\n"), said)
+        self.assertTrue(said.endswith(f"with --only {first}-9,20\n"), said)
 
     def test_rows_in_any_order(self) -> None:
         lines = b"".join(b'#{"row":%d}\nqr R%d\n' % (row, row) for row in (9, 3, 8, 2, 7))
         said = self.broken_off(lines)
-        self.assertRegex(said, "from row (8 on by --only 2,7-8|2 on by --only 2,7)\n")
+        self.assertRegex(said, "from row (8 on with --only 2,7-8|2 on with --only 2,7)\n")
 
     def test_rows_of_several_tables(self) -> None:
         rows = [(f"qr {table}{row}", {"row": row}) for table in "AB" for row in (2, 3, 4, 5)]
         tables = [support.file_of(some) for some in (rows[:4], rows[4:])]
-        pattern = "from row [45] on by --only-code @FILE\n"
+        pattern = "from row [45] on with --only-code @FILE\n"
         self.assertRegex(self.broken_off(b"".join(tables)), pattern)
         first = Printer(cut=1).start()  # the next row is that of two labels
         done = printed("--print", first.name, input=b"".join(tables))
-        self.said(done, 1, r"then print from row \d on by --only-code @FILE\n")
+        self.said(done, 1, r"then print from row \d on with --only-code @FILE\n")
         lines = tables[0].replace(b"articles.xlsx", b"A.csv") + tables[1]
-        pattern = "from A.csv, row [45] on by --only-code @FILE\n"
+        pattern = "from A.csv, row [45] on with --only-code @FILE\n"
         self.assertRegex(self.broken_off(lines), pattern)
-        pattern = r"look that A.csv, row \d is on paper, or print what is missing by --only-code @F"
+        pattern = (
+            r"check that A.csv, row \d is on paper, or print what is missing with --only-code @F"
+        )
         self.assertRegex(self.broken_off(lines, "--journal", self.path), pattern)
 
     def test_again_breaks_off(self) -> None:
@@ -138,14 +140,14 @@ class Rows(Desk):
         printer.cut = len(printer.labels) + 3
         again = ("--only", "20-", "--again", printer.name)
         done = printed(*words, *again)
-        pattern = f"then print from line (2[123]) on by --only \\1-30 --again {printer.name}\n"
+        pattern = f"then print from line (2[123]) on with --only \\1-30 --again {printer.name}\n"
         self.said(done, 1, pattern)
 
     def test_rows_in_place_of_codes(self) -> None:
         """Codes of the same command would be printed again beside the rows."""
         codes = [word for row in (2, 5, 9, 12, 15) for word in ("--only-code", f"T{row:05}")]
         said = self.broken_off(TICKETS, *codes)
-        pattern = r"from line (\d+) on, in place of --only-code, by --only (\1[\d,-]*)\n"
+        pattern = r"from line (\d+) on with --only (\1[\d,-]*) instead of --only-code\n"
         rows = re.search(pattern, said)
         assert rows is not None, said
         self.assertEqual(len(labels_in(printed("--only", rows[2]))), rows[2].count(",") + 1)
@@ -158,18 +160,22 @@ class Rows(Desk):
         parts = [support.file_of(rows[:4]), support.file_of(rows[4:])]
         parts[0] = parts[0].replace(b"articles.xlsx", b"A.csv")
         words = [word for code in ("A2", "B3", "B4", "B5") for word in ("--only-code", code)]
-        pattern = r"row \d on, in place of --only-code, by --only-code @FILE\n"
+        pattern = r"row \d on with --only-code @FILE instead of --only-code\n"
         self.assertRegex(self.broken_off(b"".join(parts), *words), pattern)
         alike = b"".join(parts).replace(b"qr B", b"qr A")
         said = self.broken_off(alike)
-        self.assertRegex(said, r"print a file of A.csv, row \d and what follows it alone: others")
+        self.assertRegex(
+            said, r"print a file of only A.csv, row \d and what follows it: other labels"
+        )
         done = printed("--unique", input=alike)
         self.said(done, 1, "articles.xlsx, row 2: has the code of A.csv, row 2\n")
         first = Printer(cut=1).start()  # codes of the rest are those of two labels
         done = printed("--print", first.name, input=alike)
-        self.said(done, 1, r"print a file of A.csv, row \d and what follows it alone: others")
+        self.said(done, 1, r"print a file of only A.csv, row \d and what follows it: other labels")
         said = self.broken_off(alike, "--unique")
-        self.assertRegex(said, r"print from A.csv, row \d on by --only-code @FILE\n|by --only \d-")
+        self.assertRegex(
+            said, r"print from A.csv, row \d on with --only-code @FILE\n|with --only \d-"
+        )
 
     def test_a_signal_after_the_last_label(self) -> None:
         """Without a word it would look as if nothing had gone out."""
@@ -213,19 +219,19 @@ class Rows(Desk):
             done.clear()
             printed("--print", printer.name, "--journal", self.path)
             done.clear()
-            pattern = f"not sent; .* print from line 5 on by --only 5-9 --again {printer.name}\n"
+            pattern = f"not sent; .* print from line 5 on with --only 5-9 --again {printer.name}\n"
             self.said(printed("--print", printer.name, *again), 1, pattern)
 
     def test_labels_of_a_roll_on_a_full_disk(self) -> None:
         words = " ".join([str(support.TOOLS / "label-print"), *ROLL])
         done = support.run("/bin/sh", "-c", f"{words} > /dev/full", input=TICKETS)
-        self.said(done, 1, "No space left on device: it took 0 labels whole; .* by --only 1-\n")
+        self.said(done, 1, "No space left on device: it took 0 labels whole; .* with --only 1-\n")
 
     def test_rows_that_no_table_has(self) -> None:
         for rows in ("9-7", "0-", "0", "2,0-3", "00"):
             self.said(printed("--only", rows), 2, f"'{rows}': write rows as 2,7-9 or 7-")
         done = printed("--only", "2,2000000")
-        self.said(done, 1, "row 2000000: of --only, but not in the input")
+        self.said(done, 1, "row 2000000: named by --only, but not in the input")
         self.assertEqual(len(labels_in(done)), 1)
 
 
@@ -257,7 +263,7 @@ class Editors(Desk):
         for line in (b'"%b"' % lines[1], b'%b\t"%b"' % second[::2]):
             quoted = b"\n".join([lines[0], line, *lines[2:], b""])
             journal.write_bytes(quoted)
-            self.said(self.done_again(), 1, "line 2 is no line of a journal")
+            self.said(self.done_again(), 1, "line 2 is not a line of a journal")
             self.assertEqual(journal.read_bytes(), quoted)
 
     def test_a_journal_of_version_1_1_0(self) -> None:
@@ -299,7 +305,7 @@ class Editors(Desk):
             journal.take(record)
         Path(self.folder, "new").write_bytes(old)
         os.rename(f"{self.folder}/new", self.path)
-        with self.assertRaisesRegex(ToolError, "it has not line 1, line 2, which the same command"):
+        with self.assertRaisesRegex(ToolError, "it lacks line 1, line 2, which the same command"):
             journal.claim(self.records[2])
 
     def test_a_journal_that_goes_while_a_label_goes_out(self) -> None:
@@ -308,7 +314,7 @@ class Editors(Desk):
             "labeltools.printing.sending.send", lambda file, output: os.unlink(self.path)
         ):
             done = printed("--journal", self.path)
-        self.said(done, 1, "it took 0 labels whole; line 1 may be on paper; it has not line 1")
+        self.said(done, 1, "it took 0 labels whole; line 1 may be on paper; it lacks line 1")
         self.assertNotIn(b"not sent", done.stderr)
 
     def test_a_disk_without_locks(self) -> None:
@@ -356,7 +362,7 @@ class Lanes(Desk):
         with mock.patch("labeltools.printing.journal.STUCK", 0.2):
             done = printed("--journal", self.path)
         self.said(
-            done, 1, "another lane keeps it for 0 seconds; is that process stopped[?] continue it"
+            done, 1, "another run has held it for 0 seconds; is that process stopped[?] continue it"
         )
         self.assertEqual(labels_in(done), [])
         assert other.stdin
@@ -366,7 +372,7 @@ class Lanes(Desk):
     def test_too_many_lanes(self) -> None:
         free = journals.FAR  # the byte that is locked to read and write
         busy = mock.patch.object(Journal, "is_free", lambda _, byte: byte == free)
-        with busy, self.assertRaisesRegex(ToolError, "64 lanes print by it already"):
+        with busy, self.assertRaisesRegex(ToolError, "64 runs print with it already"):
             Journal(self.path, "tcp://a")
 
     def test_a_disk_that_is_full_names_the_row(self) -> None:
@@ -375,9 +381,11 @@ class Lanes(Desk):
         size = Path(self.path).stat().st_size
         words = ("--journal", self.path)
         done = self.run_alone(*words, code=f"limit({size})")
-        self.said(done, 1, "File too large: line 2 and what follows it were not sent; see that it")
+        self.said(
+            done, 1, "File too large: line 2 and what follows it were not sent; make it writable"
+        )
         done = self.run_alone(*words, "--stream", code=f"limit({size})", input=TICKETS[:20])
-        self.said(done, 1, "^known 1 qr T00001\nunsent 2 .*File too large; see that it can be")
+        self.said(done, 1, "^known 1 qr T00001\nunsent 2 .*File too large; make it writable")
         self.assertEqual(labels_in(done), [])
 
 
@@ -391,8 +399,8 @@ class Reprints(Desk):
         words = ("--journal", self.path, "--print", printer.name)
         done = printed(*words, "--only", "3-", "--again", "standard output")
         last, first = self.events_of(printer.name)
-        missing = f"look that line {last} is on paper, or print what is missing by --only ROWS"
-        rest = f"then print from line {first} on by --only {first}-30 --again 'standard output'\n"
+        missing = f"check that line {last} is on paper, or print what is missing with --only ROWS"
+        rest = f"then print from line {first} on with --only {first}-30 --again 'standard output'\n"
         if first == 30:
             rest = rest.replace("30-30", "30")
         look = "look at the last one on paper"
@@ -561,7 +569,7 @@ class Streams(Desk):
         self.assertRegex(self.answer(stream, b"qr A\n"), "^taken 1 ")
         with open(self.path, "ab") as file:
             file.write(b"printed by hand: B\n")
-        self.assertRegex(self.answer(stream, b"qr B\n"), "^unsent 2 .*line 4 is no line of a")
+        self.assertRegex(self.answer(stream, b"qr B\n"), "^unsent 2 .*line 4 is not a line of a")
         self.assertEqual(stream.wait(support.SECONDS), 1)
 
     def test_a_mark_that_the_journal_does_not_take(self) -> None:
@@ -581,7 +589,7 @@ class Streams(Desk):
     def test_what_no_line_can_be_printed_without(self) -> None:
         words = ("label-print", *ROLL, "--stream")
         done = support.run(*words, input=TICKETS, LABELS_LIBRARY="/no/such.so")
-        self.said(done, 1, r"\Alabel-print: the library liblabels is not there: .*\n\Z")
+        self.said(done, 1, r"\Alabel-print: the library liblabels cannot be loaded: .*\n\Z")
 
     def test_a_line_that_was_cut_off_is_said_before_the_answers(self) -> None:
         """It begins as no answer does."""

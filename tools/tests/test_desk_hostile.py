@@ -162,11 +162,11 @@ class Doubts(Desk):
         """Each run names all of a journal, until they are printed or their lines say `taken`."""
         for words, gone in (
             (("--only", "3-"), ""),
-            (("--only-code", "T00002"), ", in place of --only-code,"),
+            (("--only-code", "T00002"), " instead of --only-code"),
             ((), ""),
         ):
             done = printed("--journal", self.waiting("tcp://a"), *words)
-            hint = f"if it is not there, give{gone} --only 1 --again tcp://a"
+            hint = f"if it is not there, give --only 1 --again tcp://a{gone}"
             self.said(done, 1, f"line 1: may be on paper, from tcp://a: look for it; {hint}")
         done = printed("--journal", self.path, "--only", "1", "--again", "tcp://a")
         self.assertNotIn(b"may be on paper", done.stderr)
@@ -179,8 +179,10 @@ class Doubts(Desk):
             pattern = (
                 r"^label-print: qr T00001: may be on paper, from tcp://a, and not in the input"
             )
-            self.said(done, 1, f"{pattern}: look for it; if it is there, make sending taken in its")
-            self.said(done, 1, "; if not, .* by --again, or, where nobody wants it, take that line")
+            self.said(
+                done, 1, f"{pattern}: look for it; if it is there, change sending to taken in its"
+            )
+            self.said(done, 1, "; if not, .* with --again .*, or delete that line if nobody")
 
     def test_a_line_that_was_cut_within_its_code(self) -> None:
         """A label that there never was: what the message says ends it, on paper or not."""
@@ -189,7 +191,7 @@ class Doubts(Desk):
             Path(self.path).write_bytes(kept)
             for _ in range(2):
                 done = printed("--journal", self.path)
-                self.said(done, 1, "qr T0000: may be on paper, .* taken in .* take that line out")
+                self.said(done, 1, "qr T0000: may be on paper, .* taken in .* delete that line")
             text = Path(self.path).read_bytes()
             self.assertIn(change[0], text)
             Path(self.path).write_bytes(text.replace(*change, 1))
@@ -298,9 +300,7 @@ class Doubts(Desk):
         stream = self.start("--journal", self.path)
         self.assertRegex(self.answer(stream, b"qr T00002\n"), "^taken 1 ")
         os.unlink(self.path)
-        self.assertRegex(
-            self.answer(stream, b"qr T00003\n"), "^unsent 2 .* it has not Zeile \ufffd"
-        )
+        self.assertRegex(self.answer(stream, b"qr T00003\n"), "^unsent 2 .* it lacks Zeile \ufffd")
 
 
 class Ends(Desk):
@@ -317,14 +317,14 @@ class Ends(Desk):
         """The signal ends the tool, and the row is named all the same."""
         done = self.run_alone(code="StandardOutput.send = lambda outlet, data: end() or broken()")
         self.said(done, -signal.SIGTERM, "label-print: it is off: it took 0 labels whole; look at")
-        self.said(done, -signal.SIGTERM, "then print from line 1 on by --only 1-\n")
+        self.said(done, -signal.SIGTERM, "then print from line 1 on with --only 1-\n")
 
     def test_a_way_out_that_breaks_off_before_a_label(self) -> None:
         """As of a printer that has ended the connection: of that label nothing was sent."""
         code = "StandardOutput.open = lambda outlet, left=[0, 0]: left.pop() if left else broken()"
         done = self.run_alone("--journal", self.path, code=code)
         self.said(done, 1, "it is off: it took 2 labels whole: line 3 and what follows it were not")
-        self.said(done, 1, "not sent; look that line 2 is on paper, or print what is missing by")
+        self.said(done, 1, "not sent; check that line 2 is on paper, or print what is missing with")
         self.assertEqual(self.events(), ["sending", "taken"] * 2)
 
     def test_a_way_out_that_breaks_off_after_no_label(self) -> None:
@@ -479,7 +479,7 @@ class Streams(Desk):
         lines = b'#{"title":"%s"}\nqr A\n# %s\nqr B\n' % (b"x" * 70_000, b"x" * 70_000)
         done = printed("--stream", input=lines)
         refused, taken = done.stderr.decode().splitlines()
-        self.assertEqual(refused, "refused 2 the object before it is longer than 65536 bytes")
+        self.assertEqual(refused, "refused 2 the remark before it is longer than 65536 bytes")
         self.assertRegex(taken, "^taken 4 .* qr B$")
 
     def test_two_objects_before_a_line(self) -> None:
@@ -487,7 +487,7 @@ class Streams(Desk):
         lines = b'#{"title":"A"}\n#{"title":"B"}\nqr A\n#{"title":"C"}\nqr C\n'
         done = printed("--stream", input=lines)
         refused, taken = done.stderr.decode().splitlines()
-        self.assertEqual(refused, "refused 3 there are two objects before it")
+        self.assertEqual(refused, "refused 3 there are two remarks before it")
         self.assertRegex(taken, "^taken 5 .* qr C$")
         self.assertEqual(labels_in(done), labels_in(printed(input=b'#{"title":"C"}\nqr C\n')))
         self.said(printed(input=lines), 1, "something is missing before line 2")
@@ -569,11 +569,15 @@ class Choices(Desk):
     def test_all_that_is_missing_is_counted(self) -> None:
         """In one message, however much it is."""
         done = printed("--only", "20-9999999,7,3-8")
-        self.said(done, 1, r"\Alabel-print: rows 31-9999999: of --only, but not in the input\n\Z")
+        self.said(
+            done, 1, r"\Alabel-print: rows 31-9999999: named by --only, but not in the input\n\Z"
+        )
         codes = [word for number in range(12) for word in ("--only-code", f"X{number:02}")]
         done = printed("--only", "1", *codes)
         named = ", ".join(f"X{number:02}" for number in range(10))
-        self.said(done, 1, rf"\Alabel-print: {named} .. \(12 in all\): of --only-code, but not")
+        self.said(
+            done, 1, rf"\Alabel-print: {named} .. \(12 in all\): named by --only-code, but not"
+        )
 
 
 if __name__ == "__main__":

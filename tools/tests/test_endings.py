@@ -58,7 +58,7 @@ def said_after(form: str, labels: int) -> Tuple[str, ...]:
     message = (
         f"label-print: standard output: it took {whole} whole: row {row} and what follows it were"
         " not sent; look at the last one on paper, then print from"
-        f" row {row} on by --only {row}-\n"
+        f" row {row} on with --only {row}-\n"
     )
     return (message,) if labels else ("", message)
 

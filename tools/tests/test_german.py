@@ -233,7 +233,7 @@ class German(unittest.TestCase):
                     "de",
                     "Zeile 2: 4006381333932: die Prüfziffer ist 2, richtig ist 1",
                     'Zeile 3: Spalte 3 ("Preis") hat "1E3", was kein Preis ist',
-                    "1 Etikett von 1 Zeile: 1 EAN-13; Preis 2,50; 1 Preis ohne Währung; "
+                    "1 Etikett aus 1 Zeile: 1 EAN-13; Preis 2,50; 1 Preis ohne Währung; "
                     "2 Zeilen übersprungen",
                 ),
                 (
@@ -246,9 +246,9 @@ class German(unittest.TestCase):
                 (
                     "en",
                     "row 2: 4006381333932: the check digit is 2, should be 1",
-                    'row 3: column 3 ("Preis") has "1E3", which is no price',
-                    "1 label of 1 row: 1 EAN-13; price 2,50; 1 price without a currency; "
-                    "2 rows left out",
+                    'row 3: column 3 ("Preis") has "1E3", which is not a price',
+                    "1 label from 1 row: 1 EAN-13; price 2,50; 1 price without a currency; "
+                    "2 rows skipped",
                 ),
             ):
                 ran = self.ran(language, support.TOOLS / "label-table", *OPTIONS, table)
@@ -281,7 +281,7 @@ class German(unittest.TestCase):
                 "label-print --design x",
                 "Argument --design: 'x' ist weder eines von article, shelf",
             ),
-            ("label-print --columns x", "Argument --columns: 'x': schreiben wie 3"),
+            ("label-print --columns x", "Argument --columns: 'x': in der Form 3 schreiben"),
         ):
             tool, *arguments = words.split()
             ran = self.ran("de", support.TOOLS / tool, *arguments)

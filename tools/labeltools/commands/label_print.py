@@ -125,7 +125,7 @@ def design_of(argument: str) -> str:
     """
     if argument not in DESIGNS and not is_file(argument):
         known = ", ".join(DESIGNS)
-        what = Text("{!r} is none of {}, or a file such as rack.svg", argument, known)
+        what = Text("{!r} is neither one of {} nor a file such as rack.svg", argument, known)
         raise wrong_argument(what)
     share = Path(__file__).resolve().parents[3]  # of a checkout, or PREFIX/share
     folders = (share / "designs", share / "doc/labels/designs")
@@ -213,7 +213,7 @@ def add_sheet_options(parser: Parser) -> None:
     add("--gap", metavar="XxY", type=reads("7x15"), default=PrintOptions.gap, help=gap)
     edge = "white at the edges of a page: one for all, or left,top,right,bottom (5; of a roll 0)"
     add("--edge", metavar="MM", type=edges, help=edge)
-    shift = "move all, for a printer that feeds askew"
+    shift = "move all, for a printer that feeds off centre"
     move = reads("-0.5,1", -10000)
     add("--shift", metavar="X,Y", type=move, default=PrintOptions.shift, help=shift)
 
@@ -407,7 +407,7 @@ def summary_of(job: PrintJob, prints: Prints, items: Sequence[LaidOut] = ()) -> 
         pages = counted("{} page", "{} pages", job.pages_of(len(prints)))
         text = Text("{} on {}", text, pages)
     if lp_words(job, "NAME"):
-        text = Text("{}; print the file by: {}", text, typed(job, "NAME"))
+        text = Text("{}; print the file with: {}", text, typed(job, "NAME"))
     return text
 
 
@@ -445,7 +445,7 @@ def check_arguments(arguments: argparse.Namespace, job: PrintJob) -> None:
         raise ToolError(what, hint, BAD_ARGUMENTS)
     if arguments.again and not (arguments.journal and chosen_by(arguments)):
         what = Text("--again needs --journal and rows or codes")
-        hint = Text("say what is printed again by --only or --only-code")
+        hint = Text("name what to print again with --only or --only-code")
         raise ToolError(what, hint, BAD_ARGUMENTS)
     if arguments.is_stream and chosen_by(arguments):
         what = Text("--stream prints each line")

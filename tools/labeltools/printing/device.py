@@ -14,7 +14,7 @@ from labeltools.common.text import NOTHING, Text
 from labeltools.printing.network import Broken, Unreachable
 
 HINTS = {
-    FileNotFoundError: Text("is it on, and connected?"),
+    FileNotFoundError: Text("is it switched on, and connected?"),
     PermissionError: Text("sudo adduser $USER lp, then log in again"),
 }
 

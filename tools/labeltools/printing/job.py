@@ -159,7 +159,7 @@ def check_texts(options: PrintOptions) -> None:
     for name in ("note", "font", "stock"):
         if UNPRINTABLE.search(getattr(options, name) or ""):
             raise ToolError(
-                Text("--{} has characters that are no text", name), status=BAD_ARGUMENTS
+                Text("--{} has characters that are not text", name), status=BAD_ARGUMENTS
             )
 
 
@@ -337,7 +337,7 @@ def without_line(lines: LinesFile, only: Optional[Selection]) -> Iterable[LeftOu
         yield from only.missing(lines.records, named)
         named = [place for place in named if only.has_row(place)]
         count = len(named)
-    reason = Text("left out by label-table")
+    reason = Text("skipped by label-table")
     if count > len(named):
         reason = Text("{}, and {} rows more", reason, count - len(named))
     for place in named:
@@ -423,7 +423,7 @@ def alike(items: Sequence[LaidOut], has_tables: bool, pen: Pen) -> Iterable[Rema
     for shown, same in found.items():
         if len({(item.label.title, item.label.text) for item in same}) > 1:
             said = Text(
-                "{}: the same once shortened, {}: put what differs in front",
+                "{}: alike once shortened, {}: put what differs in front",
                 places_of(same, has_tables),
                 quoted(" ".join(shown)),
             )

@@ -250,18 +250,18 @@ class Sender:
         words = words_of_rest([*rest.values()], others, bool(self.chosen))
         if not words:
             return Text(
-                "look at the last one on paper, then print a file of {} and what follows it alone: "
-                "others have the same rows and codes",
+                "look at the last one on paper, then print a file of only {} and what follows "
+                "it: other labels have the same rows and codes",
                 self.named(item),
             )
         again = f" --again {typed(self.again)}" if self.again else ""
         found = (self.named(item), words + again)
         if gone := in_place_of(words, self.chosen):
             return Text(
-                "look at the last one on paper, then print from {} on, in place of {}, by {}",
+                "look at the last one on paper, then print from {0} on with {2} instead of {1}",
                 *(found[0], gone, found[1]),
             )
-        return Text("look at the last one on paper, then print from {} on by {}", *found)
+        return Text("look at the last one on paper, then print from {} on with {}", *found)
 
     def stopped(self, item: LaidOut, prints: Prints) -> ToolError:
         """Returns what is said where a signal came before a label."""
@@ -293,10 +293,10 @@ class Sender:
         words = f"--only ROWS{again}" if is_clear else f"--only-code {FILE}FILE{again}"
         if gone := in_place_of(words, self.chosen):
             return Text(
-                "look that {} is on paper, or print what is missing, in place of {}, by {}",
+                "check that {0} is on paper, or print what is missing with {2} instead of {1}",
                 *(last, gone, words),
             )
-        return Text("look that {} is on paper, or print what is missing by {}", last, words)
+        return Text("check that {} is on paper, or print what is missing with {}", last, words)
 
     def doubt(self, record: LineRecord) -> Text:
         """Returns what to do about a label that was sent, but is not known to be taken; nothing
@@ -351,9 +351,9 @@ def doubts(
                 yield Text("{}: {}", place, may_be_on_paper(printer, by_code(code), chosen))
         for others in parts_of([code.decode() for code in codes if code not in places]):
             yield Text(
-                "{}: may be on paper, from {}, and not in the input: look for it; if it is there, "
-                "make sending taken in its line of the journal; if not, print it from an input "
-                "that has it by --again, or, where nobody wants it, take that line out",
+                "{}: may be on paper, from {}, and not in the input: look for it; if it is "
+                "there, change sending to taken in its line of the journal; if not, print it "
+                "with --again from an input that has it, or delete that line if nobody wants it",
                 joined("; ", others),
                 printer,
             )
@@ -372,7 +372,7 @@ def may_be_on_paper(printer: str, words: str, chosen: Sequence[str]) -> Text:
     words = f"{words} --again {typed(printer)}"
     hint = Text("if it is not there, give {}", words)
     if gone := in_place_of(words, chosen):
-        hint = Text("if it is not there, give, in place of {}, {}", gone, words)
+        hint = Text("if it is not there, give {1} instead of {0}", gone, words)
     return sentence(reason, hint)
 
 

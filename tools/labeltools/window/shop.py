@@ -116,7 +116,7 @@ class Table:
             if choices[kind] is None:
                 named = ", ".join(quoted(self.guess.names[at] or str(at + 1)) for at in places)
                 hint = Text("choose its column")
-                raise ToolError(Text("{} may be in one of {}", OF_KINDS[kind], named), hint)
+                raise ToolError(Text("{} may be in: {}", OF_KINDS[kind], named), hint)
         to_print = print_words(choices)
         options = print_command.options_of(print_command.command_line().parse_args(to_print))
         job = planned(options)

@@ -474,7 +474,7 @@ class Window(Gtk.ApplicationWindow):
         for note in table.notes[:MOST_NOTES]:
             row = str(note.place.number) if note.place else ""
             self.notes.append([row, note.data, self.hints.text(note.reason, note.hint)])
-        text = translated(counted("{} row is left out", "{} rows are left out", table.left_out))
+        text = translated(counted("{} row is skipped", "{} rows are skipped", table.left_out))
         self.left_out.set_text(text if table.left_out else _("Please look at this"))
         self.below.set_visible(table.notes)
         self.show_view()
@@ -577,7 +577,7 @@ class Window(Gtk.ApplicationWindow):
         """Writes what label-print writes: each label is compared before."""
         labels = self.labels
         self.keep()
-        done = _("{file} is written").format(file=path.name)
+        done = _("{file} is saved").format(file=path.name)
 
         def work(talk: Talk) -> None:
             labels.press(talk).save(labels.prints, path)
