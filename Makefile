@@ -33,7 +33,7 @@ help:
 	@echo 'make gate      all that a change has to pass'
 	@echo 'make gate-test the same in a fresh Debian, as root'
 	@echo 'make all       the proved program in out/, the C library in out/lib/'
-	@echo 'make library   the C library alone, in out/lib/'
+	@echo 'make library   only the C library, in out/lib/'
 	@echo 'make deb       the Debian packages of what is committed, for amd64 and arm64, in out/deb/'
 	@echo 'make release   the same with the source and checksums, as an apt repository, in out/release/'
 	@echo 'make deb-test  tries the packages in a fresh Debian, as root'

@@ -16,10 +16,10 @@ name files of the reader.
 A block ```sh kit calls the kit, which proves for minutes, and may print anything. It runs with --kit alone, in a fresh
 clone of what is committed, README.md first, and the other pages with the program that it builds.
 
-Besides, the pictures that RECIPES.md makes must be those of docs/pictures but window.png, pixel for pixel. The last
-line is `N of N as printed`; where one is not, the status is 1. In each run this is shown wrong cases first, each of
-which it has to report: commands that print something else than the page says, if only in the last letter, one that
-fails, and pictures that are others, if only in one pixel.
+Besides, the pictures that draw_pictures.sh makes after the commands of RECIPES.md must be those of docs/pictures but
+window.png, pixel for pixel. The last line is `N of N as printed`; where one is not, the status is 1. In each run this
+is shown wrong cases first, each of which it has to report: commands that print something else than the page says, if
+only in the last letter, one that fails, and pictures that are others, if only in one pixel.
 """
 
 import contextlib
@@ -84,6 +84,10 @@ class Commands:
         printed = DATABAR.sub("", ran.stdout.decode("utf-8", "backslashreplace"))
         is_good = ran.returncode == 0 and self.printed in (None, printed)
         return "" if is_good else f"status {ran.returncode} of:\n{self.text}it printed:\n{printed}"
+
+
+# What makes the pictures after the commands of RECIPES.md, and what it prints.
+DRAWN = Commands("tools/tests/draw_pictures.sh\n", "label-print: row 5: shortened to fit, with an ellipsis\n")
 
 
 def commands_of(page: str, with_kit: bool) -> Iterator[Commands]:
@@ -174,6 +178,7 @@ def faults_of(name: str, commands: Sequence[Commands], program: Path, with_kit: 
         if not program.exists():
             shutil.copy(work / PROGRAM, program)
         if name == "docs/RECIPES.md":
+            yield DRAWN.fault(work, environment)
             for picture in sorted(PICTURES.iterdir()):
                 if picture.name != OF_A_SCREEN:
                     yield fault_of_picture(picture, work / picture.name)
@@ -182,7 +187,7 @@ def faults_of(name: str, commands: Sequence[Commands], program: Path, with_kit: 
 def fault_of_picture(picture: Path, made: Path) -> str:
     """What is wrong with a picture that was made, or nothing where its pixels are those of a picture of the pages."""
     wanted, found = (subprocess.run(["pngtopnm", file], capture_output=True).stdout for file in (picture, made))
-    return "" if wanted and wanted == found else f"{picture.name} is not what docs/RECIPES.md makes"
+    return "" if wanted and wanted == found else f"{picture.name} is not what draw_pictures.sh makes"
 
 
 def judged(name: str, faults: Iterable[str]) -> tuple[int, int]:

@@ -74,11 +74,11 @@ class Looks(CellTest):
 
     def test_raised_letters_are_other_signs(self) -> None:
         self.check_looks(
-            (Cell(runs=(("12", None), ("49", RAISED))), None, "is no price"),
+            (Cell(runs=(("12", None), ("49", RAISED))), None, "is not a price"),
             (Cell(runs=(("1.49", None), ("2", RAISED))), "1.49²", ""),
             (Cell(runs=(("1.4", None), ("9", Look()))), "1.49", ""),
             (Cell(14.99, "0.00", "14.99", RAISED), None, IS_RAISED),
-            (Cell("2,99", look=RAISED), None, "is no price"),
+            (Cell("2,99", look=RAISED), None, "is not a price"),
         )
         for kind in KINDS:
             for title, wanted in (
@@ -156,8 +156,8 @@ class Sheets(CellTest):
             [BOOK, "c"],
         ]
         problems = [
-            'row 3: column 1 ("EAN") is merged with row 2: take the merged cells apart',
-            'row 5: column 2 ("Name") is merged with row 4: take the merged cells apart',
+            'row 3: column 1 ("EAN") is merged with row 2: unmerge the cells',
+            'row 5: column 2 ("Name") is merged with row 4: unmerge the cells',
             "row 4 has no title (1 of 2 labels)",
         ]
         found = [f"ean13 {PENCIL}", f"ean8 {SMALL}"]
@@ -217,7 +217,7 @@ class Styles(CellTest):
         data = self.columns_of_ods(number, ods_style("ce9", "table-cell", RAISES))
         self.check_price(data, None, IS_RAISED)
         data = self.columns_of_ods(ods_cell("2,99"), ods_style("ce9", "table-cell", RAISES))
-        self.check_price(data, None, "is no price")
+        self.check_price(data, None, "is not a price")
 
     def test_equal_cells_of_ods_have_the_styles_of_their_columns(self) -> None:
         """LibreOffice writes two equal cells as one that is repeated."""
@@ -284,7 +284,7 @@ class Marks(CellTest):
         for place, price in (("33% 58%", None), ("0% 100%", "1249")):
             looks = f'style:text-position="{place}"'
             data = self.of_ods(span, ("T1", "text", looks))
-            self.check_price(data, price, "" if price else "is no price")
+            self.check_price(data, price, "" if price else "is not a price")
 
     def test_what_is_white_in_xlsx(self) -> None:
         for colour, price in (
@@ -341,7 +341,7 @@ class Marks(CellTest):
 
 class Kinds(CellTest):
     def test_a_price_is_no_date_and_not_below_zero(self) -> None:
-        date = "is a date or a time, which is no price: enter it again as text"
+        date = "is a date or a time, which is not a price: enter it again as text"
         below = "is below zero, though its number format may not show it"
         for form, value, said in (
             ("d.mm", 46000, date),
@@ -399,12 +399,12 @@ class Kinds(CellTest):
         ):
             data = f"EAN;{name}\n{PENCIL};{price}\n".encode()
             _, messages = self.ran(data, "--code", "EAN", "--price", name)
-            said = "has cents by its name, and is printed as it is"
+            said = "says cents, but it is printed as it is"
             self.assertEqual([said in one for one in messages], [True] * is_said, name)
 
     def test_a_date_is_no_number_of_copies(self) -> None:
         data = xlsx(rows(["EAN", "N"], [PENCIL, cell(3, style=1)]), formats=["d.m.yy"])
-        problem = 'row 2: column 2 ("N") is a date or a time, which is no number of copies: '
+        problem = 'row 2: column 2 ("N") is a date or a time, which is not a number of copies: '
         problem += "enter it again as text"
         self.check(data, "--code EAN --copies N".split(), [], [problem], 1)
 
@@ -524,7 +524,7 @@ class Heads(CellTest):
             done = support.run_here("label-table", *words, input=data)
             self.assertEqual([one["price"] for one, _ in parts_of(done.stdout)[1]], ["3,33"])
             said = [one.partition(": ")[2] for one in support.messages(done)]
-            hint = "make a table of its own of it"
+            hint = "make it a table of its own"
             self.assertEqual(said[:2], [f"{names}: {hint}", f"{below}: {hint}"], head)
 
     def test_the_same_names_end_no_table(self) -> None:
@@ -545,8 +545,8 @@ class Heads(CellTest):
         self.assertEqual((prices, "names other columns" in said[0]), ([], True))
 
     def test_prices_of_many_are_said(self) -> None:
-        said = "has prices of 100 or 1000 by its name, and is printed as it is: "
-        said += "make a column of prices of one"
+        said = "says prices of 100 or 1000, but it is printed as it is: "
+        said += "make a column with the price of one"
         for name, is_said in (
             ("Preis/100", True),
             ("Preis (TEUR)", True),

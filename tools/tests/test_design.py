@@ -27,7 +27,7 @@ TITLE = '<rect id="title" {}/>' + CODE
 WIDE = 'x="2" y="2" width="56" height="10"'
 ONE: Label = ("code128 A", {"title": "Title"})
 PICTURE = '<image x="2" y="2" width="5" height="5" href="data:image/{};base64,{}"/>' + CODE
-NOT_EMBEDDED = "is of another file, or is no PNG or JPEG; embed it"
+NOT_EMBEDDED = "is of another file, or is not PNG or JPEG; embed it"
 NOT_DRAWN = "is not drawn; export it as a picture, or with texts as paths"
 PIXELS = "a picture has more than 25 million pixels; make its pictures smaller"
 HIDDEN = "the place title is hidden, or has no size; give it a width and a height, and show its"
@@ -61,17 +61,23 @@ def beside(dots: Any) -> Any:
 NOT_WHITE = "is not white in the place code"
 # what is drawn on a page of 60 by 40 mm, and what it is refused with
 REFUSED = (
-    ("", "has no place for the code; name a rectangle code: in Inkscape by its label, which"),
+    ("", "has no rectangle for the code; name a rectangle code: in Inkscape by its label, which"),
     (TITLE.format('x="2" y="2" width="0" height="9"'), HIDDEN),
     (f'<g style="display:none"><rect id="title" {WIDE}/></g>{CODE}', HIDDEN),
     (f'<defs><rect id="title" {WIDE}/></defs>{CODE}', HIDDEN),
     (f'<clipPath><rect id="title" {WIDE}/></clipPath>{CODE}', HIDDEN),
     (TITLE.format('x="2" y="2" width="9" height="9" transform="rotate(9)"'), "title is askew; tu"),
     (TITLE.format('x="2" y="2" width="9" height="9" transform="skewX(9)"'), "title is askew; turn"),
-    (TITLE.format('x="50" y="2" width="20" height="9"'), "title leaves the label by 10.0 mm; the"),
-    (TITLE.format('x="-1" y="2" width="20" height="9"'), "title leaves the label by 1.0 mm; the"),
-    (TITLE.format('x="2" y="15" width="9" height="9"'), "title and code have room in common; move"),
-    (f'<rect id="code-2" x="9" y="9" width="40" height="20"/>{CODE}', "code-2 and code have roo"),
+    (
+        TITLE.format('x="50" y="2" width="20" height="9"'),
+        "title extends 10.0 mm beyond the label; the",
+    ),
+    (
+        TITLE.format('x="-1" y="2" width="20" height="9"'),
+        "title extends 1.0 mm beyond the label; the",
+    ),
+    (TITLE.format('x="2" y="15" width="9" height="9"'), "title and code overlap; move"),
+    (f'<rect id="code-2" x="9" y="9" width="40" height="20"/>{CODE}', "code-2 and code overlap"),
     (f'<path d="M0 30H60" stroke="black"/>{CODE}', "is not white in the place code; a symbol nee"),
     (
         f'{CODE}<path d="M2 20H58V38H2Z" fill="none" stroke="black"/>',
@@ -80,8 +86,8 @@ REFUSED = (
     (f'<path d="M0 30H60" stroke="black" stroke-width="0.005"/>{CODE}', NOT_WHITE),
     (f'<path d="M4 30H50V31H4Z" fill="#fafafa"/>{CODE}', NOT_WHITE),
     (f'<path d="M0 0H60V20.1H0Z" fill="#ccc"/>{CODE}', NOT_WHITE),
-    (f'<path id="title" d="M2 2H9"/>{CODE}', "title is no rectangle (path); draw a rectangle"),
-    (f'<text id="price" x="2" y="9">1</text>{CODE}', "price is no rectangle (text); draw a"),
+    (f'<path id="title" d="M2 2H9"/>{CODE}', "title is not a rectangle (path); draw a rectangle"),
+    (f'<text id="price" x="2" y="9">1</text>{CODE}', "price is not a rectangle (text); draw a"),
     (f'<image href="logo.png"/>{CODE}', f"image {NOT_EMBEDDED}"),
     (f'<use href="other.svg#logo"/>{CODE}', f"use {NOT_EMBEDDED}"),
     (f'<path d="M2 2H9" fill="url(other.svg#red)"/>{CODE}', f"path {NOT_EMBEDDED}"),
@@ -89,7 +95,7 @@ REFUSED = (
     (f"<style>text{{fill:url('other.svg')}}</style>{CODE}", f"style {NOT_EMBEDDED}"),
     (f"<foreignObject/><switch/>{CODE}", f"foreignObject, switch {NOT_DRAWN}"),
     (f"<flowRoot><flowPara>Door 2</flowPara></flowRoot>{CODE}", f"flowRoot, flowPara {NOT_DRAWN}"),
-    ("<g>" * 100_000 + "</g>" * 100_000 + CODE, "is no SVG: "),
+    ("<g>" * 100_000 + "</g>" * 100_000 + CODE, "is not SVG: "),
     (f"<!--{'x' * 8_000_000}-->{CODE}", "has more than 8 MB; make its pictures smaller"),
     (PICTURE.format("webp", "aGVsbG8="), f"image {NOT_EMBEDDED}"),
     (f'<image href="data:image/png,hello"/>{CODE}', f"image {NOT_EMBEDDED}"),
@@ -111,7 +117,7 @@ REFUSED = (
     ('<rect id="title-2"/>' * 500, "has more than 400 places"),
     ('<rect data-place="title, lines=1.5"/>', '"lines=1.5" is not understood; after the name of'),
     (f'<rect data-place="title, font=Nothing" {WIDE}/>{CODE}', "there is no font Nothing; fc-list"),
-    (f"<!-- a -- b -->{CODE}", "is no SVG: not well-formed"),
+    (f"<!-- a -- b -->{CODE}", "is not SVG: not well-formed"),
 )
 # the attributes of a page, options, and what it is refused with
 PAGES: tuple[tuple[str, dict[str, Any], str], ...] = (
@@ -122,22 +128,22 @@ PAGES: tuple[tuple[str, dict[str, Any], str], ...] = (
     (designs.PAGE, {"paper": (50.0, 30.0)}, "is 60 by 40 mm, and a label is 50 by 30 mm; set"),
     (designs.PAGE, {"paper": (40.0, 60.0), "turn": False}, "is 60 by 40 mm, and a label is 40 by"),
     (designs.PAGE, {"turn": True}, "is 60 by 40 mm, and a label is 40 by 60 mm; set the size of"),
-    (designs.PAGE, {"edge": (5.0, 13.0, 5.0, 5.0)}, "the place title is at an edge of the paper"),
+    (designs.PAGE, {"edge": (5.0, 13.0, 5.0, 5.0)}, "the place title is at the edge of the paper"),
     ('viewBox="0 0 90 40"', {}, "is 90 by 40 without a unit, and a label is 60 by 40 mm; draw"),
     ('width="60" height="40"', {"paper": None}, "has no size in millimetres; name the paper by"),
 )
 # what is in a file that is no SVG, and what it is refused with
 FILES = (
-    (b"", "is no SVG: no element found: line 1, column 0"),
-    (base64.b64decode(png_of(8, 8)), "is no SVG: not well-formed"),
-    (b"<!doctype html><html><p>a<br></html>", "is no SVG: "),
-    (f"<svg {designs.PAGE}>{CODE}</svg>".encode(), "is no SVG; it begins with <svg xmlns="),
-    (f"<svg {designs.SPACE} {designs.PAGE}>{CODE}".encode(), "is no SVG: no element found"),
+    (b"", "is not SVG: no element found: line 1, column 0"),
+    (base64.b64decode(png_of(8, 8)), "is not SVG: not well-formed"),
+    (b"<!doctype html><html><p>a<br></html>", "is not SVG: "),
+    (f"<svg {designs.PAGE}>{CODE}</svg>".encode(), "is not SVG; it begins with <svg xmlns="),
+    (f"<svg {designs.SPACE} {designs.PAGE}>{CODE}".encode(), "is not SVG: no element found"),
     (f"<svg {designs.SPACE}/>".encode("utf-16"), "has no size; give it width, height"),
-    (b'<!DOCTYPE svg [<!ENTITY a SYSTEM "/etc/hosts">]><svg>&a;</svg>', "is no SVG: undefined"),
-    (b'<?xml version="1.0" encoding="GB2312"?><svg>\xbb\xf5</svg>', "is no SVG: "),
-    (b"\x1f\x8b\x08\x00" + bytes(9), "is no SVG: "),
-    (gzip.compress(f"<svg {designs.SPACE}>".encode()), "is no SVG: no element found"),
+    (b'<!DOCTYPE svg [<!ENTITY a SYSTEM "/etc/hosts">]><svg>&a;</svg>', "is not SVG: undefined"),
+    (b'<?xml version="1.0" encoding="GB2312"?><svg>\xbb\xf5</svg>', "is not SVG: "),
+    (b"\x1f\x8b\x08\x00" + bytes(9), "is not SVG: "),
+    (gzip.compress(f"<svg {designs.SPACE}>".encode()), "is not SVG: no element found"),
     (gzip.compress(bytes(9_000_000)), "has more than 8 MB; make its pictures smaller"),
 )
 
@@ -188,7 +194,7 @@ class Refused(OwnPages):
         """It would be drawn as it is on each label: the same seat on each ticket."""
         body = f'<text id="Seat" x="2" y="9" font-size="4">12</text>{CODE}'
         self.assertEqual(len(self.found(body).labels), 1)
-        with self.assertRaisesRegex(ToolError, r"seat is no rectangle \(text\)"):
+        with self.assertRaisesRegex(ToolError, r"seat is not a rectangle \(text\)"):
             self.found(body, [("code128 A", {"text": {"Seat": "7"}})])
 
     def test_what_takes_too_long_or_too_much_memory(self) -> None:
@@ -213,7 +219,7 @@ class Refused(OwnPages):
         folder.mkdir()
         fifo = self.path.parent / "fifo.svg"
         os.mkfifo(fifo)
-        with self.assertRaisesRegex(ToolError, "is no SVG: no element found"):
+        with self.assertRaisesRegex(ToolError, "is not SVG: no element found"):
             planned(PrintOptions(paper=designs.PAPER, design=str(fifo)))
         for path, why in ((Path("none.svg"), "No such file"), (folder, "Is a directory")):
             with self.assertRaisesRegex(ToolError, f"--design {path}: {why}"):
@@ -244,7 +250,7 @@ class Names(OwnPages):
 
     def test_rectangles_with_one_name_are_said(self) -> None:
         body = f'<rect id="a" data-place="title" {WIDE}/><rect data-place="Title, bold" {WIDE}/>'
-        said = ": several rectangles are named title: name the second one title-2, or take one away"
+        said = ": several rectangles are named title: name the second one title-2, or remove one"
         self.assertIn(said, self.said(self.found(body + CODE)))
 
     def test_a_group_of_matplotlib_is_drawn(self) -> None:
@@ -348,7 +354,7 @@ class Names(OwnPages):
         place = f'<rect id="price" {WIDE}/>{CODE}'
         found = self.found(place, [("code128 A", {"text": {"Price": "cheap"}})])
         self.assertEqual(texts_of(found), [])
-        self.assertIn(" has no place for Price: not on the labels", self.said(found))
+        self.assertIn(" has no rectangle for Price: not on the labels", self.said(found))
 
     def test_what_has_no_place_does_not_count(self) -> None:
         """Neither letters that no font has, nor a text that is longer than any paper takes."""
@@ -356,7 +362,7 @@ class Names(OwnPages):
         for text in ("\U000f1234", "x" * 2000):
             found = self.found(place, [("code128 A", {"text": {"Seat": "1", "Other": text}})])
             self.assertEqual(len(found.labels), 1)
-            self.assertEqual(self.said(found)[0], " has no place for Other: not on the labels")
+            self.assertEqual(self.said(found)[0], " has no rectangle for Other: not on the labels")
             found = self.found(place, [("code128 A", {"text": {"Seat": text}})])
             said = [*self.said(found), *reasons_of(found)]
             self.assertRegex(said[0], "^no font has|shortened to fit")
@@ -364,8 +370,8 @@ class Names(OwnPages):
     def test_what_has_no_place_and_places_that_have_nothing_are_said_once(self) -> None:
         labels = [("code128 A", {"title": "a", "text": {"Seat": "1"}})] * 3
         found = self.found(f'<rect id="Saet" {WIDE}/>{CODE}', labels)
-        hint = 'name a column so, by label-table --text "Saet", or take the name away'
-        lost = " has no place for title, Seat: not on the labels"
+        hint = 'name a column so, with label-table --text "Saet", or remove the name'
+        lost = " has no rectangle for title, Seat: not on the labels"
         self.assertEqual(self.said(found), [lost, f": no label has anything for Saet: {hint}"])
 
 
@@ -454,7 +460,7 @@ class Texts(OwnPages):
         )
         both = {"title": "a", "price": "1 €"}
         hint = "a label has a text for each: move them apart"
-        said = [f": the places title and price have room in common: {hint}"]
+        said = [f": the places title and price overlap: {hint}"]
         either = [("code128 A", {"title": "a"}), ("code128 B", {"price": "1 €"})]
         for top, labels, wanted in (
             (9, [("code128 A", both)], said),
@@ -546,9 +552,7 @@ class Texts(OwnPages):
         found = self.found(place, [("code128 A", {"title": title}) for title in titles])
         (shortened, same) = self.said(found)
         self.assertEqual(shortened, "lines 2, 4: shortened to fit, with an ellipsis")
-        self.assertRegex(
-            same, "^lines 2, 4: the same once shortened, .*: put what differs in front"
-        )
+        self.assertRegex(same, "^lines 2, 4: alike once shortened, .*: put what differs in front")
 
     def test_scripts_without_spaces_wrap(self) -> None:
         place = '<rect id="title" x="2" y="2" width="30" height="12"/>' + CODE
@@ -565,7 +569,7 @@ class Texts(OwnPages):
             body = f'<rect id="{part}" x="2" y="2" width="8" height="3"/>{CODE}'
             found = self.found(body, [("code128 A", {part: "123.456.789,00 €"})])
             self.assertEqual(len(found.labels), 0)
-            why = f'"123.456.789,00 €" has no room in the place {part}: enlarge it'
+            why = f'"123.456.789,00 €" does not fit in the place {part}: enlarge it'
             self.assertEqual(reasons_of(found), [why])
 
     def test_an_empty_text_leaves_its_place_empty(self) -> None:
@@ -666,7 +670,7 @@ class Drawings(OwnPages):
         prices: list[Label] = [("code128 A", {"was": "2 €", "text": ["a"]}), labels[1]]
         found = self.found(priced, prices)
         self.assertEqual([self.ink(found, one)[1] > 40 for one in (0, 1)], [True, False])
-        self.assertEqual(self.said(found), [" has no place for was: not on the labels"])
+        self.assertEqual(self.said(found), [" has no rectangle for was: not on the labels"])
 
     def test_a_group_of_what_no_label_has(self) -> None:
         """That of a part is on none, and that of a column that is empty in the whole table."""
@@ -687,7 +691,7 @@ class Drawings(OwnPages):
         letters is no such part.
         """
         place = f'<rect id="title" x="2" y="2" width="56" height="10"/>{CODE}'
-        hint = "letters need light or dark behind them: move the place"
+        hint = "the drawing behind letters has to be light or dark: move the place"
         why = f"the drawing is light and dark in the place title: {hint}"
         for shape, said, left_out in (
             ("M40 0H60V14H40Z", 0, 1),
@@ -809,7 +813,7 @@ class Drawings(OwnPages):
 
     def test_edges_that_take_no_ink(self) -> None:
         found = self.found(TITLE.format(WIDE), edge=(5.0, 2.0, 2.0, 2.0))
-        why = "an edge of the page takes no ink there (--edge)"
+        why = "the printer does not print there, at the edge of the page (--edge)"
         self.assertEqual(self.said(found), [f": smaller than drawn: title, code: {why}"])
         self.assertGreaterEqual(self.ink(found)[0], 5)
 

@@ -26,8 +26,8 @@ from printers import Printer
 
 # How many labels a printer took, and what may be missing or half there then.
 BROKEN = (
-    r"broke off: it took (\d+) labels whole; lines 1-(\d+) may be missing: look at the last one on "
-    r"paper, and print what follows it by --after N; line (\d+) may be on paper: look there; with "
+    r"broke off: it took (\d+) labels whole; lines 1-(\d+) may be missing: look at the last one "
+    r"on paper, and print what follows it with --after N; line (\d+) may be on paper: look there; with "
     r"--after (\d+) the same command goes on at it\n"
 )
 SHORT = functools.partial(NetworkPrinter, stuck=0.5)
@@ -57,8 +57,8 @@ class Chosen(Desk):
 
     def test_what_is_not_there_is_said(self) -> None:
         done = printed("--only", "40-", "--only-code", "T9", "--only-code", "T00001")
-        self.said(done, 1, "row 40: of --only, but not in the input")
-        self.said(done, 1, "label-print: T9: of --only-code, but not in the input")
+        self.said(done, 1, "row 40: named by --only, but not in the input")
+        self.said(done, 1, "label-print: T9: named by --only-code, but not in the input")
         self.assertEqual(len(labels_in(done)), 1)
         self.said(printed("--only-code", f"@{self.folder}/no"), 1, "no: No such file")
 
@@ -119,7 +119,7 @@ class Network(Desk):
         printer = Printer().start()
         printer.off()
         done = printed("--print", printer.name, "--journal", self.path)
-        self.said(done, 1, "refused: line 1 and what follows it were not sent; is it on")
+        self.said(done, 1, "refused: line 1 and what follows it were not sent; is it switched on")
         self.assertEqual(self.events(), [])
         self.said(printed("--print", "tcp://no.invalid"), 1, "line 1 and what follows it")
 
@@ -137,7 +137,7 @@ class Network(Desk):
         printer = Printer(stuck=3).start()
         with mock.patch("labeltools.printing.sending.NetworkPrinter", SHORT):
             done = printed("--print", printer.name, "--dpi", "600")
-        self.said(done, 1, "takes nothing for 0 seconds: it took .* may be missing: look at")
+        self.said(done, 1, "has taken nothing for 0 seconds: it took .* may be missing: look at")
 
     def test_names(self) -> None:
         for name, address in (("[::1]:9101", ("::1", 9101)), ("till-3", ("till-3", 9100))):
@@ -178,7 +178,7 @@ class Journals(Desk):
         printed("--journal", self.path)
         done = printed("--journal", self.path, "--only", "5", "--again", "tcp://lane-1")
         self.said(done, 1, "has no label of tcp://lane-1: --again: .* printers: standard output")
-        self.said(printed("--journal", self.path, "--again", "tcp://lane-1"), 2, "by --only")
+        self.said(printed("--journal", self.path, "--again", "tcp://lane-1"), 2, "with --only")
 
     def test_a_jam(self) -> None:
         """Two lanes; the first forgets the labels in its memory, and those alone are printed once
@@ -202,12 +202,16 @@ class Journals(Desk):
         words = ("--journal", self.path, "--print", printer.name)
         done = printed(*words)
         self.said(done, 1, "line [0-9]+ may be on paper: look there, then give the same")
-        self.said(done, 1, "lines 1-[0-9]+ may be missing: look there, and print what is by --only")
+        self.said(
+            done,
+            1,
+            "lines 1-[0-9]+ may be missing: look there, and print what is missing with --only",
+        )
         doubtful = self.events().count("sending") - self.events().count("taken")
         self.assertEqual(doubtful, 1)
         done = printed(*words)
         self.said(
-            done, 1, r"line ([0-9]+): may be on paper, from tcp://127.* it by --only \1 --again"
+            done, 1, r"line ([0-9]+): may be on paper, from tcp://127.* it with --only \1 --again"
         )
         self.assertEqual(len(printer.labels), len(set(printer.labels)))
         self.assertGreaterEqual(len(printer.labels), 29)
@@ -295,19 +299,21 @@ class Journals(Desk):
     def test_other_files_are_kept(self) -> None:
         for data in (b"Code;Name\n", b"#labels journal 2\n", b"#labels journal 1 x\n", b"\0" * 99):
             Path(self.path).write_bytes(data)
-            self.said(printed("--journal", self.path), 1, "journal is no journal: give a file that")
+            self.said(
+                printed("--journal", self.path), 1, "journal is not a journal: give a file that"
+            )
             self.assertEqual(Path(self.path).read_bytes(), data)
         os.unlink(self.path)
         os.mkfifo(self.path)
-        self.said(printed("--journal", self.path), 1, "journal is no journal")
-        self.said(printed("--journal", "/dev/null"), 1, "/dev/null is no journal")
+        self.said(printed("--journal", self.path), 1, "journal is not a journal")
+        self.said(printed("--journal", "/dev/null"), 1, "/dev/null is not a journal")
         self.said(printed("--journal", self.folder), 1, "Is a directory")
         self.said(printed("--journal", f"{self.folder}/no/journal"), 1, "No such file")
 
     def test_a_line_that_is_none(self) -> None:
         Path(self.path).write_bytes(b"#labels journal 1\n# my remark\nT00001\n")
         done = printed("--journal", self.path)
-        self.said(done, 1, "line 3 is no line of a journal; correct it; delete it only if")
+        self.said(done, 1, "line 3 is not a line of a journal; correct it; delete it only if")
         self.assertEqual(labels_in(done), [])
 
     def test_a_label_is_written_down_before_it_goes_out(self) -> None:
@@ -462,7 +468,7 @@ class Streams(Desk):
         self.assertRegex(doubtful, "^doubtful 2 may be on paper, from tcp://.*; if it is not there")
         printer.off()
         said = self.answers(b"qr NEW\nqr T1\n", *words)
-        self.assertRegex(said[0], "^unsent 1 tcp://.*refused; is it on")
+        self.assertRegex(said[0], "^unsent 1 tcp://.*refused; is it switched on")
         self.assertEqual(said[1], "known 2 qr T1")
         self.assertNotIn("NEW", Path(self.path).read_text())
 

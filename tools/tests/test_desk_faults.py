@@ -42,9 +42,11 @@ class Printers(Desk):
         printer = Printer(rude=True).start()
         done = printed("--print", printer.name)
         self.said(done, 1, "the printer broke off at the end: it took 30 labels whole; lines 1-30 ")
-        self.said(done, 1, "may be missing: .*, and print what follows it by --after N\n")
+        self.said(done, 1, "may be missing: .*, and print what follows it with --after N\n")
         done = printed("--print", printer.name, "--journal", self.path)
-        self.said(done, 1, f"lines 1-30 may be .* is by --only ROWS --again {printer.name}\n")
+        self.said(
+            done, 1, f"lines 1-30 may be .* is missing with --only ROWS --again {printer.name}\n"
+        )
 
     def test_a_stream_to_one_that_hangs_up(self) -> None:
         """Its system takes each label, and it reads none."""
@@ -70,7 +72,7 @@ class Printers(Desk):
         error = TimeoutError(errno.ETIMEDOUT, "Connection timed out")
         with mock.patch("socket.create_connection", side_effect=error) as connect:
             done = printed("--print", "tcp://till-3")
-        self.said(done, 1, "timed out: line 1 and what follows it were not sent; is it on")
+        self.said(done, 1, "timed out: line 1 and what follows it were not sent; is it switched on")
         ((_, seconds), _) = connect.call_args
         self.assertLessEqual(seconds, 30)
 
@@ -136,7 +138,7 @@ class Rows(Desk):
         lines = support.file_of(rows[:4]).replace(b"articles.xlsx", b"A.csv")
         said = self.broken_off(lines + support.file_of(rows[4:]), "--journal", self.path)
         self.assertRegex(
-            said, r"A.csv, rows? 2.* may be missing: .* by --only-code @FILE --again t"
+            said, r"A.csv, rows? 2.* may be missing: .* with --only-code @FILE --again t"
         )
 
     def test_again_breaks_off(self) -> None:
@@ -147,7 +149,7 @@ class Rows(Desk):
         printer.cut = len(printer.labels) + 3
         again = ("--only", "20-", "--again", printer.name)
         done = printed(*words, *again)
-        self.said(done, 1, "lines? 20.* may be missing: .* is by --only ROWS --again tcp://")
+        self.said(done, 1, "lines? 20.* may be missing: .* with --only ROWS --again tcp://")
         self.said(done, 1, "line 2[123] may be on paper: look there; with --after [123] the same ")
         after = re.findall(r"--after (\d)", done.stderr.decode())[0]
         before = len(printer.labels)
@@ -207,7 +209,7 @@ class Rows(Desk):
         for rows in ("9-7", "0-", "0", "2,0-3", "00"):
             self.said(printed("--only", rows), 2, f"'{rows}': write rows as 2,7-9 or 7-")
         done = printed("--only", "2,2000000")
-        self.said(done, 1, "row 2000000: of --only, but not in the input")
+        self.said(done, 1, "row 2000000: named by --only, but not in the input")
         self.assertEqual(len(labels_in(done)), 1)
 
 
@@ -239,7 +241,7 @@ class Editors(Desk):
         for line in (b'"%b"' % lines[1], b'%b\t"%b"' % second[::2]):
             quoted = b"\n".join([lines[0], line, *lines[2:], b""])
             journal.write_bytes(quoted)
-            self.said(self.done_again(), 1, "line 2 is no line of a journal")
+            self.said(self.done_again(), 1, "line 2 is not a line of a journal")
             self.assertEqual(journal.read_bytes(), quoted)
 
     def test_a_journal_of_version_1_1_0(self) -> None:
@@ -280,7 +282,7 @@ class Editors(Desk):
             journal.take(record)
         Path(self.folder, "new").write_bytes(old)
         os.rename(f"{self.folder}/new", self.path)
-        with self.assertRaisesRegex(ToolError, "it has not line 1, line 2, which the same command"):
+        with self.assertRaisesRegex(ToolError, "it lacks line 1, line 2, which the same command"):
             journal.claim(self.records[2])
 
     def test_a_journal_that_goes_while_a_label_goes_out(self) -> None:
@@ -289,7 +291,7 @@ class Editors(Desk):
             "labeltools.printing.outlets.send", lambda file, output: os.unlink(self.path)
         ):
             done = printed("--journal", self.path)
-        self.said(done, 1, "it took 0 labels whole; line 1 may be on paper; it has not line 1")
+        self.said(done, 1, "it took 0 labels whole; line 1 may be on paper; it lacks line 1")
         self.assertNotIn(b"not sent", done.stderr)
 
     def test_a_disk_without_locks(self) -> None:
@@ -335,7 +337,7 @@ class Lanes(Desk):
         with mock.patch("labeltools.printing.journal.STUCK", 0.2):
             done = printed("--journal", self.path)
         self.said(
-            done, 1, "another lane keeps it for 0 seconds; is that process stopped[?] continue it"
+            done, 1, "another run has held it for 0 seconds; is that process stopped[?] continue it"
         )
         self.assertEqual(labels_in(done), [])
         other.stdin.close()
@@ -344,7 +346,7 @@ class Lanes(Desk):
     def test_too_many_lanes(self) -> None:
         free = journals.FAR  # the byte that is locked to read and write
         busy = mock.patch.object(Journal, "is_free", lambda _, byte: byte == free)
-        with busy, self.assertRaisesRegex(ToolError, "64 lanes print by it already"):
+        with busy, self.assertRaisesRegex(ToolError, "64 runs print with it already"):
             Journal(self.path, "tcp://a")
 
     def test_a_disk_that_is_full_names_the_row(self) -> None:
@@ -353,9 +355,11 @@ class Lanes(Desk):
         size = Path(self.path).stat().st_size
         words = ("--journal", self.path)
         done = self.run_alone(*words, code=f"limit({size})")
-        self.said(done, 1, "File too large: line 2 and what follows it were not sent; see that it")
+        self.said(
+            done, 1, "File too large: line 2 and what follows it were not sent; make it writable"
+        )
         done = self.run_alone(*words, "--stream", code=f"limit({size})", input=TICKETS[:20])
-        self.said(done, 1, "^known 1 qr T00001\nunsent 2 .*File too large; see that it can be")
+        self.said(done, 1, "^known 1 qr T00001\nunsent 2 .*File too large; make it writable")
         self.assertEqual(labels_in(done), [])
 
 
@@ -369,7 +373,9 @@ class Reprints(Desk):
         words = ("--journal", self.path, "--print", printer.name)
         done = printed(*words, "--only", "3-", "--again", "standard output")
         last, first = self.events_of(printer.name)
-        gone = f"lines 3-{last} may be missing: look there, and print what is by --only ROWS"
+        gone = (
+            f"lines 3-{last} may be missing: look there, and print what is missing with --only ROWS"
+        )
         rest = f"line {first} may be on paper: look there; with --after {last - 2} the same command"
         self.said(done, 1, f"{gone} --again {printer.name}; {rest}")
         thrown = len(printer.labels)
@@ -518,7 +524,7 @@ class Streams(Desk):
     def test_a_journal_that_another_program_has_written_ends_it_with_an_answer(self) -> None:
         changes: Sequence[tuple[Callable[[str], object], str]] = (
             (os.unlink, "another program has changed"),
-            (printed_by_hand, "line 4 is no line of a"),
+            (printed_by_hand, "line 4 is not a line of a"),
         )
         for change, said in changes:
             stream = self.start("--journal", self.path)
@@ -544,7 +550,7 @@ class Streams(Desk):
     def test_what_no_line_can_be_printed_without(self) -> None:
         words = ("label-print", *ROLL, "--stream")
         done = support.run(*words, input=TICKETS, LABELS_LIBRARY="/no/such.so")
-        self.said(done, 1, r"\Alabel-print: the library liblabels is not there: .*\n\Z")
+        self.said(done, 1, r"\Alabel-print: the library liblabels cannot be loaded: .*\n\Z")
 
     def test_a_line_that_was_cut_off_is_said_before_the_answers(self) -> None:
         """It begins as no answer does."""

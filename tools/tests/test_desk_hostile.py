@@ -160,7 +160,7 @@ class Doubts(Desk):
         """Each run names all of a journal, until they are printed or their lines say `taken`."""
         for words in (("--only", "3-"), ("--only-code", "T00002"), ()):
             done = printed("--journal", self.waiting("tcp://a"), *words)
-            hint = "if it is not there, print only it by --only 1 --again tcp://a"
+            hint = "if it is not there, print only it with --only 1 --again tcp://a"
             self.said(done, 1, f"line 1: may be on paper, from tcp://a: look for it; {hint}")
         done = printed("--journal", self.path, "--only", "1", "--again", "tcp://a")
         self.assertNotIn(b"may be on paper", done.stderr)
@@ -173,8 +173,10 @@ class Doubts(Desk):
             pattern = (
                 r"^label-print: qr T00001: may be on paper, from tcp://a, and not in the input"
             )
-            self.said(done, 1, f"{pattern}: look for it; if it is there, make sending taken in its")
-            self.said(done, 1, "; if not, .* by --again, or, where nobody wants it, take that line")
+            self.said(
+                done, 1, f"{pattern}: look for it; if it is there, change sending to taken in its"
+            )
+            self.said(done, 1, "; if not, .* with --again .*, or delete that line if nobody")
 
     def test_a_line_that_was_cut_within_its_code(self) -> None:
         """A label that there never was: what the message says ends it, on paper or not."""
@@ -183,7 +185,7 @@ class Doubts(Desk):
             Path(self.path).write_bytes(kept)
             for _ in range(2):
                 done = printed("--journal", self.path)
-                self.said(done, 1, "qr T0000: may be on paper, .* taken in .* take that line out")
+                self.said(done, 1, "qr T0000: may be on paper, .* taken in .* delete that line")
             text = Path(self.path).read_bytes()
             self.assertIn(change[0], text)
             Path(self.path).write_bytes(text.replace(*change, 1))
@@ -197,10 +199,10 @@ class Doubts(Desk):
             file.write(entry("sending", "qr X1", "line 2", "standard output"))
         words = ("--journal", self.path)
         self.assertIn(
-            "print only it by --only-code 'qr X1' --again", self.answers(b"qr X1\n", *words)[0]
+            "print only it with --only-code 'qr X1' --again", self.answers(b"qr X1\n", *words)[0]
         )
         done = printed(*words, input=lines)
-        self.said(done, 1, "line 2: may be on paper, from .* it by --only 2 --again 'standard")
+        self.said(done, 1, "line 2: may be on paper, from .* it with --only 2 --again 'standard")
         kept = Path(self.path).read_bytes()
         for choice in (("--only", "2"), ("--only-code", "qr X1")):
             Path(self.path).write_bytes(kept)
@@ -216,7 +218,7 @@ class Doubts(Desk):
             for name in "ab"
         )
         done = printed("--journal", self.journal(entry("sending", "qr b2", "row 3")), input=lines)
-        self.said(done, 1, "b.xlsx, row 3: may be on paper, .* it by --only-code 'qr b2' --again")
+        self.said(done, 1, "b.xlsx, row 3: may be on paper, .* it with --only-code 'qr b2' --again")
 
     def test_those_of_many_printers(self) -> None:
         """The printer of each is named, and those of one printer are together."""
@@ -251,7 +253,7 @@ class Doubts(Desk):
 
     def test_what_can_be_typed(self) -> None:
         done = printed("--journal", self.waiting("standard output"), input=TICKETS[:10])
-        self.said(done, 1, "print only it by --only 1 --again 'standard output'\n")
+        self.said(done, 1, "print only it with --only 1 --again 'standard output'\n")
         self.waiting("standard output")
         words = ("--journal", self.path, "--only-code", "T00001", "--again", "standard output")
         self.assertEqual(len(labels_in(printed(*words, input=TICKETS[:10]))), 1)
@@ -293,7 +295,7 @@ class Doubts(Desk):
         stream = self.start("--journal", self.path)
         self.assertRegex(stream.answer(b"qr T00002\n"), "^taken 1 ")
         os.unlink(self.path)
-        self.assertRegex(stream.answer(b"qr T00003\n"), "^unsent 2 .* it has not Zeile \ufffd")
+        self.assertRegex(stream.answer(b"qr T00003\n"), "^unsent 2 .* it lacks Zeile \ufffd")
 
 
 class Ends(Desk):
@@ -317,7 +319,7 @@ class Ends(Desk):
         code = "StandardOutput.open = lambda outlet, left=[1] * 4: left.pop() if left else broken()"
         done = self.run_alone("--journal", self.path, code=code)
         self.said(done, 1, "it is off: it took 2 labels whole: line 3 and what follows it were not")
-        self.said(done, 1, "not sent; lines 1-2 may be missing: look there, and print what is by")
+        self.said(done, 1, "not sent; lines 1-2 may be missing: look there, and print what is")
         self.assertEqual(self.events(), ["sending", "taken"] * 2)
 
     def test_a_way_out_that_breaks_off_after_no_label(self) -> None:
@@ -471,7 +473,7 @@ class Streams(Desk):
         lines = b'#{"title":"%s"}\nqr A\n# %s\nqr B\n' % (b"x" * 70_000, b"x" * 70_000)
         done = printed("--stream", input=lines)
         refused, taken = done.stderr.decode().splitlines()
-        self.assertEqual(refused, "refused 2 the object before it is longer than 65536 bytes")
+        self.assertEqual(refused, "refused 2 the remark before it is longer than 65536 bytes")
         self.assertRegex(taken, "^taken 4 .* qr B$")
 
     def test_two_objects_before_a_line(self) -> None:
@@ -479,7 +481,7 @@ class Streams(Desk):
         lines = b'#{"title":"A"}\n#{"title":"B"}\nqr A\n#{"title":"C"}\nqr C\n'
         done = printed("--stream", input=lines)
         refused, taken = done.stderr.decode().splitlines()
-        self.assertEqual(refused, "refused 3 there are two objects before it")
+        self.assertEqual(refused, "refused 3 there are two remarks before it")
         self.assertRegex(taken, "^taken 5 .* qr C$")
         self.assertEqual(labels_in(done), labels_in(printed(input=b'#{"title":"C"}\nqr C\n')))
         self.said(printed(input=lines), 1, "something is missing before line 2")
@@ -558,11 +560,15 @@ class Choices(Desk):
     def test_all_that_is_missing_is_counted(self) -> None:
         """In one message, however much it is."""
         done = printed("--only", "20-9999999,7,3-8")
-        self.said(done, 1, r"\Alabel-print: rows 31-9999999: of --only, but not in the input\n\Z")
+        self.said(
+            done, 1, r"\Alabel-print: rows 31-9999999: named by --only, but not in the input\n\Z"
+        )
         codes = [word for number in range(12) for word in ("--only-code", f"X{number:02}")]
         done = printed("--only", "1", *codes)
         named = ", ".join(f"X{number:02}" for number in range(10))
-        self.said(done, 1, rf"\Alabel-print: {named} .. \(12 in all\): of --only-code, but not")
+        self.said(
+            done, 1, rf"\Alabel-print: {named} .. \(12 in all\): named by --only-code, but not"
+        )
 
 
 if __name__ == "__main__":

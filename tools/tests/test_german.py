@@ -14,7 +14,9 @@ from typing import Any, Iterator
 from unittest import mock
 
 import support
+from labeltools.common.text import Text
 from labeltools.lines.reasons import REASONS, WITH_FIELDS, reason_of
+from labeltools.window.hints import Hints
 
 LANGUAGES = sorted(path.stem for path in (support.TOOLS / "po").glob("*.po"))
 NAMES = [f'Spalte "{number}"' for number in range(40)]
@@ -83,6 +85,13 @@ def is_literal(node: ast.expr) -> bool:
     return isinstance(node, ast.Constant) and isinstance(node.value, str)
 
 
+def options_in(text: str) -> frozenset[str]:
+    """The options that the window says to type for a message."""
+    *_, last = Hints({}).text(Text(re.sub(r"{\d+}", "{}", text))).split("\n")
+    _, _, options = last.partition("Further options: ")
+    return frozenset(options.split(", "))
+
+
 def in_capitals(text: str) -> str:
     """A text in a language that is English in capitals."""
     return re.sub(r"(\{.*?\})|[^{]+", lambda found: found[1] or found[0].upper(), text)
@@ -139,6 +148,15 @@ class German(unittest.TestCase):
                     self.assertEqual(plurals[text], texts[text])
                     for one in re.findall('"(.+)"', others[text]):
                         self.assertEqual(fields_of(one), fields_of(text), text)
+
+    def test_the_window_names_the_same_options_in_each_language(self) -> None:
+        """With their values, and not with the next word of a sentence."""
+        support.needs("msgcat")
+        for language in LANGUAGES:
+            found = entries(Path(support.TOOLS, f"po/{language}.po").read_bytes())
+            for text, other in OTHER_OF.findall(found):
+                typed = {options_in(one) for one in (text, *re.findall('"(.+)"', other))}
+                self.assertEqual(len(typed), 1, (language, text, typed))
 
     def test_no_message_is_half_translated(self) -> None:
         """Read in a language of capitals, messages have no other letters: names and numbers in
@@ -215,7 +233,7 @@ class German(unittest.TestCase):
                     "de",
                     "Zeile 2: 4006381333932: die Prüfziffer ist 2, richtig ist 1",
                     'Zeile 3: Spalte 3 ("Preis") hat "1E3", was kein Preis ist',
-                    "1 Etikett von 1 Zeile: 1 EAN-13; Preis 2,50; 1 Preis ohne Währung; "
+                    "1 Etikett aus 1 Zeile: 1 EAN-13; Preis 2,50; 1 Preis ohne Währung; "
                     "2 Zeilen übersprungen",
                 ),
                 (
@@ -228,9 +246,9 @@ class German(unittest.TestCase):
                 (
                     "en",
                     "row 2: 4006381333932: the check digit is 2, should be 1",
-                    'row 3: column 3 ("Preis") has "1E3", which is no price',
-                    "1 label of 1 row: 1 EAN-13; price 2,50; 1 price without a currency; "
-                    "2 rows left out",
+                    'row 3: column 3 ("Preis") has "1E3", which is not a price',
+                    "1 label from 1 row: 1 EAN-13; price 2,50; 1 price without a currency; "
+                    "2 rows skipped",
                 ),
             ):
                 ran = self.ran(language, support.TOOLS / "label-table", *OPTIONS, table)
@@ -263,7 +281,7 @@ class German(unittest.TestCase):
                 "label-print --design x",
                 "Argument --design: 'x' ist weder eines von article, shelf",
             ),
-            ("label-print --columns x", "Argument --columns: 'x': schreiben wie 3"),
+            ("label-print --columns x", "Argument --columns: 'x': in der Form 3 schreiben"),
         ):
             tool, *arguments = words.split()
             ran = self.ran("de", support.TOOLS / tool, *arguments)

@@ -379,12 +379,12 @@ class Sizes(unittest.TestCase):
                 self.assertEqual(len(refused.labels), 0, (size, dpi))
                 (reason,) = set(refused.reasons)
                 wide, high = re.findall(
-                    r"take a larger label of ([0-9.]+) by ([0-9.]+) mm", reason
+                    r"take a label of at least ([0-9.]+) by ([0-9.]+) mm", reason
                 )[0]
                 fitting = laid_out(data, (float(wide), float(high)), dpi, turn=False)
                 self.assertEqual(len(fitting.labels), 1, reason)
         self.assertIn(
-            "EAN-13 is 42.4 mm wide, with modules of 0.375 mm, and a label takes 37.91 by",
+            "EAN-13 is 42.4 mm wide, with modules of 0.375 mm, and the label has room for 37.91 by",
             reason_of(),
         )
 
@@ -462,7 +462,7 @@ class Words(unittest.TestCase):
         laid = laid_out(filed(kilos, grams, other, other), (60.0, 40.0), 300)
         first, second = [remark.text for remark in laid.prepared.remarks]
         self.assertEqual(first, "rows 2-5: shortened to fit, with an ellipsis")
-        self.assertRegex(second, '^rows 2-3: the same once shortened, "Pfefferminztee lose')
+        self.assertRegex(second, '^rows 2-3: alike once shortened, "Pfefferminztee lose')
         (shown,) = {laid.pen.shown_texts(item) for item in laid.labels[:2]}
         self.assertTrue(f"{long}1 kg".startswith(shown[0].removesuffix("…")), shown)
         self.assertTrue(shown[0].endswith("…"))

@@ -21,11 +21,11 @@ NUMBER = re.compile(r"LABELS_[A-Z0-9_]+")
 # Numbers of label-print(1), and what they are in the tools.
 NUMBERS = (
     (r"svg, which take (\d+)", job.DRAWING_DPI),
-    (r"sheets have (\d+) dots an inch", job.DRAWING_DPI),
+    (r"sheets are drawn at (\d+) dpi", job.DRAWING_DPI),
     (r"on a port \((\d+)\)", network.PORT),
     (r"no connection is made in (\d+) seconds", network.CONNECT),
     (r"takes nothing for (a minute)", {60.0: "a minute"}.get(network.STUCK)),
-    (r"after (\d+) seconds without a label", network.FAREWELL),
+    (r"waits (\d+) seconds for that", network.FAREWELL),
     (r"(a twentieth) of a second", {0.05: "a twentieth"}.get(network.REGRET)),
 )
 

@@ -64,7 +64,7 @@ class Rows(unittest.TestCase):
     def test_only(self) -> None:
         codes = [line.split()[1] for line, _ in SHELF]
         self.assertEqual(self.zpl("--only", "3,5-6"), (0, [codes[1], *codes[3:5]], []))
-        said = ["rows 20-21: of --only, but not in the input"]
+        said = ["rows 20-21: named by --only, but not in the input"]
         self.assertEqual(self.zpl("--only", "2,20-21"), (1, codes[:1], said))
         plain = b"# remark\n\nean8 7351353\nean8 9638507\n"
         self.assertEqual(self.zpl("--only", "4", data=plain), (0, ["96385074"], []))
@@ -109,7 +109,7 @@ class Rows(unittest.TestCase):
             [
                 "row 3: check digit is 2, should be 1",
                 "row 4: data is longer than 80 bytes",
-                "rows 7, 9: left out by label-table, and 23 rows more",
+                "rows 7, 9: skipped by label-table, and 23 rows more",
             ],
         )
 

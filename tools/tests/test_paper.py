@@ -340,7 +340,7 @@ class Said(unittest.TestCase):
                 done = run(labels, *sheet(size, dpi))
                 self.assertEqual((done.returncode, done.stdout), (1, b""))
                 message = support.messages(done)[0]
-                found = re.findall(r"a larger label of ([0-9.]+) by ([0-9.]+) mm", message)
+                found = re.findall(r"a label of at least ([0-9.]+) by ([0-9.]+) mm", message)
                 self.assertEqual(len(found), 1, message)
                 self.assertIn("rows 2-4: ", message)
                 larger = float(found[0][0]), float(found[0][1])

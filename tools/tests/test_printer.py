@@ -73,7 +73,7 @@ class Lines(unittest.TestCase):
         )
         self.assertEqual(
             support.messages(done),
-            [f"label-print: 3 labels on 3 pages; print the file by: {line}"],
+            [f"label-print: 3 labels on 3 pages; print the file with: {line}"],
         )
         done = support.printed("--paper", "60x40", "--dpi", "203", input=LINES)
         self.assertEqual((done.returncode, done.stderr), (0, b""))
@@ -88,7 +88,7 @@ class Lines(unittest.TestCase):
                 capture_output=True,
                 env=support.environment(),
             )
-        self.assertIn(b"3 labels; print the file by: lp -d NAME -o raw FILE.zpl", shown.stdout)
+        self.assertIn(b"3 labels; print the file with: lp -d NAME -o raw FILE.zpl", shown.stdout)
 
 
 @support.slow
@@ -177,7 +177,7 @@ class Queues(unittest.TestCase):
                 done = self.printed(*self.SHEET, "--print", name)
                 (said,) = support.messages(done)
                 self.assertRegex(said, f"5 labels sent to {name}, at {dpi} dpi: job [0-9]+")
-                self.assertEqual("scan a label" in said, not own)
+                self.assertEqual("scan one label" in said, not own)
                 (across, down), page = raster_of(self.scheduler.printed(name))
                 if own:
                     self.assertEqual((across % dpi, down % dpi), (0, 0))
@@ -281,7 +281,7 @@ class Devices(unittest.TestCase):
     def test_what_is_not_there_or_full(self) -> None:
         with tempfile.TemporaryDirectory() as folder:
             for device, said in (
-                (f"{folder}/lp0", "row 2 and what follows it were not sent; is it on, and connec"),
+                (f"{folder}/lp0", "row 2 and what follows it were not sent; is it switched on"),
                 ("/dev/full", "No space left on device: it took 0 labels whole"),
             ):
                 done = support.printed(*self.WORDS, "--print", device, input=LINES)
@@ -464,7 +464,7 @@ class Hostile(unittest.TestCase):
             named = f"{folder}/liblabels.so.1"
             done = support.run("label-print", "--paper", "60x40", input=LINES, LABELS_LIBRARY=named)
             self.assertEqual((done.returncode, done.stdout), (1, b""))
-            self.assertIn(f"the library liblabels is not there: {named}".encode(), done.stderr)
+            self.assertIn(f"the library liblabels cannot be loaded: {named}".encode(), done.stderr)
 
     def test_another_version_of_the_library(self) -> None:
         """Later ones of the same major version are taken."""

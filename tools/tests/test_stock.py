@@ -28,7 +28,7 @@ class Stock(unittest.TestCase):
     def test_refusals(self) -> None:
         for name, reason in (
             ("Avery 99999", "no such sheet"),
-            ("Avery 8293", "no rectangles (round)"),
+            ("Avery 8293", "not rectangles (round)"),
             ("Connect KF10647", "larger than its page"),
             ("Endisch B200147A5", "larger than its page"),
         ):

@@ -48,7 +48,7 @@ def parts_of(output: bytes) -> Tuple[Label, List[Tuple[Label, str]], Label]:
     return remarks[0], list(zip(remarks[1:-1], texts[2::2])), remarks[-1]
 
 
-OTHER = "a code that is no EAN or UPC needs --symbology code128 (bars) or qr"
+OTHER = "a code that is not an EAN or UPC needs --symbology code128 (bars) or qr"
 
 
 class TableTest(unittest.TestCase):
@@ -139,7 +139,7 @@ class TableTest(unittest.TestCase):
 
 
 class Encodings(TableTest):
-    FIX = "save it as UTF-8, or give the --encoding that reads it right: "
+    FIX = "save it as UTF-8, or give the right one of these by --encoding: "
     WIDE = "save it as UTF-8, or give --encoding utf-16-le or utf-16-be"
     TEXT = f"Nummer;Größe;Name\r\n{PENCIL};ß;Käse\r\n{SMALL};ü;Öl €\r\n"
     ARGUMENTS = "--code Nummer --title Name --text Größe".split()
@@ -228,7 +228,7 @@ class Encodings(TableTest):
             "shift_jis",
             "gb18030",
         ):
-            problem = f"standard input is UTF-8: leave --encoding {encoding} away"
+            problem = f"standard input is UTF-8: leave out --encoding {encoding}"
             arguments = ["--code", "code", "--symbology", "qr", "--encoding", encoding]
             self.check("code\nKäse\n", arguments, [], [problem], 2)
             self.check("\ufeffcode\nabc\n", arguments, [], [problem], 2)
@@ -305,7 +305,7 @@ class Cells(TableTest):
         self.check(f"sep=|\r\ncode|a\r\n{SMALL}|b\r\n", ["--code", "code"], [f"ean8 {SMALL}"])
 
     def test_told_delimiter_that_row_1_does_not_have(self) -> None:
-        problem = 'row 1 has no "," between cells, but ";": leave --delimiter away'
+        problem = 'row 1 has no "," between cells, but ";": leave out --delimiter'
         self.check(
             "code;name\nA1;a\n", "--code 1 --symbology qr --delimiter ,".split(), [], [problem], 2
         )
@@ -332,7 +332,7 @@ class Cells(TableTest):
         self.check(table, ["--code", "code"], [f"ean13 {PENCIL}", f"ean8 {SMALL}"], problems, 1)
 
     def test_quotes_that_do_not_match(self) -> None:
-        open_quote = "row 2: a quote is not closed; this row and all below it are left out"
+        open_quote = "row 2: a quote is not closed; this row and all below it are skipped"
         self.check(f'code;name\n{SMALL};"a\n{SMALL};b\n', ["--code", "code"], [], [open_quote], 1)
         self.check(
             f'code;name\n{SMALL};"a\n{SMALL};"b"\n{SMALL};c\n',
@@ -356,7 +356,7 @@ class Cells(TableTest):
         text_after = 'text after a closing quote: write a quote in a quoted cell twice ("")'
         for row in (f'{PENCIL};"a\nb"c\n{SMALL};d', f'{PENCIL};"a"b;"c\n{SMALL};d\n"\n{SMALL};e'):
             problem = "a quote is not closed" if 'b"c' in row else text_after
-            problem = f"row 2: {problem}; this row and all below it are left out"
+            problem = f"row 2: {problem}; this row and all below it are skipped"
             self.check(f"code;name\n{row}\n", ["--code", "code"], [], [problem], 1)
 
     def test_a_cell_beyond_what_python_reads(self) -> None:
@@ -453,7 +453,7 @@ class Cells(TableTest):
             seen = f"LOT 7{end}".replace("\r", "<U+000D>").replace("\n", "<U+000A>")
             problem = (
                 f'refused: "{seen}" has a space before or after the data, which would be drawn:'
-                " take it away"
+                " remove it"
             )
             self.check_cells(["--symbology", "code128"], {f"LOT 7{end}": problem})
 
@@ -470,12 +470,12 @@ class Columns(TableTest):
             [f"ean8 {SMALL}"],
             locales=support.LOCALES,
         )
-        problem = 'no column "Länge"; row 1 has 1 "Größe": give the number of one'
+        problem = 'no column "Länge"; row 1 has 1 "Größe": give the number of one of these columns'
         self.check(f"Größe\n{SMALL}\n", ["--code", "Länge"], [], [problem], 2, support.LOCALES)
 
     def test_column_that_is_not_there(self) -> None:
         table = f"code;name\n{SMALL};a\n"
-        listed = 'row 1 has 1 "code", 2 "name": give the number of one'
+        listed = 'row 1 has 1 "code", 2 "name": give the number of one of these columns'
         for column in ("Code", "codes"):
             problem = f'no column "{column}"; row 1 has 1 "code", 2 "name": is it "code"?'
             self.check(table, [f"--code={column}"], [], [problem], 2)
@@ -487,9 +487,8 @@ class Columns(TableTest):
             )
 
     def test_column_that_is_there_twice(self) -> None:
-        problem = (
-            'several columns "code"; row 1 has 1 "code", 2 "name", 3 "code": give the number of one'
-        )
+        problem = 'several columns "code"; row 1 has 1 "code", 2 "name", 3 "code": '
+        problem += "give the number of one of these columns"
         table = f"code;name;code\n{SMALL};a;{PENCIL}\n"
         self.check(table, ["--code", "code"], [], [problem], 2)
         self.check(table, ["--code", "3"], [f"ean13 {PENCIL}"])
@@ -500,7 +499,7 @@ class Columns(TableTest):
         self.check(table, "--code 1 --no-header".split(), [f"ean13 {PENCIL}"], [problem], 1)
         self.check(f"ean;b\n{SMALL};c\n", "--code 1 --header".split(), [f"ean8 {SMALL}"])
         for column in ("code", "3"):
-            problem = f'no column "{column}"; row 1 has 1 "{PENCIL}", 2 "a": give the number of one'
+            problem = f'no column "{column}"; row 1 has 1 "{PENCIL}", 2 "a": give the number of one of these columns'
             self.check(table, ["--code", column, "--no-header"], [], [problem], 2)
 
     def test_a_number_where_row_1_may_be_an_article(self) -> None:
@@ -811,7 +810,7 @@ class Numbers(TableTest):
         zeros = ("0", "00000000", "0000000000", "0000000000000")
         wanted = {
             **{
-                cell: f'refused: "{cell}" has only zeros, and is no article\'s number'
+                cell: f'refused: "{cell}" has only zeros, and is not an article number'
                 for cell in zeros
             },
             "600029145": f"refused: 600029145 has 9 digits, {self.LENGTHS}: {OTHER}",
@@ -897,7 +896,7 @@ class Numbers(TableTest):
     def test_an_eight_digit_number_with_a_zero_in_front_may_be_a_upc_e(self) -> None:
         # GS1 General Specifications 1.4: no GTIN-8 begins with 0; 01234565 is the UPC-E of
         # 012345000065
-        may_be = "may be a UPC-E, which labels does not draw: an EAN-8 is --symbology ean8"
+        may_be = "may be a UPC-E, which labels does not draw: for an EAN-8 give --symbology ean8"
         self.check_cells([], {"01234565": f"refused: 01234565 {may_be}"})
         self.check_cells(
             ["--fill-zeros"],
@@ -940,7 +939,7 @@ class Numbers(TableTest):
             self.assertEqual(parts_of(done.stdout)[1], [])
             messages = support.messages(done)
             self.assertTrue(all("is an ISBN of ten digits" in text for text in messages[:-1]))
-            same = "left out for the same reason as row 2"
+            same = "skipped for the same reason as row 2"
             rest = f"label-table: rows 52, 53, 54, 55, 56 and 945 more: {same}"
             self.assertEqual((len(messages), messages[-1]), (51, rest))
 
@@ -1047,15 +1046,15 @@ class Data(TableTest):
         self.check_cells(arguments, {"Käse 日本": "qr,level=Q,mask=auto Käse 日本"})
 
     def test_drawn_though_unmeant(self) -> None:
-        space = "has a space before or after the data, which would be drawn: take it away"
+        space = "has a space before or after the data, which would be drawn: remove it"
         setting = (
-            "has a setting in front, which would be drawn: take it away; settings of all lines are"
+            "has a setting in front, which would be drawn: remove it; settings of all lines are"
             " given by --settings"
         )
-        quotes = "has quotes round the data, which would be drawn: take them away"
+        quotes = "has quotes round the data, which would be drawn: remove them"
         apostrophe = (
-            "has an apostrophe in front, a spreadsheet's sign of text, which would be drawn: take"
-            " it away"
+            "has an apostrophe in front, a spreadsheet's sign of text, which would be drawn: remove"
+            " it"
         )
         wanted = {
             " LOT 7": f'refused: " LOT 7" {space}',
@@ -1151,7 +1150,9 @@ class Arguments(TableTest):
         signs = 'argument --decimal: ";" is neither comma nor point'
         self.check_usage("--code 1 --decimal ;".split(), signs)
         for argument in (";;", "", '"', " ", "ä"):
-            text = f'--delimiter "{argument}" is not tab, none or a character that may cut cells'
+            text = (
+                f'--delimiter "{argument}" is not tab, none or a character that can separate cells'
+            )
             self.check_usage(["--code", "1", "--delimiter", argument], text)
 
     def test_arguments_that_do_not_go_together(self) -> None:
@@ -1191,7 +1192,7 @@ class Arguments(TableTest):
 
     def test_options_of_the_other_kind_of_table(self) -> None:
         for words in (["--sheet", "x"], ["--hidden"], ["--links"], ["--date-as", "dd.mm.yyyy"]):
-            problem = f"standard input is CSV: leave {words[0]} away"
+            problem = f"standard input is CSV: leave out {words[0]}"
             self.check(f"code\n{SMALL}\n", ["--code", "code", *words], [], [problem], 2)
 
     def test_files(self) -> None:

@@ -110,7 +110,7 @@ class Hostile(TableTest):
     @support.slow
     def test_all_rows_are_wrong(self) -> None:
         text = "EAN;Name\n" + "x;y\n" * 150_000
-        self.assertIn("left out for the same reason as row 2", self.ended(text.encode()))
+        self.assertIn("skipped for the same reason as row 2", self.ended(text.encode()))
 
 
 if __name__ == "__main__":

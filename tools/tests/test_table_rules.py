@@ -16,8 +16,8 @@ from sheets import KINDS, Cell, Sheet
 from test_table import BOOK, PENCIL, SMALL, SOAP, Label, TableTest, parts_of
 from test_table_workbooks import cell, ods, ods_cell, packed, relations, rows, table, unpacked, xlsx
 
-NO_PRICE = "which is no price: it"
-WORDS = "has other words than a price tag has; give --price-text if it is right"
+NO_PRICE = "which is not a price: it"
+WORDS = "has words that no price tag has; give --price-text if it is right"
 QUOTES = "a cell that contains the delimiter has to be in quotes"
 TYPED = "enter it again as text"
 NUMBER = 400638100000
@@ -138,14 +138,12 @@ class Prices(RulesTest):
         no_number = "has no number; give --price-text if it is right"
         self.assertEqual(self.price("verzinkt"), no_number)
         self.assertEqual(self.price("auf Anfrage ab 5"), WORDS)
-        hint = "if they are a currency, name it by --currency-name"
+        hint = "if this is a currency, give it by --currency-name"
         self.assertEqual(
-            self.price("Zz12.50"), f"has letters before its digits, as a code does; {hint}"
+            self.price("Zz12.50"), f"has letters before its digits, as a code has; {hint}"
         )
         self.assertEqual(self.price("Zz12.50", "--currency-name", "Zz"), "Zz12.50")
-        self.assertEqual(
-            self.price("R12"), f"has letters before its digits, as a code does; {hint}"
-        )
+        self.assertEqual(self.price("R12"), f"has letters before its digits, as a code has; {hint}")
         self.assertEqual(self.price("R12", "--currency-name", "R"), "R12")
 
     def test_a_zero_that_is_a_dash(self) -> None:
@@ -240,7 +238,9 @@ class Prices(RulesTest):
         }
         for (price, pattern), wanted in refused.items():
             found = self.price(price, "--price-as", pattern)
-            start = f'row 2: column 2 ("Preis") has "{price}", which cannot be printed so: it '
+            start = (
+                f'row 2: column 2 ("Preis") has "{price}", which cannot be printed like that: it '
+            )
             self.assertEqual(found.removeprefix(start), wanted)
         self.assertEqual(self.price("2.675", "--price-as", "0,00 €", "--decimal", ","), "2675,00 €")
 
@@ -253,7 +253,7 @@ class Prices(RulesTest):
         )
         text = f"EAN;Preis\n{SMALL};1.005\n{BOOK};0.80\n"
         status, messages, labels = self.said(text, *arguments)
-        problem = 'row 2: column 2 ("Preis") has "1.005", which cannot be printed so: '
+        problem = 'row 2: column 2 ("Preis") has "1.005", which cannot be printed like that: '
         problem += "it has three digits behind ., which is the decimal sign of its column"
         self.assertEqual((status, messages, len(labels)), (1, [problem], 1))
 
@@ -283,12 +283,12 @@ class Prices(RulesTest):
         status, messages, labels = self.said(text, *arguments)
         found = [(label["price"], label["unit"]) for label, _ in labels]
         self.assertEqual(found, [("1.00 EUR", "2.00 EUR/kg"), ("1.00 Soap", "2.00 Soap/kg")])
-        cannot = "which cannot be printed so: it has"
+        cannot = "which cannot be printed like that: it has"
         for message in (
-            'row 4: column 4 ("Währung") has "7", which is no currency',
+            'row 4: column 4 ("Währung") has "7", which is not a currency',
             f'row 5: column 2 ("Preis") has "1.00", {cannot} no currency, and its row has none',
             f'row 6: column 2 ("Preis") has "1.00 €", {cannot} EUR, and its row has USD',
-            'row 3 has the currency "Soap", which is not known: if it is right, name it by '
+            'row 3 has the currency "Soap", which is not known: if it is right, give it by '
             "--currency-name",
         ):
             self.assertIn(message, messages)
@@ -425,7 +425,7 @@ class Codes(RulesTest):
             f"EAN;Art\n{PENCIL};EAN-13\nLOT 7;Code"
             f" 128\nhttps://example.com/7;qr\n{SMALL};\nA;Aztec\n"
         )
-        problem = 'row 6: column 2 ("Art") has "Aztec", which is no symbology: '
+        problem = 'row 6: column 2 ("Art") has "Aztec", which is not a symbology: '
         problem += "it is one of EAN-13, EAN-8, UPC-A, Code 128, QR Code"
         lines = [f"ean13 {PENCIL}", "code128 LOT 7", "qr https://example.com/7", f"ean8 {SMALL}"]
         self.check(text, "--code EAN --symbology-column Art".split(), lines, [problem], 1)
@@ -468,7 +468,9 @@ class Names(RulesTest):
     def test_a_name_over_several_columns(self) -> None:
         merge = '<mergeCells><mergeCell ref="B1:C1"/></mergeCells>'
         data = xlsx(rows(["EAN", "Preis"], [SMALL, "1,00", "1,19"]), after=merge)
-        problem = 'the name "Preis" is over the columns 2 to 3: give the number of one'
+        problem = (
+            'the name "Preis" is over the columns 2 to 3: give the number of one of these columns'
+        )
         self.check(data, "--code EAN --price Preis".split(), [], [problem], 2)
         self.assertEqual(self.said(data, "--code", "EAN", "--price", "3")[2][0][0]["price"], "1,19")
         spanned = (
@@ -545,7 +547,7 @@ class Marked(RulesTest):
 
     def test_no_row_is_marked(self) -> None:
         problem = (
-            'standard input has no row with "ja" in column 3 ("Drucken"): look how the cells are'
+            'standard input has no row with "ja" in column 3 ("Drucken"): check how the cells are'
             " spelled"
         )
         self.check(self.TEXT, "--code EAN --where Drucken=ja".split(), [], [problem], 1)
@@ -582,7 +584,7 @@ class Marked(RulesTest):
             self.assertEqual(len(self.said(text, *without, "--new-since", str(older))[2]), 3)
         older.write_bytes(older.read_bytes()[:-20])
         status, messages, _ = self.said(text, *arguments, "--new-since", str(older))
-        self.assertRegex(messages[0], f"^{older}: line 8: the remark is no JSON object")
+        self.assertRegex(messages[0], f"^{older}: line 8: the remark is not a JSON object")
 
 
 class Summary(RulesTest):
@@ -590,8 +592,8 @@ class Summary(RulesTest):
         text = f"EAN;Preis;Stück\n{SMALL};0,80 €;1\n{BOOK};1.299,00 €;3\nx;1,00 €;1\n"
         arguments = "--code EAN --price Preis --copies Stück --summary".split()
         said = (
-            "4 labels of 2 rows: 1 EAN-8, 1 EAN-13; prices 0,80 € to 1.299,00 €; copies 1 to 3; 1"
-            " row left out"
+            "4 labels from 2 rows: 1 EAN-8, 1 EAN-13; prices 0,80 € to 1.299,00 €; copies 1 to 3; 1"
+            " row skipped"
         )
         self.assertEqual(self.said(text, *arguments)[1][-1], said)
         self.assertNotIn(said, self.said(text, *arguments[:-1])[1])
@@ -600,7 +602,7 @@ class Summary(RulesTest):
         support.needs("script")
         command = f"printf 'EAN\\n{SMALL}\\n' | label-table --code EAN > {self.folder}/lines"
         done = support.run("/usr/bin/script", "--quiet", "--command", command, "/dev/null")
-        self.assertIn(b"label-table: 1 label of 1 row: 1 EAN-8", done.stdout)
+        self.assertIn(b"label-table: 1 label from 1 row: 1 EAN-8", done.stdout)
 
 
 class Workbooks(RulesTest):
@@ -722,7 +724,7 @@ class Workbooks(RulesTest):
 
 class Encodings(RulesTest):
     def test_a_message_shows_how_a_word_would_be_read(self) -> None:
-        fix = "save it as UTF-8, or give the --encoding that reads it right: "
+        fix = "save it as UTF-8, or give the right one of these by --encoding: "
         cases = {
             ("Zażółć", "cp1250"): 'cp1250 reads "Zażółć"',
             ("Füller", "cp1252"): 'cp1252 reads "Füller"',
@@ -778,7 +780,7 @@ class Messages(RulesTest):
         status, messages, labels = self.said(text, "--code", "Name")
         self.assertEqual((status, labels), (1, []))
         self.assertLess(len(messages), 500)
-        self.assertIn("left out for the same reason as row ", messages[-1])
+        self.assertIn("skipped for the same reason as row ", messages[-1])
 
     def test_control_characters_reach_no_terminal(self) -> None:
         done = support.run("label-table", "--code", "\x1b[2J", input=f"EAN\n{SMALL}\n".encode())

@@ -233,8 +233,8 @@ class Xlsx(WorkbookTest):
             cell(
                 7, style=9
             ): f'refused: has the number format "000\\-000", which is not understood: {again}',
-            cell(45678, style=4): f"refused: is a date or a time, which is no code: {again}",
-            cell(45678, style=7): f"refused: is a date or a time, which is no code: {again}",
+            cell(45678, style=4): f"refused: is a date or a time, which is not a code: {again}",
+            cell(45678, style=7): f"refused: is a date or a time, which is not a code: {again}",
             cell(
                 1.5
             ): f"refused: is the number 1.5, which is not whole or has too many digits: {again}",
@@ -353,7 +353,7 @@ class Xlsx(WorkbookTest):
         for option, value in (("--delimiter", ";"), ("--encoding", "cp1252")):
             self.refused(
                 xlsx(rows(["EAN"], [PENCIL])),
-                f"is no CSV: leave {option} away",
+                f"is not CSV: leave out {option}",
                 option,
                 value,
                 status=2,
@@ -545,14 +545,14 @@ class Ods(WorkbookTest):
             ),
             ods_cell(
                 "LOT 7", "float", 'office:value="7"'
-            ): 'is shown as "LOT 7", which is no whole number: enter it again as text',
+            ): 'is shown as "LOT 7", which is not a whole number: enter it again as text',
             ods_cell("1,50", "float", 'office:value="1.5"'): (
                 "is the number 1.5, which is not whole or has too many digits: enter it again as"
                 " text"
             ),
             ods_cell(
                 "25.11.26", "date", 'office:date-value="2026-11-25"'
-            ): "is a date or a time, which is no code: enter it again as text",
+            ): "is a date or a time, which is not a code: enter it again as text",
             ods_cell("WAHR", "boolean", 'office:boolean-value="true"'): (
                 "has neither a text nor a number, but TRUE, FALSE or the like: enter it again as"
                 " text"

@@ -44,6 +44,7 @@ application: Any = None
 dialog: Any = None
 menu: Any = None
 window: Any = None
+Gdk: Any = None
 Gio: Any = None
 GLib: Any = None
 Gtk: Any = None
@@ -78,13 +79,13 @@ def setUpModule() -> None:
 
 def load() -> None:
     """Loads the window, where there is a screen."""
-    global application, dialog, menu, window, Gio, GLib, Gtk
+    global application, dialog, menu, window, Gdk, Gio, GLib, Gtk
     sys.path.insert(0, str(support.TOOLS))
     application, dialog, menu, window, gtk = (
         import_module(f"labeltools.window.{name}")
         for name in ("application", "dialog", "menu", "window", "gtk")
     )
-    Gio, GLib, Gtk = gtk.Gio, gtk.GLib, gtk.Gtk
+    Gdk, Gio, GLib, Gtk = gtk.Gdk, gtk.Gio, gtk.GLib, gtk.Gtk
     Gtk.init([])
 
 
@@ -364,11 +365,11 @@ class WindowTest(unittest.TestCase):
 
     def test_says_what_is_left_out_and_what_there_is(self) -> None:
         self.open()
-        self.assertEqual(self.window.left_out.get_text(), "1 row is left out")
+        self.assertEqual(self.window.left_out.get_text(), "1 row is skipped")
         row, cell, why = self.rows()[0]
         self.assertEqual((row, cell), ("4", "4006381333932"))
         self.assertIn("check digit", why)
-        self.assertIn("6 labels of 3 rows", self.counted())
+        self.assertIn("6 labels from 3 rows", self.counted())
         self.assertTrue(self.window.guessed.get_visible())
 
     def look(self, kind: Any, number: int = 1) -> Any:
@@ -472,14 +473,14 @@ class WindowTest(unittest.TestCase):
     def test_names_in_another_row(self) -> None:
         self.open("Prices of May;;;;;\n;;;;;\n" + TABLE)
         self.assertEqual(self.window.choices()["header-row"], 3)
-        self.assertIn("6 labels of 3 rows", self.counted())
+        self.assertIn("6 labels from 3 rows", self.counted())
         self.open("4006381333931;Pencil;0,80 €\n96385074;Gum;1,20 €\n")
         self.assertEqual(self.window.choices()["header-row"], 0)
-        self.assertIn("2 labels of 2 rows", self.counted())
+        self.assertIn("2 labels from 2 rows", self.counted())
         self.window.header_row.set_value(1)
         self.until(lambda: not self.window.has_labels)
         self.until(lambda: self.window.has_labels)
-        self.assertIn("1 label of 1 row", self.counted())
+        self.assertIn("1 label from 1 row", self.counted())
 
     def test_many_labels_are_asked_for(self) -> None:
         self.open()
@@ -490,7 +491,7 @@ class WindowTest(unittest.TestCase):
             self.answer("many", run=answer)
             self.assertEqual(self.window.is_meant(), is_meant)
         summary = dialog.get_property("secondary-text")
-        self.assertIn("1001 labels of 3 rows", summary)
+        self.assertIn("1001 labels from 3 rows", summary)
 
     def test_a_printer_of_a_language_of_its_own_gets_the_file_as_it_is(self) -> None:
         """In the network, on USB, or by a queue without a driver."""
@@ -672,11 +673,11 @@ class WindowTest(unittest.TestCase):
             self.assertEqual(self.window.design.get_active_id(), str(path))
             self.assertNotEqual(self.shown()[0], built_in)
             said = [row[2] for row in self.window.notes]
-            self.assertIn("own.svg has no place for price", " ".join(said))
+            self.assertIn("own.svg has no rectangle for price", " ".join(said))
             self.assertIn(f"--design {path}", self.window.command.get_text())
             path.write_text(whole.format(70))
             self.change(design="file")
-            self.assertIn("the place title leaves the label by 11.0 mm", self.problem())
+            self.assertIn("the place title extends 11.0 mm beyond the label", self.problem())
             opener.run.return_value = Gtk.ResponseType.CANCEL
             self.change(design="file")
             self.assertEqual(self.window.design.get_active_id(), str(path))
@@ -771,7 +772,7 @@ class WindowTest(unittest.TestCase):
         """By clicks alone, with an answer and controls of the language."""
         scheduler.add_driverless("home")
         texts = re.findall('translatable="yes">([^<]*)<', window.FILE.read_text())
-        same = {"Code 128", "QR", "203 dpi", "300 dpi", "600 dpi"}
+        same = {"_Code", "Code 128", "QR", "203 dpi", "300 dpi", "600 dpi"}
         in_french = {*same, "_Code", "Menu", "Page"}
         self.assertGreater(len(texts), 40)
         for language, answer, as_in_english in (
@@ -878,8 +879,10 @@ class WindowTest(unittest.TestCase):
             "“Sheet” X: no such sheet\nthe names are in row 3: give “Row of the names” 3",
         )
         for hint, typed in (
-            ("otherwise give --decimal , or .", "--decimal ,"),
+            ("else give --decimal comma or point", "--decimal comma"),
             ("give --hidden to print them", "--hidden"),
+            ("give --date-as dd.mm.yyyy, or another pattern", "--date-as dd.mm.yyyy"),
+            ("give --encoding utf-16-le: try it", "--encoding utf-16-le"),
             ("give --sheet 'May 2026'", "--sheet 'May 2026'"),
         ):
             self.assertEqual(text(Text(hint)), f"{hint}\nFurther options: {typed}")
@@ -890,7 +893,7 @@ class WindowTest(unittest.TestCase):
         self.open(TABLE.replace(" €", ""))
         self.assertIn("3 prices without a currency", self.counted())
         shown = [row[0] for row in self.window.patterns]
-        self.assertEqual(shown[:3], ["0,80", "0,80 €", "€0.80"])
+        self.assertEqual(shown[:3], ["as in the table  –  0,80", "0,80 €", "€0.80"])
         self.change(price_as="€0.00")
         self.assertNotIn("without", self.counted())
         self.assertEqual(self.window.labels.labels[0].label.price, "€0.80")
@@ -901,6 +904,19 @@ class WindowTest(unittest.TestCase):
         self.assertEqual(self.window.choices()["price-as"], "")
         self.open(TABLE.replace("€", "CHF"))
         self.assertNotIn("0,80 €", [row[0] for row in self.window.patterns])
+
+    def test_the_wheel_changes_no_choice(self) -> None:
+        """It scrolls what the controls are in."""
+        self.open()
+        before = self.window.choices()
+        for name in ("title", "design", "first"):
+            control = self.window.control(name)
+            event = Gdk.Event.new(Gdk.EventType.SCROLL)
+            event.window = control.get_window()
+            event.direction = Gdk.ScrollDirection.DOWN
+            self.assertFalse(control.event(event))
+            settle(0.1)
+        self.assertEqual(self.window.choices(), before)
 
     def test_reasons_wrap_at_the_edge_of_the_list(self) -> None:
         self.open()
@@ -957,7 +973,7 @@ class WindowTest(unittest.TestCase):
         self.open(path=later)
         self.until(lambda: self.window.has_labels)
         self.assertEqual(self.window.choices()["for-table"], "--where Name=Soap")
-        self.assertIn("2 labels of 1 row:", self.counted())
+        self.assertIn("2 labels from 1 row:", self.counted())
 
     def test_a_file_that_is_no_table_is_said(self) -> None:
         for name, data in (
@@ -988,11 +1004,11 @@ class WindowTest(unittest.TestCase):
         self.change(for_table="--no-such-option")
         self.assertIn("--no-such-option", self.problem())
         self.change(for_table="--where Name=Soap")
-        self.assertIn("2 labels of 1 row:", self.counted())
+        self.assertIn("2 labels from 1 row:", self.counted())
         self.change(for_table="")
-        self.assertIn("6 labels of 3 rows:", self.counted())
+        self.assertIn("6 labels from 3 rows:", self.counted())
         self.change(for_table="--where Name=Soap")
-        self.until(lambda: "2 labels of 1 row:" in self.counted())
+        self.until(lambda: "2 labels from 1 row:" in self.counted())
         self.assertEqual(self.window.choices()["price"], "")
         with redirect_stdout(StringIO()):
             self.window.take({"for-table": "--help"})

@@ -197,7 +197,7 @@ class Comparison:
         wide = left + width + right
         high = bars.height // max(1, scale) if rows == 1 else above + rows + below
         if not scale or (wide * scale, high * scale) != (bars.width, bars.height):
-            raise Different(Text("its modules are no whole dots"))
+            raise Different(Text("its modules are not whole dots"))
         spans = GUARDS.get(symbology, ())
         longer = LONGER * scale
         guards = [
@@ -245,7 +245,7 @@ class Comparison:
         is_across = x - dot <= box.left * dot and box.right * dot <= x + wide + dot
         is_down = y - dot <= box.top * dot and box.bottom * dot <= y + high + dot
         if not is_across or not is_down:
-            raise Different(Text("its code leaves its cell"))
+            raise Different(Text("its code extends beyond its cell"))
 
 
 def first_of(labels: Labels) -> LineRecord:
@@ -257,7 +257,7 @@ def check_dots(wanted: Wanted, dots: Dots, dot: float) -> None:
     """Raises `Different` where dots of a page are not those of a symbol."""
     box = wanted.where.picture
     if box.left < 0 or box.right > dots.width or not 0 <= box.top <= box.bottom <= dots.height:
-        raise Different(Text("its code leaves the page"), wanted.record)
+        raise Different(Text("its code extends beyond the page"), wanted.record)
     first, last = box.left // 8, bytes_a_row(box.right)
     behind = 8 * last - box.right
     read = rows_reader(first, last - first, dots.stride - last, box.height)

@@ -144,16 +144,16 @@ def dots_of_zpl(data: bytes, _: int) -> Dots:
         dots = FIELDS.get((field[6], size), rows_of_field)
         bottom = top + length // size
         if left % 8 or left + 8 * size > 8 * stride or bottom > height:
-            raise NotDecoded(Text("zpl with a field that leaves the label"))
+            raise NotDecoded(Text("ZPL with a field that extends beyond the label"))
         if not length == again == len(dots):
-            raise NotDecoded(Text("zpl with a field that has not its rows"))
+            raise NotDecoded(Text("ZPL with a field that has too few rows"))
         place = slice(stride * top + left // 8, stride * bottom, stride)
         put(page, place, dots, size, is_first=top >= low)
         low = max(low, bottom)
         at = field.end()
     end = ZPL_END.fullmatch(data, at)
     if not end:
-        raise NotDecoded(Text("zpl without an end"))
+        raise NotDecoded(Text("ZPL without an end"))
     return Dots(width, height, bytes(page), int(end[1] or 1))
 
 
@@ -170,7 +170,7 @@ def put(page: bytearray, place: slice, dots: bytes, size: int, is_first: bool) -
     for column in range(size):
         place = slice(start + column, end, stride)
         if page[place].strip(b"\0"):
-            raise NotDecoded(Text("zpl with a field over another one"))
+            raise NotDecoded(Text("ZPL with a field over another one"))
         page[place] = dots[column::size]
 
 
@@ -188,7 +188,7 @@ def rows_of_field(field: tuple[bytes, int]) -> bytes:
         rest = expanded(rest).translate(TABS).expandtabs(2 * size).translate(ZEROS)
     rows = [*map(unhexlify, rest.split(b":"))]
     if any([len(some) % size for some in rows]):
-        raise NotDecoded(Text("a row of the zpl has not its length"))
+        raise NotDecoded(Text("a row of the ZPL has the wrong length"))
     for number, again in enumerate(parts[1::2]):
         rows[number] += rows[number][-size:] * (1 + len(again))
     return b"".join(rows)

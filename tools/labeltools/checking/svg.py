@@ -35,7 +35,7 @@ def dots_of_svg(data: bytes, dpi: float, size: tuple[int, int]) -> Dots:
                 left, top, right, bottom = sides_of(numbers, dpi / POINTS)
                 bits = ((1 << (right - left)) - 1) << (8 * stride - right)
                 if not 0 <= left < right <= width or not 0 <= top < bottom <= height:
-                    raise NotDecoded(Text("its code leaves the page"))
+                    raise NotDecoded(Text("its code extends beyond the page"))
                 for row in range(top, bottom):
                     rows[row] = rows[row] & ~bits if is_white else rows[row] | bits
     except (ElementTree.ParseError, ValueError, LookupError) as error:

@@ -108,7 +108,7 @@ def design_of(argument: str) -> str:
         return argument
     if not is_file(argument):
         known = ", ".join(DESIGNS)
-        what = Text("{!r} is none of {}, or a file such as rack.svg", argument, known)
+        what = Text("{!r} is neither one of {} nor a file such as rack.svg", argument, known)
         raise wrong_argument(what)
     share = Path(__file__).resolve().parents[3]  # of a checkout, or PREFIX/share
     folders = (Path(), share / "designs", share / "doc/labels/designs")
@@ -191,7 +191,7 @@ def add_sheet_options(parser: Parser) -> None:
     add("--gap", metavar="XxY", type=reads("7x15"), help=gap)
     edge = "white at the edges of a page: one for all, or left,top,right,bottom (5; of a roll 0)"
     add("--edge", metavar="MM", type=edges, help=edge)
-    shift = "move all, for a printer that feeds askew"
+    shift = "move all, for a printer that feeds off centre"
     move = reads("-0.5,1", -10000)
     add("--shift", metavar="X,Y", type=move, default=PrintOptions.shift, help=shift)
 
@@ -444,7 +444,7 @@ def summary_of(options: PrintOptions, found: Prepared, sender: Sender, known: in
         text = joined("; ", (text, there))
     line = lp_line(job, "NAME")
     if line and not options.is_sent_singly:
-        text = Text("{}; print the file by: {}", text, line)
+        text = Text("{}; print the file with: {}", text, line)
     return text
 
 

@@ -89,7 +89,7 @@ class TableTalk(CommandTalk):
         for kind, rows in self.rows.items():
             more = rows[MOST_ALIKE:]
             if more:
-                what = Text("{}: left out for the same reason as row {}", listed(more), rows[0])
+                what = Text("{}: skipped for the same reason as row {}", listed(more), rows[0])
                 write_message(TOOL, what)
 
 
@@ -150,7 +150,7 @@ def sign(text: str) -> str:
 def row_number(text: str) -> int:
     """Returns the number of a row that an argument is."""
     if not re.fullmatch("[1-9][0-9]{0,6}", text, re.ASCII):
-        raise wrong_argument(Text("{} is no number of a row", quoted(text)))
+        raise wrong_argument(Text("{} is not the number of a row", quoted(text)))
     return int(text)
 
 
@@ -269,7 +269,7 @@ def check(parser: Parser, arguments: argparse.Namespace) -> None:
     if delimiter is not None and not DELIMITER.fullmatch(delimiter):
         parser.error(
             Text(
-                "--delimiter {} is not tab, none or a character that may cut cells",
+                "--delimiter {} is not tab, none or a character that can separate cells",
                 quoted(delimiter),
             )
         )

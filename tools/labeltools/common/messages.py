@@ -11,7 +11,7 @@ from typing import NamedTuple, Protocol
 from labeltools.common.text import NOTHING, Text, translated
 
 BAD_ARGUMENTS = 2
-FAULT = Text("this is a fault of label-print: nothing of it has gone out; report it")
+FAULT = Text("this is a fault of label-print: nothing of it was sent; report it")
 MOST_LETTERS = 40  # of a cell that a message quotes
 # the classes of characters in Unicode that change what a terminal shows, or that cut a message
 UNSEEN = ("Cc", "Cf", "Cs", "Zl", "Zp")

@@ -38,7 +38,7 @@ def report(left_out: Sequence[LeftOut], tables: Iterable[str]) -> Iterator[Text]
     rest = [place for reason in reasons[MOST_REASONS:] for place in places[reason]]
     if rest:
         where = places_text(rest, has_tables)
-        yield Text("{}: left out for other reasons, such as: {}", where, reasons[MOST_REASONS])
+        yield Text("{}: skipped for other reasons, such as: {}", where, reasons[MOST_REASONS])
 
 
 def places_text(places: Iterable[Place], has_tables: bool) -> Text:

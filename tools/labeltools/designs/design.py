@@ -236,7 +236,7 @@ def marked_places(page: SvgPage) -> list[Place]:
         raise ToolError(Text("{} has more than {} places", page.file, MOST_PLACES))
     if not any(place.part == "code" for place in found):
         hint = Text("name a rectangle code: in Inkscape by its label, which plain SVG loses")
-        raise ToolError(Text("{} has no place for the code", page.file), hint)
+        raise ToolError(Text("{} has no rectangle for the code", page.file), hint)
     return found
 
 
@@ -261,7 +261,7 @@ def located_place(file: str, place: Place, whole: Any, upper: Any, left: Any) ->
     left edge; raises `ToolError`.
     """
     if min(whole.width, whole.height) < TINY:
-        hint = Text("give it a width and a height, and show its layer, or take its name away")
+        hint = Text("give it a width and a height, and show its layer, or remove its name")
         what = Text("{}: the place {} is hidden, or has no size", file, place.title)
         raise ToolError(what, hint)
     is_across = upper.height < upper.width
@@ -302,13 +302,15 @@ def check_places(file: str, places: tuple[Place, ...], label: Size) -> None:
         ends = (label[0] - place.left - place.width, label[1] - place.top - place.height)
         beyond = -min(place.left, place.top, *ends)
         if beyond > NEAR / 2 + TINY:
-            what = Text("{}: the place {} leaves the label by {:.1f} mm", file, place.title, beyond)
+            what = Text(
+                "{0}: the place {1} extends {2:.1f} mm beyond the label", file, place.title, beyond
+            )
             raise ToolError(what, Text("the page is {}", size_text(label)))
         for other in places[number + 1 :]:
             if (place.is_symbol or other.is_symbol) and place.common(other) > TINY:
                 titles = place.title, other.title
-                what = Text("{}: the places {} and {} have room in common", file, *titles)
-                hint = Text("move them apart, or take the name of what is to be drawn away")
+                what = Text("{}: the places {} and {} overlap", file, *titles)
+                hint = Text("move them apart, or remove the name of what is to be drawn")
                 raise ToolError(what, hint)
 
 
@@ -320,7 +322,9 @@ def inside(file: str, place: Place, label: Size, edges: Edges) -> Place:
     high = min(place.top + place.height, label[1] - edges[3]) - top
     if min(wide, high) < TINY:
         what = Text(
-            "{}: the place {} is at an edge of the paper that takes no ink", file, place.title
+            "{}: the place {} is at the edge of the paper, where printers do not print",
+            file,
+            place.title,
         )
         raise ToolError(what, Text("move it, or give another --edge"))
     return replace(place, left=left, top=top, width=wide, height=high)
@@ -334,9 +338,9 @@ def remarks_on(design: OwnDesign, seen: Seen, smaller: list[str], edges: Edges) 
     counts = Counter(place.key for place in design.places)
     if again := [key for key, count in counts.items() if count > 1]:
         what = Text("{}: several rectangles are named {}", file, ", ".join(again))
-        yield Text("{}: {}", what, Text("name the second one {}-2, or take one away", again[0]))
+        yield Text("{}: {}", what, Text("name the second one {}-2, or remove one", again[0]))
     if smaller:
-        why = Text("an edge of the page takes no ink there (--edge)")
+        why = Text("the printer does not print there, at the edge of the page (--edge)")
         yield Text("{}: smaller than drawn: {}: {}", file, ", ".join(smaller), why)
     left, top, right, bottom = (max(0.0, edge - NEAR / 2) for edge in edges)
     wide, high = design.label
@@ -357,7 +361,9 @@ def remarks_on(design: OwnDesign, seen: Seen, smaller: list[str], edges: Edges) 
 def mixed_text(file: str, places: str) -> Text:
     """Returns that letters can hardly be read in some places."""
     what = Text("{}: the drawing is light and dark in the place {}", file, places)
-    return Text("{}: {}", what, Text("letters need light or dark behind them: move the place"))
+    return Text(
+        "{}: {}", what, Text("the drawing behind letters has to be light or dark: move the place")
+    )
 
 
 def check_white(design: OwnDesign, seen: Seen) -> None:

@@ -118,9 +118,9 @@ def read_page(file: str) -> SvgPage:
     try:
         root = ElementTree.fromstring(data)
     except (ElementTree.ParseError, LookupError, ValueError) as error:
-        raise ToolError(Text("{} is no SVG: {}", file, error)) from error
+        raise ToolError(Text("{} is not SVG: {}", file, error)) from error
     if root.tag != f"{SPACE}svg":
-        raise ToolError(Text("{} is no SVG", file), Text("it begins with {}", BEGIN))
+        raise ToolError(Text("{} is not SVG", file), Text("it begins with {}", BEGIN))
     check_elements(file, root)
     return sized_page(file, root, handle_of(file, data))
 
@@ -137,7 +137,7 @@ def data_of(file: str) -> bytes:
     except OSError as error:
         raise ToolError(Text("--design {}: {}", file, error.strerror)) from error
     except zlib.error as error:
-        raise ToolError(Text("{} is no SVG: {}", file, error)) from error
+        raise ToolError(Text("{} is not SVG: {}", file, error)) from error
     if len(data) > MOST_BYTES:
         raise ToolError(Text("{} has more than {} MB", file, MOST_BYTES // 1_000_000), SMALLER)
     return data
@@ -224,7 +224,7 @@ def check_elements(file: str, root: Element) -> None:
         if tag_of(element) == "a":  # of which Cairo makes no PDF
             element.tag = f"{SPACE}g"
         elif not all(map(WITHIN.match, links)) or any(map(OUTSIDE.search, values_of(element))):
-            what = Text("{}: {} is of another file, or is no PNG or JPEG", file, tag_of(element))
+            what = Text("{}: {} is of another file, or is not PNG or JPEG", file, tag_of(element))
             raise ToolError(what, Text("embed it, in Inkscape by Extensions, Images, Embed Images"))
         elif tag_of(element) == "image":
             for link in links:
@@ -283,5 +283,5 @@ def handle_of(file: str, data: bytes, sheet: str = "") -> Any:
         handle.set_dpi(DPI)
         handle.set_stylesheet(sheet.encode())
     except library("GLib", "2.0").Error as error:
-        raise ToolError(Text("{} is no SVG: {}", file, error.message)) from error
+        raise ToolError(Text("{} is not SVG: {}", file, error.message)) from error
     return handle

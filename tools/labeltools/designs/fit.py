@@ -167,7 +167,7 @@ class Room:
         place = self.place
         fit = self.fits[text]
         if fit.is_cut and place.part in PRICES:
-            what = Text("{} has no room in the place {}", quoted(text), place.title)
+            what = Text("{} does not fit in the place {}", quoted(text), place.title)
             raise NoRoom(Text("{}: {}", what, ENLARGE))
         size = min(fit.size, self.common)
         written = fit.text

@@ -305,7 +305,7 @@ class OwnLayouts:
             is_common = {place, other} <= rooms.keys() and place.common(other) > NEAR / 2
             if is_common and any(row[one] and row[two] for row in rows):
                 titles = place.title, other.title
-                what = Text("{}: the places {} and {} have room in common", file, *titles)
+                what = Text("{}: the places {} and {} overlap", file, *titles)
                 yield Text("{}: {}", what, Text("a label has a text for each: move them apart"))
         names: dict[str, str] = {}
         for value in values:
@@ -313,15 +313,15 @@ class OwnLayouts:
                 names.setdefault(key, value.names[key])
         columns = {key_of(name) for label in labels for name in label.record.label.names}
         for key in sorted(self.design.shapes.keys() & columns.union(PARTS)):
-            what = Text("{}: {} is no rectangle ({})", file, key, self.design.shapes[key])
+            what = Text("{}: {} is not a rectangle ({})", file, key, self.design.shapes[key])
             raise ToolError(what, Text("draw a rectangle for its place"))
         if lost := [name for key, name in names.items() if key not in self.known]:
-            yield Text("{} has no place for {}: not on the labels", file, ", ".join(lost))
+            yield Text("{} has no rectangle for {}: not on the labels", file, ", ".join(lost))
         known = {*names, *self.asked}
         empty = [one.title for one in self.places if not known & {one.key, one.part}]
         if empty:
             hint = Text(
-                "name a column so, by label-table --text {}, or take the name away",
+                "name a column so, with label-table --text {}, or remove the name",
                 quoted(empty[0]),
             )
             names_of = ", ".join(empty)

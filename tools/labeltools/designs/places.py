@@ -151,7 +151,7 @@ def place_of(file: str, element: Element) -> Place:
     for other in filter(None, map(element.get, WRITTEN)):
         if key_of(other) != key_of(written):
             what = Text("{}: a rectangle is named {} and {}", file, quoted(written), quoted(other))
-            hint = Text("make its label and its data-place alike, or take one away")
+            hint = Text("make its label and its data-place alike, or remove one")
             raise ToolError(what, hint)
     title, *words = (" ".join(word.split()).strip(BLANKS) for word in written.split(","))
     place = Place(title)

@@ -373,10 +373,12 @@ def reason(needs: Sequence[Need], area: Area) -> Text:
     wide = max(need.width for need in needs) * min(modules)
     is_wide = wide > area.width
     taken = size_text(size_of(area))
-    what = Text("{} is too high, with its texts, and a label takes {}", symbology.title, taken)
+    what = Text(
+        "{} is too high, with its texts, and the label has room for {}", symbology.title, taken
+    )
     if is_wide:
         what = Text(
-            "{} is {:.1f} mm wide, with modules of {:.3f} mm, and a label takes {}",
+            "{} is {:.1f} mm wide, with modules of {:.3f} mm, and the label has room for {}",
             symbology.title,
             wide * area.dot,
             min(modules) * area.dot,
@@ -385,7 +387,7 @@ def reason(needs: Sequence[Need], area: Area) -> Text:
     found = smallest_for(largest_of(needs), area, max(wide, area.width))
     larger = Text("take a larger label")
     if found:
-        larger = Text("take a larger label of {}", size_text(found))
+        larger = Text("take a label of at least {}", size_text(found))
     hints = [larger]
     if not symbology.is_number:
         hints.append(Text("shorter data"))

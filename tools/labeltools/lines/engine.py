@@ -85,7 +85,9 @@ def library() -> Any:
     try:
         import liblabels
     except (ImportError, OSError) as error:
-        raise ToolError(Text("the library liblabels is not there: {}", error), INSTALL) from error
+        raise ToolError(
+            Text("the library liblabels cannot be loaded: {}", error), INSTALL
+        ) from error
     found: str = liblabels.version()
     if found.partition(".")[0] != MAJOR:
         what = Text("liblabels is version {}, and these tools are another one", found)

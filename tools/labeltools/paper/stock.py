@@ -91,7 +91,7 @@ def grid_sheet(grid: Grid) -> Sheet:
     ]
     sheet = Sheet(grid.page, grid.cell, tuple(places))
     if sheet.beyond() > MOST_BEYOND:
-        message = Text("{}: the cells leave the page by {:.2f} mm", sheet, sheet.beyond())
+        message = Text("{}: the cells extend {:.2f} mm beyond the page", sheet, sheet.beyond())
         raise ToolError(message, status=BAD_ARGUMENTS)
     return sheet
 
@@ -166,7 +166,7 @@ def parts() -> dict[PartName, Element]:
     found = [part for tree in trees for part in tree.iterfind("{*}Template")]
     if not found:
         hint = Text("apt-get install glabels-data; else give --columns, --rows and --cell")
-        raise ToolError(Text("sheets by name are those of glabels, which is not here"), hint)
+        raise ToolError(Text("names of sheets need glabels-data, which is not installed"), hint)
     named = {(part.get("brand", ""), part.get("part", "")): part for part in found}
     return {key: named[key] for key in sorted(named)}
 
@@ -212,7 +212,7 @@ def sheet_of(key: PartName) -> Sheet:
     if not cell.tag.endswith("Label-rectangle"):
         kind = cell.tag.rpartition("Label-")[2]
         raise ToolError(
-            Text("{}: its labels are no rectangles ({})", head, kind), status=BAD_ARGUMENTS
+            Text("{}: its labels are not rectangles ({})", head, kind), status=BAD_ARGUMENTS
         )
     places = sorted(places_of(cell), key=lambda at: at[::-1])
     page = papers().get(part.get("size", "")) or size_of(part)

@@ -35,8 +35,8 @@ NOTHING_CHOSEN: Mapping[str, str] = {}
 PAPER = ("PageSize", "PageRegion")  # options of drivers that the paper of the labels decides
 PACKAGE = Text("apt-get install python3-cups")
 NO_QUEUE = Text(
-    "add it in the settings of printers; one on USB is --print /dev/usb/lp0, one in the network is "
-    "--print tcp://HOST"
+    "add it in the settings of printers; for one on USB give --print /dev/usb/lp0, for one in the "
+    "network --print tcp://HOST"
 )
 # what IPP calls a reason not to print, without its end; CUPS has other ones in words of its own
 ENDING = re.compile("-(error|warning|report)$")
@@ -104,7 +104,9 @@ class Queue:
         """
         if self.dpi or job.form.is_roll or RESOLUTION in self.options(job):
             return NOTHING
-        return Text("{} does not say its resolution: scan a label before you use them", self.name)
+        return Text(
+            "{} does not tell its resolution: scan one label before you use the rest", self.name
+        )
 
 
 @dataclass(frozen=True)
@@ -135,7 +137,7 @@ class SentJob:
         if state == CANCELLED:
             return JobState(Text("job {} was cancelled", self.number), said, True)
         if state == ABORTED:
-            return JobState(Text("CUPS gave job {} up: {}", self.number, said), said, True)
+            return JobState(Text("CUPS gave up job {}: {}", self.number, said), said, True)
         if state == COMPLETED:
             return JobState(NOTHING, said, True)
         found = [REASONS[name] for name in map(name_of, reasons) if name in REASONS]
@@ -256,7 +258,7 @@ def refusals(queue: str) -> Iterator[Any]:
     try:
         yield connection()
     except library().IPPError as error:
-        raise ToolError(Text("CUPS refuses for {}: {}", queue, error.args[1])) from error
+        raise ToolError(Text("CUPS refuses {}: {}", queue, error.args[1])) from error
 
 
 def connection() -> Any:
@@ -264,7 +266,9 @@ def connection() -> Any:
     try:
         return library().Connection()
     except RuntimeError as error:
-        hint = Text("apt-get install cups, or start it")
+        hint = Text(
+            "install it (apt-get install cups) or start it, or ask who set up this computer"
+        )
         raise ToolError(Text("CUPS does not answer"), hint) from error
 
 
@@ -273,4 +277,4 @@ def library() -> Any:
     try:
         return import_module("cups")
     except ImportError as error:
-        raise ToolError(Text("python3-cups is not there"), PACKAGE) from error
+        raise ToolError(Text("python3-cups is not installed"), PACKAGE) from error

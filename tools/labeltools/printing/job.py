@@ -191,7 +191,7 @@ def check_together(options: PrintOptions, form: Form) -> None:
         (
             options.again and not (options.journal and options.only),
             Text("--again needs --journal and rows or codes"),
-            Text("say what is printed again by --only or --only-code"),
+            Text("name what to print again with --only or --only-code"),
         ),
         (
             options.is_stream and (options.only or options.after),
@@ -209,7 +209,7 @@ def check_texts(options: PrintOptions) -> None:
     for name in ("note", "font", "stock"):
         if UNPRINTABLE.search(getattr(options, name) or ""):
             raise ToolError(
-                Text("--{} has characters that are no text", name), status=BAD_ARGUMENTS
+                Text("--{} has characters that are not text", name), status=BAD_ARGUMENTS
             )
 
 

@@ -44,7 +44,7 @@ FAR = 1 << 62  # of a file: bytes that are locked and never written
 NO_JOURNAL = Text("give a file that label-print --journal has made, or a new name")
 CUT_OFF = Text("its last line was cut off, and was taken out")
 NO_END = Text("its last line had no end")
-NOT_WRITTEN = Text("see that it can be written, then give the same command again")
+NOT_WRITTEN = Text("make it writable, then give the same command again")
 NO_LOCKS = Text("put the journal on a disk that locks files")
 STRANGE = re.compile(rb"[^ -\[\]-~]| (?= *\Z)")  # what is written as escapes: blanks at the end too
 ESCAPES = {bytes([byte]): b"\\x%02X" % byte for byte in range(256)} | {b"\\": b"\\\\"}
@@ -75,7 +75,7 @@ class Journal:
         flags = os.O_RDWR | os.O_CREAT | os.O_CLOEXEC | os.O_NONBLOCK  # it waits for no FIFO
         self.file = os.open(path, flags, 0o644)
         if not stat.S_ISREG(os.fstat(self.file).st_mode):
-            raise ToolError(Text("{} is no journal", path), NO_JOURNAL)
+            raise ToolError(Text("{} is not a journal", path), NO_JOURNAL)
         self.entries: dict[bytes, Entry] = {}  # of codes as they stand in the file
         self.end = 0
         self.lines = 0
@@ -162,7 +162,7 @@ class Journal:
             lanes += number not in left
             if lanes == MOST_LANES:
                 break
-        raise ToolError(Text("{}: {} lanes print by it already", self.path, MOST_LANES))
+        raise ToolError(Text("{}: {} runs print with it already", self.path, MOST_LANES))
 
     def is_free(self, byte: int) -> bool:
         """Locks a byte, and returns whether it was free."""
@@ -194,7 +194,7 @@ class Journal:
         try:
             while not self.is_free(FAR):
                 if time.monotonic() > end:
-                    what = Text("{}: another lane keeps it for {:.0f} seconds", self.path, STUCK)
+                    what = Text("{}: another run has held it for {:.0f} seconds", self.path, STUCK)
                     raise ToolError(what, Text("is that process stopped? continue it or end it"))
                 time.sleep(pause)
                 pause = min(2 * pause, LONG)
@@ -215,7 +215,7 @@ class Journal:
         data = os.pread(self.file, size - self.end, self.end)
         if not self.end and not is_journal(data):
             if not HEAD.startswith(data):
-                raise ToolError(Text("{} is no journal", self.path), NO_JOURNAL)
+                raise ToolError(Text("{} is not a journal", self.path), NO_JOURNAL)
             os.ftruncate(self.file, 0)
             self.append(HEAD)
             sync_folder(self.path)
@@ -262,7 +262,7 @@ class Journal:
         if not lost:
             return Text("nothing more is printed: give the same command again")
         named = few(lost, len(lost))
-        return Text("it has not {}, which the same command would print once more", named)
+        return Text("it lacks {}, which the same command would print again", named)
 
     def printers(self) -> set[str]:
         """Returns the printers that it has labels of."""
@@ -275,7 +275,7 @@ class Journal:
         found = entry_in(line, self.lines)
         if found is None:
             self.is_lost = True
-            what = Text("{}: line {} is no line of a journal", self.path, self.lines)
+            what = Text("{}: line {} is not a line of a journal", self.path, self.lines)
             hint = Text("correct it; delete it only if its label was not printed")
             raise ToolError(what, hint)
         code, entry = found

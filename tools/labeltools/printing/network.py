@@ -70,7 +70,7 @@ class NetworkPrinter(Outlet):
                 self.line = socket.create_connection(self.address, CONNECT)
             except OSError as error:
                 reason = error.strerror or str(error)
-                hint = Text("is it on, and in the network?")
+                hint = Text("is it switched on, and in the network?")
                 raise Unreachable(Text("{}: {}", self.name, reason), hint) from error
             self.line.setblocking(False)
         return self.line
@@ -87,7 +87,7 @@ class NetworkPrinter(Outlet):
             what = Text("{}: the printer broke off", self.name)
             if isinstance(error, TimeoutError):
                 seconds = f"{self.stuck:.0f}"
-                what = Text("{}: the printer takes nothing for {} seconds", self.name, seconds)
+                what = Text("{}: the printer has taken nothing for {} seconds", self.name, seconds)
             raise Broken(what) from error
 
     def push(self, line: socket.socket, data: bytes) -> None:

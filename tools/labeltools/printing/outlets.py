@@ -20,7 +20,7 @@ OUTPUT = "standard output"
 MOST_NAME = 100  # letters of the data in the name of a file
 NUMBERED = re.compile(r"%(0?\d?)d|%s")
 HINTS = {
-    FileNotFoundError: Text("is it on, and connected?"),
+    FileNotFoundError: Text("is it switched on, and connected?"),
     PermissionError: Text("sudo adduser $USER lp, then log in again"),
 }
 

@@ -170,7 +170,7 @@ def without_line(lines: LinesFile, only: Optional[Selection]) -> Iterable[LeftOu
         yield from only.missing(lines.records, named)
         named = [place for place in named if only.has_row(place)]
         count = len(named)
-    reason = Text("left out by label-table")
+    reason = Text("skipped by label-table")
     if count > len(named):
         reason = Text("{}, and {} rows more", reason, count - len(named))
     for place in named:

@@ -87,7 +87,7 @@ def alike(items: Sequence[LaidOut], pen: Pen) -> Iterator[tuple[Sequence[LaidOut
     for shown, same in found.items():
         if len({(item.label.title, item.label.text) for item in same}) > 1:
             text = quoted(" ".join(shown))
-            yield same, Text("the same once shortened, {}: put what differs in front", text)
+            yield same, Text("alike once shortened, {}: put what differs in front", text)
 
 
 def has_low_bars(item: LaidOut) -> bool:

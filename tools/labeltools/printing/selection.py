@@ -47,11 +47,11 @@ class Selection:
             if self.codes:
                 codes.update(names_of(record))
         if lacking := without(self.rows, sorted(rows)):
-            reason = Text("of --only, but not in the input")
+            reason = Text("named by --only, but not in the input")
             yield LeftOut(None, "", Text("{}: {}", rows_text(lacking), reason))
         if named := [code.decode("utf-8", "backslashreplace") for code in self.codes - codes]:
             text = few(sorted(named), len(named))
-            yield LeftOut(None, "", Text("{}: of --only-code, but not in the input", text))
+            yield LeftOut(None, "", Text("{}: named by --only-code, but not in the input", text))
 
 
 def names_of(record: LineRecord) -> set[bytes]:

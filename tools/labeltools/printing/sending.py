@@ -184,7 +184,7 @@ class Sender:
         labels = self.named(self.on_way)
         if self.journal is None:
             return Text(
-                "{} may be missing: look at the last one on paper, and print what follows it by "
+                "{} may be missing: look at the last one on paper, and print what follows it with "
                 "--after N",
                 labels,
             )
@@ -192,7 +192,9 @@ class Sender:
         is_clear = len(numbers) == len(self.records)
         words = "--only ROWS" if is_clear else f"--only-code {FILE}FILE"
         again = f"{words} --again {shlex.quote(self.outlet.name)}"
-        return Text("{} may be missing: look there, and print what is by {}", labels, again)
+        return Text(
+            "{} may be missing: look there, and print what is missing with {}", labels, again
+        )
 
     def doubt(self, record: LineRecord) -> Text:
         """Returns what to do about a label that was sent, but is not known to be taken; nothing if
@@ -283,9 +285,9 @@ def doubts(
                 yield Text("{}: {}", place, may_be_on_paper(printer, by_code(code)))
         for others in parts_of([code.decode() for code in codes if code not in places]):
             yield Text(
-                "{}: may be on paper, from {}, and not in the input: look for it; if it is there, "
-                "make sending taken in its line of the journal; if not, print it from an input "
-                "that has it by --again, or, where nobody wants it, take that line out",
+                "{}: may be on paper, from {}, and not in the input: look for it; if it is "
+                "there, change sending to taken in its line of the journal; if not, print it "
+                "with --again from an input that has it, or delete that line if nobody wants it",
                 joined("; ", others),
                 printer,
             )
@@ -302,7 +304,7 @@ def may_be_on_paper(printer: str, words: str) -> Text:
     """
     reason = Text("may be on paper, from {}: look for it", printer)
     again = f"{words} --again {shlex.quote(printer)}"
-    return sentence(reason, Text("if it is not there, print only it by {}", again))
+    return sentence(reason, Text("if it is not there, print only it with {}", again))
 
 
 def by_code(code: bytes) -> str:

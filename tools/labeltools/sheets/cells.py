@@ -73,12 +73,12 @@ class Use(NamedTuple):
 
 
 NUMBERS = (Kind.TEXT, Kind.NUMBER)
-IS_NO_CODE = Text("is a date or a time, which is no code")
+IS_NO_CODE = Text("is a date or a time, which is not a code")
 DIGITS = Use(NUMBERS, IS_NO_CODE)  # a code with a check digit
 DATA = Use(NUMBERS, IS_NO_CODE)  # a code of any letters
 PRINTED = Use((*NUMBERS, Kind.MOMENT))  # a title or a text
-PRICE = Use(NUMBERS, Text("is a date or a time, which is no price"))
-COPIES = Use(NUMBERS, Text("is a date or a time, which is no number of copies"))
+PRICE = Use(NUMBERS, Text("is a date or a time, which is not a price"))
+COPIES = Use(NUMBERS, Text("is a date or a time, which is not a number of copies"))
 MARK = Use(tuple(Kind))  # by which rows are chosen
 IS_TRUTH = Text("has neither a text nor a number, but TRUE, FALSE or the like")
 AS_TEXT = Text("enter it again as text")
@@ -263,7 +263,7 @@ def taken_of(cell: Special, use: Use) -> str:
         return cell.digits(use is DATA)
     if use is COPIES and kind is Kind.NUMBER:
         if not re.search("[0-9]", shown := cell.shown()):  # TRUE, though its value is 1
-            raise RowError(Text("is shown as {}, which is no number", quoted(shown)), AS_TEXT)
+            raise RowError(Text("is shown as {}, which is not a number", quoted(shown)), AS_TEXT)
         return cell.value
     return cell.shown() if use is MARK else cell.printed()
 

@@ -31,7 +31,7 @@ FIGURES = re.compile(r"\s*[0-9][0-9 .,'’-]*")  # a code or a price
 UNCLOSED = Text("a quote is not closed")
 AFTER_QUOTE = Text("text after a closing quote")
 AFTER_QUOTE_HINT = Text('write a quote in a quoted cell twice ("")')
-ALL_BELOW = Text("this row and all below it are left out")
+ALL_BELOW = Text("this row and all below it are skipped")
 
 
 class Record(NamedTuple):
@@ -150,7 +150,7 @@ def csv_table(data: bytes, name: str, options: CsvOptions) -> CsvTable:
     if len(data) > LARGEST_FILE:
         raise ToolError(
             Text("{} has more than {} MB", name, LARGEST_FILE >> 20),
-            Text("make several tables of it"),
+            Text("split it into several tables"),
         )
     text = decoded(data, name, options.file.encoding)
     if text.count("\n") + text.count("\r") - text.count("\r\n") > MOST_LINE_ENDS:
@@ -188,7 +188,7 @@ def delimiter_of(text: str, begin: int, given: str | None, options: CsvOptions) 
     if given:
         if is_cut and given != ONE_COLUMN and not fits[given].is_cut:
             what = Text("row 1 has no {} between cells, but {}", named(given), named(best))
-            raise ToolError(what, Text("leave --delimiter away"), BAD_ARGUMENTS)
+            raise ToolError(what, Text("leave out --delimiter"), BAD_ARGUMENTS)
         return given
     if not is_cut and (later := delimiter_of_names(text, begin, options)):
         return later

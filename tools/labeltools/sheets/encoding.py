@@ -77,7 +77,7 @@ def refuse_other(known: str, codec: str, encoding: str | None, name: str) -> Non
     if known and known not in codec and codec not in known:
         raise ToolError(
             Text("{} is {}", name, known.upper()),
-            Text("leave --encoding {} away", encoding),
+            Text("leave out --encoding {}", encoding),
             BAD_ARGUMENTS,
         )
 
@@ -103,7 +103,7 @@ def wrong_encoding(data: bytes, name: str, codec: str, start: int) -> ToolError:
     if not found:
         return ToolError(what, Text("save it as UTF-8"))
     hint = Text(
-        "save it as UTF-8, or give the --encoding that reads it right: {}", readings_text(found)
+        "save it as UTF-8, or give the right one of these by --encoding: {}", readings_text(found)
     )
     offers = [(word, ["--encoding", other]) for other, word in found.items()]
     return ToolError(what, hint, offers=offers)

@@ -98,7 +98,7 @@ class Number(Special):
         """Returns the digits as they are shown, or else those of the number, but not as data."""
         self.agree()
         if self.exact is None or not PLAINLY_SHOWN.fullmatch(self.text):
-            what = Text("is shown as {}, which is no whole number", quoted(self.text))
+            what = Text("is shown as {}, which is not a whole number", quoted(self.text))
             raise RowError(what, TYPED)
         digits = digits_of("0", self.exact)  # none where the number has more than a file keeps
         if is_data and not self.text.isdecimal():

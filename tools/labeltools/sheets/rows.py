@@ -46,9 +46,7 @@ class Row(NamedTuple):
         for row, first, last_row, last in self.merges:
             is_inside = row <= self.number <= last_row and first <= place <= last
             if is_inside and (row, first) != (self.number, place):
-                return Fault(
-                    Text("is merged with row {}", row), Text("take the merged cells apart")
-                )
+                return Fault(Text("is merged with row {}", row), Text("unmerge the cells"))
         return self.cells[place] if place < len(self.cells) else ""
 
     def link(self, place: int) -> str:

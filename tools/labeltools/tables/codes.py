@@ -42,25 +42,25 @@ DRAWN = (
     (
         SETTING,
         Text("a setting in front"),
-        Text("take it away; settings of all lines are given by --settings"),
+        Text("remove it; settings of all lines are given by --settings"),
     ),
-    (re.compile(r"(?s)\s.*|.*\s"), Text("a space before or after the data"), Text("take it away")),
+    (re.compile(r"(?s)\s.*|.*\s"), Text("a space before or after the data"), Text("remove it")),
     (
         re.compile("(?s)\".*\"|'.*'|[“„].*[“”]|«.*»|».*«"),
         Text("quotes round the data"),
-        Text("take them away"),
+        Text("remove them"),
     ),
-    (re.compile(r"(?s)\*.+\*"), Text("the asterisks of a font"), Text("take them away")),
+    (re.compile(r"(?s)\*.+\*"), Text("the asterisks of a font"), Text("remove them")),
     (
         re.compile("(?s)'.*"),
         Text("an apostrophe in front, a spreadsheet's sign of text"),
-        Text("take it away"),
+        Text("remove it"),
     ),
 )
 # what GS1's texts in brackets begin with: an SSCC, or a GTIN
 IN_BRACKETS = re.compile(r"\((?:00\)(?=[0-9]{18})|0[12]\)(?=[0-9]{14}))([0-9]+).*", re.DOTALL)
 NO_CHECK_DIGITS = Text("if the column has no check digits, give --without-check-digit")
-OTHER_CODES = Text("a code that is no EAN or UPC needs --symbology code128 (bars) or qr")
+OTHER_CODES = Text("a code that is not an EAN or UPC needs --symbology code128 (bars) or qr")
 NOT_SHORT = 7  # digits: shorter numbers are no EAN or UPC that has lost some
 
 
@@ -157,7 +157,7 @@ def digits_in(cell: str, has_check_digit: bool) -> str:
     if IS_ROUNDED.fullmatch(digits):
         raise RowError(Text("{}: {}", quoted(digits), ROUNDED), ROUNDED_HINT)
     if re.fullmatch("0+", digits):
-        raise RowError(Text("{} has only zeros, and is no article's number", quoted(digits)))
+        raise RowError(Text("{} has only zeros, and is not an article number", quoted(digits)))
     check_isbn(digits)
     if other := re.search("[^0-9]", digits):
         what = Text(
@@ -196,7 +196,7 @@ def symbology_of(digits: str, rules: CodeRules) -> str:
     count = len(digits) + missing
     is_short = rules.fill_zeros and count == 7 and is_right(digits)
     if digits[0] == "0" and count == 8 or is_short:
-        hint = Text("an EAN-8 is --symbology ean8")
+        hint = Text("for an EAN-8 give --symbology ean8")
         raise RowError(Text("{} may be a UPC-E, which labels does not draw", digits), hint)
     if missing and count in NUMBERS and is_right(digits):
         hint = Text("if not, give --symbology {}", NUMBERS[count].name)

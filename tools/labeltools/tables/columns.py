@@ -128,7 +128,7 @@ def symbology_in(column: Column, row: Row, default: str) -> str:
     found = NAMED.get(re.sub("[^a-z0-9]", "", text.casefold()))
     if found is None:
         listed = ", ".join(one.title for one in SYMBOLOGIES.values())
-        what = Text("has {}, which is no symbology", quoted(text))
+        what = Text("has {}, which is not a symbology", quoted(text))
         raise column.error(RowError(what, Text("it is one of {}", listed)))
     return found
 
@@ -207,7 +207,7 @@ def not_one(argument: str, head: Head, count: int) -> ToolError:
     alike = get_close_matches(name_of(argument).casefold(), by_letters, 1)
     if alike and not count:
         return ToolError(what, Text("is it {}?", quoted(by_letters[alike[0]])), BAD_ARGUMENTS)
-    return ToolError(what, Text("give the number of one"), BAD_ARGUMENTS)
+    return ToolError(what, Text("give the number of one of these columns"), BAD_ARGUMENTS)
 
 
 def refuse_wide_name(place: int, name: str, row: Row) -> None:
@@ -220,7 +220,7 @@ def refuse_wide_name(place: int, name: str, row: Row) -> None:
                 place + 1,
                 merge.last_place + 1,
             )
-            raise ToolError(what, Text("give the number of one"), BAD_ARGUMENTS)
+            raise ToolError(what, Text("give the number of one of these columns"), BAD_ARGUMENTS)
 
 
 def check_code(column: Column, head: Head, options: TableOptions) -> None:

@@ -21,7 +21,7 @@ from labeltools.sheets.rows import Row
 from labeltools.tables.options import Columns, TableOptions
 
 HTML = re.compile("</?[a-z][^<>]*>|&(?:[a-z]{2,8}|#[0-9]{1,6});", re.IGNORECASE)
-OWN_TABLE = Text("make a table of its own of it")
+OWN_TABLE = Text("make it a table of its own")
 ZERO_HINT = Text("it is a zero, which its number format shows so")
 HALF = Decimal("0.5")
 KIND_OF_CODES = re.compile(
@@ -248,11 +248,11 @@ class RowReader:
             return None
         found = column.mark(row)
         if any(letter.isdigit() for letter in found):
-            raise column.error(RowError(Text("has {}, which is no currency", quoted(found))))
+            raise column.error(RowError(Text("has {}, which is not a currency", quoted(found))))
         is_known = currency_of(plain(found), self.options.prices.currency_name) is not None
         if found and not is_known:
             said = Text("row {} has the currency {}, which is not known", row.number, quoted(found))
-            self.once.see("currency", said, Text("if it is right, name it by --currency-name"))
+            self.once.see("currency", said, Text("if it is right, give it by --currency-name"))
         return found
 
     def price(self, column: Column | None, row: Row, currency: str | None) -> Price | None:
@@ -266,7 +266,7 @@ class RowReader:
             is_unit = column is self.columns.unit_price
             money = self.money(text, is_unit, currency or self.options.prices.currency_name)
         except NotMoney as problem:
-            what = Text("has {}, which is no price: it {}", quoted(text), problem.what)
+            what = Text("has {}, which is not a price: it {}", quoted(text), problem.what)
             hint = ZERO_HINT if is_zero(row.cell(column.place)) else problem.hint
             raise column.error(RowError(what, hint)) from None
         cell = row.cells[column.place]

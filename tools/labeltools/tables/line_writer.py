@@ -121,7 +121,7 @@ class LineWriter:
             return text
         except NotMoney as problem:
             what = Text(
-                "has {}, which cannot be printed so: it {}", quoted(price.text), problem.what
+                "has {}, which cannot be printed like that: it {}", quoted(price.text), problem.what
             )
             raise price.column.error(RowError(what, problem.hint)) from None
 
@@ -163,7 +163,8 @@ class LineWriter:
         self.output += label_lines(label, line, self.has_copies).encode()
         if len(self.output) > LARGEST_OUTPUT:
             raise ToolError(
-                Text("the table has more than 128 MB of texts"), Text("make several tables of it")
+                Text("the table has more than 128 MB of texts"),
+                Text("split it into several tables"),
             )
         self.count += 1
         self.filled.update(draft.names)

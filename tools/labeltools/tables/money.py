@@ -21,7 +21,7 @@ NO_CURRENCY = "¤"  # ISO 8859-15 has its € where other encodings have this si
 MOST_BARE_DIGITS = 8  # of a price; a price that has so many ends in a zero
 MOST_WHOLE_DIGITS = 12
 MOST_DECIMALS = 6  # of a price that is printed as it stands
-OTHER_WORDS = Text("has other words than a price tag has")
+OTHER_WORDS = Text("has words that no price tag has")
 OTHER_WORDS_HINT = Text("give --price-text if it is right")
 SEPARATORS = Text("has a number whose separators are not understood")
 SEVERAL = Text("has several numbers")
@@ -372,8 +372,8 @@ def check_letters(before: str, amount: Amount, own: str) -> None:
     if not re.search(r"[A-Za-z]\Z", before) or name == own:
         return
     if amount.is_bare and name.isalpha() or currency_of(name) is None:
-        hint = Text("if they are a currency, name it by --currency-name")
-        raise NotMoney(Text("has letters before its digits, as a code does"), hint)
+        hint = Text("if this is a currency, give it by --currency-name")
+        raise NotMoney(Text("has letters before its digits, as a code has"), hint)
 
 
 def without_sign(before: str, behind: str, has_dash: bool) -> tuple[bool, str, str]:

@@ -267,7 +267,7 @@ class PricePattern:
         """
         found = PATTERN.fullmatch(text.translate(dict.fromkeys(map(ord, SPACES[:-1]), " ")))
         if not found or (found["group"] or found["hash"]) == found["point"] is not None:
-            raise ValueError(Text("{!r} is no format such as '0,00 €'", text))
+            raise ValueError(Text("{!r} is not a format such as '0,00 €'", text))
         front = text[: len(found["front"])]
         end = text[len(text) - len(found["end"] or "") :]
         check_currencies(text, front, end)
@@ -406,7 +406,7 @@ def check_currencies(text: str, front: str, end: str) -> None:
     """Raises ValueError where a pattern has what is no currency, or two."""
     for one in (front.strip(), end.strip()):
         if one not in ("", "¤") and currency_of(plain(one)) is None:
-            raise ValueError(Text("{!r} in {!r} is no currency", one, text))
+            raise ValueError(Text("{!r} in {!r} is not a currency", one, text))
     if front.strip() and end.strip():
         raise ValueError(Text("{!r} has two currencies", text))
 

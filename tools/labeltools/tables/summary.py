@@ -50,12 +50,12 @@ def summary(totals: Totals) -> Text:
     >>> totals.add_price(Decimal("0.8"), "0,80 €")
     >>> totals.add_price(Decimal(12), "12,00 €")
     >>> summary(totals)
-    '4 labels of 2 rows: 2 EAN-13; prices 0,80 € to 12,00 €; copies 1 to 3; 1 row left out'
+    '4 labels from 2 rows: 2 EAN-13; prices 0,80 € to 12,00 €; copies 1 to 3; 1 row skipped'
     """
     rows = totals.symbologies.total()
     found = totals.symbologies.most_common()
     counts = ", ".join(f"{count} {SYMBOLOGIES[name].title}" for name, count in found)
-    labels = counted("{} label of {}", "{} labels of {}", totals.labels, rows_text(rows))
+    labels = counted("{} label from {}", "{} labels from {}", totals.labels, rows_text(rows))
     parts: list[Text] = [Text("{}: {}", labels, counts or Text("none"))]
     if totals.lowest and totals.highest:
         parts.append(said_of_prices(totals.lowest[1], totals.highest[1], totals.prices, rows))
@@ -65,7 +65,7 @@ def summary(totals: Totals) -> Text:
     if totals.copies - {1}:
         parts.append(Text("copies {} to {}", min(totals.copies), max(totals.copies)))
     if totals.left_out:
-        parts.append(counted("{} row left out", "{} rows left out", totals.left_out))
+        parts.append(counted("{} row skipped", "{} rows skipped", totals.left_out))
     return joined("; ", parts)
 
 

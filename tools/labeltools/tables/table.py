@@ -136,8 +136,8 @@ def rows_of(
     is_csv = not data.startswith(ZIP)
     for option in OF_WORKBOOKS if is_csv else OF_CSV:
         if getattr(options if option == "links" else options.file, option):
-            what = Text("{} is CSV", name) if is_csv else Text("{} is no CSV", name)
-            hint = Text("leave --{} away", option.replace("_", "-"))
+            what = Text("{} is CSV", name) if is_csv else Text("{} is not CSV", name)
+            hint = Text("leave out --{}", option.replace("_", "-"))
             raise ToolError(what, hint, BAD_ARGUMENTS)
     if is_csv:
         how = CsvOptions(options.file, options.columns.asked, options.codes.is_free)
@@ -159,7 +159,7 @@ def nothing_marked(columns: Columns[Column], name: str) -> ToolError:
     wanted = (Text("{} in {}", quoted(value), column.title) for column, value in columns.where)
     both = reduce(lambda one, other: Text("{} and {}", one, other), wanted)
     return ToolError(
-        Text("{} has no row with {}", name, both), Text("look how the cells are spelled")
+        Text("{} has no row with {}", name, both), Text("check how the cells are spelled")
     )
 
 
@@ -253,7 +253,7 @@ class TableRun:
             self.talk.say(text, Text("give --hidden to print them"))
         if self.writer.unchanged:
             text = counted(
-                "{1} of {0} row are as before, and are not printed",
+                "{1} of {0} row is as before, and is not printed",
                 "{1} of {0} rows are as before, and are not printed",
                 self.writer.taken,
                 self.writer.unchanged,
@@ -276,8 +276,12 @@ class TableRun:
             measure = measure_of(column.name) if column else NOTHING
             is_meant = prices.are_bare if measure is CENTS else column is not columns[1]
             if column and measure and is_meant:
-                text = Text("{} has {} by its name, and is printed as it is", column.title, measure)
-                self.talk.say(text, Text("make a column of prices of one article of it"))
+                text = Text(
+                    "the name of {} says {}, but it is printed as it is", column.title, measure
+                )
+                self.talk.say(
+                    text, Text("make a column with the price of one article, such as 1.20")
+                )
 
     def say_of_empty(self) -> None:
         """Says which rows have no title or no price."""

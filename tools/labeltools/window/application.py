@@ -77,7 +77,7 @@ class Application(Gtk.Application):
 
 def run() -> int:
     """Runs label-window and returns its status."""
-    about = "Prints labels from a table by a window over label-table and label-print."
+    about = "Prints labels from a table, in a window."
     parser = Parser("label-window", "label-window [TABLE]", about)
     parser.add_argument("table", metavar="TABLE", nargs="?", help="a table to open")
     table = parser.parse_args().table

@@ -2,13 +2,16 @@
 
 import re
 from collections.abc import Mapping
-from functools import cache
 
-from labeltools.commands import label_print, label_table
 from labeltools.common.text import NOTHING, Text, translated
 from labeltools.common.words import _
+from labeltools.drawing.forms import FORMS
+from labeltools.tables.codes import NAMES
 
-OPTION = re.compile(r"--([a-z][a-z-]*)(?: ('[^']*'|[^\s:;]+))?")
+# an option, and what is after it: in quotes, or up to a sign of the sentence
+OPTION = re.compile(r"--([a-z][a-z-]*)(?=(?: ('[^']*'|\S*[^\s:;,.]))?)")
+WORD = re.compile(r"[^\W\d_]+(?:['’-][^\W\d_]+)*")  # of a sentence, but for those that options take
+VALUES = {*NAMES, *FORMS, "comma", "point", "tab", "none"}
 COLUMNS = "code title text price unit-price old-price copies"
 OTHERS = "symbology price-as header-row first design to dpi"
 # the names of the controls that stand for options
@@ -33,11 +36,10 @@ class Hints:
         typed: list[str] = []
 
         def named(found: re.Match[str]) -> str:
-            option, value = found.groups()
+            option, after = found.groups()
             if option in self.names:
-                name = _("“{name}”").format(name=self.names[option])
-                return f"{name} {value}" if value else name
-            typed.append(found[0] if value and takes_value(option) else f"--{option}")
+                return _("“{name}”").format(name=self.names[option])
+            typed.append(f"{found[0]} {after}" if is_value(after) else found[0])
             return found[0]
 
         lines = [OPTION.sub(named, translated(text)) for text in (what, hint) if text]
@@ -46,8 +48,6 @@ class Hints:
         return "\n".join(lines)
 
 
-@cache
-def takes_value(option: str) -> bool:
-    """Returns whether an option of the commands is followed by a value."""
-    texts = (one.command_line().format_help() for one in (label_table, label_print))
-    return bool(re.search(rf"--{option} [{{A-Z]", "\n".join(texts)))
+def is_value(after: str | None) -> bool:
+    """Returns whether what is after an option is its value, and not the next word of a sentence."""
+    return after is not None and (after in VALUES or not WORD.fullmatch(after))

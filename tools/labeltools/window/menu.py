@@ -38,7 +38,7 @@ class Menu:
         self.model.append_section(_("Presets"), kept)
         recent = {path: Path(path).name for path in recent_tables()}
         if recent:
-            self.model.append_section(_("Tables opened before"), section("recent", recent))
+            self.model.append_section(_("Recent tables"), section("recent", recent))
         rest = Gio.Menu()
         rest.append(_("Show the command"), "win.command")
         rest.append(_("Help"), "app.help")

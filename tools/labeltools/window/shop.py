@@ -117,7 +117,7 @@ class Table:
             if choices[kind] is None:
                 named = ", ".join(quoted(self.guess.names[at] or str(at + 1)) for at in places)
                 hint = Text("choose its column")
-                raise ToolError(Text("{} may be in one of {}", OF_KINDS[kind], named), hint)
+                raise ToolError(Text("{} may be in: {}", OF_KINDS[kind], named), hint)
         to_print = print_words(choices)
         options = print_command.options_of(to_print)
         job = planned(options)
@@ -187,15 +187,12 @@ class Table:
         else:
             FILES.forget(self.path.name)
 
-    def price_patterns(self, column: str) -> Iterator[tuple[str, str]]:
-        """Yields how the prices of a column may be printed: the first of them as it would be, and
-        its pattern, which is empty for that as it is.
-        """
-        example = self.guess.examples[int(column) - 1] if column else ""
-        yield example, ""
-        for pattern in PATTERNS:
-            with suppress(NotMoney):
-                yield PricePattern.of(pattern).write(parse(example)), pattern
+
+def price_patterns(example: str) -> Iterator[tuple[str, str]]:
+    """Yields how prices like one may be printed: that one as it would be, and the pattern."""
+    for pattern in PATTERNS:
+        with suppress(NotMoney):
+            yield PricePattern.of(pattern).write(parse(example)), pattern
 
 
 def file_of(records: Sequence[LineRecord]) -> bytes:

@@ -27,7 +27,7 @@ from labeltools.printing.cups import JobState, Queue, SentJob, queue_of, queues
 from labeltools.printing.outlets import is_direct
 from labeltools.printing.press import Prepared, check_count
 from labeltools.printing.sending import print_on, save_to, send_to
-from labeltools.window.shop import COLUMNS, PAPER, Choices, Table, Talk
+from labeltools.window.shop import COLUMNS, PAPER, Choices, Table, Talk, price_patterns
 from labeltools.paper.stock import list_stock
 from labeltools.common.words import _
 
@@ -69,6 +69,11 @@ class List(Gtk.ListStore):
         super().__init__(str, str)
 
 
+def leave_wheel(control: Any, _event: Any) -> None:
+    """Leaves a turn of the mouse wheel to what the control is in: it would change unseen."""
+    control.stop_emission_by_name("scroll-event")
+
+
 class Number(Gtk.SpinButton):
     """A whole number."""
 
@@ -76,6 +81,7 @@ class Number(Gtk.SpinButton):
 
     def __init__(self, **properties: Any) -> None:
         super().__init__(**properties)
+        self.connect("scroll-event", leave_wheel)
         self.set_width_chars(3)
         self.set_increments(1, 10)
         self.set_range(0, 10_000)
@@ -88,6 +94,7 @@ class Choice(Gtk.ComboBox):
 
     def __init__(self, **properties: Any) -> None:
         super().__init__(**properties)
+        self.connect("scroll-event", leave_wheel)
         self.set_hexpand(True)
         letters = Gtk.CellRendererText(ellipsize=Pango.EllipsizeMode.END, width_chars=LETTERS)
         self.pack_start(letters, True)
@@ -319,8 +326,7 @@ class Window(Gtk.ApplicationWindow):
         self.columns.append([_("none"), ""])
         for number, (name, example) in enumerate(zip(guess.names, guess.examples), 1):
             name = name or _("column {number}").format(number=number)
-            shown = f"{name}  \u2013  {example}" if example else name
-            self.columns.append([shown, str(number)])
+            self.columns.append([with_example(name, example), str(number)])
         columns = {option: str(place + 1) for option, place in guess.columns.items()}
         self.take({**dict.fromkeys(COLUMNS, ""), "code": "1", **columns})
         self.take(dict.fromkeys(guess.doubts))  # only the keeper knows
@@ -387,7 +393,10 @@ class Window(Gtk.ApplicationWindow):
     def offer_patterns(self, table: Table) -> None:
         """Offers how the prices of the column may be printed."""
         self.patterns.clear()
-        for shown, pattern in table.price_patterns(self.choices()["price"] or ""):
+        price = self.choices()["price"]
+        example = table.guess.examples[int(price) - 1] if price else ""
+        self.patterns.append([with_example(_("as in the table"), example), ""])
+        for shown, pattern in price_patterns(example):
             self.patterns.append([shown, pattern])
         self.take({"price-as": ""})
 
@@ -466,7 +475,7 @@ class Window(Gtk.ApplicationWindow):
         for note in table.notes[:MOST_NOTES]:
             row = str(note.place.number) if note.place else ""
             self.notes.append([row, note.data, self.hints.text(note.reason, note.hint)])
-        text = translated(counted("{} row is left out", "{} rows are left out", table.left_out))
+        text = translated(counted("{} row is skipped", "{} rows are skipped", table.left_out))
         self.left_out.set_text(text if table.left_out else _("Please look at this"))
         self.below.set_visible(table.notes)
         self.show_view()
@@ -569,7 +578,7 @@ class Window(Gtk.ApplicationWindow):
         """Writes what label-print writes: each label is compared before."""
         labels = self.labels
         self.keep()
-        done = _("{file} is written").format(file=path.name)
+        done = _("{file} is saved").format(file=path.name)
 
         def work(talk: Talk) -> None:
             save_to(labels, path, talk)
@@ -733,6 +742,11 @@ def printers(is_roll: bool, _talk: Talk) -> list[str]:
     with suppress(ToolError):  # CUPS is not there
         return [*queues(), *found]
     return found
+
+
+def with_example(name: str, example: str) -> str:
+    """Returns a name for a choice, with an example after it if there is one."""
+    return f"{name}  \u2013  {example}" if example else name
 
 
 def lacking(window: Any) -> list[str]:

@@ -1,6 +1,6 @@
 #!/bin/sh
-# Makes the files of docs/pictures, but for window.png, in the folder in which it runs. The files that it needs are
-# those that the commands of docs/RECIPES.md leave there.
+# Makes the files of docs/pictures, but for window.png, in the folder in which it runs: a copy of this repository in
+# which the commands of docs/RECIPES.md have run.
 set -e
 
 draw() {
@@ -11,12 +11,17 @@ draw ean8 3 'ean8 7351353' 15
 draw upca 3 'upca 03600029145' 15
 draw code128 3 'code128 PJJ123C' 15
 draw qr 8 'qr,level=Q HELLO WORLD' 0
+status=0
+label-table --code EAN --fill-zeros --title Artikel --price Preis --copies Stück examples/shop.csv > shop.lines \
+    2> left-out.txt || status=$?
+test $status = 1  # two rows are skipped
 label-print --stock 'Avery L7160' --to png --dpi 150 --only 2-5,7-8,10-12 shop.lines > sheet.png
 label-print --paper 60x40 --to png --dpi 203 --only 2 --each 'one/%d.png' shop.lines
 mv one/1.png thermal.png
 tools/tests/layouts.py .
 mv rack/1.png design-rack.png
 mv pallet/1.png design-pallet.png
+label-print --design designs/shelf-60x40.svg --to png --dpi 203 --only 2 --each 'own/%d.png' shop.lines
 mv own/1.png design-shelf.png
 label-print --design designs/ticket-210x148.svg --to png --dpi 203 --only 2 seats.lines > design-ticket.png
 cat > jar.lines <<'LINES'
