@@ -29,7 +29,7 @@ for _ in range(1024):  # select() takes fewer
     os.dup(0)
 """
 # A printer may take nothing for longer than another program takes to start.
-PATIENT = f"network.NetworkPrinter.__init__.__defaults__ = ({support.SECONDS}.0,)"
+PATIENT = f"network.FAREWELL = {support.SECONDS}.0"
 NO_FOLDER = """
 import tempfile
 
@@ -236,8 +236,8 @@ class Doubts(Desk):
 
     def test_one_that_another_lane_is_sending(self) -> None:
         """That lane may break off: whoever is told `known` would tick it off."""
-        printer = Printer(stuck=1).start()
-        words = ("--print", printer.name, "--journal", self.path, "--dpi", "1200")
+        printer = Printer(stuck=2).start()
+        words = ("--print", printer.name, "--journal", self.path)
         busy = self.start(*words, code=PATIENT)
         busy.write(b"qr T00001\nqr T00002\n")
         self.assertRegex(busy.stderr.readline(), b"^taken 1 ")
