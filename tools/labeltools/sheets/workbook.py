@@ -193,7 +193,7 @@ class Reader(Generic[F]):
 
     def read(self, archive: ZipFile, part: str) -> Iterator[F]:
         """Yields what is found in a part."""
-        parser = ParserCreate()
+        parser = self.parser = ParserCreate()
         parser.buffer_text = True
         parser.StartDoctypeDeclHandler = refuse_document_type
         parser.StartElementHandler = self.begin
@@ -237,7 +237,9 @@ class Reader(Generic[F]):
 
 
 class Elements(Reader[Element]):
-    """Finds the elements of a part, but none in elements of the name `passed`."""
+    """Finds the elements of a part, but none in elements of the name `passed`: of these, as of the
+    rows of a sheet, only the ends are looked at.
+    """
 
     def __init__(self, passed: str) -> None:
         super().__init__()
@@ -246,17 +248,23 @@ class Elements(Reader[Element]):
 
     def begun(self, name: str, attributes: Attributes) -> None:
         """Finds an element."""
-        if not self.is_inside:
-            self.path.append(name)
-            self.found.append(("/".join(self.path[1:]), local(attributes)))
-            self.is_inside = name == self.passed
+        self.path.append(name)
+        self.found.append(("/".join(self.path[1:]), local(attributes)))
+        if name == self.passed:
+            self.parser.StartElementHandler = self.parser.CharacterDataHandler = None
+            self.parser.EndElementHandler = self.pass_end
+
+    def pass_end(self, name: str) -> None:
+        """Passes the end of an element."""
+        self.size = 0
+        if LOCAL[name] == self.passed:
+            self.parser.StartElementHandler = self.begin
+            self.parser.EndElementHandler = self.end
+            self.end(name)
 
     def ended(self, name: str) -> None:
         """Ends an element."""
-        self.size = 0
-        if self.depth == len(self.path):
-            self.is_inside = False
-            self.path.pop()
+        self.path.pop()
 
 
 def refuse_document_type(*_: object) -> None:
