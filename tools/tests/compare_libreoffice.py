@@ -28,16 +28,8 @@ def libreoffices(data: bytes, ending: str) -> dict[tuple[int, int], str]:
         path = Path(folder, f"book.{ending}")
         path.write_bytes(data)
         profile = f"-env:UserInstallation=file://{folder}/profile"
-        command = [
-            "soffice",
-            profile,
-            "--headless",
-            "--convert-to",
-            FILTER,
-            "--outdir",
-            folder,
-            str(path),
-        ]
+        convert = ["--headless", "--convert-to", FILTER, "--outdir", folder, str(path)]
+        command = ["soffice", profile, *convert]
         subprocess.run(command, capture_output=True, timeout=SECONDS, check=True)
         with open(Path(folder, "book.csv"), encoding="utf-8", newline="") as stream:
             rows = list(csv.reader(stream, delimiter=";"))

@@ -113,12 +113,13 @@ def of_xlsx(*sheets: Sheet) -> bytes:
             found += f"<r>{own}<t xml:space='preserve'>{escape(letters)}</t></r>"
         return f'<c s="{style}" t="inlineStr"><is>{found}</is></c>'
 
-    texts = []
+    texts: List[Tuple[str, str, str]] = []
     for sheet in sheets:
         lines = rows(*([text(one) for one in row] for row in sheet.cells))
         for number in sheet.hidden:
             lines = lines.replace(f'<row r="{number}">', f'<row r="{number}" hidden="1">')
-        texts.append((sheet.name, "visible" if sheet.is_visible else "hidden", lines))
+        hides = "veryHidden" if len(texts) % 2 else "hidden"
+        texts.append((sheet.name, "visible" if sheet.is_visible else hides, lines))
     merges = "".join(
         f'<mergeCell ref="{chr(65 + at)}{row}:{chr(64 + at + one.span[1])}{row + one.span[0] - 1}"/>'
         for row, line in enumerate(sheets[0].cells, 1)

@@ -173,6 +173,7 @@ class Sheets(CellTest):
             self.assertEqual(self.found(data), pencil)
             self.assertEqual(self.found(data, "--sheet", "alt"), small)
             self.assertEqual(self.found(kind(Sheet([[None]]), new)), small)
+            self.assertEqual(self.found(kind(first, old)), pencil)  # in .xlsx, veryHidden
             data = kind(first, empty, old, new)
             named = 'has 2 visible sheets with data: give --sheet with one of "Tabelle1", "Preise"'
             self.refused(data, named, status=2)
@@ -320,11 +321,6 @@ class Marks(CellTest):
             data = ods(table(HEAD, [PENCIL, "Tea", "1.25"]), styles=styles)
             self.assertEqual(self.ran(data, *PRICED), (["1.25"], [report] * is_said), of_ods)
 
-    def test_a_number_that_a_narrow_column_of_ods_hides(self) -> None:
-        number = ods_cell("###", "float", 'office:value="47"')
-        titles, said = self.ran(ods(table(HEAD, [PENCIL, number])), *PRICED[:4])
-        self.assertEqual((titles, 'the value 47 and the text "###"' in said[0]), ([], True))
-
     def test_a_row_without_height_is_hidden(self) -> None:
         cases: List[Tuple[str, List[str]]] = [
             ('ht="0" customHeight="1"', []),
@@ -389,52 +385,35 @@ class Kinds(CellTest):
             rounded = ["row 2 shows the price 1,201 €, and its value is 1200.5 (1 price)"]
             self.assertEqual(messages, rounded if said else [])
 
-    def test_a_column_of_cents_is_said(self) -> None:
-        for name, price, is_said in (
-            ("price_cents", "199", True),
-            ("Preis (ct)", "199", True),
-            ("Preis (ct)", "199 ct", False),
-            ("Price", "199", False),
-            ("Center", "199", False),
-        ):
-            data = f"EAN;{name}\n{PENCIL};{price}\n".encode()
-            _, messages = self.ran(data, "--code", "EAN", "--price", name)
-            said = "says cents, but it is printed as it is"
-            self.assertEqual([said in one for one in messages], [True] * is_said, name)
-
     def test_a_date_is_no_number_of_copies(self) -> None:
         data = xlsx(rows(["EAN", "N"], [PENCIL, cell(3, style=1)]), formats=["d.m.yy"])
         problem = 'row 2: column 2 ("N") is a date or a time, which is not a number of copies: '
         problem += "enter it again as text"
         self.check(data, "--code EAN --copies N".split(), [], [problem], 1)
 
-    def test_the_number_of_a_text_is_its_value(self) -> None:
-        for text, value, is_right in (
-            ("4,50 €", "4.5", True),
-            ("4,5", "4.4999", True),
-            ("1.234,50", "1234.5", True),
-            ("45 %", "0.45", True),
-            ("4,5E−01", "0.45", True),
-            ("4,50 €", "5.5", False),
-            ("4,50", "450", False),
+    def test_a_text_of_ods_is_its_value(self) -> None:
+        day, other = 'office:date-value="2026-05-04"', "has the value"
+        for kind, value, text, said in (
+            ("float", 'office:value="4.5"', "4,50 €", ""),
+            ("float", 'office:value="4.4999"', "4,5", ""),
+            ("float", 'office:value="1234.5"', "1.234,50", ""),
+            ("float", 'office:value="0.45"', "45 %", ""),
+            ("float", 'office:value="0.45"', "4,5E−01", ""),
+            ("float", 'office:value="5.5"', "4,50 €", other),
+            ("float", 'office:value="450"', "4,50", other),
+            ("float", 'office:value="47"', "###", other),  # the column is narrow
+            ("currency", 'office:value="2.5" office:currency="DKK"', "kr 2,50", ""),
+            ("currency", 'office:value="2.5" office:currency="EUR"', "2,50 €/kg", ""),
+            ("currency", 'office:currency="EUR"', "2,50 €", "a number without its value"),
+            ("string", 'office:string-value="Green tea"', "Green tea", ""),
+            ("date", day, "04.05.26", ""),
+            ("date", day, "May 4, 2026", ""),
+            ("date", day, "05.06.2026", other),
         ):
-            number = ods_cell(text, "float", f'office:value="{value}"')
-            data = ods(table(["EAN", "Name"], [PENCIL, number]))
-            found, said = self.ran(data, *PRICED[:4])
-            self.assertEqual(found, [text] if is_right else [])
-            self.assertEqual(["has the value" in one for one in said], [] if is_right else [True])
-
-    def test_an_amount_of_ods_has_its_value(self) -> None:
-        value = 'office:value="2.5"'
-        for text, more, said in (
-            ("2,50 €", f'{value} office:currency="EUR"', ""),
-            ("2,50", f'{value} office:currency="EUR"', ""),
-            ("kr 2,50", f'{value} office:currency="DKK"', ""),
-            ("2,50 €/kg", f'{value} office:currency="EUR"', ""),
-            ("2,50 €", 'office:currency="EUR"', "a number without its value"),
-        ):
-            data = ods(table(HEAD, [PENCIL, "Tea", ods_cell(text, "currency", more)]))
-            self.check_price(data, None if said else text, said)
+            data = ods(table(["EAN", "Name"], [PENCIL, ods_cell(text, kind, value)]))
+            found, messages = self.ran(data, *PRICED[:4])
+            self.assertEqual(found, [] if said else [text])
+            self.assertEqual([said in one for one in messages], [True] if said else [], text)
 
     def test_a_number_of_ods_has_no_more_digits_than_a_file_keeps(self) -> None:
         shown, value = "10293847565647400000", "1.02938475656474E+019"
@@ -444,18 +423,6 @@ class Kinds(CellTest):
         )
         self.assertEqual([line for _, line in parts_of(done.stdout)[1]], ["code128 A7"])
         self.assertIn("has too many digits", support.messages(done)[0])
-
-    def test_a_text_or_date_of_ods_is_its_value(self) -> None:
-        for kind, value, text, is_right in (
-            ("string", 'office:string-value="Green tea"', "Green tea", True),
-            ("date", 'office:date-value="2026-05-04"', "04.05.26", True),
-            ("date", 'office:date-value="2026-05-04"', "May 4, 2026", True),
-            ("date", 'office:date-value="2026-05-04"', "05.06.2026", False),
-        ):
-            data = ods(table(["EAN", "Name"], [PENCIL, ods_cell(text, kind, value)]))
-            found, said = self.ran(data, *PRICED[:4])
-            self.assertEqual(found, [text] if is_right else [])
-            self.assertEqual(["has the value" in one for one in said], [] if is_right else [True])
 
     def test_what_was_not_calculated_has_no_value(self) -> None:
         price = "<c><f>D2*2</f><v>3</v></c>"
@@ -468,13 +435,6 @@ class Kinds(CellTest):
 
 
 class Texts(CellTest):
-    def test_a_text_that_was_encoded_twice_is_left_out(self) -> None:
-        text = "Füller".encode().decode("cp1252")
-        problem = f'row 2: column 2 ("Name") has "{text}", which was encoded twice, for "Füller": '
-        problem += "export the table again"
-        data = f"EAN;Name\n{PENCIL};{text}\n"
-        self.check(data, "--code EAN --title Name".split(), [], [problem], 1)
-
     def test_utf_8_that_was_read_as_another_encoding(self) -> None:
         for text, encoding in (
             ("Käse", "cp850"),
@@ -482,6 +442,7 @@ class Texts(CellTest):
             ("Żółw", "cp1250"),
             ("Чай", "cp1251"),
             ("Tee – grün", "cp1252"),
+            ("Füller", "cp1252"),
         ):
             wrong = text.encode().decode(encoding)
             for name, meant in ((wrong, text), (f"Größe {wrong}", f"Größe {text}")):
@@ -544,21 +505,25 @@ class Heads(CellTest):
         prices, said = self.ran(data, *free)
         self.assertEqual((prices, "names other columns" in said[0]), ([], True))
 
-    def test_prices_of_many_are_said(self) -> None:
-        said = "says prices of 100 or 1000, but it is printed as it is: "
-        said += "make a column with the price of one"
-        for name, is_said in (
-            ("Preis/100", True),
-            ("Preis (TEUR)", True),
-            ("price per 1000", True),
-            ("Preis", False),
-            ("Preis / 100 g", False),
-            ("VK 1000", False),
+    def test_prices_of_cents_or_of_many_are_reported(self) -> None:
+        printed = "but it is printed as it is: make a column with the price of one article"
+        cents, many = f"says cents, {printed}", f"says prices of 100 or 1000, {printed}"
+        for name, price, said in (
+            ("price_cents", "199", cents),
+            ("Preis (ct)", "199", cents),
+            ("Preis (ct)", "199 ct", ""),
+            ("Center", "199", ""),
+            ("Preis/100", "3,33", many),
+            ("Preis (TEUR)", "3,33", many),
+            ("price per 1000", "3,33", many),
+            ("Preis", "3,33", ""),
+            ("Preis / 100 g", "3,33", ""),
+            ("VK 1000", "3,33", ""),
         ):
-            data = f"EAN;Name;{name}\n{PENCIL};Tea;3,33\n".encode()
+            data = f"EAN;{name}\n{PENCIL};{price}\n".encode()
             prices, messages = self.ran(data, "--code", "EAN", "--price", name)
-            self.assertEqual(prices, ["3,33"])
-            self.assertEqual([said in one for one in messages].count(True), int(is_said), name)
+            self.assertEqual(prices, [price])
+            self.assertEqual([said in one for one in messages], [True] if said else [], name)
 
 
 class Codes(CellTest):

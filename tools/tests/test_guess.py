@@ -139,7 +139,13 @@ class Guesses(unittest.TestCase):
 
     def test_the_row_of_the_names(self) -> None:
         names, row = TABLES[:2]
-        for above, header in (("", 1), ("Preisliste;;;\n;;;\n", 3), ("Stand;Mai;;\n", 2)):
+        for above, header in (
+            ("", 1),
+            ("Preisliste;;;\n;;;\n", 3),
+            ("Stand;Mai;;\n", 2),
+            ("Preisliste, Stand Mai\n", 2),  # one that has no delimiter, or another one
+            ("Preisliste\nMai\n\nStand 1\n", 5),
+        ):
             self.assertEqual(guessed(f"{above}{names}\n{row}\n").header, header, above)
         found = guessed("4006381333931;Kerze;1,20\n96385074;Docht;0,80\n")
         self.assertEqual((found.header, found.columns["price"]), (0, 2))
@@ -198,6 +204,7 @@ class Guesses(unittest.TestCase):
             ("Ware;Adresse\nHaken;https://example.com/1\n", "", "--symbology qr"),
             (f"EAN|Name|Preis\n{CODES[0]}|Käse|1,20\n", "--encoding cp1252", "--title Name"),
             (f"EAN+Name+Preis\n{CODES[0]}+Tee+1,20\n", "--delimiter + --decimal comma", ""),
+            (f"Liste, Mai\nEAN;Name\n{CODES[0]};Tee\n", "", "--header-row 2"),
             (f"EAN;Text\n{CODES[0]};Tee\n", "--title Text --settings height=20", "--code EAN"),
         ):
             path = Path(folder, "table.csv")
@@ -207,7 +214,8 @@ class Guesses(unittest.TestCase):
             self.assertTrue(words in proposed and more in proposed, proposed)
             done = support.run(*shlex.split(proposed))
             self.assertEqual((done.returncode, done.stderr), (0, b""), proposed)
-            self.assertEqual(done.stdout.count(b'"row"'), text.count("\n") - 1)
+            titles = 2 if "header-row" in more else 1
+            self.assertEqual(done.stdout.count(b'"row"'), text.count("\n") - titles)
 
 
 # names of columns, and the number of the one that is the price; 0 where only the keeper knows it
@@ -219,104 +227,53 @@ PRICES = (
     ("Název;EAN;Nákupní cena;Prodejní cena", 4),
     ("Benämning;EAN;Inköpspris;Utpris", 4),
     ("Varenavn;EAN;Kostpris;Salgspris", 4),
-    ("Tuote;EAN;Ostohinta;Myyntihinta", 4),
-    ("Produto;EAN;Preço de custo;Preço de venda", 4),
     ("Товар;Штрихкод;Закупочная цена;Розничная цена", 4),
-    ("Termék;EAN;Beszerzési ár;Eladási ár", 4),
     ("Προϊόν;Barcode;Τιμή αγοράς;Τιμή πώλησης", 4),
     ("商品名;JANコード;原価;売価", 4),
     ("品名;条码;进价;零售价", 4),
-    ("Title;Variant Barcode;Variant Price;Variant Compare At Price", 3),
     ("Item;UPC;MSRP;Price", 0),
-    ("Name;GTIN;Std. VK Brutto;UVP", 3),
     ("Bezeichnung;EAN;Preis;Pfand", 3),
-    ("Bezeichnung;EAN;Preis alt;Preis neu", 4),
     ("Wein;EAN;Kartonpreis;Flaschenpreis", 4),
     ("Item;UPC;Wholesale;MSRP", 4),
     ("Name;EAN;Gewicht;Preis", 4),
-    ("Name;EAN;Preis exkl. MwSt;Preis inkl. MwSt", 4),
     ("Name;EAN;Price inc VAT;Price ex VAT", 3),
-    ("Name;EAN;Sale price;Regular price", 0),
     ("Nom;EAN;Prix;Prix promo", 0),
-    ("Name;EAN;Price;Member price", 0),
-    ("Name;EAN;Händlerpreis;Endkundenpreis", 4),
     ("Désignation;Gencod;Prix de gros;Prix public", 4),
     ("Name;EAN;Preis;Versandkosten", 3),
     ("Name;EAN;Preis 1;Preis 2", 0),
     ("Name;EAN;Margin;Price", 4),
-    ("Name;EAN;A;B", 0),
     ("Item;GTIN;Price ex. GST;Price inc. GST", 4),
-    ("Gerät;EAN;Kaution;Kaufpreis", 4),
     ("Gerät;EAN;Miete pro Tag;Kaufpreis", 4),
-    ("Item;UPC;List price;Our price", 4),
-    ("Spielzeug;EAN;UVP;Unser Preis", 4),
     ("Ware;EAN;Einstand;VK inkl.", 4),
-    ("Produit;EAN;Tarif pro;Tarif particulier", 4),
     ("Désignation;Gencod;Prix cession;PVC conseillé", 4),
     ("Pflanze;EAN;Gärtnerpreis;Abgabepreis", 0),
-    ("Buch;ISBN;Ladenpreis D;Ladenpreis A", 0),
     ("Titre;EAN;Prix éditeur;Prix occasion", 0),
-    ("Käse;EAN;Preis/kg;Stückpreis", 4),
-    ("Plante;Code-barres;Prix barré;Prix soldé", 4),
-    ("Book;ISBN-13;Trade price;Cover price", 4),
-    ("Name;EAN;Verkaufspreis;Aktionspreis", 0),
     ("Libellé;EAN13;PVC TTC;Prix remisé", 0),
-    ("Name;EAN;VK;Aktion", 0),
     ("Name;EAN;Our price;Staff price", 0),
     ("Name;EAN;Purchase price;Price", 4),
     ("Name;EAN;purchaseprice;price", 4),
     ("Name;EAN;Lieferantenpreis;VK", 4),
     ("Name;EAN;price_net;price_gross", 4),
     ("Name;EAN;EKBrutto;VKBrutto", 4),
-    ("Name;EAN;Unit price;Unit price incl. VAT", 4),
-    ("Désignation;EAN;PU HT;Prix unitaire TTC", 4),
     ("Name;EAN;Preis je kg;Preis", 4),
-    ("Name;EAN;Bewertungspreis;Bruttopreis", 4),
     ("Name;EAN;Preiseinheit;Bruttopreis", 4),
-    ("Name;EAN;Streichpreis;Preis", 4),
-    ("Article;EAN;Hauteur;Prix", 4),
     ("Name;EAN;Marge €;VK €", 4),
-    ("Name;EAN;Tariff No.;Price", 4),
-    ("Name;EAN;unit_price;promo_price", 0),
     ("Stoff;EAN;VK/m;Rabattpreis", 0),
-    ("Käse;EAN;Ankauf;Preis/kg", 0),
     ("Name;EAN;Unit cost;Unit price", 0),
     ("Name;EAN;Zolltarif;VK-Preis", 4),
-    ("Billet;EAN;Frais;Prix", 0),
     ("Café;EAN;Prix 250 g;Prix 1 kg", 0),
-    ("Spiel;EAN;Anschaffungspreis;Preis", 4),
-    ("Kaffee;EAN;Empf. VK;Ihr VK", 4),
-    ("Brot;EAN;Ladenpreis;Wiederverkäuferpreis", 3),
     ("Plante;EAN;Prix pro TTC;Prix particulier TTC", 4),
-    ("Sac;EAN;Prix d'origine;Prix soldé", 4),
-    ("Lunettes;EAN;Prix de vente conseillé;Prix magasin", 0),
     ("Führung;EAN;Preis Gruppe;Preis Schüler", 0),
-    ("Platz;EAN;Preis Kategorie A;Preis ermäßigt", 0),
     ("Item;EAN;Reserve price;Buy It Now price", 0),
-    ("Name;EAN;Cost ex VAT;Sell inc VAT", 4),
-    ("Libellé;EAN;PVHT;PVTTC", 4),
     ("Artículo;EAN;P. coste;P.V.P.", 4),
     ("Ürün;EAN;Alış fiyatı;Satış fiyatı", 4),
     ("상품명;바코드;매입가;판매가", 4),
-    ("Towar;EAN;Najniższa cena z 30 dni;Cena", 4),
     ("Item;EAN;Supply price;RRP", 4),
-    ("Artikel;EAN;Ihr Preis;UVP", 0),
-    ("Style;Barcode;Was;Now £", 4),
-    ("Item;Barcode;Price;Price level 2", 3),
     ("Kerze;EAN;Preis Webshop;Preis Laden", 4),
-    ("Product;Barcode;Price per 100g;Shelf price", 4),
-    ("Titel;EAN;Mindestpreis;Preis", 4),
-    ("Jacket;Barcode;Consignor share;Asking price", 4),
     ("Item;EAN;Sales tax;Price", 4),
-    ("Name;EAN;Lagerwert €;VK €", 4),
     ("Kreisel;EAN;VK bis 30.11.;VK ab 1.12.", 0),
-    ("Schraube;EAN;Preis;Preis ab 100 Stück", 3),
-    ("Fisch;EAN;Tagespreis;Vortag", 3),
     ("Schirm;EAN;Preis;Preis inkl. Versand", 3),
     ("Pemakai;EAN;Harga beli;Harga jual", 4),
-    ("Ware;EAN;Bruttogewicht;Preis", 4),
-    ("Prodotto;EAN;Vendita;Vendita IVA incl.", 4),
-    ("Item;EAN;Price VAT not included;Price", 4),
     ("Vara;EAN;Innkaupsverð;Útsöluverð m. vsk", 4),
 )
 # names of amounts that no customer pays, or of which only the keeper knows it
@@ -342,6 +299,25 @@ class Codes(unittest.TestCase):
         for name, is_asked in (("Artikelnummer", False), ("SKU", False), ("Kennung", True)):
             found = guess([["Title", "Tea", "Book", "Gum"], [name, *NUMBERS[0]]], 1)
             self.assertEqual("code" in found.doubts, is_asked, name)
+
+    def test_wrong_check_digits_are_never_proposed_as_code_128(self) -> None:
+        """What has as many digits as an EAN or UPC may be one with a typing error."""
+        ends = ("0", "1", "2", "3")
+        for start, wanted in (
+            ("400638133393", "auto"),
+            ("03600029145", "auto"),
+            ("9638507", "auto"),
+            ("40063813339", "auto"),  # 12 digits
+            ("4006381", "auto"),  # 8 digits
+            ("400638133", "code128"),
+            ("400638", "code128"),
+        ):
+            numbers = [f"{start}{end}" for end in ends]
+            found = guess([["Nr", *numbers], ["Name", "Tea", "Book", "Gum", "Pen"]], 1)
+            self.assertEqual((found.symbology, found.columns["code"]), (wanted, 0), start)
+        text = "Nr\n" + "".join(f"{number}\n" for number in ("4006381333932", "4006381333933"))
+        done = support.run_here("label-table", "--code", "Nr", input=text.encode())
+        self.assertIn('most codes in column 1 ("Nr") have a wrong', support.messages(done)[-1])
 
     def test_a_number_that_all_rows_share_is_no_code(self) -> None:
         for name in ("GLN Hersteller", "Depot"):

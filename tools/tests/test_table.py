@@ -157,41 +157,27 @@ class Encodings(TableTest):
                 self.assertEqual(done.stdout.decode(), '#{"labels":1}\n' + pencil + small + end)
 
     @support.slow
-    def test_utf8_with_and_without_mark(self) -> None:
-        self.check_letters(self.TEXT.encode("utf-8"))
-        self.check_letters(self.TEXT.encode("utf-8-sig"))
-        self.check_letters(self.TEXT.encode("utf-8-sig"), "--encoding", "UTF-8")
-
-    @support.slow
-    def test_utf16_with_mark(self) -> None:
-        self.check_letters(b"\xff\xfe" + self.TEXT.encode("utf-16-le"))
-        self.check_letters(b"\xfe\xff" + self.TEXT.encode("utf-16-be"))
-        self.check_letters(b"\xff\xfe" + self.TEXT.encode("utf-16-le"), "--encoding", "utf-16-le")
-
-    @support.slow
-    def test_utf32_with_mark(self) -> None:
-        self.check_letters(b"\xff\xfe\0\0" + self.TEXT.encode("utf-32-le"))
-        self.check_letters(b"\0\0\xfe\xff" + self.TEXT.encode("utf-32-be"))
-
-    @support.slow
-    def test_utf16_without_mark(self) -> None:
-        self.check_letters(self.TEXT.encode("utf-16-le"), "--encoding", "utf-16-le")
-        self.check_letters(self.TEXT.encode("utf-16-be"), "--encoding", "utf-16-be")
+    def test_encodings_that_are_seen_or_given(self) -> None:
+        for mark, codec, given in (
+            (b"", "utf-8", ""),
+            (b"\xef\xbb\xbf", "utf-8", ""),
+            (b"\xef\xbb\xbf", "utf-8", "UTF-8"),
+            (b"\xff\xfe", "utf-16-le", ""),
+            (b"\xfe\xff", "utf-16-be", ""),
+            (b"\xff\xfe", "utf-16-le", "utf-16-le"),
+            (b"\xff\xfe\0\0", "utf-32-le", ""),
+            (b"\0\0\xfe\xff", "utf-32-be", ""),
+            (b"", "utf-16-le", "utf-16-le"),
+            (b"", "utf-16-be", "utf-16-be"),
+            (b"", "cp1252", "cp1252"),
+        ):
+            words = ["--encoding", given] if given else []
+            self.check_letters(mark + self.TEXT.encode(codec), *words)
         problem = f"standard input is not UTF-8, as line 1 shows: {self.WIDE}"
-        self.check(self.TEXT.encode("utf-16-le"), ["--code", "1"], [], [problem], 1)
-        self.check("code\n1\n".encode("utf-16-le"), ["--code", "1"], [], [problem], 1)
-
-    def test_one_byte_encodings_when_told(self) -> None:
-        self.check_letters(self.TEXT.encode("cp1252"), "--encoding", "cp1252")
-        text = self.TEXT.replace("€", "¤").encode("latin-1")
-        self.check(
-            text, "--code Nummer --encoding latin-1".split(), [f"ean13 {PENCIL}", f"ean8 {SMALL}"]
-        )
-        self.check(
-            "code\nKäse\n".encode("latin-1"),
-            "--code code --symbology qr --encoding latin-1".split(),
-            ["qr Käse"],
-        )
+        for text in (self.TEXT, "code\n1\n"):
+            self.check(text.encode("utf-16-le"), ["--code", "1"], [], [problem], 1)
+        latin = "--code code --symbology qr --encoding latin-1".split()
+        self.check("code\nKäse\n".encode("latin-1"), latin, ["qr Käse"])
 
     def test_bytes_that_do_not_decode(self) -> None:
         problem = f'standard input is not UTF-8, as line 3 shows: {self.FIX}cp1252 reads "Füße"'
@@ -219,15 +205,7 @@ class Encodings(TableTest):
             )
 
     def test_encoding_told_that_the_file_contradicts(self) -> None:
-        for encoding in (
-            "latin-1",
-            "cp1252",
-            "cp850",
-            "mac-roman",
-            "koi8-r",
-            "shift_jis",
-            "gb18030",
-        ):
+        for encoding in "latin-1 cp1252 cp850 mac-roman koi8-r shift_jis gb18030".split():
             problem = f"standard input is UTF-8: leave out --encoding {encoding}"
             arguments = ["--code", "code", "--symbology", "qr", "--encoding", encoding]
             self.check("code\nKäse\n", arguments, [], [problem], 2)
@@ -397,55 +375,40 @@ class Cells(TableTest):
         self.check(table, ["--code", "1"], [f"ean8 {SMALL}"] * 3)
 
     def test_cells_that_no_label_can_show(self) -> None:
-        title = 'refused: column 1 ("code") has '
-        unseen = "which nobody sees"
-        error = "which the spreadsheet writes if it has no value to show"
+        unseen = {
+            "7351\n3537": "a line end",
+            "7351\r\n3537": "a line end",
+            "A\t1": "a tab",
+            "\u200e73513537": "left-to-right mark (U+200E)",
+            "A\x1d1": "control character (U+001D)",
+            "A\u00a01": "no-break space (U+00A0)",
+            "A\u202f1": "narrow no-break space (U+202F)",
+            "A\u30001": "ideographic space (U+3000)",
+            "A\u20611": "function application (U+2061)",
+            "A\ufe0f1": "variation selector-16 (U+FE0F)",
+            "A\U000e01001": "variation selector-17 (U+E0100)",
+            "A\u31641": "hangul filler (U+3164)",
+            "A\u20281": "line separator (U+2028)",
+        }
+        errors = ("#REF!", "#N/A", "#WERT!", "#DIV/0!", "####", "Err:502", "#ЗНАЧ!")
         wanted = {
-            "": 'refused: column 1 ("code") is empty',
-            " ": 'refused: column 1 ("code") is empty',
-            "7351\n3537": f'{title}a line end in the cell "7351<U+000A>3537", {unseen}',
-            "7351\r\n3537": f'{title}a line end in the cell "7351<U+000D><U+000A>3537", {unseen}',
-            "A\t1": title + 'a tab in the cell "A<U+0009>1", which nobody sees',
-            "\u200e73513537": (
-                title
-                + 'left-to-right mark (U+200E) in the cell "<U+200E>73513537", which nobody sees'
-            ),
-            "A\x1d1": (
-                title + 'control character (U+001D) in the cell "A<U+001D>1", which nobody sees'
-            ),
-            "A\u00a01": (
-                title + 'no-break space (U+00A0) in the cell "A<U+00A0>1", which nobody sees'
-            ),
-            "A\u202f1": (
-                title + 'narrow no-break space (U+202F) in the cell "A<U+202F>1", which nobody sees'
-            ),
-            "A\u30001": (
-                title + 'ideographic space (U+3000) in the cell "A<U+3000>1", which nobody sees'
-            ),
-            "A\u20611": (
-                title + 'function application (U+2061) in the cell "A<U+2061>1", which nobody sees'
-            ),
-            "A\ufe0f1": (
-                title + 'variation selector-16 (U+FE0F) in the cell "A\ufe0f1", which nobody sees'
-            ),
-            "A\U000e01001": (
-                title
-                + 'variation selector-17 (U+E0100) in the cell "A\U000e01001", which nobody sees'
-            ),
-            "A\u31641": title + 'hangul filler (U+3164) in the cell "A\u31641", which nobody sees',
-            "A\u20281": f'{title}line separator (U+2028) in the cell "A<U+2028>1", {unseen}',
-            "=A1": title + '"=A1", a formula: export its value',
-            "K\ufffdse": (
-                title
-                + '"K\ufffdse", with the sign of a lost letter (U+FFFD): export the table again'
-            ),
+            "": "is empty",
+            " ": "is empty",
             **{
-                cell: f'{title}"{cell}", {error}'
-                for cell in ("#REF!", "#N/A", "#WERT!", "#DIV/0!", "####", "Err:502", "#ЗНАЧ!")
+                cell: f"has {name} in the cell {shown(cell)}, which nobody sees"
+                for cell, name in unseen.items()
+            },
+            "=A1": 'has "=A1", a formula: export its value',
+            "K\ufffdse": 'has "K\ufffdse", with the sign of a lost letter (U+FFFD): export the table '
+            "again",
+            **{
+                cell: f'has "{cell}", which the spreadsheet writes if it has no value to show'
+                for cell in errors
             },
         }
+        refused = {cell: f'refused: column 1 ("code") {text}' for cell, text in wanted.items()}
         for arguments in ((), ("--symbology", "qr"), ("--symbology", "code128")):
-            self.check_cells(arguments, wanted)
+            self.check_cells(arguments, refused)
 
     def test_a_line_end_behind_a_code(self) -> None:
         for end in ("\n", "\r\n", "\r"):
@@ -637,55 +600,33 @@ class Texts(TableTest):
             )
             self.assertEqual(labels, [{"row": 2, "title": text, "text": [text]}])
 
-    def test_characters_that_no_text_can_show(self) -> None:
-        names = {
-            "\x1b": "control character (U+001B)",
-            "\x0b": "control character (U+000B)",
-            "\x85": "control character (U+0085)",
-            "\u2028": "line separator (U+2028)",
-            "\u2029": "paragraph separator (U+2029)",
-            "\u202e": "right-to-left override (U+202E)",
-            "\u2066": "left-to-right isolate (U+2066)",
+    def test_what_no_text_or_price_can_show(self) -> None:
+        text, price = ("title", "text"), ("price",)
+        seen = {
+            "a\x1bb": (text, "control character (U+001B)"),
+            "a\x0bb": (text, "control character (U+000B)"),
+            "a\x85b": (text, "control character (U+0085)"),
+            "a\u2028b": (text, "line separator (U+2028)"),
+            "a\u2029b": (text, "paragraph separator (U+2029)"),
+            "a\u202eb": (text, "right-to-left override (U+202E)"),
+            "a\u2066b": (text, "left-to-right isolate (U+2066)"),
+            "1,20\n€": (price, "a line end"),
+            "1,\u200b20": (price, "zero width space (U+200B)"),
+            "\u202e02,1": (price, "right-to-left override (U+202E)"),
         }
-        for character, name in names.items():
-            for option in ("--title", "--text"):
-                cell = f"a<U+{ord(character):04X}>b"
-                problem = (
-                    f'row 2: column 2 ("name") has {name} in the cell "{cell}", which nobody sees'
-                )
-                table = f"code;name\n{SMALL};a{character}b\n{PENCIL};c\n"
-                self.check(
-                    table, ["--code", "code", option, "name"], [f"ean13 {PENCIL}"], [problem], 1
-                )
-        for cell, problem in (
-            ("#REF!", '"#REF!", which the spreadsheet writes if it has no value to show'),
-            ("=B2", '"=B2", a formula: export its value'),
-        ):
-            problem = f'row 2: column 2 ("name") has {problem}'
-            self.check(
-                f"code;name\n{SMALL};{cell}\n", "--code code --title name".split(), [], [problem], 1
-            )
-
-    def test_characters_that_no_price_can_show(self) -> None:
         wanted = {
-            "1,20\n€": 'has a line end in the cell "1,20<U+000A>€", which nobody sees',
-            "1,\u200b20": (
-                'has zero width space (U+200B) in the cell "1,<U+200B>20", which nobody sees'
-            ),
-            "\u202e02,1": (
-                'has right-to-left override (U+202E) in the cell "<U+202E>02,1", which nobody sees'
-            ),
-            "#####": 'has "#####", which the spreadsheet writes if it has no value to show',
+            cell: (options, f"{name} in the cell {shown(cell)}, which nobody sees")
+            for cell, (options, name) in seen.items()
         }
-        for price, problem in wanted.items():
-            problem = f'row 2: column 2 ("price") {problem}'
-            self.check(
-                f'code;price\n{SMALL};"{price}"\n',
-                "--code code --price price".split(),
-                [],
-                [problem],
-                1,
-            )
+        no_value = "which the spreadsheet writes if it has no value to show"
+        wanted["#REF!"] = (*text, *price), f'"#REF!", {no_value}'
+        wanted["=B2"] = text, '"=B2", a formula: export its value'
+        for cell, (options, problem) in wanted.items():
+            for option in options:
+                table = f'code;name\n{SMALL};"{cell}"\n{PENCIL};7\n'
+                words = ["--code", "code", f"--{option}", "name"]
+                left_out = f'row 2: column 2 ("name") has {problem}'
+                self.check(table, words, [f"ean13 {PENCIL}"], [left_out], 1)
 
     def test_copies(self) -> None:
         right = {
@@ -743,15 +684,6 @@ class Numbers(TableTest):
     NONE = "if the column has no check digits, give --without-check-digit"
     CASE = "a GTIN-14 is drawn as ITF-14, which labels does not draw"
 
-    def test_auto_goes_by_length(self) -> None:
-        wanted = {
-            PENCIL: f"ean13 {PENCIL}",
-            BOOK: f"ean13 {BOOK}",
-            SMALL: f"ean8 {SMALL}",
-            SOAP: f"upca {SOAP}",
-        }
-        self.check_cells([], wanted)
-
     def test_each_symbology(self) -> None:
         for symbology, number in (("ean13", PENCIL), ("ean8", SMALL), ("upca", SOAP)):
             line = f"{symbology},height=030 {number}"
@@ -760,8 +692,12 @@ class Numbers(TableTest):
                 arguments, {number: line, f" {number} ": line, f"\u00a0{number}\u202f": line}
             )
 
-    def test_wrong_check_digit(self) -> None:
+    def test_auto_goes_by_length_and_check_digit(self) -> None:
         wanted = {
+            PENCIL: f"ean13 {PENCIL}",
+            BOOK: f"ean13 {BOOK}",
+            SMALL: f"ean8 {SMALL}",
+            SOAP: f"upca {SOAP}",
             "4006381333932": "refused: 4006381333932: the check digit is 2, should be 1",
             "9780306406158": "refused: 9780306406158: the check digit is 8, should be 7",
             "73513530": "refused: 73513530: the check digit is 0, should be 7",
@@ -944,15 +880,9 @@ class Numbers(TableTest):
             self.assertEqual((len(messages), messages[-1]), (51, rest))
 
     def test_read_where_the_check_digit_is_right(self) -> None:
+        pencils = f"""{PENCIL}.0|{PENCIL},00|'{PENCIL}|=""{PENCIL}""|4 006381 333931|0{PENCIL}"""
         read = {
-            **{
-                cell: f"ean13 {PENCIL}"
-                for cell in (f"{PENCIL}.0", f"{PENCIL},00", f"'{PENCIL}", f'=""{PENCIL}""')
-            },
-            **{
-                cell: f"ean13 {PENCIL}"
-                for cell in ("4 006381 333931", f"0{PENCIL}", f'=""0{PENCIL}""')
-            },
+            **{cell: f"ean13 {PENCIL}" for cell in pencils.split("|")},
             **{
                 cell: f"ean13 {BOOK}"
                 for cell in ("978-0-306-40615-7", "978 0 306 40615 7", "978-0306406157")
@@ -961,7 +891,6 @@ class Numbers(TableTest):
             "0 36000 29145 2": f"upca {SOAP}",
             "00036000291452": f"ean13 0{SOAP}",
         }
-        self.check_cells([], read)
         self.check_cells(["--symbology", "upca"], {"00036000291452": f"upca {SOAP}"})
         wrong = {
             f"{PENCIL[:-1]}2.0": "refused: 4006381333932: the check digit is 2, should be 1",
@@ -969,7 +898,7 @@ class Numbers(TableTest):
             "978-0-306-40615-8": "refused: 9780306406158: the check digit is 8, should be 7",
             "04006381333932": f"refused: 04006381333932 has 14 digits, {self.LENGTHS}: {self.CASE}",
         }
-        self.check_cells([], wrong)
+        self.check_cells([], {**read, **wrong})
 
     def test_zeros_in_front_of_an_ean_8(self) -> None:
         # GS1 General Specifications: a GTIN-8 in a field of 14 or 13 digits has zeros in front
@@ -1177,16 +1106,8 @@ class Arguments(TableTest):
         self.check(table, arguments, [f"ean8,height=20 {SMALL}"], [problem], 1)
 
     def test_bad_settings(self) -> None:
-        for setting in (
-            "",
-            "height",
-            "height 30",
-            "level=H 123",
-            "level=H,",
-            ",level=H",
-            "level=H\n",
-            "level",
-        ):
+        wrong = "|height|height 30|level=H 123|level=H,|,level=H|level=H\n|level"
+        for setting in wrong.split("|"):
             text = f"--settings {shown(setting)}: write it as height=30 or level=Q,mask=2"
             self.check_usage(["--code", "1", "--symbology", "qr", "--settings", setting], text)
 
@@ -1337,28 +1258,6 @@ class Manual(unittest.TestCase):
             ["mandoc", "-Tlint", "-W", "warning", str(self.PAGE)], capture_output=True
         )
         self.assertEqual((done.returncode, done.stdout + done.stderr), (0, b""))
-
-
-class LongTables(TableTest):
-    @support.slow
-    def test_many_rows_in_seconds(self) -> None:
-        table = "code;name\n" + f'{PENCIL};"a, b"\n' * 20000
-        before = support.processor_seconds()
-        done = support.run("label-table", "--code", "code", input=table.encode())
-        self.assertEqual((done.returncode, done.stdout.count(b"\n"), done.stderr), (0, 40002, b""))
-        self.assertLess(support.processor_seconds() - before, 20)
-
-    @support.slow
-    def test_many_rows_of_qr_in_seconds(self) -> None:
-        table = "code;name\n" + "".join(
-            f"https://example.com/01/0{PENCIL}/21/{n};x\n" for n in range(20000)
-        )
-        before = support.processor_seconds()
-        done = support.run(
-            "label-table", "--code", "code", "--symbology", "qr", input=table.encode()
-        )
-        self.assertEqual((done.returncode, done.stdout.count(b"\n"), done.stderr), (0, 40002, b""))
-        self.assertLess(support.processor_seconds() - before, 20)
 
 
 if __name__ == "__main__":

@@ -23,38 +23,15 @@ from labeltools.common.messages import Silence, ToolError
 from labeltools.tables.table import lines_of_table
 from labeltools.tables.options import ColumnOptions, TableOptions
 from test_table import BOOK, PENCIL, SMALL
-from test_table_workbooks import (
-    KINDS,
-    cell,
-    ods,
-    ods_cell,
-    packed,
-    relations,
-    rows,
-    table,
-    unpacked,
-    xlsx,
-)
+from test_table_workbooks import KINDS, cell, ods, ods_cell, packed, relations, rows, table
+from test_table_workbooks import unpacked, xlsx
 
 SEED = 60
 MUTANTS = 4000
 SECONDS = 10
 MEMORY = 500 << 20
-HOSTILE = (
-    "",
-    "0",
-    "-1",
-    "1",
-    "3",
-    "99999999999",
-    "1048577",
-    "abc",
-    "1e999",
-    "NaN",
-    "A1:XFD1048576",
-    "x" * 5000,
-    "&#65;",
-)
+HOSTILE = "0 -1 1 3 99999999999 1048577 abc 1e999 NaN A1:XFD1048576 &#65;".split()
+HOSTILE += ["", "x" * 5000]
 OPTIONS = TableOptions(
     columns=ColumnOptions(code="EAN", title=("Name",), price="Preis", copies="Stück")
 )

@@ -17,9 +17,7 @@ import re
 import subprocess
 import tempfile
 import unittest
-import zipfile
 from collections import Counter
-from datetime import date, timedelta
 from pathlib import Path
 from typing import Any, Callable, Dict, Iterator, List, NamedTuple, Optional, Set, Tuple
 from xml.etree import ElementTree
@@ -30,9 +28,18 @@ from labeltools.common.messages import RowError, Silence
 from labeltools.sheets.number_format import Formatter, Signs
 from labeltools.sheets.rows import Row
 from labeltools.tables.table import rows_of_workbook
-from test_table_workbooks import ODS_SPACES, XML, packed
+from test_table_workbooks import ods, ods_cell, table
 
 SEED = 60
+MANIFEST_SPACE = "urn:oasis:names:tc:opendocument:xmlns:manifest:1.0"
+MANIFEST = "".join(
+    f'<manifest:file-entry manifest:full-path="{path}" manifest:media-type="{media}"/>'
+    for path, media in (
+        ("/", "application/vnd.oasis.opendocument.spreadsheet"),
+        ("content.xml", "text/xml"),
+    )
+)
+MANIFEST = f'<manifest:manifest xmlns:manifest="{MANIFEST_SPACE}">{MANIFEST}</manifest:manifest>'
 
 
 def between_bars(text: str) -> Tuple[str, ...]:
@@ -66,20 +73,7 @@ dd-mm-yyyy | dd.mm.yyyy hh:mm | yyyy-mm-dd h:mm:ss | h:mm | h:mm:ss | hh:mm AM/P
     *NOT_UNDERSTOOD,
     *("0.00_ ", "0.?", "#,##0.00;;", "@", '"SKU-"@', '0;-0;0;"<"@">"'),
 )
-TEXTS = (
-    "Bleistift",
-    "Käse „x“",
-    "a\nb",
-    " a ",
-    "007",
-    "=A1",
-    "#N/A",
-    "1E5",
-    "x" * 300,
-    "日本語",
-    "A&B <c>",
-    "",
-)
+TEXTS = (*"Bleistift|Käse „x“|a\nb| a |007|=A1|#N/A|1E5|日本語|A&B <c>|".split("|"), "x" * 300)
 SPACES = dict.fromkeys(map(ord, "\u00a0\u202f\u2009"), " ")
 
 
@@ -274,22 +268,8 @@ DIFFERENCES: Dict[str, Difference] = {
 
 def values(numbers: random.Random) -> Iterator[float]:
     """Numbers of shops: prices, counts, codes, calculated ones, and days."""
-    yield from (
-        0,
-        1,
-        7,
-        12,
-        0.5,
-        0.8,
-        -3.5,
-        1234.5,
-        12999,
-        45678,
-        4006381333931,
-        0.1 + 0.2,
-        1e-9,
-        -0.001,
-    )
+    yield from map(float, "0 1 7 12 0.5 0.8 -3.5 1234.5 12999 45678 4006381333931".split())
+    yield from (0.1 + 0.2, 1e-9, -0.001)
     while True:
         yield numbers.choice(
             (
@@ -381,160 +361,48 @@ def by_xlsxwriter(numbers: random.Random, columns: int) -> Made:
     return Made(stream.getvalue(), formats)
 
 
-# formats as .ods has them, and what a value shows by them
-ODS_STYLES: Dict[str, Tuple[str, Callable[[float], str]]] = {
-    "0": (
-        (
-            '<number:number-style style:name="N0"><number:number number:min-integer-digits="1" '
-            'number:decimal-places="0" number:min-decimal-places="0"/></number:number-style>'
-        ),
-        lambda value: f"{value:.0f}",
-    ),
-    "0.00": (
-        (
-            '<number:number-style style:name="N1"><number:number number:min-integer-digits="1" '
-            'number:decimal-places="2" number:min-decimal-places="2"/></number:number-style>'
-        ),
-        lambda value: f"{value:.2f}",
-    ),
-    "#,##0.00": (
-        (
-            '<number:number-style style:name="N2"><number:number number:min-integer-digits="1"'
-            ' number:grouping="true" number:decimal-places="2"'
-            ' number:min-decimal-places="2"/></number:number-style>'
-        ),
-        lambda value: f"{value:,.2f}",
-    ),
-    "0.0%": (
-        (
-            '<number:percentage-style style:name="N3"><number:number number:min-integer-digits="1" '
-            'number:decimal-places="1" number:min-decimal-places="1"/><number:text>%</number:text>'
-            "</number:percentage-style>"
-        ),
-        lambda value: f"{value * 100:.1f}%",
-    ),
-    "yyyy-mm-dd": (
-        (
-            '<number:date-style style:name="N4"><number:year'
-            ' number:style="long"/><number:text>-</number:text><number:month'
-            ' number:style="long"/><number:text>-</number:text><number:day'
-            ' number:style="long"/></number:date-style>'
-        ),
-        lambda value: str(date(1899, 12, 30) + timedelta(int(value))),
-    ),
-}
-NUMBER_SPACE = 'xmlns:number="urn:oasis:names:tc:opendocument:xmlns:datastyle:1.0"'
-
-
 def by_hand(numbers: random.Random, columns: int) -> Made:
-    """A file as LibreOffice writes it: rows and cells that are repeated, groups, header rows,
-    hidden and covered cells.
+    """A file as LibreOffice writes it: rows and cells that are repeated, groups, header rows, hidden
+    rows.
     """
-    formats: Dict[Tuple[int, int], str] = {}
-    lines, row = [], 0
-    for number in range(90):
-        repeat = numbers.choice((1, 1, 1, 2, 3))
-        cells = [ods_value(numbers, repeat == 1) for _ in range(columns)]
-        for each in range(repeat):
-            for place, (_, number_format) in enumerate(cells):
-                formats[row + each + 1, place] = number_format
-        row += repeat
-        hidden = numbers.choice(
-            ("", "", "", ' table:visibility="filter"', ' table:visibility="collapse"')
-        )
-        line = (
-            "<table:table-row"
-            f" table:number-rows-repeated=\"{repeat}\"{hidden}>{''.join(text for text, _ in cells)}"
-        )
-        lines.append(wrapped(numbers, number, f"{line}</table:table-row>"))
+    lines = [within("table-header-rows", ods_row(numbers, columns))]
+    for _ in range(90):
+        line = ods_row(numbers, columns)
         if numbers.random() < 0.2:
-            gap = numbers.randrange(1, 4)
-            lines.append(
-                "<table:table-row"
-                f' table:number-rows-repeated="{gap}"><table:table-cell/></table:table-row>'
-            )
-            row += gap
-    return Made(packed(ods_parts("".join(lines)), zipfile.ZIP_STORED), formats)
+            line = within("table-row-group", within("table-row-group", line))
+        gap = f'<table:table-row table:number-rows-repeated="{numbers.randrange(1, 4)}"/>'
+        lines += [line, gap] if numbers.random() < 0.2 else [line]
+    return Made(ods(table(end="".join(lines)), extra={"META-INF/manifest.xml": MANIFEST}), {})
 
 
-def ods_parts(rows: str) -> Dict[str, str]:
-    """The files of a workbook that has one table of these rows."""
-    styles = "".join(style for style, _ in ODS_STYLES.values())
-    for number in range(len(ODS_STYLES)):
-        styles += (
-            f'<style:style style:name="ce{number}" style:family="table-cell"'
-            f' style:data-style-name="N{number}"/>'
-        )
-    content = f'{XML}<office:document-content {ODS_SPACES} {NUMBER_SPACE} office:version="1.3">'
-    content += f"<office:automatic-styles>{styles}</office:automatic-styles>"
-    content += "<office:body><office:spreadsheet>"
-    content += f'<table:table table:name="A">{rows}</table:table>'
-    content += "</office:spreadsheet></office:body></office:document-content>"
-    kind = "application/vnd.oasis.opendocument.spreadsheet"
-    space = "urn:oasis:names:tc:opendocument:xmlns:manifest:1.0"
-    manifest = f'<manifest:manifest xmlns:manifest="{space}" manifest:version="1.3">'
-    for path, media in (("/", kind), ("content.xml", "text/xml")):
-        manifest += (
-            f'<manifest:file-entry manifest:full-path="{path}" manifest:media-type="{media}"/>'
-        )
-    manifest += "</manifest:manifest>"
-    return {"mimetype": kind, "META-INF/manifest.xml": manifest, "content.xml": content}
+def within(name: str, text: str) -> str:
+    """An element of a table around others."""
+    return f"<table:{name}>{text}</table:{name}>"
 
 
-def wrapped(numbers: random.Random, number: int, line: str) -> str:
-    """A row, maybe in a group or in the rows that are repeated on each page."""
-    if number == 0:
-        return f"<table:table-header-rows>{line}</table:table-header-rows>"
-    if numbers.random() < 0.2:
-        begin, end = "<table:table-row-group>", "</table:table-row-group>"
-        return f"{begin}{begin}{line}{end}{end}"
-    return line
-
-
-def ods_value(numbers: random.Random, has_errors: bool) -> Tuple[str, str]:
-    """A cell of .ods and its format; Gnumeric does not repeat formulas, so errors are in rows that
-    are there once.
+def ods_row(numbers: random.Random, columns: int) -> str:
+    """A row of .ods, which may be repeated or hidden; Gnumeric does not repeat formulas, so errors
+    are in rows that are there once.
     """
+    repeat = numbers.choice((1, 1, 1, 2, 3))
+    hides = numbers.choice(("visible", "visible", "visible", "filter", "collapse"))
+    cells = "".join(ods_value(numbers, repeat == 1) for _ in range(columns))
+    more = f'table:number-rows-repeated="{repeat}" table:visibility="{hides}"'
+    return f"<table:table-row {more}>{cells}</table:table-row>"
+
+
+def ods_value(numbers: random.Random, has_errors: bool) -> str:
+    """A cell of .ods."""
     kind = numbers.randrange(10)
     if kind == 0:
-        return "<table:table-cell/>", "General"
+        return '<table:table-cell table:number-columns-repeated="2"/>'
     if kind == 1 and has_errors:
-        cell = (
-            '<table:table-cell table:formula="of:=1/0" office:value-type="string"'
-            ' office:string-value="" '
-        )
-        return (
-            f'{cell}calcext:value-type="error"><text:p>#DIV/0!</text:p></table:table-cell>',
-            "General",
-        )
-    if kind in (1, 2, 3):
-        text = numbers.choice(("Bleistift", "Käse", "A 7", "007"))
-        return (
-            (
-                "<table:table-cell"
-                f' office:value-type="string"><text:p>{text}</text:p></table:table-cell>'
-            ),
-            "General",
-        )
-    number_format = numbers.choice(list(ODS_STYLES))
-    number = list(ODS_STYLES).index(number_format)
-    shown = ODS_STYLES[number_format][1]
-    style = f'table:style-name="ce{number}"'
-    if number_format == "yyyy-mm-dd":
-        day = numbers.randrange(40000, 50000)
-        value = f'office:value-type="date" office:date-value="{shown(day)}"'
-        return (
-            f"<table:table-cell {style} {value}><text:p>{shown(day)}</text:p></table:table-cell>",
-            number_format,
-        )
+        error = 'table:formula="of:=1/0" office:string-value="" calcext:value-type="error"'
+        return ods_cell("#DIV/0!", more=error)
+    if kind < 4:
+        return ods_cell(numbers.choice(("Bleistift", "Käse", "A 7", "007")))
     amount = numbers.randrange(100000) / 8  # which binary numbers have exactly
-    amount = round(amount * 4) / 4 if number_format != "0" else float(int(amount))
-    kind_text = "percentage" if "%" in number_format else "float"
-    value = f'office:value-type="{kind_text}" office:value="{amount}"'
-    return (
-        f"<table:table-cell {style} {value}><text:p>{shown(amount)}</text:p></table:table-cell>",
-        number_format,
-    )
+    return ods_cell(f"{amount:g}", "float", f'office:value="{amount:g}"')
 
 
 class Oracle(unittest.TestCase):

@@ -215,6 +215,8 @@ class Xlsx(WorkbookTest):
             "0000",
             "000\\-000",
             "000000000000",
+            "0,",
+            '"SKU-"@',
         ]
         number = int(PENCIL)
         lines = {cell(number, style=style): f"ean13 {PENCIL}" for style in (0, 1, 2, 3, 6)}
@@ -235,6 +237,15 @@ class Xlsx(WorkbookTest):
             ): f'refused: has the number format "000\\-000", which is not understood: {again}',
             cell(45678, style=4): f"refused: is a date or a time, which is not a code: {again}",
             cell(45678, style=7): f"refused: is a date or a time, which is not a code: {again}",
+            **{
+                cell(
+                    12, style=style
+                ): f'refused: has the number format "{form}", and would be drawn'
+                f" as 12: {again}"
+                for style, form in ((1, "0.00E+00"), (3, "0.00"), (11, "0,"))
+            },
+            '<c t="str" s="12"><v>100</v></c>': 'refused: has the number format ""SKU-"@", which is '
+            f"not understood: {again}",
             cell(
                 1.5
             ): f"refused: is the number 1.5, which is not whole or has too many digits: {again}",
@@ -396,79 +407,69 @@ class Formats(WorkbookTest):
         labels = parts_of(done.stdout)[1]
         return str(labels[0][0].get("text", [""])[0]) if labels else support.messages(done)[0]
 
+    # a value, its format, or the number of one that a file does not write, and what is shown
+    SHOWN = r"""
+0.8|#,##0.00\ "€"|0,80 €
+12999|#,##0.00\ [$zł-415]|12.999,00 zł
+1234567.891|#,##0.00|1.234.567,89
+1234.5|4|1.234,50
+1234.5|2|1234,50
+0.8|ACCOUNTING|0,80 €
+-0.8|ACCOUNTING|-0,80 €
+0|ACCOUNTING|- €
+5|General|5
+1.25|General|1,25
+4006381333931|General|4006381333931
+0.1|@|0,1
+7|000|007
+7|0|7
+0.5|0|1
+2.5|0|3
+0.4|#|
+2.675|0.00|2,68
+1.005|0.00|1,01
+0.30000000000000004|General|0,3
+0.5|0%|50%
+0.1234|10|12,34%
+0.5|#.##|,5
+12.5|0.0#|12,5
+-3.5|0.00;[Red]-0.00|-3,50
+-3.5|0.00|-3,50
+-1|0;(0)|(1)
+0|0;0;"frei"|frei
+5|0" Stück"|5 Stück
+5|0 \S\t|5 St
+5|"a;b" 0|a;b 5
+9.9|€ 0.00|€ 9,90
+9.9|[$€-2] 0.00|€ 9,90
+1234.5|[$-407]#,##0.00|1.234,50
+1234.5|[$-409]#,##0.00|1,234.50
+1234.5|[$-40C]#,##0.00|1~234,50
+1234.5|[$£-809]#,##0.00|£1.234,50
+1234.5|[$-de-CH]#,##0.00|1’234.50
+9.9|[Blue]$0.00|$9,90
+45678|dd.mm.yyyy|21.01.2025
+45678|d/m/yy|21/1/25
+45678|yyyy-mm-dd|2025-01-21
+45678.9|dd.mm.yy|21.01.25
+61|d.m.yyyy|1.3.1900
+2958465|d.m.yyyy|31.12.9999
+""".strip().split(
+        "\n"
+    )
+    ACCOUNTING = '_-* #,##0.00\\ "€"_-;\\-* #,##0.00\\ "€"_-;_-* "-"??\\ "€"_-;_-@_-'
+
     def test_formats_that_are_shown(self) -> None:
-        accounting = '_-* #,##0.00\\ "€"_-;\\-* #,##0.00\\ "€"_-;_-* "-"??\\ "€"_-;_-@_-'
-        cases: List[Tuple[float, Union[str, int], str]] = [
-            *((0.8, '#,##0.00\\ "€"', "0,80 €"), (12999, "#,##0.00\\ [$zł-415]", "12.999,00 zł")),
-            *(
-                (1234567.891, "#,##0.00", "1.234.567,89"),
-                (1234.5, 4, "1.234,50"),
-                (1234.5, 2, "1234,50"),
-            ),
-            *((0.8, accounting, "0,80 €"), (-0.8, accounting, "-0,80 €"), (0, accounting, "- €")),
-            *(
-                (5, "General", "5"),
-                (1.25, "General", "1,25"),
-                (int(PENCIL), "General", PENCIL),
-                (0.1, "@", "0,1"),
-            ),
-            *((7, "000", "007"), (7, "0", "7"), (0.5, "0", "1"), (2.5, "0", "3"), (0.4, "#", "")),
-            *(
-                (2.675, "0.00", "2,68"),
-                (1.005, "0.00", "1,01"),
-                (0.30000000000000004, "General", "0,3"),
-            ),
-            *(
-                (0.5, "0%", "50%"),
-                (0.1234, 10, "12,34%"),
-                (0.5, "#.##", ",5"),
-                (12.5, "0.0#", "12,5"),
-            ),
-            *(
-                (-3.5, "0.00;[Red]-0.00", "-3,50"),
-                (-3.5, "0.00", "-3,50"),
-                (-1, "0;(0)", "(1)"),
-                (0, '0;0;"frei"', "frei"),
-            ),
-            *(
-                (5, '0" Stück"', "5 Stück"),
-                (5, "0 \\S\\t", "5 St"),
-                (5, '"a;b" 0', "a;b 5"),
-                (9.9, "€ 0.00", "€ 9,90"),
-            ),
-            *(
-                (9.9, "[$€-2] 0.00", "€ 9,90"),
-                (9.9, "[$-407]0.00", "9,90"),
-                (9.9, "[Blue]$0.00", "$9,90"),
-            ),
-            *(
-                (45678, "dd.mm.yyyy", "21.01.2025"),
-                (45678, "d/m/yy", "21/1/25"),
-                (45678, "yyyy-mm-dd", "2025-01-21"),
-            ),
-            *(
-                (45678.9, "dd.mm.yy", "21.01.25"),
-                (61, "d.m.yyyy", "1.3.1900"),
-                (2958465, "d.m.yyyy", "31.12.9999"),
-            ),
-        ]
-        for value, number_format, text in cases:
-            self.assertEqual(self.shown(value, number_format), text, (value, number_format))
+        for line in self.SHOWN:
+            value, form, text = line.replace("~", "\u202f").split("|")
+            number_format = self.ACCOUNTING if form == "ACCOUNTING" else form
+            by_number = int(form) if form in ("2", "4", "10") else None
+            self.assertEqual(self.shown(float(value), by_number or number_format), text, line)
         self.assertEqual(self.shown(44216, "dd.mm.yyyy", date1904=True), "21.01.2025")
         self.assertEqual(self.shown(12999.5, "#,##0.00", "--decimal", "."), "12,999.50")
 
     def test_formats_that_are_not_understood(self) -> None:
-        not_understood = [
-            "# ?/?",
-            "0.00E+00",
-            "[h]:mm",
-            "[>4]0;0",
-            "0.00 EUR",
-            "000-000",
-            '0.00" €',
-            "0 0",
-            "x",
-        ]
+        not_understood = '# ?/?|0.00E+00|[h]:mm|[>4]0;0|0.00 EUR|000-000|0.00" €|0 0|x'.split("|")
         for number_format in not_understood:
             problem = (
                 f'has the number format "{number_format}", which is not understood: enter it again'
@@ -477,15 +478,7 @@ class Formats(WorkbookTest):
             self.assertEqual(
                 self.shown(5, number_format), f'label-table: row 2: column 2 ("x") {problem}'
             )
-        for number_format in (
-            "d. mmm yyyy",
-            "dddd",
-            "[$-F800]dddd\\,\\ d",
-            "yyy",
-            "dd 0",
-            "d%0",
-            "d%",
-        ):
+        for number_format in "d. mmm yyyy|dddd|[$-F800]dddd\\,\\ d|yyy|dd 0|d%0|d%".split("|"):
             hint = "give --date-as dd.mm.yyyy, or another pattern"
             problem = f'has the number format "{number_format}", which is not understood: {hint}'
             self.assertEqual(
@@ -543,6 +536,9 @@ class Ods(WorkbookTest):
             ods_cell("1.234", "float", 'office:value="1234"'): (
                 'is shown as "1.234", and would be drawn as 1234: enter it again as text'
             ),
+            ods_cell("1,00E+05", "float", 'office:value="100000"'): (
+                'is shown as "1,00E+05", and would be drawn as 100000: enter it again as text'
+            ),
             ods_cell(
                 "LOT 7", "float", 'office:value="7"'
             ): 'is shown as "LOT 7", which is not a whole number: enter it again as text',
@@ -570,7 +566,7 @@ class Ods(WorkbookTest):
         ]
         data = ods(table(["EAN"], *([text] for text in cells)))
         self.check(data, "--code EAN --symbology code128".split(), lines, problems, 1)
-        data = ods(table(["EAN", "x"], [PENCIL, list(cells)[4]]))
+        data = ods(table(["EAN", "x"], [PENCIL, list(cells)[5]]))
         self.assertEqual(self.found(data, "--text", "x")[0][0]["text"], ["25.11.26"])
 
     def test_what_is_repeated(self) -> None:
@@ -778,23 +774,23 @@ class Hostile(WorkbookTest):
 class LongTables(WorkbookTest):
     @support.slow
     def test_many_rows_in_seconds(self) -> None:
-        lines = rows(
-            ["EAN", "Name", "Price"], *([PENCIL, "a", cell(0.5, style=1)] for _ in range(20000))
-        )
-        for data in (
-            xlsx(lines, formats=["0.00"]),
-            ods(table(["EAN", "Name", "Price"], *([PENCIL, "a", "1"] for _ in range(20000)))),
-        ):
+        lines = [[PENCIL, "a", cell(0.5, style=1)] for _ in range(20000)]
+        head = ["EAN", "Name", "Price"]
+        urls = "".join(f"https://example.com/01/0{PENCIL}/21/{n};x;1\n" for n in range(20000))
+        pencils = f'{PENCIL};"a, b";1\n' * 20000
+        tables: List[Tuple[bytes, str, int]] = [
+            (f"EAN;Name;Price\n{pencils}".encode(), "auto", 20),
+            (f"EAN;Name;Price\n{urls}".encode(), "qr", 20),
+            (xlsx(rows(head, *lines), formats=["0.00"]), "auto", 40),
+            (ods(table(head, *([PENCIL, "a", "1"] for _ in lines))), "auto", 40),
+        ]
+        for data, symbology, seconds in tables:
             before = support.processor_seconds()
-            done = support.run(
-                "label-table",
-                *"--code EAN --title Name --price Price --decimal ,".split(),
-                input=data,
-            )
-            self.assertEqual(
-                (done.returncode, done.stdout.count(b"\n"), done.stderr), (0, 40002, b"")
-            )
-            self.assertLess(support.processor_seconds() - before, 40)
+            words = f"--code EAN --title Name --price Price --decimal , --symbology {symbology}"
+            done = support.run("label-table", *words.split(), input=data)
+            self.assertEqual((done.returncode, done.stderr), (0, b""))
+            self.assertEqual(done.stdout.count(b"\n"), 40002)
+            self.assertLess(support.processor_seconds() - before, seconds)
 
 
 if __name__ == "__main__":

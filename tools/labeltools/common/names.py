@@ -3,7 +3,7 @@
 import re
 import unicodedata
 from collections import Counter
-from typing import Iterable, Mapping, Sequence
+from typing import Iterable, Sequence
 
 from labeltools.common.text import Text, counted
 
@@ -53,23 +53,6 @@ def row_of_names(rows: Iterable[tuple[int, Sequence[str]]], asked: Sequence[str]
         if wanted and all(names[one] == 1 for one in wanted):
             return number
     return 0
-
-
-def unlike(codes: Mapping[int, str]) -> list[int]:
-    """Returns the rows of the codes without a digit, where nearly all codes of the column have one.
-
-    It is the only one among three others or more, or one of five among ten others or more.
-
-    >>> unlike({2: "1001", 3: "1002", 4: "1003", 5: "Summe"})
-    [5]
-    >>> unlike({2: "A", 3: "1", 4: "2"}), unlike({2: "WIFI:T", 3: "HELLO"})
-    ([], [])
-    """
-    without = [row for row, code in codes.items() if not re.search("[0-9]", code)]
-    others = len(codes) - len(without)
-    is_only = len(without) == 1 and others >= 3
-    is_rare = others >= 10 and others >= 4 * len(without)
-    return without if is_only or is_rare else []
 
 
 def listed(rows: Sequence[int]) -> Text:

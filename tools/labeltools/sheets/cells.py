@@ -28,8 +28,7 @@ ERROR_WORDS = (
     "|eroare|viga|klaida|kļūda|hata|ошибка|помилка|грешка|σφάλμα|エラー|错误|錯誤|오류"
 )
 PROGRAM_ERROR = re.compile(rf"(?:{ERROR_WORDS})\.? ?: ?5[0-9]{{2}}", re.IGNORECASE)
-SPECIAL_STARTS = "=#E"  # of formulas, and of the names of errors
-ODD_STARTS = f"{SPECIAL_STARTS} \t\n\r\v\f"  # of cells that are looked at closely
+ODD_STARTS = "=#E \t\n\r\v\f"  # of cells that are looked at: formulas, and the names of errors
 # what a program writes where it has no text, maybe in brackets; `True` may be a title
 NO_TEXTS = frozenset(r"nan nat null none undefined na n/a #n/a \n".split())
 NAMES = ("Na", "na")  # which may be words; `NA` is of R and pandas
@@ -126,11 +125,6 @@ class Fault(Special):
     what: Text
     hint: Text = NOTHING
     value: str = ""
-
-    @property
-    def kind(self) -> Kind:
-        """Raises `RowError`."""
-        raise RowError(self.what, self.hint)
 
     def shown(self) -> str:
         """Raises `RowError`."""
@@ -314,11 +308,13 @@ def plain_text(cell: str) -> str:
     """Returns a cell that is a text; raises `RowError` for what a spreadsheet writes in place of a
     value.
     """
-    start = cell.lstrip()[:1]
-    if start in SPECIAL_STARTS and start:
-        refuse_special(cell)
-        if formula := FORMULA_OF_TEXT.fullmatch(cell.strip()):
-            return formula[1].replace('""', '"')
+    bare = cell.strip()
+    if formula := FORMULA_OF_TEXT.fullmatch(bare):
+        return formula[1].replace('""', '"')
+    if bare.startswith("="):
+        raise RowError(Text("has {}, a formula", quoted(cell)), Text("export its value"))
+    if ERROR.fullmatch(bare):
+        raise no_value(cell)
     if "\ufffd" in cell:
         what = Text("has {}, with the sign of a lost letter (U+FFFD)", quoted(cell))
         raise RowError(what, Text("export the table again"))
@@ -327,15 +323,6 @@ def plain_text(cell: str) -> str:
             Text("has {}, and at most {} characters of a cell are read", quoted(cell), LONGEST_CELL)
         )
     return cell
-
-
-def refuse_special(cell: str) -> None:
-    """Raises `RowError` for a formula that is no text, and for the name of an error."""
-    bare = cell.strip()
-    if bare.startswith("=") and not FORMULA_OF_TEXT.fullmatch(bare):
-        raise RowError(Text("has {}, a formula", quoted(cell)), Text("export its value"))
-    if ERROR.fullmatch(bare):
-        raise no_value(cell)
 
 
 def refuse_unseen(bare: str, text: str, unseen: re.Pattern[str]) -> None:

@@ -2,6 +2,7 @@
 
 import csv
 import re
+from collections import Counter
 from collections.abc import Container, Iterator, Sequence
 from dataclasses import dataclass
 from itertools import count, islice
@@ -47,8 +48,8 @@ class Record(NamedTuple):
 
 
 class Fitness(NamedTuple):
-    """How well a delimiter fits: it cuts the row of names, the names are there then, so many rows
-    are as wide.
+    """How well a delimiter fits: it cuts the row of names, or any row if no name was asked for;
+    the names are there then; so many rows are as wide.
     """
 
     is_cut: bool
@@ -118,7 +119,9 @@ class CsvTable:
         """Yields the rows from the row of names on; one whose cells may have moved has a
         problem.
         """
-        head = first_row(self.records(), self.options.file.header_row)
+        wanted = self.options.file.header_row
+        rows = (row for row in self.records() if row.number == wanted or not row.is_blank())
+        head = next((row for row in rows if row.number >= (wanted or 0)), None)
         if head is None or head.problem:
             yield from () if head is None else (Row(*head),)
             return
@@ -166,15 +169,6 @@ def csv_table(data: bytes, name: str, options: CsvOptions) -> CsvTable:
         begin = separator.end()
         given = given or separator[1]
     return CsvTable(text, begin, delimiter_of(text, begin, given, options), options)
-
-
-def first_row(rows: Iterator[Record], number: int | None) -> Record | None:
-    """Returns the row of this number, or the first one that is not blank."""
-    for row in rows:
-        is_wanted = row.number == number if number else not row.is_blank()
-        if is_wanted:
-            return row
-    return None
 
 
 def delimiter_of(text: str, begin: int, given: str | None, options: CsvOptions) -> str:
@@ -245,11 +239,10 @@ def fitness(text: str, begin: int, mark: str, options: CsvOptions) -> Fitness:
     if not filled_rows:
         return Fitness(False, False, 0)
     names = list(map(name_of, filled_rows[0]))
-    asked = options.asked
-    are_there = all(name_of(column) in names or column.isdecimal() for column in asked)
-    return Fitness(
-        len(names) > 1, are_there, sum(len(cells) == len(names) for cells in filled_rows)
-    )
+    asked = [name_of(column) for column in options.asked if not column.isdecimal()]
+    widths = Counter(len(cells) for cells in filled_rows if len(cells) > 1)
+    width = len(names) if asked or not widths else widths.most_common(1)[0][0]
+    return Fitness(width > 1, all(column in names for column in asked), widths[width])
 
 
 def parsed(text: str, begin: int, delimiter: str) -> Iterator[Record]:
@@ -274,7 +267,7 @@ def parsed(text: str, begin: int, delimiter: str) -> Iterator[Record]:
         except csv.Error as error:
             taken = [line[0] for line in islice(again, first - passed, reader.line_num - passed)]
             passed = reader.line_num
-            row, is_last = faulty(number, taken, delimiter, str(error))
+            row, is_last = faulty(number, taken, str(error))
             yield row
             if is_last:
                 return
@@ -301,20 +294,10 @@ def is_of_rows(cells: Sequence[str], delimiter: str) -> bool:
     return False
 
 
-def faulty(number: int, lines: Sequence[str], delimiter: str, error: str) -> tuple[Record, bool]:
-    """Returns the row of lines that are not right CSV, and whether what is below it cannot be read.
-
-    White space between a closing quote and a delimiter is taken away.
+def faulty(number: int, lines: Sequence[str], error: str) -> tuple[Record, bool]:
+    """Returns the row of lines that are not right CSV, and whether what is below it cannot be
+    read.
     """
-    record = "".join(lines)
-    closing = re.sub(rf'"[ \t]+(?={re.escape(delimiter)}|[\r\n]|\Z)', '"', record)
-    if closing != record and "expected after" in error:
-        try:
-            rows = list(csv.reader(LINE.findall(closing), delimiter=delimiter, strict=True))
-        except csv.Error:
-            rows = []
-        if len(rows) == 1:
-            return Record(number, rows[0]), False
     is_one_line = len(lines) == 1
     is_last = not is_one_line or lines[-1].count('"') % 2 == 1
 

@@ -16,14 +16,8 @@ from labeltools.sheets.number_format import DAY_ZERO, Formatter, date_section, d
 from labeltools.sheets.cells import Cell, Fault, Form, Kind, Mark, RAISED, Special, Truth
 from labeltools.sheets.cells import CONDITION, CONDITION_HINT, NO_LETTERS, no_value, text_of_runs
 from labeltools.sheets.rows import Merge, Row
-from labeltools.sheets.workbook import (
-    LARGEST_ROW,
-    MOST_COLUMNS,
-    NOT_SAVED,
-    NOT_SAVED_HINT,
-    SAVE_AGAIN,
-)
-from labeltools.sheets.workbook import Attributes, Reader, Sheet, TOO_LARGE, TYPED
+from labeltools.sheets.workbook import Attributes, LARGEST_ROW, MOST_COLUMNS, NOT_SAVED
+from labeltools.sheets.workbook import NOT_SAVED_HINT, Reader, SAVE_AGAIN, Sheet, TOO_LARGE, TYPED
 from labeltools.sheets.workbook import chosen, elements, exact_of, filled, local
 from labeltools.sheets.workbook import merges_at, repeats, rows_from, whole
 

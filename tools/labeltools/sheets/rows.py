@@ -49,10 +49,6 @@ class Row(NamedTuple):
                 return Fault(Text("is merged with row {}", row), Text("unmerge the cells"))
         return self.cells[place] if place < len(self.cells) else ""
 
-    def link(self, place: int) -> str:
-        """Returns the address that a cell leads to, if it has one."""
-        return self.links.get(place, "") if self.links else ""
-
     def seen(self, place: int) -> str:
         """Returns a cell as messages and names have it; nothing where it has no text."""
         return seen(self.cell(place))

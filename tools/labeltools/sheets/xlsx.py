@@ -15,14 +15,8 @@ from labeltools.sheets.number_format import BUILT_IN, BUILT_IN_DATES, Formatter,
 from labeltools.sheets.cells import Cell, Fault, Form, Kind, Mark, PLAIN, Special, Truth, no_value
 from labeltools.sheets.cells import CONDITION, CONDITION_HINT, NO_LETTERS, formed, text_of_runs
 from labeltools.sheets.rows import Merge, Row
-from labeltools.sheets.workbook import (
-    LARGEST_TEXTS,
-    NOT_SAVED,
-    NOT_SAVED_HINT,
-    SAVE_AGAIN,
-    TOO_LARGE,
-)
-from labeltools.sheets.workbook import Attributes, F, Reader, Sheet, TRUE
+from labeltools.sheets.workbook import Attributes, F, LARGEST_TEXTS, NOT_SAVED, NOT_SAVED_HINT
+from labeltools.sheets.workbook import Reader, SAVE_AGAIN, Sheet, TOO_LARGE, TRUE
 from labeltools.sheets.workbook import chosen, corners_of, elements, exact_of, filled, merges_at
 from labeltools.sheets.workbook import place_of, rows_from, whole
 

@@ -33,8 +33,6 @@ ISBN_10 = re.compile("(?:[0-9][- ]?){8,9}[0-9Xx]")
 # 4,00635E+12 shows at most six digits; as 4006350000000 it has six zeros before the check digit
 LOOKS_ROUNDED = re.compile("[0-9]*0{6}[0-9]|(?=.{11})0*[0-9]{1,6}0+")
 IS_ROUNDED = re.compile("[0-9]+(?:[.,][0-9]+)?[Ee][+]?[0-9]+")
-# the digits of an add-on, which is printed beside the bars of a magazine or a book
-ADD_ONS = {15: (13, 2), 17: (12, 5), 18: (13, 5)}
 KEYS = sorted({key for one in SYMBOLOGIES.values() for key in one.settings})
 SETTING = re.compile(rf"(?s)(?:{'|'.join(KEYS)})=\S*(?: .*)?")
 # what would be drawn though nobody means it
@@ -122,6 +120,16 @@ def code_of(cell: str, rules: CodeRules) -> Code:
         hint = Text("enter it again as text, or give --allow-zeros")
         raise RowError(Text("{} looks rounded by the spreadsheet", filled), hint)
     return Code(symbology, filled, filled + check_digit(filled) if missing else filled)
+
+
+def has_length(text: str) -> bool:
+    """Returns whether a text has as many digits as an EAN or UPC: if its check digit is wrong, only
+    the keeper knows what it is.
+
+    >>> has_length("4006381333932"), has_length("101")
+    (True, False)
+    """
+    return text.isdecimal() and len(text) in NUMBERS
 
 
 def check_data(cell: str) -> None:
@@ -228,14 +236,9 @@ def wrong_length(digits: str, asked: Sequence[str], rules: CodeRules) -> RowErro
     missing = rules.without_check_digit
     lengths = joined(", ", (Text("{} has {}", one, LENGTHS[one] - missing) for one in asked))
     what = counted("{1} has {0} digit, {2}", "{1} has {0} digits, {2}", count, digits[:20], lengths)
-    length, rest = ADD_ONS.get(count, (0, 0))
     is_auto = rules.symbology == AUTO
     may_miss = count + 1 in NUMBERS and not missing
     hints = (
-        (
-            length > 0 and is_right(digits[:length]),
-            Text("if its last {} digits are an add-on, write only the first {}", rest, length),
-        ),
         (count == 14, Text("a GTIN-14 is drawn as ITF-14, which labels does not draw")),
         (count == EAN13.digits and not missing, Text("give --symbology auto")),
         (not NOT_SHORT <= count <= EAN13.digits, OTHER_CODES),

@@ -1,13 +1,13 @@
 """What becomes of a row of a table: its code, its texts, and its prices as they are read."""
 
 import re
-from dataclasses import dataclass
+from dataclasses import dataclass, replace
 from decimal import Decimal
 from typing import Iterator, NamedTuple, Sequence
 
 from labeltools.common.text import Text, counted
 from labeltools.sheets.cells import Cell
-from labeltools.tables.codes import Code, CodeRules, code_of
+from labeltools.tables.codes import Code, CodeRules, code_of, is_in_brackets
 from labeltools.tables.columns import Column, symbology_in
 from labeltools.tables.twice import twice_encoded
 from labeltools.common.messages import RowError, quoted
@@ -154,9 +154,14 @@ class RowReader:
         rules = self.rules(row)
         column = self.columns.code
         text = column.code(row, rules.is_free)
-        if rules.is_free and (link := row.link(column.place)):
+        if rules.is_free and (link := (row.links or {}).get(column.place)):
             text = self.linked(row, text, link)
         code = code_of(text, rules)
+        if rules.is_free and is_in_brackets(code.data):
+            said = Text(
+                "the code of row {} is GS1's in brackets, which is drawn as plain text", row.number
+            )
+            self.once.see("brackets", said, Text("no scanner of GS1 takes it"))
         if self.options.settings and (wrong := self.options.wrong_setting(code.symbology)):
             raise RowError(Text("{} has no setting {}", SYMBOLOGIES[code.symbology].title, wrong))
         return code
@@ -179,11 +184,11 @@ class RowReader:
             return rules
         symbology = symbology_in(self.columns.symbology, row, rules.symbology)
         is_number = not CodeRules(symbology).is_free
-        return CodeRules(
+        return replace(
+            rules,
             symbology=symbology,
             fill_zeros=rules.fill_zeros and is_number,
             without_check_digit=rules.without_check_digit and is_number,
-            allow_zeros=rules.allow_zeros,
         )
 
     def texts(self, columns: Sequence[Column], row: Row, code: Code) -> dict[str, str]:

@@ -15,7 +15,7 @@ from functools import cached_property
 from itertools import islice, zip_longest
 from pathlib import Path
 from labeltools.common.lists import lists_of
-from labeltools.tables.codes import AUTO, CodeRules, code_of
+from labeltools.tables.codes import AUTO, CodeRules, code_of, has_length
 from labeltools.tables.columns import names_of, texts_of
 from labeltools.common.messages import RowError, Talk
 from labeltools.tables.money import parse
@@ -256,7 +256,7 @@ def has_letters(text: str) -> bool:
 
 def symbology_of(column: Column) -> str:
     """Returns the symbology of a column of codes."""
-    if column.has(is_code) or WORDS["codes"] & column.words:
+    if column.has(is_code) or column.has(has_length) or WORDS["codes"] & column.words:
         return AUTO  # those without their zeros or their check digits, too
     return QR.name if column.has(NO_BARS.fullmatch) else CODE128.name
 

@@ -6,13 +6,13 @@ from dataclasses import dataclass, field
 from typing import Mapping, NamedTuple
 
 from labeltools.common.text import Text, counted
-from labeltools.tables.drafts import Draft, Price
+from labeltools.tables.drafts import Draft, HAS_DIGIT, Price
 from labeltools.lines.file import Label, LinesFile, first_remark, label_lines, last_remark
 from labeltools.common.messages import Place, RowError, Talk, ToolError, quoted
 from labeltools.tables.money import NotMoney
 from labeltools.tables.once import Once
 from labeltools.tables.prices import PriceColumn, settled, with_currency
-from labeltools.tables.summary import Totals
+from labeltools.tables.summary import Totals, rows_text
 from labeltools.tables.options import TableOptions
 
 LARGEST_OUTPUT = 1 << 27  # bytes
@@ -54,7 +54,7 @@ class LineWriter:
     unchanged: int = 0
     left_out: list[int] = field(default_factory=list)
     filled: set[str] = field(default_factory=set)  # columns of texts
-    codes: dict[int, str] = field(default_factory=dict)
+    words: dict[int, str] = field(default_factory=dict)  # codes without a digit, by their rows
     empty: dict[str, list[int]] = field(default_factory=lambda: {"title": [], "price": []})
     seen: dict[str, tuple[int, int]] = field(default_factory=dict)
 
@@ -68,6 +68,8 @@ class LineWriter:
         for price, column in zip(draft.prices, self.columns):
             if price and price.money:
                 column.add(draft.row, price.money, price.currency or "")
+                if not price.money.value:
+                    self.see_zero(draft.row, price)
         if self.options.prices.pattern:
             self.waiting.append(draft)
         else:
@@ -125,6 +127,13 @@ class LineWriter:
             )
             raise price.column.error(RowError(what, problem.hint)) from None
 
+    def see_zero(self, row: int, price: Price) -> None:
+        """Sees a price that is zero."""
+        self.once.see(
+            ("zero", price.column),
+            lambda rows: Text("row {} has the price {} ({})", row, price.text, rows_text(rows)),
+        )
+
     def see_rounded(self, row: int, price: str, written: str) -> None:
         """Sees a price that is rounded."""
         self.once.see(
@@ -171,8 +180,8 @@ class LineWriter:
         self.totals.add(draft.code.symbology, draft.copies)
         if draft.price and draft.price.money:
             self.totals.add_price(draft.price.money.value, content.price)
-        if self.options.codes.is_free:
-            self.codes[draft.row] = draft.code.data
+        if not HAS_DIGIT.search(draft.code.data):
+            self.words[draft.row] = draft.code.data
         if not content.title:
             self.empty["title"].append(draft.row)
         if not content.price:

@@ -63,17 +63,8 @@ BY_NAME = {
 }
 FOLDED = {name.casefold(): BY_NAME[name] for name in WORDS["any-case"]}
 # signs and codes that may be of one currency, as in `$10.00 CAD`, `kr 5 NOK`, `Rs. 5 PKR`
-FAMILIES = {
-    "$": "USD CAD AUD NZD HKD SGD MXN TWD ARS CLP COP UYU",
-    "crown": "NOK SEK DKK ISK CZK",
-    "INR": "PKR LKR NPR",
-    "¥": "JPY CNY",
-    "£": "GBP EGP",
-    "GBP": "EGP",
-    "RON": "MDL",
-    "R": "ZAR",
-}
-PAIRS = {(sign, code) for sign, codes in FAMILIES.items() for code in codes.split()}
+FAMILIES = lists_of(Path(__file__).with_name("families.list"))
+PAIRS = {(sign, code) for sign, codes in FAMILIES.items() for code in codes}
 # words that a price tag has in front of its number or behind it; every other word is free text
 FRONT = frozenset(map(str.casefold, WORDS["front"]))
 BEHIND = frozenset(map(str.casefold, WORDS["behind"]))
@@ -184,13 +175,13 @@ def currency_of(text: str, own: str = "") -> str | None:
     return FOLDED.get(text.casefold())
 
 
-def is_pair(one: str, other: str) -> bool:
-    """Returns whether a sign and a code may be of the same currency.
+def is_same(one: str, other: str) -> bool:
+    """Returns whether two currencies, each a sign or a code, may be one.
 
-    >>> is_pair("$", "CAD"), is_pair("EUR", "CHF")
+    >>> is_same("$", "CAD"), is_same("EUR", "CHF")
     (True, False)
     """
-    return (one, other) in PAIRS or (other, one) in PAIRS
+    return one == other or (one, other) in PAIRS or (other, one) in PAIRS
 
 
 @lru_cache(maxsize=4096)
@@ -410,7 +401,7 @@ def take_apart(
     """Takes the currency and the words from what is on one side of a number."""
     found = currency_of(side, own)
     if found is not None:
-        is_other = any(found != one and not is_pair(found, one) for one in currencies)
+        is_other = any(not is_same(found, one) for one in currencies)
         if is_other and found != "cent" and found not in currencies:
             raise NotMoney(Text("has two currencies"))
         currencies.add(found)

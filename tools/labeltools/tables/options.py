@@ -10,7 +10,6 @@ from labeltools.lines.file import LinesFile
 from labeltools.lines.symbologies import SYMBOLOGIES
 from labeltools.tables.prices import PricePattern
 
-
 C = TypeVar("C")
 D = TypeVar("D")
 

@@ -4,18 +4,12 @@ import re
 from collections import Counter
 from dataclasses import dataclass, field, replace
 from decimal import ROUND_HALF_UP, Decimal
-from typing import Iterator, Mapping, NamedTuple
+from typing import Iterator
 
 from labeltools.common.text import NOTHING, Text
 from labeltools.tables.money import LOOKS, Money, NotMoney, PER_UNIT, SPACES, WITH_THREE_DECIMALS
-from labeltools.tables.money import currency_of, is_pair, plain
-from labeltools.tables.summary import rows_text
+from labeltools.tables.money import WORDS, currency_of, is_same, plain
 
-OF_CENTS = re.compile(
-    r"\b(?:cents?|ct|cts|pence|centimes?|centimos?|céntimos?|centavos?|centesimi|grosze|öre|øre"
-    r"|haléřů?|minor)\b",
-    re.IGNORECASE,
-)
 OF_MANY = re.compile(
     r"\b(?:tausend|tsd|thousands?|teur|t€|keur|k€)(?!\w)"
     r"|(?:/|\b(?:per|pro|je|par|por|for|für|pour|in)) *\(?(?:100|1[., ]?000)\b"
@@ -29,7 +23,6 @@ THOUSANDS_OR_DECIMALS = Text("may have thousands or decimals")
 DECIMAL_HINT = Text("give --decimal comma or point")
 SIGN_OF = {"crown": "kr", "EUR": "€", "GBP": "£"}
 ONE_SIGN = {"JPY": "¥", "CNY": "¥"}
-SAME = {("¥", "JPY"), ("¥", "CNY"), ("$", "USD")}
 PATTERN = re.compile(
     r"""(?P<front>[^0-9#]*?)
         (?:\#(?P<hash>[.,' ])\#\#)?0
@@ -40,34 +33,19 @@ PATTERN = re.compile(
 )
 
 
-class Said(NamedTuple):
-    """What is reported once of a column, and what to do about it."""
-
-    text: Text
-    hint: Text = NOTHING
-
-
-class Seen(NamedTuple):
-    """Where something was seen: the first row and its text, and in how many rows."""
-
-    row: int
-    text: str
-    rows: int = 1
-
-
 @dataclass
 class PriceColumn:
     """What the cells of a price column say together.
 
-    `decimal` is the decimal sign where it is known before. `forms`, `open` and `zeros` are what was
-    seen: decimal signs with the decimals after them, prices that may have thousands or decimals, by
-    their sign, and zeros.
+    `decimal` is the decimal sign if it is known before, `points` are those that were seen. `open`
+    are the prices that may have thousands or decimals, by their sign: the first row and its text,
+    and how many they are.
     """
 
     decimal: str | None = None
-    forms: dict[str, Seen] = field(default_factory=dict)
-    open: dict[str, Seen] = field(default_factory=dict)
-    zeros: dict[str, Seen] = field(default_factory=dict)
+    points: set[str] = field(default_factory=set)
+    open: dict[str, tuple[int, str]] = field(default_factory=dict)
+    count: Counter[str] = field(default_factory=Counter)
     groups: set[str] = field(default_factory=set)
     lengths: Counter[int] = field(default_factory=Counter)
     currencies: set[str] = field(default_factory=set)
@@ -77,15 +55,14 @@ class PriceColumn:
     def add(self, row: int, price: Money, currency: str = "") -> None:
         """Takes the price of a row; the currency may be in a column of its own."""
         if price.is_open:
-            see(self.open, price.group, row, price.text)
+            self.open.setdefault(price.group, (row, price.text))
+            self.count[price.group] += 1
         else:
             self.lengths[price.decimals] += 1
             if price.point in (".", ",") and not price.unit:
-                see(self.forms, price.point + "0" * price.decimals, row, price.text)
+                self.points.add(price.point)
             if price.group:
                 self.groups.add(price.group)
-        if not price.value:
-            see(self.zeros, "", row, price.text)
         own = currency_of(plain(currency), plain(currency)) if currency else price.currency
         if own and own != "cent":
             self.currencies.add(ONE_SIGN.get(own, own))
@@ -97,58 +74,32 @@ class PriceColumn:
         """The decimal sign that its sure cells have; empty where there is none or two."""
         if self.decimal:
             return self.decimal
-        points = {form[0] for form in self.forms}
-        if not points and len(self.groups) == 1 and self.groups <= {".", ","}:
+        if not self.points and len(self.groups) == 1 and self.groups <= {".", ","}:
             return "," if "." in self.groups else "."
-        return points.pop() if len(points) == 1 else ""
-
-    @property
-    def decimals(self) -> int:
-        """How many decimals most cells have."""
-        return self.lengths.most_common(1)[0][0] if self.lengths else 0
+        return "".join(self.points) if len(self.points) == 1 else ""
 
     @property
     def has_three_decimals(self) -> bool:
         """Whether its decimal sign may have three decimals after it: most cells have three, or none
         has a sign of thousands, though it is a thousand or more.
         """
-        return self.decimals == 3 or self.has_thousands
+        most = max(self.lengths, key=self.lengths.__getitem__, default=0)
+        return most == 3 or self.has_thousands
 
     @property
     def are_bare(self) -> bool:
         """Whether its cells have whole numbers alone, without a currency or a sign of cents."""
         return set(self.lengths) == {0} and not self.currencies and not self.has_cents
 
-    def says(self) -> Iterator[Said]:
-        """Yields what is said once of prices that are printed as they are."""
-        if len(self.forms) > 1:
-            first, second = list(self.forms.values())[:2]
-            said = Text(
-                "row {} has {} and row {} has {}: prices of two forms",
-                first.row,
-                first.text,
-                second.row,
-                second.text,
-            )
-            pattern = f"0{self.point or '.'}00"
-            yield Said(said, Text("give --price-as '{}', or another pattern", pattern))
-        for sign, (row, text, rows) in self.open.items():
-            if self.point and (self.point != sign or self.has_three_decimals):
-                continue
+    def unsure(self) -> Iterator[Text]:
+        """Yields the prices, by their sign, that may have thousands or decimals."""
+        for sign, (row, text) in self.open.items():
+            more = self.count[sign] - 1
             where = Text("{} in row {}", text, row)
-            if rows > 1:
-                where = Text("{} in row {} and {} more", text, row, rows - 1)
-            hint = Text("it is printed as it is")
-            yield Said(Text("{} {}", where, THOUSANDS_OR_DECIMALS), hint)
-        yield from self.says_of_values()
-
-    def says_of_values(self) -> Iterator[Said]:
-        """Yields what is said once, also of prices that are written anew."""
-        for row, text, rows in self.zeros.values():
-            yield Said(Text("row {} has the price {} ({})", row, text, rows_text(rows)))
-        if len(self.currencies) > 1:
-            listed = ", ".join(sorted(self.currencies))
-            yield Said(Text("the prices have several currencies: {}", listed))
+            if more:
+                where = Text("{} in row {} and {} more", text, row, more)
+            if not self.point or self.point == sign and not self.has_three_decimals:
+                yield Text("{} {}", where, THOUSANDS_OR_DECIMALS)
 
 
 def measure_of(name: str) -> Text:
@@ -160,32 +111,10 @@ def measure_of(name: str) -> Text:
     >>> [measure_of(name) for name in ("Preis/100", "Preis (TEUR)", "Preis / 100 g", "VK 2026")]
     ['prices of 100 or 1000', 'prices of 100 or 1000', '', '']
     """
-    if OF_CENTS.search(re.sub(r"(?<=[a-z])(?=[A-Z])|_", " ", name)):
+    words = re.sub(r"(?<=[a-z])(?=[A-Z])|[^\w]|_", " ", name).casefold().split()
+    if WORDS["of-cents"].intersection(words):
         return CENTS
     return Text("prices of 100 or 1000") if OF_MANY.search(name) else NOTHING
-
-
-def see(found: dict[str, Seen], kind: str, row: int, text: str) -> None:
-    """Counts what was seen in a row."""
-    before = found.get(kind)
-    found[kind] = Seen(before.row, before.text, before.rows + 1) if before else Seen(row, text)
-
-
-def column_of(prices: Mapping[int, Money], decimal: str | None = None) -> PriceColumn:
-    """Returns what prices say together, by their rows; `decimal` is a sign that is known.
-
-    >>> from labeltools.tables.money import parse
-    >>> column_of({2: parse("1.234"), 3: parse("0,80")}).point
-    ','
-    >>> [said.text for said in column_of({2: parse("1.234"), 3: parse("5.678")}).says()]
-    ['1.234 in row 2 and 1 more may have thousands or decimals']
-    >>> [said.text for said in column_of({2: parse("1,50"), 3: parse("1.50")}).says()]
-    ['row 2 has 1,50 and row 3 has 1.50: prices of two forms']
-    """
-    column = PriceColumn(decimal)
-    for row, price in prices.items():
-        column.add(row, price)
-    return column
 
 
 def settled(price: Money, column: PriceColumn, pattern: "PricePattern | None" = None) -> Money:
@@ -193,17 +122,14 @@ def settled(price: Money, column: PriceColumn, pattern: "PricePattern | None" = 
     decimals of its currency; raises `NotMoney` where neither says it.
 
     >>> from labeltools.tables.money import parse
-    >>> prices = {2: parse("1.234"), 3: parse("0,80")}
-    >>> settled(prices[2], column_of(prices)).value
+    >>> settled(parse("1.234"), PriceColumn(",")).value
     Decimal('1234')
-    >>> prices = {2: parse("1.005"), 3: parse("0.80")}
-    >>> settled(prices[2], column_of(prices))  # doctest: +ELLIPSIS
+    >>> settled(parse("1.005"), PriceColumn("."))  # doctest: +ELLIPSIS
     Traceback (most recent call last):
     labeltools.tables.money.NotMoney: has three digits behind ., which is the decimal ...
-    >>> settled(prices[2], column_of({**prices, 4: parse("1234.50")})).value
+    >>> settled(parse("1.005"), PriceColumn(".", has_thousands=True)).value
     Decimal('1.005')
-    >>> prices = {2: parse("KD 1.250")}
-    >>> settled(prices[2], column_of(prices), PricePattern.of("KD 0.000")).value
+    >>> settled(parse("KD 1.250"), PriceColumn(), PricePattern.of("KD 0.000")).value
     Decimal('1.25')
     """
     if not price.is_open:
@@ -409,8 +335,3 @@ def check_currencies(text: str, front: str, end: str) -> None:
             raise ValueError(Text("{!r} in {!r} is not a currency", one, text))
     if front.strip() and end.strip():
         raise ValueError(Text("{!r} has two currencies", text))
-
-
-def is_same(one: str, other: str) -> bool:
-    """Returns whether two currencies may be one."""
-    return one == other or (one, other) in SAME or (other, one) in SAME or is_pair(one, other)

@@ -8,14 +8,14 @@ from typing import Iterator, NamedTuple
 
 from labeltools.common.text import NOTHING, Text, counted
 from labeltools.tables.columns import Column, Head, columns_of, names_of
-from labeltools.tables.codes import FREE, OTHER_CODES, OtherCode, WrongDigit, is_in_brackets
+from labeltools.tables.codes import FREE, OTHER_CODES, OtherCode, WrongDigit
 from labeltools.sheets.csv_table import csv_table
 from labeltools.sheets.options import CsvOptions
 from labeltools.tables.drafts import RowReader
 from labeltools.tables.line_writer import LineWriter, contents_of
 from labeltools.common.messages import BAD_ARGUMENTS, RowError, Talk, ToolError, quoted
 from labeltools.tables.prices import CENTS, measure_of
-from labeltools.common.names import listed, said_of_empty, unlike
+from labeltools.common.names import listed, said_of_empty
 from labeltools.sheets.number_format import Formatter, local_date, local_signs
 from labeltools.sheets.ods import rows_of_ods
 from labeltools.tables.once import Once
@@ -65,10 +65,9 @@ def lines_of_table(data: bytes, name: str, options: TableOptions, talk: Talk) ->
     or no row is there, and `Cancelled` where the talk wants no more.
     """
     start = head_of(data, name, options, talk)
-    looked_at: list[Row] = []
-    columns = columns_of(start.head, kept(start.rows, looked_at), options)
+    columns = columns_of(start.head, start.rows, options)
     work = TableRun(options, columns, start, talk)
-    work.take_all(chain(looked_at, start.rows))
+    work.take_all(start.rows)
     writer = work.writer
     work.refuse_other_codes(name)
     if not (writer.taken or writer.left_out or work.hidden or work.unmarked):
@@ -91,7 +90,8 @@ def head_of(data: bytes, name: str, options: TableOptions, talk: Talk) -> Start:
     formatter = Formatter(local_signs(options.file.decimal), options.file.date_as, local_date())
     rows = rows_of(data, name, options, formatter, talk)
     wanted = options.file.header_row
-    first = next((row for row in rows if is_first(row, wanted)), None)
+    below = (row for row in rows if wanted or not row.is_blank())
+    first = next((row for row in below if row.number >= (wanted or 0)), None)
     if first is None or wanted and (first.number != wanted or first.is_blank()):
         what = (
             Text("{} has nothing in row {}", name, wanted)
@@ -105,18 +105,6 @@ def head_of(data: bytes, name: str, options: TableOptions, talk: Talk) -> Start:
     if options.file.has_header is False:
         return Start(Head(first, ()), chain([first], rows), formatter)
     return Start(Head(first, names_of(first)), rows, formatter)
-
-
-def is_first(row: Row, wanted: int | None) -> bool:
-    """Returns whether a row is the one of the names, or below it."""
-    return row.number >= wanted if wanted else not row.is_blank()
-
-
-def kept(rows: Iterator[Row], looked_at: list[Row]) -> Iterator[Row]:
-    """Yields rows and keeps them in a list."""
-    for row in rows:
-        looked_at.append(row)
-        yield row
 
 
 def rows_of(
@@ -229,22 +217,22 @@ class TableRun:
         these one in ten is right by chance.
         """
         title = self.columns.code.title
+        offers = [(SYMBOLOGIES[one].title, ["--symbology", one]) for one in FREE]
         others = sum(isinstance(problem, OtherCode) for _, _, problem in self.held)
         if 2 * others > len(self.held):
             what = Text("{}: no row has an EAN or UPC in {}", name, title)
-            offers = [(SYMBOLOGIES[one].title, ["--symbology", one]) for one in FREE]
             raise ToolError(what, OTHER_CODES, offers=offers)
         self.leave_out_held()
-        if 0 < self.writer.taken < self.wrong_digits:
+        if self.wrong_digits > max(1, self.writer.taken):
             what = Text("{}: most codes in {} have a wrong check digit", name, title)
             hint = Text("if they have none, give --without-check-digit, or --symbology code128")
-            raise ToolError(what, hint)
+            raise ToolError(what, hint, offers=offers[:1])
 
     def say_all(self) -> None:
         """Says what there is to say about the whole table."""
         self.say_of_empty()
         self.say_of_prices()
-        self.say_of_codes()
+        self.say_of_words()
         self.once.say(self.talk)
         if self.hidden:
             text = counted(
@@ -265,8 +253,11 @@ class TableRun:
         """Says what the prices of a column say together, and which are not printed as they are."""
         is_rewritten = self.options.prices.pattern is not None
         for column in self.writer.columns:
-            for said in column.says_of_values() if is_rewritten else column.says():
-                self.talk.say(said.text, said.hint)
+            for prices in () if is_rewritten else column.unsure():
+                self.talk.say(prices, Text("it is printed as it is"))
+            if len(column.currencies) > 1:
+                listed = ", ".join(sorted(column.currencies))
+                self.talk.say(Text("the prices have several currencies: {}", listed))
         self.say_of_units()
 
     def say_of_units(self) -> None:
@@ -290,21 +281,13 @@ class TableRun:
             if asked[kind] and rows:
                 self.talk.say(said_of_empty(kind, rows, self.writer.count))
 
-    def say_of_codes(self) -> None:
-        """Says which codes are unlike the others, or are those of GS1 in brackets."""
-        codes = self.writer.codes
-        if odd := unlike(codes):
-            text = Text(
-                "the code of {} has no digit, {}, and others have",
-                listed(odd),
-                quoted(codes[odd[0]]),
-            )
+    def say_of_words(self) -> None:
+        """Says which codes have no digit, as that of a sum, if three of four others have one."""
+        words = self.writer.words
+        if words and 4 * len(words) <= self.writer.count:
+            rows, first = listed(list(words)), quoted(next(iter(words.values())))
+            text = Text("the code of {} has no digit, {}, and others have", rows, first)
             self.talk.say(text, Text("is it one?"))
-        if row := next((row for row, code in codes.items() if is_in_brackets(code)), 0):
-            self.talk.say(
-                Text("the code of row {} is GS1's in brackets, which is drawn as plain text", row),
-                Text("no scanner of GS1 takes it"),
-            )
 
     def say_of_numbers(self) -> None:
         """Shows how numbers and dates of .xlsx are printed, where the file does not say it."""
