@@ -633,7 +633,11 @@ class Read(unittest.TestCase):
         rows = decode.rows_of_field((b"F0,J5,:,12345678,M9,", 4))
         wanted = "F0000000 55550000 55550000 00000000 12345678 00000000 99999990"
         self.assertEqual(rows.hex(" ", 4).upper(), wanted)
-        for text in (b"F0F", b"12345678F", b"GZ", b"12:", b"M:", b"12 3", b"12345678:\n:"):
+        rows = decode.rows_of_field((b"N112345678N3", 4))  # runs that end with their rows
+        self.assertEqual(rows.hex(" ", 4), "11111111 12345678 33333333")
+        over = b"1234567H82345678:", b"gJ1"  # runs that go on in the next row
+        wrong = b"F0F", b"12345678F", b"GZ", b"12:", b"M:", b"12 3", b"12345678:\n:"
+        for text in (*wrong, *over):
             with self.subTest(text=text), self.assertRaises(decode.NotDecoded):
                 decode.dots_of("zpl", FIELD % text, 32)
 

@@ -11,7 +11,7 @@ from functools import lru_cache
 from operator import itemgetter
 from typing import Callable
 
-from labeltools.common.kept import Kept
+from labeltools.common.kept import Found, Kept
 from labeltools.common.text import Text
 
 ZPL_HEAD = re.compile(rb"\^XA\^PON\^LH0,0\^LS0\^PW([0-9]+)\^LL([0-9]+)\n")
@@ -24,7 +24,8 @@ COUNTS_ALONE = bytes(byte if byte in COUNTS else ord(" ") for byte in range(256)
 # a sign that fills the rest of a row does what tabs do with spaces; that of a row that comes again
 # is a line end meanwhile, behind which a row begins
 TABS = bytes.maketrans(b",:", b"\t\r")
-ZEROS = bytes.maketrans(b" \r", b"0:")
+ZEROS = bytes([*range(128), *range(128)]).translate(bytes.maketrans(b" \r", b"0:"))
+GOES_ON = 128  # marks the digits of a run but for the last one, which a row may end in
 AGAIN = re.compile(rb":(:*)")
 KNOWN = 1024  # sizes of what is read that are kept
 RASTER = b"\x1dv0\0"
@@ -140,8 +141,9 @@ def dots_of_zpl(data: bytes, _: int) -> Dots:
     page = bytearray(stride * height)
     at, low = head.end(), 0
     while field := ZPL_FIELD.match(data, at):
-        left, top, length, again, size = map(int, field.groups()[:5])
-        dots = FIELDS.get((field[6], size), rows_of_field)
+        *numbers, text = field.groups()
+        left, top, length, again, size = map(int, numbers)
+        dots = FIELDS.get((text, size), rows_of_field)
         bottom = top + length // size
         if left % 8 or left + 8 * size > 8 * stride or bottom > height:
             raise NotDecoded(Text("ZPL with a field that extends beyond the label"))
@@ -185,7 +187,10 @@ def rows_of_field(field: tuple[bytes, int]) -> bytes:
     parts = AGAIN.split(text)
     rest = b":".join(parts[::2])
     if rest.translate(None, DIGITS + b":"):
-        rest = expanded(rest).translate(TABS).expandtabs(2 * size).translate(ZEROS)
+        marked = expanded(rest).translate(TABS).expandtabs(2 * size)
+        if not marked.translate(None, b"\r")[2 * size - 1 :: 2 * size].isascii():
+            raise NotDecoded(Text("a row of the ZPL has the wrong length"))
+        rest = marked.translate(ZEROS)
     rows = [*map(unhexlify, rest.split(b":"))]
     if any([len(some) % size for some in rows]):
         raise NotDecoded(Text("a row of the ZPL has the wrong length"))
@@ -195,10 +200,10 @@ def rows_of_field(field: tuple[bytes, int]) -> bytes:
 
 
 def expanded(text: bytes) -> bytes:
-    """Returns digits for counts and digits; raises `NotDecoded`.
+    """Returns digits for counts and digits, those marked that go on; raises `NotDecoded`.
 
     >>> expanded(b"FIFA")
-    b'FFFFA'
+    b'F\\xc6\\xc6FA'
     """
     if text.translate(None, DIGITS + COUNTS + b":,"):
         raise NotDecoded(Text("no zpl of label-print"))
@@ -210,18 +215,15 @@ def expanded(text: bytes) -> bytes:
     return b"".join(found)[1:]
 
 
-class Runs(dict[tuple[bytes, int], bytes]):
-    """The digits that counts say, but for the one that follows each of them: G to Y are 1 to 19, g
-    to z are 20 to 400.
+def digits_of(run: tuple[bytes, int]) -> bytes:
+    """Returns the digits that counts say, marked, but for the one that follows each of them: G to Y
+    are 1 to 19, g to z are 20 to 400. Raises `NotDecoded`.
     """
-
-    def __missing__(self, key: tuple[bytes, int]) -> bytes:
-        count, digit = key
-        if digit not in DIGITS:
-            raise NotDecoded(Text("no zpl of label-print"))
-        times = sum(one - 70 if one <= 89 else 20 * (one - 102) for one in count)
-        self[key] = bytes([digit]) * (times - 1)
-        return self[key]
+    count, digit = run
+    if digit not in DIGITS:
+        raise NotDecoded(Text("no zpl of label-print"))
+    times = sum(one - 70 if one <= 89 else 20 * (one - 102) for one in count)
+    return bytes([digit | GOES_ON]) * (times - 1)
 
 
 def rows_in(data: bytes | bytearray, size: int) -> tuple[bytes, ...]:
@@ -244,7 +246,7 @@ def whole(data: bytes, length: int) -> bytes:
     return data
 
 
-RUNS = Runs()
+RUNS: Found[tuple[bytes, int], bytes] = Found(digits_of)
 FIELDS: Kept[tuple[bytes, int], bytes] = Kept(1024)
 DECODERS = {
     "pbm": dots_of_pbm,
