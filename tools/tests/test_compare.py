@@ -676,7 +676,7 @@ class Read(unittest.TestCase):
     def test_a_picture_that_is_another_one(self) -> None:
         found = found_of(options_of("pdf"), PAIR[:1])
         comparison = found.press(Silence()).comparison
-        (page,) = pages_of(documents_of(found)[0], 203, [1])
+        (page,) = pages_of(documents_of(found)[0], 203, 1, [1])
         (code,) = page.codes
         wanted = [*comparison.wanted_on([(found.labels[0], found.job.plan.places[0])])]
         corners = tuple((x + 0.5, y) for x, y in code.corners)

@@ -8,7 +8,7 @@ user's own may have several.
 """
 
 from functools import cache, lru_cache
-from itertools import islice
+from itertools import islice, tee
 from operator import mul
 from typing import Any, Iterator, NamedTuple, Optional, Sequence
 
@@ -133,10 +133,10 @@ class Comparison:
 
     def compare(self, document: Document) -> None:
         """Raises `Different` and `NotDecoded` as `check` does."""
-        wanted = [[*self.wanted_on(labels)] for labels in document.pages]
+        wanted, again = tee([*self.wanted_on(labels)] for labels in document.pages)
         dpi = self.plan.dpi
         if self.form == "pdf":
-            pages = pages_of(document.data, dpi, [*map(len, wanted)])
+            pages = pages_of(document.data, dpi, len(document.pages), map(len, again))
             for labels, symbols in zip(document.pages, wanted):
                 self.talk.go_on(0, 0)
                 try:
@@ -144,13 +144,14 @@ class Comparison:
                 except NotDecoded as error:
                     raise Different(error.what, first_of(labels)) from error
             return
+        symbols = next(wanted)
         if self.form == "svg":
             dots = dots_of_svg(document.data, dpi, self.plan.page)
         else:
             dots = dots_of(self.form, document.data, self.plan.page[0])
             self.check_size(dots, document.copies)
             self.check_drawn(dots, document)
-        for symbol in wanted[0]:
+        for symbol in symbols:
             check_dots(symbol, dots, self.plan.dot)
 
     def check_size(self, dots: Dots, copies: int) -> None:
@@ -261,15 +262,16 @@ def check_dots(wanted: Wanted, dots: Dots, dot: float) -> None:
     first, last = box.left // 8, bytes_a_row(box.right)
     behind = 8 * last - box.right
     read = rows_reader(first, last - first, dots.stride - last, box.height)
-    rows = read(dots.packed, box.top * dots.stride)
-    for row, (dark, looked) in set(zip(rows, rows_of(wanted))):  # most are the same
-        if ((int.from_bytes(row, "big") >> behind) ^ dark) & looked:
-            raise wrong(wanted, dot)
+    rows = iter(read(dots.packed, box.top * dots.stride))
+    for dark, looked, high in rows_of(wanted):
+        for row in {*islice(rows, high)}:  # most are the same
+            if ((int.from_bytes(row, "big") >> behind) ^ dark) & looked:
+                raise wrong(wanted, dot)
 
 
-def rows_of(wanted: Wanted) -> Iterator[tuple[int, int]]:
+def rows_of(wanted: Wanted) -> Iterator[tuple[int, int, int]]:
     """Yields the rows of dots of a symbol as it is on a page: which are dark, and which are looked
-    at, as numbers.
+    at, as numbers; and how many rows one below another are so.
     """
     where = wanted.where
     rows, highs, looks = bands_of(wanted)
@@ -279,7 +281,7 @@ def rows_of(wanted: Wanted) -> Iterator[tuple[int, int]]:
         highs, wides = wides, highs[::-1]
     dots = {row: number_of(row, wides, where.scale) for row in {*rows}}
     for row, look, high in zip(rows, looks, highs):
-        yield from [(dots[row], look)] * (high * where.scale)
+        yield dots[row], look, high * where.scale
 
 
 def bands_of(wanted: Wanted) -> tuple[list[str], tuple[int, ...], Sequence[int]]:

@@ -5,7 +5,7 @@ that nothing else of the page is over them. Lengths are in dots, from the upper 
 import re
 import zlib
 from functools import lru_cache
-from typing import Iterator, NamedTuple, Sequence
+from typing import Iterable, Iterator, NamedTuple, Sequence
 
 from labeltools.checking.decode import NotDecoded
 from labeltools.layout.frames import Box
@@ -217,16 +217,16 @@ def is_at(corners: Corners, box: Box, quarters: int) -> bool:
     return all(abs(x - u) < NEAR and abs(y - v) < NEAR for (x, y), (u, v) in pairs)
 
 
-def pages_of(data: bytes, dpi: float, codes: Sequence[int]) -> Iterator[DrawnPage]:
+def pages_of(data: bytes, dpi: float, count: int, codes: Iterable[int]) -> Iterator[DrawnPage]:
     """Yields the codes of each page of a document, of which there are so many; raises `NotDecoded`
     where there are not so many pages, or codes.
     """
     try:
         pdf = Pdf(data, dpi)
         pages = pdf.pages()
-        if len(pages) != len(codes):
-            raise NotDecoded(Text("the output has {} pages instead of {}", len(pages), len(codes)))
-        for number, count in zip(pages, codes):
-            yield pdf.page(number, count) if count else DrawnPage((), ())
+        if len(pages) != count:
+            raise NotDecoded(Text("the output has {} pages instead of {}", len(pages), count))
+        for number, several in zip(pages, codes):
+            yield pdf.page(number, several) if several else DrawnPage((), ())
     except (ValueError, LookupError, TypeError, zlib.error) as error:
         raise NotDecoded(Text("no pdf of Cairo: {}", error)) from error

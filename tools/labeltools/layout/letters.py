@@ -6,6 +6,7 @@ from functools import lru_cache, partial
 from typing import Any, Iterable, Mapping, NamedTuple, Optional, Sequence
 
 from labeltools.common.text import Text
+from labeltools.layout.glyphs import OTHERS
 from labeltools.layout.layout import Extent
 from labeltools.common.messages import ToolError
 from labeltools.common.kept import Found
@@ -14,9 +15,6 @@ from labeltools.layout.pango import MEASURED, Pango, PangoCairo, pango_context, 
 KEPT = 2048  # words of which the extent is kept
 MOST_NAMED = 9  # letters that a message names
 SPACED = re.compile("[^ ]+ *| +")
-# letters that stand one behind another: Latin, Greek, Cyrillic; punctuation; currencies
-SIMPLE = ((0x20, 0x2FF), (0x370, 0x482), (0x48A, 0x52F), (0x2010, 0x2027), (0x20A0, 0x20CF))
-OTHERS = re.compile("[^" + "".join(f"{chr(one)}-{chr(other)}" for one, other in SIMPLE) + "]")
 FONT = "DejaVu Sans"  # of titles, texts and prices
 DIGITS_FONT = "DejaVu Sans Mono"  # of what is below bars
 FONTS_OF_LETTERS = "apt-get install fonts-noto-core fonts-noto-cjk"
