@@ -197,13 +197,15 @@ class Refused(OwnPages):
         with self.assertRaisesRegex(ToolError, r"seat is not a rectangle \(text\)"):
             self.found(body, [("code128 A", {"text": {"Seat": "7"}})])
 
+    @mock.patch.object(drawing, "MOST_SECONDS", 1)
     def test_what_takes_too_long_or_too_much_memory(self) -> None:
+        blur = '<filter id="f"><feGaussianBlur stdDeviation="{}"/></filter>'
+        for by in (1, 2):  # threads of the first one stay, and are not waited for
+            self.found(f'{blur.format(by)}<path filter="url(#f)" d="M2 2H9V9Z"/>{CODE}')
         filtered = '<filter id="f"><feTurbulence numOctaves="2000000000"/></filter>'
         for body in (f'{filtered}<path filter="url(#f)" d="M0 0V9H9Z"/>', f"<text>{'a' * 800_000}"):
             end = "</text>" * body.startswith("<text>")
-            with mock.patch.object(drawing, "MOST_SECONDS", 1), self.assertRaises(
-                ToolError
-            ) as caught:
+            with self.assertRaises(ToolError) as caught:
                 self.found(body + end + CODE)
             why = "own.svg cannot be drawn in 1 seconds and 500 MB; export it as a picture, or"
             self.assertTrue(designs.is_refused(caught.exception, why), caught.exception)

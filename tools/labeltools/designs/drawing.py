@@ -8,19 +8,17 @@ is hidden by a style sheet.
 
 import os
 import re
-import resource
-import signal
+import subprocess
+import sys
 import zlib
 from base64 import b64decode
 from dataclasses import dataclass
 from functools import cached_property, lru_cache
 from io import BytesIO
 from pathlib import Path
-from typing import Any, Iterable, NoReturn
+from typing import Any, Iterable
 from xml.etree import ElementTree
 from xml.etree.ElementTree import Element
-
-import cairo
 
 from labeltools.layout.letters import font_instead
 from labeltools.common.messages import ToolError
@@ -37,9 +35,8 @@ PX = 25.4 / DPI  # millimetres
 MOST_BYTES = 8_000_000
 MOST_SECONDS = 5  # of a processor, in which a page has to be drawn
 MOST_MEMORY = 500_000_000  # bytes that this may take
-LONGEST = 120  # seconds that it may wait, as for a lock of a thread that the process does not have
+TRIAL = str(Path(__file__).with_name("trial.py"))
 MOST_PIXELS = 25_000_000  # of a picture: each takes 16 bytes when it is drawn
-TRIED = 1000  # dots of each side of what it is drawn on then
 LARGEST = 4000.0  # millimetres of a page
 PACKED = b"\x1f\x8b"  # what .svgz begins with
 WITHIN = re.compile("#|data:image/(?:png|jpeg);base64,")
@@ -145,35 +142,14 @@ def data_of(file: str) -> bytes:
 
 @lru_cache(1)
 def check_cost(file: str, data: bytes) -> None:
-    """Raises `ToolError` for a page that takes too much: another process draws it once."""
+    """Raises `ToolError` for a page that takes too much: another process draws it once. That is no
+    fork, in which librsvg waits for threads that this process has, and it has not.
+    """
     rsvg()
-    child = os.fork()
-    if not child:
-        try_to_draw(file, data)
-    _, status = os.waitpid(child, 0)
-    if status:
+    command = (sys.executable, "-I", TRIAL, str(MOST_SECONDS), str(MOST_MEMORY))
+    if subprocess.run(command, input=data, stderr=subprocess.DEVNULL, check=False).returncode:
         most = (MOST_SECONDS, MOST_MEMORY // 1_000_000)
         raise ToolError(Text("{} cannot be drawn in {} seconds and {} MB", file, *most), PLAIN)
-
-
-def try_to_draw(file: str, data: bytes) -> NoReturn:
-    """Draws a page, and ends the process: with 0 if that is done, or what is read is none."""
-    status = 1
-    try:
-        resource.setrlimit(resource.RLIMIT_CORE, (0, 0))
-        resource.setrlimit(resource.RLIMIT_CPU, (MOST_SECONDS, MOST_SECONDS))
-        used = int(Path("/proc/self/statm").read_text().split()[5]) * resource.getpagesize()
-        resource.setrlimit(resource.RLIMIT_DATA, (used + MOST_MEMORY, used + MOST_MEMORY))
-        signal.alarm(LONGEST)
-        os.dup2(os.open(os.devnull, os.O_WRONLY), 2)  # where librsvg says why it gives up
-        surface = cairo.ImageSurface(cairo.FORMAT_ARGB32, TRIED, TRIED)
-        area = rectangle(0, 0, TRIED, TRIED, 1.0)
-        handle_of(file, data).render_document(cairo.Context(surface), area)
-        status = 0
-    except ToolError:
-        status = 0
-    finally:
-        os._exit(status)
 
 
 def sized_page(file: str, root: Element, handle: Any) -> SvgPage:
