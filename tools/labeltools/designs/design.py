@@ -342,7 +342,8 @@ def remarks_on(design: OwnDesign, seen: Seen, smaller: list[str], edges: Edges) 
     if smaller:
         why = Text("the printer does not print there, at the edge of the page (--edge)")
         yield Text("{}: smaller than drawn: {}: {}", file, ", ".join(smaller), why)
-    left, top, right, bottom = (max(0.0, edge - NEAR / 2) for edge in edges)
+    inner = NEAR / 2 + 1 / seen.scale  # a dot may be in part beyond an edge
+    left, top, right, bottom = (max(0.0, edge - inner) for edge in edges)
     wide, high = design.label
     if max(left, top, right, bottom) > 0:
         areas = ((0, 0, wide, high), (left, top, wide - left - right, high - top - bottom))
