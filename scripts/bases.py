@@ -17,11 +17,6 @@ import sources
 from declared import CodeItem
 from reader import Declaration, File, Key
 
-# The crates in the order in which a reader meets them, from the headline down.
-CRATES = [
-    *("filter", "labelcore", "device", "picture", "linear", "qrmatrix"),
-    *("qrdata", "gf256", "command", "capi", "reading", "linear_reading", "qr_reading", "testing"),
-]
 # The program, and the crate whose functions C calls. They have no definitions of their own.
 PROGRAM, EXPORTS = "labels", "labels_c"
 # The crates on whose contracts no other crate rests.
@@ -61,8 +56,11 @@ class Base:
 
 @dataclass(frozen=True)
 class Repository:
-    """The files of specs/ by crate and module, those of the code, and what contracts speak by."""
+    """The crates that others rest on, in the order in which a reader meets them, from the headline
+    down, the files of specs/ by crate and module, those of the code, and what contracts speak by.
+    """
 
+    crates: list[str]
     specs: dict[tuple[str, str], File]
     code: list[File]
     items: list[CodeItem]
@@ -71,7 +69,7 @@ class Repository:
         """Returns the definition of a name, or None: the code's own type, or a name of the kit or
         of a lemma. Stops where a file names a definition that is not there.
         """
-        if key.crate not in CRATES or key.part != "specs" or key.module.startswith("declared"):
+        if key.crate not in self.crates or key.part != "specs" or key.module.startswith("declared"):
             return None
         file = self.specs.get((key.crate, key.module))
         if not file or key.name not in file.of_name:
@@ -97,24 +95,16 @@ class Repository:
         """The files of the program itself, which makes one call."""
         return [it for it in self.code if it.crate == PROGRAM]
 
-    @property
-    def public(self) -> list[File]:
-        """The files of specs/ that are no business of their crate alone."""
-        return [it for (_, module), it in self.specs.items() if not module.startswith("Private")]
-
 
 def read_repository(top: str) -> Repository:
-    """Reads the files of a repository. Stops where it has a crate that nobody names here."""
-    unknown = {*sources.crates_of(top)} - {*CRATES} - AT_THE_TOP
-    if unknown:
-        names = ", ".join(sorted(unknown))
-        sys.exit(f"crates.txt has {names}: scripts/bases.py has to name it in CRATES or AT_THE_TOP")
-    files = reader.files_of(top, CRATES, "specs", "src")
+    """Reads the files of a repository."""
+    crates = [it for it in reversed(sources.crates_of(top)) if it not in AT_THE_TOP]
+    files = reader.files_of(top, crates, "specs", "src")
     files += reader.files_of(top, [PROGRAM, EXPORTS], "src")
     specs = {(it.crate, it.module): it for it in files if it.part == "specs"}
     code = [it for it in files if it.part == "src"]
-    items = list(declared.code_items([it for it in code if it.crate in CRATES]))
-    return Repository(specs, code, items)
+    items = list(declared.code_items([it for it in code if it.crate in crates]))
+    return Repository(crates, specs, code, items)
 
 
 def base_of(repository: Repository, contracts: Sequence[CodeItem]) -> Base:
@@ -129,7 +119,7 @@ def base_of(repository: Repository, contracts: Sequence[CodeItem]) -> Base:
         words = frozenset[str]().union(*(it.words for it in code))
         code = [*contracts, *(it for it in repository.items if it.is_of(named, words))]
     members = {it for item in code for it in item.members} & members_of_std()
-    of_kit = [it for it in cited if it.crate not in CRATES and it.name]
+    of_kit = [it for it in cited if it.crate not in repository.crates and it.name]
     return Base(
         repository.definitions(cited),
         code,

@@ -10,9 +10,9 @@ comments, the contract itself with the types, traits and views that it speaks by
 each name of std and of the kit's clap. What stands behind clap's names is counted apart.
 
 --show prints what a contract rests on, in reading order, each with its comment: `shows`, `runs`,
-`program` for both, or `library`. `other` is what other public contracts speak of. The first comment
-of a file says what the file is about. Lines `-- Why: ` after it say what its definitions follow:
-names between backticks, a colon, and the clause of a standard or a page.
+`program` for both, or `library`. The first comment of a file says what the file is about. Lines
+`-- Why: ` after it say what its definitions follow: names between backticks, a colon, and the
+clause of a standard or a page.
 
 --axioms compares docs/PROOF.md with how many contracts of C functions the kit's check of the
 program assumes. What `rt ci` said of it, in LOG, is taken where it is there; else the program is
@@ -227,7 +227,7 @@ def names_in(file: File, why: str) -> set[str]:
 
 def shown_definitions(repository: Repository, definitions: Iterable[Declaration]) -> Iterator[str]:
     """Yields a list of definitions file by file, crates and files in reading order."""
-    groups: dict[str, dict[str, list[Declaration]]] = {crate: {} for crate in bases.CRATES}
+    groups: dict[str, dict[str, list[Declaration]]] = {crate: {} for crate in repository.crates}
     for one in definitions:
         groups[one.key.crate].setdefault(one.key.module, []).append(one)
     for crate, modules in groups.items():
@@ -248,20 +248,6 @@ def shown_code(items: Iterable[CodeItem]) -> Iterator[str]:
         where = f"crates/{one.crate}/src/{one.file}.rt"
         text = f"- {one.kind} {one.name}, {where}, {one.lines} lines: {one.about}"
         yield from textwrap.wrap(text, 100, subsequent_indent="  ")
-
-
-def others(repository: Repository, found: dict[str, Base]) -> Base:
-    """Returns what public contracts speak of beside what the program's call rests on."""
-    of_call = found["program"]
-    kept = {*of_call.definitions}
-    rest = [it for file in repository.public for it in file.declarations if it not in kept]
-    cited = [key for one in rest for key in repository.cites(one)]
-    named = {
-        *declared.keys_of(cited),
-        *declared.keys_of(k for it in of_call.code for k in it.cites),
-    }
-    code = [it for it in repository.items if it not in of_call.code and it.is_of(named)]
-    return Base(rest, code, set(), [])
 
 
 def show(repository: Repository, base: Base) -> None:
@@ -312,7 +298,7 @@ def arguments() -> argparse.Namespace:
     ways = parser.add_mutually_exclusive_group(required=True)
     ways.add_argument("--check", action="store_true", help="compare the pages with the files")
     ways.add_argument("--write", action="store_true", help="make the numbers and the table anew")
-    names = [*CLAUSES, "program", "library", "other"]
+    names = [*CLAUSES, "program", "library"]
     ways.add_argument("--show", choices=names, help="print what a contract rests on")
     axioms = "compare the number of contracts of C functions that are assumed; LOG is of `rt ci`"
     ways.add_argument("--axioms", nargs="?", const=os.devnull, metavar="LOG", help=axioms)
@@ -325,15 +311,14 @@ def main() -> int:
     """Does what the arguments ask for, and returns the status."""
     given = arguments()
     if given.axioms:
-        return compared_axioms(given.top, sources.read(given.axioms), given.built)
-    repository = bases.read_repository(given.top)
+        return compared_axioms(sources.TOP, sources.read(given.axioms), given.built)
+    repository = bases.read_repository(sources.TOP)
     found = all_bases(repository)
     if given.show:
-        shown = found | {"other": others(repository, found)}
-        show(repository, shown[given.show])
+        show(repository, found[given.show])
         return 0
     counts = counts_of(repository, found)
-    return compared(given.top, counts, found["program"], given.write)
+    return compared(sources.TOP, counts, found["program"], given.write)
 
 
 if __name__ == "__main__":

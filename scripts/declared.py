@@ -20,7 +20,6 @@ from typing import Container, Iterable, Iterator, Sequence
 
 from reader import Declaration, File, Key, Token
 
-KINDS = ("contract", "trait", "type", "view", "members", "constant")
 OF_CODE = {"trait": "trait", "enum": "type", "struct": "type", "const": "constant"}
 # The name of an item: its crate, its file and its own name.
 Name = tuple[str, str, str]
@@ -47,13 +46,11 @@ class CodeItem:
     def key(self) -> Name:
         return self.crate, self.file, self.name
 
-    def is_of(self, named: Container[Name], words: Container[str] | None = None) -> bool:
-        """Returns whether it is one of these names, or what is named by words or by any: of members
-        the trait and the type.
-        """
+    def is_of(self, named: Container[Name], words: Container[str]) -> bool:
+        """Returns whether it is one of these names, or words name it: of members the trait and the type."""
         if self.kind in ("type", "constant") or self.key in named:
             return self.key in named
-        return words is None or all(name in words for name in self.name.split(" for "))
+        return all(name in words for name in self.name.split(" for "))
 
 
 def words_of(declarations: Iterable[Declaration]) -> frozenset[str]:

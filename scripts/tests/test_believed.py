@@ -6,7 +6,6 @@ Run by `python3 -m unittest discover -s scripts/tests`. The kit is needed, and n
 import contextlib
 import io
 import re
-import shutil
 import sys
 import unittest
 from typing import Any, Callable, Container, Iterable
@@ -87,14 +86,6 @@ class Believed(InCopy):
         )
         self.assert_changes_fail(changes, self.check)
 
-    def test_unknown_crate(self) -> None:
-        """One that no list of scripts/bases.py has."""
-        self.addCleanup(shutil.rmtree, self.path("crates/unknown"))
-        self.replace("crates.txt", read(self.path("crates.txt")) + "unknown:\n")
-        self.replace("crates/unknown/src/lib.rt", "")
-        status, said = self.check()
-        self.assertEqual((status, "crates.txt has unknown: scripts/bases.py has to name it" in said), (1, True), said)
-
     def test_show(self) -> None:
         """A list has what a clause rests on, with its comment, and says by which clause of a standard."""
         feed, penalty = "- LF: the line feed\n", "Why: `penalty`: in the manner of 7.8.3.\n"
@@ -103,7 +94,6 @@ class Believed(InCopy):
             ("runs", (feed, penalty, "- Produces: "), ("- IsShown: ",)),
             ("program", (feed, penalty, "- Produces: ", "- IsShown: "), ("- NotADefinition: ",)),
             ("library", (feed, penalty, "- contract labels_proved_draw, "), ("- contract program, ",)),
-            ("other", ("- IsSymbolOf: ",), (feed, "- contract ")),
         ):
             with self.subTest(name):
                 status, said = self.judged("believed.py", "--show", name)
@@ -255,23 +245,20 @@ class Judging(unittest.TestCase):
         for word in ("+", "5", "c", "x"):
             self.assertEqual(judging.with_imports(text, word), text)
 
-    def checks_of(self, found: Any, values: Any = None, refuses: bool = False, **limits: int) -> list[list[Any]]:
-        """The copies of each check of changes, where each copy is refused or none is."""
-        checks: list[list[Any]] = []
+    def checks_of(self, found: Any, values: Any) -> list[str]:
+        """The texts of worked values that are checked for changes, of which none is refused."""
+        copied: list[str] = []
 
-        def judge_copies(_kit: Any, _words: Any, copies: list[Any]) -> list[Any]:
-            checks.append(copies)
-            refused = copies if refuses else []
-            for copy in refused:
-                copy.change.by = copy.file.module
-            return refused
+        def judge_copies(_kit: Any, _words: Any, copies: Any) -> list[Any]:
+            copied.extend(it.text for it in copies)
+            return []
 
         kit = mock.Mock(**{"crates_below.return_value": []})
-        bent: dict[str, Any] = {"words_for": lambda *_: [], "judge_copies": judge_copies, **limits}
+        bent: dict[str, Any] = {"words_for": lambda *_: [], "judge_copies": judge_copies}
         with mock.patch.multiple(judging, **bent), mock.patch.object(judging.libraries, "kit", lambda: kit):
             with contextlib.redirect_stdout(io.StringIO()):
                 judging.judge(TOP, True, changes.read_crates(TOP), found, values)
-        return checks
+        return copied
 
     def test_worked_values(self) -> None:
         """Each that rests on the definition judges it, or of these just those that are named."""
@@ -280,34 +267,9 @@ class Judging(unittest.TestCase):
         names = [one.name for one in file.declarations if changes.is_worked(one) and one.name in resting]
         self.assertGreater(len(names), 1)
         for values, judging_it in ((names, names), (names[:1], names[:1]), (names[-1:], names[-1:]), (None, names)):
-            checks = self.checks_of([first], values and {first.file.title: values})
-            self.assertEqual(
-                [[it.text for it in check] for check in checks], [[changes.with_values(file, judging_it)]]
-            )
+            copied = self.checks_of([first], values and {first.file.title: values})
+            self.assertEqual(copied, [changes.with_values(file, judging_it)])
         self.assertEqual(self.checks_of([first], {first.file.title: []}), [])
-
-    def test_at_most_so_many_in_one_check(self) -> None:
-        for count, sizes in ((1, [1]), (2, [2]), (3, [2, 1])):
-            self.assertEqual([len(it) for it in self.checks_of(self.found[:count], AT_ONCE=2)], sizes)
-
-    def test_each_change_is_judged_by_its_files_in_turn(self) -> None:
-        """One that its first file refuses is judged by no other; those that are few by all at once."""
-        crates = changes.read_crates(TOP)
-        names = ("gf256", "linear", "qrmatrix")
-        every = changes.all_changes({name: crates[name] for name in names})
-        found = [next(it for it in every if it.file.crate == name) for name in names]
-        copies = [[*judging.copies_of(it, crates[it.file.crate], None)] for it in found]
-        titles = [[it.title for it in of_one] for of_one in copies]
-        self.assertGreater(max(map(len, titles)), 1)
-        for few, count in ((0, max(map(len, titles))), (3, 1)):
-            checks = self.checks_of(found, FEW=few)
-            copied = [it for check in checks for it in check]
-            judged = [[it.title for it in copied if it.change is one] for one in found]
-            self.assertEqual((len(checks), judged), (count, titles))
-        (check,) = self.checks_of(found, refuses=True, FEW=0)
-        self.assertEqual([it.title for it in check], [of_one[0] for of_one in titles])
-        self.assertEqual([it.by for it in found], [of_one[0].split(", ")[1] for of_one in titles])
-        self.assertEqual(self.checks_of(found, refuses=True, FEW=0), [])
 
     def test_what_judges_is_checked_as_it_is(self) -> None:
         """A copy of no change has all worked values of a file that are to judge, and no other."""
@@ -338,7 +300,7 @@ class Sample(unittest.TestCase):
 
         with (
             mock.patch.object(believed_rows, "judge", judge),
-            mock.patch.object(sys, "argv", ["believed_rows.py", "--sample", "--seed", "1"]),
+            mock.patch.object(sys, "argv", ["believed_rows.py", "--sample"]),
             contextlib.redirect_stdout(io.StringIO()) as said,
         ):
             return believed_rows.main(), said.getvalue().split("\n")[-2]
