@@ -8,8 +8,6 @@ quarters, and in a mirror; and damaged at random, by a fixed seed, up to what th
 - modules turned (dark for light), as many as the limit of the symbology: the same ones in each row of a bar code, or
   other ones in each row; anywhere in a QR symbol
 - wrong pixels, one fewer than a module more would have
-- wrong codewords of a QR symbol: in each block half of its error correction codewords. Where the codewords and blocks
-  are, segno says.
 
 A scanner may read the full data or nothing. Other data is a misreading; each is printed, and the status is then 1.
 There is one exception. Where whole modules of a bar code are turned, the reading rules of the standards read nothing,
@@ -22,29 +20,27 @@ The last line is `N damaged labels, read twice: F as drawn, U not, M misread, G 
 symbology, level and version. Status 2: bad arguments, no such program.
 """
 
-import functools
-import itertools
 import random
 import sys
 from collections import Counter
+from dataclasses import replace
 from typing import Iterator
 
 import numpy
 import zbar
 import zxingcpp
-from segno import consts, encoder
+from segno import consts
 
 import sources
-from pictures import DIGITS, LEVELS, NUMBERS, VERSIONS, Label, Pixels
-from pictures import box_of, gray, kinds_of, pictures_of, with_check_digit
+from compare_symbols import code128_of_one_set, ean_and_upc, qr_of_one_mode
+from pictures import Label, Pixels, box_of, gray, kinds_of, pictures_of, with_check_digit
 
 SEED = 15417
 SCALE = 3
 # White around a picture, in pixels.
 MARGIN = 10 * SCALE
-# How many labels there are of each linear symbology, and of QR of each version.
-OF_BARS = 10
-OF_VERSION = 2
+# One in how many labels is damaged: compare_symbols.py draws each version and level of QR with eight masks.
+EACH = 8
 # How many modules may be turned in each row of a bar code, and in a QR symbol.
 TURNED_IN_A_ROW = {"ean13": 1, "ean8": 3, "upca": 3, "code128": 1}
 MOST_TURNED_IN_QR = 13
@@ -57,13 +53,10 @@ OTHERS = (
     ("code128", "LOT 7", ("ROT 7", "LOT 8")),
     ("qr,level=L,min-version=1", "LOT 7", ("ROT 7", "LOT 8")),
 )
-# What segno writes where a codeword may be, and the number of the first bit that it is given.
-FREE = 2
-FIRST = 3
 
 
 class Picture:
-    """A label as drawn: its pixels, 1 where dark, where its symbol is in them, and of a QR symbol what segno says."""
+    """A label as drawn: its pixels, 1 where dark, where its symbol is in them, and how many modules may be turned."""
 
     def __init__(self, label: Label, pixels: Pixels) -> None:
         self.label = label
@@ -73,12 +66,9 @@ class Picture:
         symbology, *settings = label.head.split(",")
         self.is_qr = symbology == "qr"
         if self.is_qr:
-            level, version = (setting.partition("=")[2] for setting in settings)
-            self.version = int(version)
-            infos = consts.ECC[self.version][consts.ERROR_MAPPING[level]]
-            self.blocks = [one for one in infos for _ in range(one.num_blocks)]
-            self.ec_codewords = infos[0].num_total - infos[0].num_data
-            self.limit = min(MOST_TURNED_IN_QR, self.ec_codewords)
+            level, version, *_ = (setting.partition("=")[2] for setting in settings)
+            block = consts.ECC[int(version)][consts.ERROR_MAPPING[level]][0]
+            self.limit = min(MOST_TURNED_IN_QR, block.num_total - block.num_data)
         else:
             self.limit = TURNED_IN_A_ROW[symbology]
 
@@ -93,61 +83,17 @@ class Picture:
         return pixels
 
 
-def label_of(head: str, text: str) -> Label:
-    """A label of a text, and for EAN and UPC of the digits with their check digit."""
-    full = with_check_digit(text) if text.isdigit() else text
-    return Label(head, text.encode(), full.encode(), SCALE)
-
-
-def bar_codes(draw: random.Random, count: int) -> Iterator[Label]:
-    """Labels of the four linear symbologies, `count` of each."""
-    for _ in range(count):
-        for name, length in NUMBERS.items():
-            digits = "".join(draw.choices(DIGITS, k=length))
-            yield label_of(f"{name},height={draw.randrange(12, 30)}", digits)
-        text = "".join(chr(draw.randrange(32, 127)) for _ in range(draw.randrange(1, 30))).encode()
-        yield Label(f"code128,height={draw.randrange(12, 30)}", text, text, SCALE)
-
-
-def qr_symbols(draw: random.Random, count: int) -> Iterator[Label]:
-    """Labels of QR symbols, `count` of each version, with each level in turn."""
-    for turn, version in itertools.product(range(count), VERSIONS):
-        level = LEVELS[(version + 2 * turn) % 4]
-        text = "".join(chr(draw.randrange(33, 127)) for _ in range(draw.randrange(1, 8))).encode()
-        yield Label(f"qr,level={level},min-version={version}", text, text, SCALE)
+def some_labels() -> list[Label]:
+    """Labels that compare_symbols.py draws, one in EACH, at one scale: of QR of each version and level."""
+    draw = random.Random(SEED)
+    parts = (*ean_and_upc(draw), *code128_of_one_set(draw), *qr_of_one_mode(draw))
+    return [replace(label, scale=SCALE) for label in parts][::EACH]
 
 
 def pictures(program: str, labels: list[Label]) -> Iterator[Picture]:
     """The labels as the program draws them."""
     for label, pixels in zip(labels, pictures_of(program, labels, "--scale", str(SCALE))):
         yield Picture(label, pixels)
-
-
-@functools.cache
-def codewords_of(version: int) -> list[list[tuple[int, int]]]:
-    """The places of the eight modules of each codeword, in the order in which codewords are placed (clause 7.7.3)."""
-    matrix = encoder.make_matrix(version)
-    encoder.add_finder_patterns(matrix, False)
-    encoder.add_alignment_patterns(matrix, version)
-    rows = [list(row) for row in matrix]
-    bits = range(FIRST, FIRST + sum(row.count(FREE) for row in rows))
-    encoder.add_codewords(rows, bits, version)
-    places = {bit: (y, x) for y, row in enumerate(rows) for x, bit in enumerate(row)}
-    return [[places[bit] for bit in bits[start : start + 8]] for start in range(0, len(bits) - 7, 8)]
-
-
-def blocks_of(picture: Picture) -> list[list[list[tuple[int, int]]]]:
-    """The codewords of each block, which are interleaved (clause 7.6)."""
-    codewords = iter(codewords_of(picture.version))
-    blocks: list[list[list[tuple[int, int]]]] = [[] for _ in picture.blocks]
-    for turn in range(picture.blocks[-1].num_data):
-        for block, sizes in zip(blocks, picture.blocks):
-            if turn < sizes.num_data:
-                block.append(next(codewords))
-    for _ in range(picture.ec_codewords):
-        for block in blocks:
-            block.append(next(codewords))
-    return blocks
 
 
 def turn_modules(picture: Picture, draw: random.Random, count: int) -> Pixels:
@@ -175,16 +121,6 @@ def turn_pixels(picture: Picture, draw: random.Random, count: int) -> Pixels:
     return pixels
 
 
-def spoil_codewords(picture: Picture, draw: random.Random, count: int) -> Pixels:
-    """Spoils this many codewords in each block of a QR symbol."""
-    modules = picture.no_modules()
-    for block in blocks_of(picture):
-        for codeword in draw.sample(block, count):
-            for place in draw.sample(codeword, draw.randrange(1, 9)):
-                modules[place] = 1
-    return picture.turned(modules)
-
-
 def positions(pixels: Pixels) -> Iterator[Pixels]:
     """The picture turned by a quarter, a half and three quarters, and each of the four in a mirror."""
     for quarters in range(1, 5):
@@ -200,10 +136,7 @@ def within(picture: Picture, draw: random.Random) -> Iterator[tuple[Pixels, bool
         yield turn_modules(picture, draw, count), not picture.is_qr
     pixels_of_a_module = SCALE * (SCALE if picture.is_qr else len(picture.pixels))
     yield turn_pixels(picture, draw, (limit + 1) * pixels_of_a_module - 1), False
-    if picture.is_qr:
-        yield spoil_codewords(picture, draw, 1), False
-        yield spoil_codewords(picture, draw, picture.ec_codewords // 2), False
-    else:
+    if not picture.is_qr:
         yield turn_in_each_row(picture, draw, limit), True
 
 
@@ -243,12 +176,12 @@ class Scanners:
     def wrong_cases(self, program: str) -> Iterator[tuple[str, bool]]:
         """Pictures of labels in place of those of others, each with whether both scanners are caught."""
         for head, data, others in OTHERS:
-            one, *rest = pictures(program, [label_of(head, text) for text in (data, *others)])
+            full = [with_check_digit(text) if text.isdigit() else text for text in (data, *others)]
+            one, *rest = pictures(program, [Label(head, text.encode(), text.encode(), SCALE) for text in full])
             for other in rest:
                 for label, drawn in ((one, other), (other, one)):
-                    for is_guess, word in ((False, "misread"), (True, "guessed")):
-                        found = self.scan(label, drawn.pixels, is_guess, is_shown=False)
-                        yield f"{drawn.label.line()!r} as {label.label.line()!r}", found == [word] * len(SCANNERS)
+                    found = self.scan(label, drawn.pixels, is_shown=False)
+                    yield f"{drawn.label.line()!r} as {label.label.line()!r}", found == ["misread"] * len(SCANNERS)
 
 
 def plain(data: bytes) -> bytes:
@@ -259,7 +192,7 @@ def plain(data: bytes) -> bytes:
 def main() -> int:
     program = sources.program_given(__doc__)
     draw, scanners = random.Random(SEED), Scanners()
-    labels = [*bar_codes(draw, OF_BARS), *qr_symbols(draw, OF_VERSION)]
+    labels = some_labels()
     cases, faults = [*scanners.wrong_cases(program)], list[str]()
     guesses, found = 0, Counter[str]()
     for picture in pictures(program, labels):
