@@ -1,20 +1,17 @@
 #!/usr/bin/python3
 """Runs each command of the documents, and compares what it prints.
 
-The pages are README.md, docs/INPUT.md, docs/PRINTING.md, docs/RECIPES.md and the examples of the man pages. PROGRAM is
-crates/labels/out/labels where none is given. A block ```sh holds commands, and the block ```text right after it, if
-there is one, what they print on standard output and standard error together; where there is none, they print nothing.
-A block ```console is a session: each command is behind a prompt `$ `, its other lines behind `> `, and what it prints
-is below it; `$ cat FILE` of a file that is not there makes the file. A block ```sh, and each command of a session, has
-to end with status 0. The blocks of a page run in their order, each by its own `sh`, at the top of a new copy of the
-repository's files, with `labels` and the tools on the path, and with a home of their own.
+The pages are README.md, docs/INPUT.md, docs/PRINTING.md, docs/RECIPES.md and the examples of the man pages. A block
+```sh holds commands, and the block ```text right after it, if there is one, what they print on standard output and
+standard error together; where there is none, they print nothing. A block ```console is a session: each command is
+behind a prompt `$ `, its other lines behind `> `, and what it prints is below it; `$ cat FILE` of a file that is not
+there makes the file. A block ```sh, and each command of a session, has to end with status 0. The blocks of a page run
+in their order, each by its own `sh`, at the top of a new copy of the repository's files, with `labels` and the tools
+on the path, and with a home of their own. A block ```sh kit calls the kit, which proves for minutes: it does not run.
 
 In a man page an example with prompts is a session, too: there each command may end with any status. An example without
 a prompt has to end with status 0 and may print anything; it runs in labels.1 alone, since those of the other man pages
 name files of the reader.
-
-A block ```sh kit calls the kit, which proves for minutes, and may print anything. It runs with --kit alone, in a fresh
-clone of what is committed, README.md first, and the other pages with the program that it builds.
 
 Besides, the pictures that draw_pictures.sh makes after the commands of RECIPES.md must be those of docs/pictures but
 window.png, pixel for pixel. The last line is `N of N as printed`; where one is not, the status is 1. In each run this
@@ -90,16 +87,14 @@ class Commands:
 DRAWN = Commands("tools/tests/draw_pictures.sh\n", "label-print: row 5: shortened to fit, with an ellipsis\n")
 
 
-def commands_of(page: str, with_kit: bool) -> Iterator[Commands]:
-    """The commands of a page that are to run."""
+def commands_of(page: str) -> Iterator[Commands]:
+    """The commands of a page."""
     blocks = [*pages.blocks_of((TOP / page).read_text(encoding="utf-8"))]
     for block, after in zip(blocks, [*blocks[1:], None]):
         if block.language == "sh":
             yield Commands(block.code, after.code if after and after.is_next and after.language == "text" else "")
         elif block.language == "console":
             yield session_of(block.code.splitlines(keepends=True))
-        elif block.language == "sh kit" and with_kit:
-            yield Commands(block.code, None)
 
 
 def session_of(lines: Iterable[str], may_fail: bool = False) -> Commands:
@@ -140,20 +135,16 @@ def examples_of(page: Path) -> list[Commands]:
     return found
 
 
-def prepare(folder: Path, program: Path, with_kit: bool) -> dict[str, str]:
+def prepare(folder: Path, program: Path) -> dict[str, str]:
     """Copies the repository's files and the program, and returns the environment of the commands."""
     work = folder / "labels"
-    if with_kit:
-        subprocess.run(["git", "clone", "--quiet", TOP, work], check=True)
-    else:
-        for part in FOLDERS:
-            shutil.copytree(TOP / part, work / part, ignore=shutil.ignore_patterns("__pycache__"))
-        shutil.copy(TOP / "CHANGELOG.md", work)
-    (work / PROGRAM).parent.mkdir(parents=True, exist_ok=True)
+    for part in FOLDERS:
+        shutil.copytree(TOP / part, work / part, ignore=shutil.ignore_patterns("__pycache__"))
+    shutil.copy(TOP / "CHANGELOG.md", work)
     for name in ("bin", "home"):
         (folder / name).mkdir()
-    if program.exists():
-        shutil.copy(program, work / PROGRAM)
+    (work / PROGRAM).parent.mkdir(parents=True)
+    shutil.copy(program, work / PROGRAM)
     (folder / "bin/labels").symlink_to(work / PROGRAM)
     environment = {name: value for name, value in os.environ.items() if name != "LABELS"}
     for library in sorted((TOP / "out/lib").glob("liblabels.so.*")):  # the tools draw by it
@@ -166,17 +157,15 @@ def prepare(folder: Path, program: Path, with_kit: bool) -> dict[str, str]:
     }
 
 
-def faults_of(name: str, commands: Sequence[Commands], program: Path, with_kit: bool) -> Iterator[str]:
+def faults_of(name: str, commands: Sequence[Commands], program: Path) -> Iterator[str]:
     """What is wrong with each command of a page, and with each picture that they make; "" for one that is right."""
     if not commands:
         yield "no command to run"
     with tempfile.TemporaryDirectory() as folder:
         work = Path(folder, "labels")
-        environment = prepare(Path(folder), program, with_kit)
+        environment = prepare(Path(folder), program)
         for one in commands:
             yield one.fault(work, environment)
-        if not program.exists():
-            shutil.copy(work / PROGRAM, program)
         if name == "docs/RECIPES.md":
             yield DRAWN.fault(work, environment)
             for picture in sorted(PICTURES.iterdir()):
@@ -217,7 +206,7 @@ def faults_of_wrong_pages(folder: Path) -> Iterator[tuple[str, str]]:
     for what, (name, text) in {**texts, "a manual": ("wrong.1", WRONG_MANUAL)}.items():
         page = folder / name
         page.write_text(text, encoding="utf-8")
-        commands = examples_of(page) if name == "wrong.1" else commands_of(f"{page}", False)
+        commands = examples_of(page) if name == "wrong.1" else commands_of(f"{page}")
         first, *_, last = [one.fault(folder, {"PATH": os.defpath}) for one in commands]
         yield what, "" if first else last
 
@@ -248,19 +237,12 @@ def wrong_cases() -> Iterator[tuple[str, bool]]:
 
 
 def main() -> int:
-    parser = sources.parser_of(__doc__, has_top=False)
-    parser.add_argument("--kit", action="store_true", help="run the blocks that call the kit too, in a fresh clone")
-    parser.add_argument("program", metavar="PROGRAM", nargs="?", type=Path, help=f"the program ({PROGRAM})")
-    given = parser.parse_args()
-    with tempfile.TemporaryDirectory() as folder:
-        program = Path(folder, "labels") if given.kit else (given.program or TOP / PROGRAM).resolve()
-        if not given.kit and not os.access(program, os.X_OK):
-            parser.error(f"{program} is no program: run (cd crates/labels && rt run < /dev/null)")
-        commands = {page: [*commands_of(page, given.kit)] for page in pages.RUN}
-        manuals = {f"man/{page.name}": examples_of(page) for page in sorted((TOP / "man").glob("*.1"))}
-        commands |= {name: found for name, found in manuals.items() if found or name == "man/labels.1"}
-        cases = [*wrong_cases()]
-        counts = [judged(name, faults_of(name, found, program, given.kit)) for name, found in commands.items()]
+    program = Path(sources.program_given(__doc__))
+    commands = {page: [*commands_of(page)] for page in pages.RUN}
+    manuals = {f"man/{page.name}": examples_of(page) for page in sorted((TOP / "man").glob("*.1"))}
+    commands |= {name: found for name, found in manuals.items() if found or name == "man/labels.1"}
+    cases = [*wrong_cases()]
+    counts = [judged(name, faults_of(name, found, program)) for name, found in commands.items()]
     count, good = map(sum, zip(*counts))
     faults = [] if good == count else [f"{count - good} are not"]
     return sources.ended(faults, f"{good} of {count} as printed", cases)
