@@ -209,21 +209,9 @@ def fault_of_text(body: Body, folder: str) -> str:
     return ""
 
 
-def fault_of(body: Body, folder: str, seen: dict[object, Body]) -> str:
-    """Returns what keeps a body of a crate from being tried, or nothing; `seen` has those before
-    it by what they leave.
-    """
-    fault = fault_of_text(body, folder) if body.text else fault_of_changes(body, folder)
-    if fault:
-        return fault
-    texts = changed({}, body, folder) or {}
-    left = (
-        body.functions,
-        code_of(body.text),
-        *sorted((it, code_of(text)) for it, text in texts.items()),
-    )
-    twin = seen.setdefault(left if body.text else left[2:], body)
-    return "" if twin is body else f"it leaves the same text as {twin.name}"
+def fault_of(body: Body, folder: str) -> str:
+    """Returns what keeps a body of a crate from being tried, or nothing."""
+    return fault_of_text(body, folder) if body.text else fault_of_changes(body, folder)
 
 
 # ---- copies of functions

@@ -2,9 +2,9 @@
 """Tries the wrong bodies of crates/*/wrong-bodies: the prover must refuse each.
 
 scripts/edits.py says what such a file has. A wrong body changes bodies of src/: it leaves clauses,
-ghost items and attributes as they are, and no two of a crate leave the same text. The files of
-crates/*/right-bodies are of the same form and not wrong: the prover has to accept each, and one
-that is reported as refused is a fault of this script.
+ghost items and attributes as they are. The files of crates/*/right-bodies are of the same form and
+not wrong: the prover has to accept each, and one that is reported as refused is a fault of this
+script.
 
 `rt` tries each must-fail edit by a check of the crate. Here one check tries many: a copy of the
 crate has a function once more for each of its bodies that are texts, and beside these a control
@@ -18,8 +18,8 @@ decides them: the files of the crate and of those below it, its bodies, the kit,
 Verdicts with a fault are not kept.
 
 The status is 0 where each wrong body is refused, 1 where one is not or there is none, and 2 where
-an argument names no crate or there is no kit. For each crate a line says how many bodies it has
-and how long their checks took. The last line is `N passed, M failed`, as of `rt ci`.
+an argument names no crate or there is no kit. For each crate a line says how many bodies were
+refused and accepted. The last line is `N passed, M failed`, as of `rt ci`.
 """
 
 import concurrent.futures
@@ -28,7 +28,6 @@ import hashlib
 import multiprocessing
 import os
 import re
-import resource
 import shutil
 import sys
 import tempfile
@@ -103,7 +102,6 @@ class Tried:
     crate: str
     refused: list[str] = field(default_factory=list)
     accepted: int = 0
-    checks: int = 0
     lines: list[str] = field(default_factory=list)
 
     def judge(self, bodies: Sequence[Body], said: str) -> list[Body]:
@@ -114,7 +112,6 @@ class Tried:
                 self.count(body, one)
         if not LAST.search(said):
             self.lines += ["the check did not reach its end:", *said.split("\n")[:6]]
-        self.checks += 1
         return [body for body, one in found.items() if one is Outcome.UNKNOWN]
 
     def count(self, body: Body, found: Outcome) -> None:
@@ -174,20 +171,12 @@ def try_bodies(rtlib: Any, crate: Any, bodies: Sequence[Body], kept: str, tried:
             left += [dataclasses.replace(it, is_alone=is_alone) for it in chosen if it in again]
 
 
-def seconds_of_programs() -> float:
-    """Returns the processor time of the programs that this process has run."""
-    used = resource.getrusage(resource.RUSAGE_CHILDREN)
-    return used.ru_utime + used.ru_stime
-
-
 def try_all(rtlib: Any, crate: Any) -> Tried:
     """Tries the wrong and the right bodies of a crate, over what its last check proved."""
     tried = Tried(crate.name)
-    before = seconds_of_programs()
-    seen: dict[object, Body] = {}
     left = []
     for body in edits.bodies_of(crate.folder):
-        fault = edits.fault_of(body, crate.folder, seen)
+        fault = edits.fault_of(body, crate.folder)
         if fault:
             tried.lines.append(f"{body.name}: {fault}")
         else:
@@ -197,9 +186,7 @@ def try_all(rtlib: Any, crate: Any) -> Tried:
         if os.path.isdir(proved):
             shutil.copytree(proved, kept, dirs_exist_ok=True)
         try_bodies(rtlib, crate, left, kept, tried)
-    took = f"{seconds_of_programs() - before:.1f} s of processor"
-    counts = f"{len(tried.refused)} refused, {tried.accepted} accepted, in {tried.checks} checks"
-    print(f"{crate.name}: {counts}, {took}", flush=True)
+    print(f"{crate.name}: {len(tried.refused)} refused, {tried.accepted} accepted", flush=True)
     return tried
 
 
@@ -231,7 +218,7 @@ CRATES: dict[str, Any] = {}
 
 
 def try_named(name: str) -> Tried:
-    """Tries the bodies of a crate of this run, in a process that knows what its own checks took."""
+    """Tries the bodies of a crate of this run, in a process of its own."""
     return tried_once(libraries.kit(), CRATES[name])
 
 
@@ -244,7 +231,7 @@ def counts_of(names: Sequence[str]) -> dict[str, int]:
 
 def crates_asked() -> tuple[list[str], bool]:
     """Returns the crates that the arguments name, and whether libraries are taken as they are."""
-    parser, known = sources.parser_of(__doc__, has_top=False), sources.crates_of(sources.TOP)
+    parser, known = sources.parser_of(__doc__), sources.crates_of(sources.TOP)
     crates = "a crate of crates.txt (all that have wrong bodies)"
     parser.add_argument("crates", nargs="*", metavar="CRATE", help=crates)
     built = "take the libraries below as `rt ci` left them; else build those that changed"
