@@ -326,33 +326,29 @@ def shape_of(row: Sequence[str]) -> str:
     return " | ".join(row) if row[:2] in HEADS else f"{row[0]} with {len(row) - 1} more cells"
 
 
-def compared(name: str, found: Cell, wanted: str) -> str:
-    """A line on a count beside that of the page, which begins with FAILS where they differ."""
+def fault_of(name: str, found: Cell, wanted: str) -> str:
+    """What is wrong with a count beside that of the page, or nothing."""
     if not re.fullmatch(r"[1-9][\d,]*", wanted):
-        return f"FAILS {name}: the page has {wanted or 'no such row'}"
+        return f"{name}: the page has {wanted or 'no such row'}"
     if not isinstance(found, (int, float)):
-        return f"FAILS {name}: {wanted} on the page, and nothing is counted"
+        return f"{name}: {wanted} on the page, and nothing is counted"
     percent = 100 * found / int(wanted.replace(",", "")) - 100
-    line = f"{name}: {wanted} on the page, {found:,.0f} measured, {percent:+.1f} %"
-    return f"FAILS {line}" if abs(percent) > ROOM else line
+    return f"{name}: {wanted} on the page, {found:,.0f} measured, {percent:+.1f} %" if abs(percent) > ROOM else ""
 
 
-def check(made: Sequence[Table], page: str) -> list[str]:
-    """A line for each count, and one where the tables as they are printed have other heads or rows than the page."""
+def faults(made: Sequence[Table], page: str) -> list[str]:
+    """The counts that differ, and each line of the tables as they are printed that has another head or row than the
+    page."""
     rows = [*rows_of(page)]
-    lines = [
-        compared(name, counts[0], "; ".join(row[1] for row in rows if row[0] == name))
+    found = [
+        fault_of(name, counts[0], "; ".join(row[1] for row in rows if row[0] == name))
         for _, of_table in made
         for name, counts in of_table.items()
     ]
     ours, theirs = ([*map(shape_of, it)] for it in (rows_of(text_of(made)), rows))
     differing = [line for line in difflib.ndiff(theirs, ours) if line[0] in "+-"]
-    return lines + [f"FAILS the page (-) has other rows than are printed (+): {line}" for line in differing]
-
-
-def failing(lines: Iterable[str]) -> list[str]:
-    """The lines that say that something fails."""
-    return [line for line in lines if line.startswith("FAILS")]
+    found += [f"the page (-) has other rows than are printed (+): {line}" for line in differing]
+    return [*filter(None, found)]
 
 
 def wrong_cases() -> Iterator[tuple[str, bool]]:
@@ -370,12 +366,12 @@ def wrong_cases() -> Iterator[tuple[str, bool]]:
         cases["nothing counted"] = head, {**rows, "two": [None]}
         for name, wrong in cases.items():
             for ours, page in ((wrong, right), (right, wrong)):
-                yield f"{name} of {ours} beside {page}", bool(failing(check([ours], text_of([page]))))
-        yield f"the same of {right}", not failing(check([right], text_of([right])))
+                yield f"{name} of {ours} beside {page}", bool(faults([ours], text_of([page])))
+        yield f"the same of {right}", not faults([right], text_of([right]))
 
 
 def main() -> int:
-    parser = sources.parser_of(__doc__, has_top=False)
+    parser = sources.parser_of(__doc__)
     parser.add_argument("--check", action="store_true", help="compare what is ours with the page")
     given = parser.parse_args()
     made: list[Table] = []
@@ -387,10 +383,8 @@ def main() -> int:
                 print(text_of([table]), flush=True)
     if not given.check:
         return 0
-    lines = check(made, PAGE.read_text(encoding="utf-8"))
-    faults = failing(lines)
-    print(*lines, sep="\n")
-    return sources.ended(faults, f"{sum(len(rows) for _, rows in made)} rows, {len(faults)} failed", wrong_cases())
+    found = faults(made, PAGE.read_text(encoding="utf-8"))
+    return sources.ended(found, f"{sum(len(rows) for _, rows in made)} rows, {len(found)} failed", wrong_cases())
 
 
 if __name__ == "__main__":

@@ -170,7 +170,7 @@ def all_lints(files: Mapping[str, Sequence[str]]) -> list[Lint]:
 
 
 def main() -> int:
-    sources.parser_of(__doc__, has_top=False).parse_args()
+    sources.parser_of(__doc__).parse_args()
     os.chdir(sources.TOP)
     files = files_by_kind()
     faults = [*faults_of_rules(), *faults_of_subjects()]

@@ -316,7 +316,7 @@ def faults_of_counts(pages: Mapping[str, str]) -> Iterator[str]:
 
 
 def main() -> int:
-    sources.parser_of(__doc__, has_top=False).parse_args()
+    sources.parser_of(__doc__).parse_args()
     os.chdir(sources.TOP)
     pages = texts()
     faults = [*faults_of_length(pages), *faults_of_words(prose()), *faults_of_counts(pages)]

@@ -29,7 +29,7 @@ def build_for_arm64(library: Any) -> int:
 
 
 def main() -> int:
-    sources.parser_of(__doc__, has_top=False).parse_args()
+    sources.parser_of(__doc__).parse_args()
     crates = {it.name: it for it in libraries.kit().crates_below(sources.TOP)}
     program, library = crates["labels"], crates["labels_c"]
     not_proved = libraries.build([*dict.fromkeys([*program.below(), *library.below()])], as_left=True)

@@ -195,7 +195,7 @@ def wrong_cases(symbol: Symbol) -> Iterator[tuple[str, bool]]:
 
 
 def main() -> int:
-    sources.parser_of(__doc__, has_top=False).parse_args()
+    sources.parser_of(__doc__).parse_args()
     symbols = all_symbols()
     turned = [*damaged(symbols, 450)]
     wrong, torn = faults(symbols, False), faults(turned, True)

@@ -137,7 +137,7 @@ def sees_wrong_tests() -> bool:
 
 
 def main() -> int:
-    parser = sources.parser_of(__doc__, has_top=False)
+    parser = sources.parser_of(__doc__)
     parser.add_argument("folder", metavar="FOLDER", help="a folder of tests")
     parser.add_argument("--quick", action="store_true", help="leave out the tests that draw, or take seconds")
     given = parser.parse_args()

@@ -34,17 +34,14 @@ def run(command: Sequence[str], folder: str | None = None, **more: str) -> tuple
     return done.returncode, done.stdout
 
 
-def parser_of(description: str | None, has_top: bool = True) -> argparse.ArgumentParser:
-    """A parser of the arguments of a script; --top names the repository, which else is that of this script."""
-    parser = argparse.ArgumentParser(description=description, formatter_class=argparse.RawDescriptionHelpFormatter)
-    if has_top:
-        parser.add_argument("--top", default=TOP, metavar="FOLDER", help="the repository (that of this script)")
-    return parser
+def parser_of(description: str | None) -> argparse.ArgumentParser:
+    """A parser of the arguments of a script."""
+    return argparse.ArgumentParser(description=description, formatter_class=argparse.RawDescriptionHelpFormatter)
 
 
 def program_given(description: str | None) -> str:
     """The program `labels` that an argument names, the proved one where none does. Stops where it is not there."""
-    parser = parser_of(description, has_top=False)
+    parser = parser_of(description)
     default = os.path.join(TOP, "crates", "labels", "out", "labels")
     parser.add_argument(
         "program",

@@ -127,8 +127,8 @@ def unused_functions(code: Sequence[File]) -> tuple[list[Declaration], int]:
 
 
 def main() -> int:
-    top = sources.parser_of(__doc__).parse_args().top
-    files = reader.files_of(top, sources.crates_of(top), "specs", "proofs", "src")
+    sources.parser_of(__doc__).parse_args()
+    files = reader.files_of(sources.TOP, sources.crates_of(sources.TOP), "specs", "proofs", "src")
     code = [file for file in files if file.part == "src"]
     logic = [file for file in files if file.part != "src"]
     functions, function_count = unused_functions(code)

@@ -90,10 +90,6 @@ class InFolder(unittest.TestCase):
     def path(self, *names: str) -> str:
         return os.path.join(self.folder, *names)
 
-    def bare_path(self) -> str:
-        """A PATH with what every system has, and no kit."""
-        return "/usr/bin:/bin"
-
 
 class InCopy(unittest.TestCase):
     """Tests in a copy of the repository, in which each undoes its changes."""

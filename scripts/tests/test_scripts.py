@@ -54,7 +54,7 @@ class WrongBodies(InFolder):
         for crate, path, status, wanted in (
             ("labelcor", os.environ["PATH"], 2, "no crate labelcor"),
             ("labels", os.environ["PATH"], 1, "no wrong bodies in labels"),
-            ("gf256", self.bare_path(), 2, "rt is not on the path"),
+            ("gf256", "/usr/bin:/bin", 2, "rt is not on the path"),
         ):
             with self.subTest(wanted):
                 found, said = run("wrong_bodies.py", crate, PATH=path)
@@ -146,7 +146,6 @@ TRIED: tuple[tuple[dict[str, str], list[str], tuple[int, int, list[str]]], ...] 
     ),
     ({WRONG: edit("2") + CLAUSE}, [], (0, 0, ["one: it changes a clause, a ghost item or an attribute"])),
     ({WRONG: edit(" 1")}, [], (0, 0, ["one: it changes no code"])),
-    ({WRONG: edit("2"), SECOND: edit(" 2")}, [said(one=NOT)], (1, 0, ["second: it leaves the same text as one"])),
     # A text is tried in a copy of the function, beside a control in which nothing may be wrong.
     ({WRONG: body("one() + 1")}, [said(one_0=NOT, one_calling_itself="proved")], (1, 1, [])),
     ({WRONG: body("one() + 1")}, [said(one_0=HOLES, one_calling_itself=HOLES)], (0, 1, ACCEPTED)),
@@ -175,7 +174,6 @@ TRIED: tuple[tuple[dict[str, str], list[str], tuple[int, int, list[str]]], ...] 
     *(
         ({WRONG: body("2"), SECOND: second}, [said(one_0=NOT, one_calling_itself="proved")], (1, 1, reported))
         for second, reported in (
-            (body(" 2"), ["second: it leaves the same text as one"]),
             (body("1"), ["second: it changes no code"]),
             (body("fn two() -> u8 ensures { result ≡ 1 } { 1 } 3"), GHOST),
             (body("#[inline] 3"), GHOST),
@@ -281,7 +279,7 @@ class Outcomes(InFolder):
         for results, are_all, wanted in (
             ([one("a", ["b", "c"], 1)], True, (0, "3 passed, 0 failed\n")),
             ([one("a", ["b", "c"], 0)], False, (0, "2 passed, 0 failed\n")),
-            ([one("a", ["c"], 1, 0, ["b: NOT REFUSED"])], True, (1, "a/b: NOT REFUSED\n2 passed, 1 failed\n")),
+            ([one("a", ["c"], 1, ["b: NOT REFUSED"])], True, (1, "a/b: NOT REFUSED\n2 passed, 1 failed\n")),
         ):
             with contextlib.redirect_stdout(io.StringIO()) as printed:
                 self.assertEqual((wrong_bodies.judged(results, are_all), printed.getvalue()), wanted)
@@ -418,9 +416,9 @@ BENT: tuple[tuple[Callable[[], Iterable[tuple[str, bool]]], Any, dict[str, Any],
     (run_recipes.wrong_cases, run_recipes, {"judged": lambda *_: (3, 2)}, 45),
     (instructions.wrong_cases, instructions, {"ROOM": 5}, 0),
     (instructions.wrong_cases, instructions, {"ROOM": 50}, 48),
-    (instructions.wrong_cases, instructions, {"compared": lambda *_: "one: fine"}, 56),
+    (instructions.wrong_cases, instructions, {"fault_of": lambda *_: ""}, 56),
     (instructions.wrong_cases, instructions, {"shape_of": lambda row: ""}, 8),
-    (instructions.wrong_cases, instructions, {"check": lambda *_: []}, 88),
+    (instructions.wrong_cases, instructions, {"faults": lambda *_: []}, 88),
 )
 
 
