@@ -158,22 +158,6 @@ class Rows(InCopy):
         )
         self.assert_changes_fail(changes, self.check)
 
-    def test_each_definition_is_looked_at(self) -> None:
-        """In each file the first and the last word that is changed, in its place, and then the sum of its line."""
-        every = changes.all_changes(changes.read_crates(self.folder))
-        for found in ({it.file: it for it in reversed(every)}, {it.file: it for it in every}):
-            for file, change in found.items():
-                self.replace(file.path, change.text())
-            status, said = self.check()
-            waiting = [file.title for file in found if f"{file.title}: no" not in said]
-            self.assertEqual((status, waiting), (1, []), said)
-            self.doCleanups()
-        text = read(self.path(RESULTS))
-        self.replace(RESULTS, re.sub(r"(?m)^(\w+/\w+ \d+) \w+", r"\1 0", text))
-        _, said = self.check()
-        self.assertEqual([file.title for file in found if f"{file.title}: not as it was judged" not in said], [])
-        self.assertIn("\n0 changes of 0 definitions", said)
-
 
 # What a check says of copies of three changes, of which it refuses the first by a worked value, and the last as no
 # definition.

@@ -77,6 +77,8 @@ CHANGED = {
         ("crates/linear/README.md", "```rust\n", "```text\n", "crates/linear/README.md:1: no example"),
         ("crates/command/README.md", "\n", "\n\n", "crates/command/README.md:1: 41 lines, and at most 40"),
         ("docs/PRINTING.md", END, f"\n```sh\nlabels\n{END}", "this block is not closed"),
+        ("docs/WINDOW.md", END, f"\n```sh\nlabels\n```\n{END}", "nothing runs the commands of this page"),
+        ("docs/INPUT.md", "](PRINTING.md", "](PRINTIN.md", "a link to no file: PRINTIN.md"),
         ("docs/INPUT.md", END, f"\n~~~rust\nfn a() {{}}\n~~~\n{END}", "no script reads blocks of ~~~"),
         ("docs/INPUT.md", END, f"\n```\nlabels\n```\n{END}", "no script reads blocks of no language"),
         ("docs/PROOF.md", "ensures whole {", "ensures half {", "this code is in no file"),
@@ -129,36 +131,6 @@ class TakenAway(InCopy):
             unseen = [wanted for *_, wanted in changes if wanted not in said]
             self.assertEqual((status, unseen), (1, []), said)
             self.doCleanups()
-
-    def faults_of(self, name: str) -> list[str]:
-        """What a step says of the copy before its last line, each without the number of its line."""
-        status, said = self.judged(name)
-        *lines, _ = said.rstrip("\n").split("\n")
-        self.assertEqual(status, int(bool(lines)), said)
-        return sorted(re.sub(r":\d+: ", ": ", line) for line in lines)
-
-    def test_each_page_is_looked_at(self) -> None:
-        """What is wrong at its begin and at its end."""
-        pages = module("pages")
-        os.chdir(self.folder)
-        self.addCleanup(os.chdir, TOP)
-        wanted = list[str]()
-        for page, text in pages.texts().items():
-            wrong = ["[a](none.md)", "[a](#none)", "```bash\nlabels\n```"]
-            found = ["a link to no file: none.md", "a link to no heading: #none", "no script reads blocks of bash"]
-            if page in pages.NAMING:
-                wrong.append("`nought_of_all`")
-                found.append("no `nought_of_all` in the code")
-            if page in pages.QUOTING:
-                wrong.append("```rust\nnought_of_all\n```")
-                found.append("this code is in no file that the page names above it")
-            if page not in pages.RUN:
-                wrong.append("```sh\nlabels\n```")
-                found.append("nothing runs the commands of this page: write them as text")
-            self.replace(page, "\n\n".join([*wrong, text, *wrong, ""]))
-            wanted += 2 * [f"{page}: {it}" for it in found]
-        lines = [line for line in self.faults_of("pages.py") if " and at most " not in line]
-        self.assertEqual(lines, sorted(wanted))
 
     def test_each_text_is_looked_at(self) -> None:
         """Each page, manual and file of messages: what would be odd in natural English."""

@@ -6,9 +6,7 @@ built program: where a script calls one, a stand-in of a few lines is put on the
 
 import contextlib
 import io
-import itertools
 import os
-import re
 import sys
 import tempfile
 import types
@@ -620,11 +618,6 @@ PLANTED = (
 )
 
 
-# What is planted before the first import of files, and at their ends.
-IMPORT = {"logic": "\nuse Rattle.std.specs.Prelude.{nil}", "src": "\nuse std::io::{nil};"}
-AT_THE_END = {"logic": "\nnought : ℕ\nnought = 0\n", "src": "\nfn nought() {}\n"}
-
-
 class Unused(InCopy):
     """What is planted in a copy of the repository and used by nothing is found, and nothing else."""
 
@@ -644,23 +637,6 @@ class Unused(InCopy):
         wanted = [f"{file} {text}" for file, *_, texts in PLANTED for text in texts]
         self.assertEqual((status, sorted(found)), (1, sorted(wanted)))
         self.assertTrue(last.endswith(f": {len(wanted)} unused"), said)
-
-    def test_each_crate_is_looked_at(self) -> None:
-        """What is planted in its first and in its last file of each part."""
-        reader, wanted = module("reader"), list[str]()
-        kinds = {"specs": "uses the definition", "proofs": "uses the lemma", "src": "calls the function"}
-        for crate, part in itertools.product(module("sources").crates_of(self.folder), kinds):
-            files = reader.files_of(self.folder, [crate], part)
-            files = [file for file in files if not re.search("Examples|Theorems", file.module)]
-            for file in {*files[:1], *files[-1:]}:
-                kind = "src" if part == "src" else "logic"
-                text = file.text.replace("\nuse ", f"{IMPORT[kind]}\nuse ", 1)
-                self.replace(file.path, text + AT_THE_END[kind])
-                wanted.append(f"{file.path}: nothing {kinds[part]} nought")
-                wanted += [f"{file.path}: the imported name nil is not used"] if text != file.text else []
-        *lines, last = self.judged("unused.py")[1].rstrip("\n").split("\n")
-        self.assertEqual(sorted(re.sub(r":\d+: ", ": ", line) for line in lines), sorted(wanted))
-        self.assertTrue(last.endswith(f": {len(wanted)} unused"), last)
 
     def test_what_cannot_be_read(self) -> None:
         """A file of which the kit can make no words; no crate at all."""
