@@ -90,7 +90,7 @@ class Release(unittest.TestCase):
         return found
 
     def test_what_is_in_which_package(self) -> None:
-        """No file is in two, the window alone needs a desktop, and pages are apart."""
+        """No file is in two, only the window needs a desktop, and pages are apart, as they are."""
         packages = self.packages()
         files = [file for names in packages.values() for file in names]
         self.assertEqual(len(files), len({*files}))
@@ -103,6 +103,8 @@ class Release(unittest.TestCase):
         self.assertEqual(with_window, {"label-window"})
         with_pages = {name for name, names in packages.items() if any(".md" in it for it in names)}
         self.assertEqual(with_pages, {"labels-doc"})
+        packed = {Path(it).name for it in files if not it.startswith("share/man/")}
+        self.assertEqual({it for it in packed if it.endswith(".gz")}, {"changelog.gz"})
         (program,) = self.release.glob("labels_*_amd64.deb")
         self.assertLess(program.stat().st_size, MOST_OF_LABELS)
 
