@@ -51,6 +51,7 @@ WRONG_PAGES = {
     "a block and what it prints": "```sh\necho right\n```\n\n```text\nwrong\n```\n",
     "a block that prints nothing": "```sh\necho wrong\n```\n",
     "a session": "```console\n$ echo right\nright\n$ echo right\nwrong\n```\n",
+    "a session that fails": "```console\n$ echo right; false\nright\n```\n",
     "a session that goes on": "```console\n$ echo \\\n> right\nwrong\n```\n",
     "a file that is shown": "```console\n$ cat one.csv\none\n$ cat one.csv\ntwo\n```\n",
 }
@@ -222,7 +223,6 @@ def wrong_cases() -> Iterator[tuple[str, bool]]:
             "another last letter": replace(right, printed="righs\n").fault(folder, {}),
             "no output": replace(right, text="true\n").fault(folder, {}),
             "a failure": replace(right, text="echo right; false").fault(folder, {}),
-            "a failure in a session": session_of(["$ echo right; false\n", "right\n", "$ true\n"]).fault(folder, {}),
             "output of another command": session_of(["$ true\n", "right\n", "$ echo right\n"]).fault(folder, {}),
             "another picture": fault_of_picture(one, another),
             "another pixel": fault_of_picture(one, with_turned_pixel(one, folder)),
