@@ -161,7 +161,8 @@ class Scheduler:
         bus = self.start("dbus-daemon", "--session", "--nofork", "--print-address")
         address = {"DBUS_SYSTEM_BUS_ADDRESS": bus.stdout.readline().decode().strip()}
         words = ["ippeveprinter", "-k", "-r", "off", "-n", "localhost", "-f", "image/pwg-raster"]
-        words += ["-d", f"{self.folder}/{name}", name, "-p"]
+        # It writes what a command prints; without one it waits 5 to 15 seconds for each job.
+        words += ["-c", "/bin/cat", "-d", f"{self.folder}/{name}", name, "-p"]
         while True:  # another program may take the port
             with socket.socket() as free:
                 free.bind(("localhost", 0))
