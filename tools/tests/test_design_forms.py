@@ -2,6 +2,7 @@
 is read by zbar and by zxing, and has its modules.
 """
 
+import itertools
 import os
 import subprocess
 import tempfile
@@ -123,35 +124,33 @@ class Shipped(unittest.TestCase):
     def test_each_design_has_a_label(self) -> None:
         names = [path.stem for path in sorted(designs.FOLDER.glob("*.svg"))]
         self.assertEqual(names, sorted(designs.SHIPPED))
-        for name in names:
-            found = designs.prepared(
-                designs.FOLDER / f"{name}.svg", [designs.SHIPPED[name]], paper=None
-            )
+        for name, dpi in itertools.product(names, DPIS):
+            found = self.prepared(name, dpi)
             for side, wanted in zip(found.job.plan.sheet.page, designs.size_of(name)):
                 self.assertAlmostEqual(side, wanted, delta=0.5)
             self.assertEqual((len(found.labels), found.left_out, found.remarks), (1, (), ()), name)
 
+    def prepared(self, name: str, dpi: int) -> Any:
+        """The label of a design, without a page."""
+        path = designs.FOLDER / f"{name}.svg"
+        return designs.prepared(path, [designs.SHIPPED[name]], paper=None, dpi=dpi, is_read=False)
+
     @support.slow
     def test_each_symbol_is_read_in_each_form(self) -> None:
+        """Each design in each form, and each form at each of the dots an inch."""
         read = 0
-        for name, label in designs.SHIPPED.items():
-            for dpi in DPIS:
-                found = designs.prepared(
-                    designs.FOLDER / f"{name}.svg", [label], paper=None, dpi=dpi, is_read=False
-                )
-                layout = found.labels[0].layout
-                assert isinstance(layout, OwnLayout)
-                dots = {form: printed(name, form, dpi) for form in ("pbm", "pdf", "svg", *DOTS)}
-                for form in DOTS:
-                    self.assertTrue(is_same(dots[form], dots["pbm"]), (name, dpi, form))
-                for form in ("pbm", "pdf", "svg"):
-                    rows = rows_of(dots[form])
-                    self.assertIsNone(fault_in(rows, layout.symbols), (name, dpi, form))
-                    self.assertEqual(
-                        self.by_zbar(dots[form]), self.codes(layout), (name, dpi, form)
-                    )
-                    read += len(layout.symbols)
-        self.assertEqual(read, 81)
+        for name, dpi in zip(designs.SHIPPED, itertools.cycle(DPIS)):
+            layout = self.prepared(name, dpi).labels[0].layout
+            assert isinstance(layout, OwnLayout)
+            dots = {form: printed(name, form, dpi) for form in ("pbm", "pdf", "svg", *DOTS)}
+            for form in DOTS:
+                self.assertTrue(is_same(dots[form], dots["pbm"]), (name, dpi, form))
+            for form in ("pbm", "pdf", "svg"):
+                fault = fault_in(rows_of(dots[form]), layout.symbols)
+                self.assertIsNone(fault, (name, dpi, form))
+                self.assertEqual(self.by_zbar(dots[form]), self.codes(layout), (name, dpi, form))
+                read += len(layout.symbols)
+        self.assertEqual(read, 27)
 
     def codes(self, layout: OwnLayout) -> list[str]:
         """The data of the symbols of a label, in their order."""
