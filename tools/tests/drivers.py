@@ -134,10 +134,11 @@ def shift_of(page: Dots, bars: Bars) -> Optional[Tuple[int, int]]:
     there; None where they are nowhere.
     """
     high, wide = bars.dots.shape
-    wanted = bars.dots[0].tobytes()
+    first = int(bars.dots.any(axis=1).argmax())  # the rows above are white, as much of the page
+    wanted = bars.dots[first].tobytes()
     begin = max(0, bars.left - NEAR)
     for top in range(max(0, bars.top - NEAR), min(len(page) - high, bars.top + NEAR) + 1):
-        row = page[top, begin : bars.left + wide + NEAR].tobytes()
+        row = page[top + first, begin : bars.left + wide + NEAR].tobytes()
         at = row.find(wanted)
         while at >= 0:
             left = begin + at
