@@ -7,7 +7,8 @@ function whose proof has to fail, by its path below the crate. Then it has one o
   there beside it: `body: match run(source) { Err(_) => Ok(()), well => well }`. So it quotes no
   code, and a change of the code leaves it as it is. It is tried in a copy of the function without
   a proof, and a right body, one that calls the function and does no more, shows that this is
-  enough. No function of a trait has a copy, and none that calls itself.
+  enough. No function of a trait has a copy, and none that calls itself. `clause: NAME` says
+  which of several clauses the body breaks: the copy has no other, so no other refuses it.
 - `file: FILE` and pairs of `old: TEXT` and `new: TEXT` change the code in its place; each TEXT is
   in the file once. `alone: WHY` keeps it apart from others, where the proofs of several functions
   read what it changes.
@@ -39,7 +40,8 @@ class Change:
 @dataclass(frozen=True)
 class Body:
     """A wrong body: `text` in place of the body of its function, or else changes of the code. One
-    that `is_right` is there to be accepted.
+    that `is_right` is there to be accepted. `clause` is the one that it is to break, or empty if
+    that is any.
     """
 
     name: str
@@ -48,6 +50,7 @@ class Body:
     changes: tuple[Change, ...] = ()
     is_alone: bool = False
     is_right: bool = False
+    clause: str = ""
 
 
 @dataclass(frozen=True)
@@ -104,7 +107,7 @@ def read_body(path: str) -> Body:
         )
     name = name.removesuffix(".edit")
     is_right = kind == "right-bodies"
-    return Body(name, tuple(found), text, tuple(changes), "alone" in last, is_right)
+    return Body(name, tuple(found), text, tuple(changes), "alone" in last, is_right, last.get("clause", ""))
 
 
 def bodies_of(folder: str) -> list[Body]:
@@ -217,6 +220,14 @@ def fault_of(body: Body, folder: str) -> str:
 # ---- copies of functions
 
 
+def clauses_of(item: reader.Declaration) -> dict[str, tuple[int, int]]:
+    """Returns where the `ensures` clauses of a function begin and end in its file, by their names."""
+    heads = [token for token in item.stated if token.kind in ("Head", "End")]
+    places = [place for place, token in enumerate(heads) if token.text == "ensures"]
+    ends = [next(it.start + 1 for it in heads[place:] if it.kind == "End") for place in places]
+    return {heads[place + 1].text: (heads[place].start, end) for place, end in zip(places, ends)}
+
+
 def copy_of(body: Body, ending: str, folder: str) -> Copy | None:
     """Returns a copy of the function of a body that is a text, with this ending of its name. There
     is none of a function of a trait, and of one that calls itself.
@@ -229,6 +240,9 @@ def copy_of(body: Body, ending: str, folder: str) -> Copy | None:
     begin, end = file.extent(one.tokens)
     attributes = file.text[one.attributes[0].start : begin] if one.attributes else ""
     head = re.sub(rf"\bfn {one.name}\b", f"fn {one.name}_{ending}", file.text[begin : found.block[0]], count=1)
+    for name, (start, last) in clauses_of(one).items():
+        if body.clause not in ("", name):
+            head = head.replace(file.text[start:last], "")
     renamed = dataclasses.replace(body, functions=(f"{function}_{ending}",))
     margin = " " * one.tokens[0].column
     return Copy(renamed, function, found.name, end, f"{margin}{attributes}{head}{{{body.text}}}")

@@ -50,13 +50,20 @@ PROVED = re.compile(r"no holes$|depends on a hole in `[^`]*\.Proof\.\w+_spec`")
 REFUSED = re.compile(r"not proved|no proof: expected answers|.*did not prove")
 # The line of a function whose given proof has errors, or rests on a lemma that has.
 STANDS_ON = re.compile(r"not proved; it stands on (.*?), which antt refuses")
+# An error in an answer, and what it is if the answer names a step of the code that the body does not have.
+ERROR = re.compile(r"^\./proofs/(.*)\.antt:[\d:]+ error: `(.*?)`: (.*)$", re.M)
+GONE = "has no field `"
+# The goal of what a function returns, among those that are left of it.
+RETURNS = "`returns"
 # What the prover says of a function where some goals wait for what it calls.
 NOT_TRIED = "`search` has not tried the goals of `{}::{}`,"
 LAST = re.compile(r"^(only|logic)=", re.M)
 
 
 class Outcome(Enum):
-    """What a check says of all functions of a body; `UNKNOWN`: one fails by what it calls."""
+    """What a check says of all functions of a body; `UNKNOWN`: one fails by what it calls, or only
+    by its form.
+    """
 
     PROVED = auto()
     REFUSED = auto()
@@ -64,19 +71,27 @@ class Outcome(Enum):
     NEITHER = auto()
 
 
-def is_refused(line: str, of_others: tuple[str, ...]) -> bool:
+def is_refused(line: str, of_others: tuple[str, ...], form: set[str]) -> bool:
     """Whether a line says that a function is not proved for what is written in it: by an error that
-    is in the proof of no other function that was asked for.
+    is in the proof of no other function that was asked for, and more than one of form.
     """
     stands_on = STANDS_ON.match(line)
     if not stands_on:
         return bool(REFUSED.match(line))
-    return any(not it.startswith(of_others) for it in re.findall("`([^`]*)`", stands_on[1]))
+    answers = {*re.findall("`([^`]*)`", stands_on[1])} - form
+    return any(not it.startswith(of_others) for it in answers)
+
+
+def of_form(crate: str, said: str) -> set[str]:
+    """Returns the answers in which nothing is wrong but that they name what the body does not have."""
+    found = [(f"Rattle.{crate}.proofs.{file.replace('/', '.')}.{it}", why) for file, it, why in ERROR.findall(said)]
+    return {it for it, _ in found} - {it for it, why in found if GONE not in why}
 
 
 def outcome(crate: str, body: Body, asked: Sequence[Body], said: str) -> Outcome:
     """Returns what a check of the bodies that were asked for says of one. A right one that fails
-    only by what it calls is as good as proved, if all its goals were tried.
+    only by what it calls is as good as proved, if all its goals were tried. A copy is refused only
+    for what it is to ensure, and not for a step on the way, such as an overflow.
     """
     others = [name for it in asked for name in it.functions if name not in body.functions]
     of_others = tuple(f"Rattle.{crate}.proofs.{it.replace('::', '.')}." for it in others)
@@ -87,8 +102,9 @@ def outcome(crate: str, body: Body, asked: Sequence[Body], said: str) -> Outcome
         return Outcome.PROVED
     if any(are_proved) or not all(lines):
         return Outcome.NEITHER
-    if all(is_refused(line, of_others) for line in lines):
-        return Outcome.REFUSED
+    if all(is_refused(line, of_others, of_form(crate, said)) for line in lines):
+        is_said = not body.text or all(RETURNS in line for line in lines)
+        return Outcome.REFUSED if is_said else Outcome.NEITHER
     are_tried = not any(NOT_TRIED.format(crate, it) in said for it in body.functions)
     return Outcome.PROVED if body.is_right and are_tried else Outcome.UNKNOWN
 

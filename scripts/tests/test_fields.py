@@ -1,9 +1,9 @@
 """Each field of the records that promise what a run does has a wrong body that breaks it, and so has each clause of
 the functions that carry them.
 
-A line `refutes: Runs.ended Filter::finish.status` of a body names what it breaks, and nothing else where that can be.
-The prover refuses the body, so it would see that this field is weakened. What no body can break holds by a law that
-the check proves.
+A line `refutes: Runs.ended Filter::finish.status` of a body names what it breaks, and nothing else where that can
+be; a line `clause: status` has it tried against this clause alone. The prover refuses the body, so it would see that
+this field is weakened. What no body can break holds by a law that the check proves.
 """
 
 import glob
@@ -37,6 +37,7 @@ LAWS = {
     "IsAfter.bytes": "are_bytes",
     "Filter::feed.bytes": "are_bytes",
     "Produces.read": "script_of_text_read",
+    "IsRead.full": "image_of_data_read",
     "IsRead.guarded": "IsGuarded-read",
     "IsRead.guarded_in_pixels": "IsGuardedInPixels-read",
     "IsRead.alone": "IsAlone-read",
@@ -92,6 +93,12 @@ class Fields(unittest.TestCase):
     def test_each_has_a_body_or_a_law(self) -> None:
         self.assertEqual(without_a_body(promised(), bodies()), set())
         self.assertEqual(refuted(bodies()) & {*LAWS}, set())
+
+    def test_each_clause_is_judged(self) -> None:
+        """A body that names a clause of its function is tried against this clause alone."""
+        for path, text in bodies().items():
+            named = {name.rpartition(".")[2] for name in refuted({path: text}) if name.rpartition(".")[0] in FUNCTIONS}
+            self.assertLessEqual(named, {*re.findall("^clause: (.*)$", text, re.M)}, path)
 
     def test_each_law_is_there(self) -> None:
         proofs = [*glob.glob(path_of("*/proofs/*.antt")), *glob.glob(path_of("*/src/*.rt"))]

@@ -70,14 +70,17 @@ OTHER = "\nfn other() -> u8 {\n    7\n}\n"
 THIRD = "\nfn third() -> u8 {\n    9\n}\n"
 LIB, WRONG, RIGHT = "src/lib.rt", "wrong-bodies/one.edit", "right-bodies/one.edit"
 SECOND = "wrong-bodies/second.edit"
-# What a check says of a function.
-NOT, HOLES = "not proved", "no holes"
+# What a check says of a function, and of its answers.
+LEFT = "no proof: expected answers in Answers.antt; `search` did not prove `{}`"
+NOT, HOLES = LEFT.format("returns"), "no holes"
 CALLS = "no proof: it calls `small::other`"
 HOLED = "depends on a hole in `Rattle.small.proofs.{}_spec`"
 RESTS = (
     "not proved; it stands on `Rattle.small.proofs.{}`, which antt refuses; "
     "it calls `small::other`, which is not proved"
 )
+GONE = "./proofs/one/Answers.antt:1:2: error: `returns`: record `Rattle.small.proofs.one.Lts.At` has no field `min`\n"
+FALSE = "./proofs/one/Answers.antt:3:4: error: `returns`: the two types differ\n"
 WAITS = "note: `search` has not tried the goals of `small::one_calling_itself`, which wait for a callee\n"
 UNENDED = "fn small::one: not proved\nkilled"
 # What is reported of bodies.
@@ -121,9 +124,12 @@ BESIDE = {
 # The files of a crate, what its checks say one after the other, and what comes of them: how many bodies are refused,
 # how many right ones accepted, and what is reported.
 TRIED: tuple[tuple[dict[str, str], list[str], tuple[int, int, list[str]]], ...] = (
+    ({WRONG: edit("2")}, [said(one="not proved")], (1, 0, [])),
     ({WRONG: edit("2")}, [said(one=NOT)], (1, 0, [])),
-    ({WRONG: edit("2")}, [said(one="no proof: expected answers for it")], (1, 0, [])),
     ({WRONG: edit("2")}, [said(one=RESTS.format("one.Answers.returns"))], (1, 0, [])),
+    # An answer that names a step of the code that the body does not have says nothing of the body.
+    ({WRONG: edit("2")}, [GONE + said(one=RESTS.format("one.Answers.returns"))] * 2, (0, 0, UNJUDGED)),
+    ({WRONG: edit("2")}, [GONE + FALSE + said(one=RESTS.format("one.Answers.returns"))], (1, 0, [])),
     ({WRONG: edit("2")}, [said(one=RESTS.format("OneLaws.is_one"))], (1, 0, [])),
     ({WRONG: edit("2")}, [said(one=HOLED.format("other.Proof.other"))], (0, 0, ACCEPTED)),
     ({WRONG: edit("2")}, [said(one=HOLED.format("one.Answers.returns"))] * 2, (0, 0, UNJUDGED)),
@@ -147,6 +153,7 @@ TRIED: tuple[tuple[dict[str, str], list[str], tuple[int, int, list[str]]], ...] 
     # A text is tried in a copy of the function, beside a control in which nothing may be wrong.
     ({WRONG: body("one() + 1")}, [said(one_0=NOT, one_calling_itself="proved")], (1, 1, [])),
     ({WRONG: body("one() + 1")}, [said(one_0=HOLES, one_calling_itself=HOLES)], (0, 1, ACCEPTED)),
+    ({WRONG: body("one() + 1")}, [said(one_0=LEFT.format("overflow"), one_calling_itself=HOLES)], (0, 1, ACCEPTED)),
     (TWO_TEXTS, [of_copies(NOT, NOT, HOLES)], (2, 1, [])),
     (TWO_TEXTS, [of_copies(NOT, HOLES, HOLES)], (1, 1, ["two: NOT REFUSED"])),
     (TWO_TEXTS, [of_copies(NOT, NOT, NOT)], (2, 0, [CONTROL])),
@@ -211,6 +218,15 @@ class Outcomes(InFolder):
         placed = edits.with_copies([copy, calling], folder)[LIB]
         self.assertTrue(placed.startswith(ONE.rstrip()))
         self.assertEqual(placed.count(copy.text) + placed.count(calling.text), 2)
+
+    def test_a_clause_that_is_named(self) -> None:
+        """The copy has no other, and the control has all."""
+        two = "    ensures value { result ≡ 1 }\n    ensures low { result < 2 }\n"
+        lib = ONE.replace("    ensures { result ≡ 1 }\n", two)
+        folder = self.crate({LIB: lib, WRONG: body("one() + 1") + "clause: low\n"}).folder
+        copies = edits.copies_of(edits.bodies_of(folder), folder)
+        self.assertEqual(["value" in copy.text for copy in copies], [False, True])
+        self.assertTrue(all("ensures low { result < 2 }" in copy.text for copy in copies))
 
     def test_bodies_of_no_form(self) -> None:
         for text in (body("2") + edit("2").partition("\n")[2], "refused: one\n", "body: 2\n"):
