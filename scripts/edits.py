@@ -10,8 +10,7 @@ function whose proof has to fail, by its path below the crate. Then it has one o
   enough. No function of a trait has a copy, and none that calls itself. `clause: NAME` says
   which of several clauses the body breaks: the copy has no other, so no other refuses it.
 - `file: FILE` and pairs of `old: TEXT` and `new: TEXT` change the code in its place; each TEXT is
-  in the file once. `alone: WHY` keeps it apart from others, where the proofs of several functions
-  read what it changes.
+  in the file once.
 """
 
 import dataclasses
@@ -40,17 +39,17 @@ class Change:
 @dataclass(frozen=True)
 class Body:
     """A wrong body: `text` in place of the body of its function, or else changes of the code. One
-    that `is_right` is there to be accepted. `clause` is the one that it is to break, or empty if
-    that is any.
+    that `is_right` is there to be accepted, and one that `is_alone` is tried beside no other.
+    `clause` is the one that it is to break, or empty if that is any.
     """
 
     name: str
     functions: tuple[str, ...]
     text: str = ""
     changes: tuple[Change, ...] = ()
-    is_alone: bool = False
     is_right: bool = False
     clause: str = ""
+    is_alone: bool = False
 
 
 @dataclass(frozen=True)
@@ -107,7 +106,7 @@ def read_body(path: str) -> Body:
         )
     name = name.removesuffix(".edit")
     is_right = kind == "right-bodies"
-    return Body(name, tuple(found), text, tuple(changes), "alone" in last, is_right, last.get("clause", ""))
+    return Body(name, tuple(found), text, tuple(changes), is_right, last.get("clause", ""))
 
 
 def bodies_of(folder: str) -> list[Body]:

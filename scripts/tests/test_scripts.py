@@ -90,9 +90,9 @@ CONTROL = "one calling itself: it is right, and not reported as not refused"
 GHOST = ["second: it has a clause, a ghost item or an attribute"]
 
 
-def edit(new: str, old: str = "1", function: str = "one", more: str = "", file: str = LIB) -> str:
+def edit(new: str, old: str = "1", function: str = "one", file: str = LIB) -> str:
     """A body that is a change of the code."""
-    return f"refused: {function}\n{more}file: {file}\nold:     {old}\nnew:     {new}\n"
+    return f"refused: {function}\nfile: {file}\nold:     {old}\nnew:     {new}\n"
 
 
 def body(text: str, function: str = "one") -> str:
@@ -118,7 +118,7 @@ BESIDE = {
     "wrong-bodies/a.edit": body("one() + 1"),
     "wrong-bodies/b.edit": body("one() + 2"),
     "wrong-bodies/c.edit": edit("8", "7", "other"),
-    "wrong-bodies/d.edit": edit("8", "9", "third", "alone: it is read\n"),
+    "wrong-bodies/d.edit": edit("8", "9", "third"),
     "wrong-bodies/e.edit": edit("2"),
 }
 # The files of a crate, what its checks say one after the other, and what comes of them: how many bodies are refused,
@@ -165,9 +165,9 @@ TRIED: tuple[tuple[dict[str, str], list[str], tuple[int, int, list[str]]], ...] 
     (TWO_TEXTS, [of_copies(CALLS, NOT, HOLES), said(one_0=CALLS)], (1, 1, UNJUDGED)),
     (TWO_TEXTS, [WAITS + of_copies(NOT, NOT, CALLS), said(one_calling_itself=HOLES)], (2, 1, [])),
     (TWO_TEXTS, [WAITS + of_copies(NOT, NOT, CALLS), said(one_calling_itself=NOT)], (2, 0, [CONTROL])),
-    # One check tries copies, and bodies in the places of other functions. After it comes what has to be alone, and
-    # what is in the place of a function that the copies call.
-    (BESIDE, [said(other=NOT) + of_copies(NOT, NOT, CALLS), said(third=NOT), said(one=NOT)], (5, 1, [])),
+    # One check tries copies, and bodies in the places of other functions. After it comes what is in the place of a
+    # function that the copies call.
+    (BESIDE, [said(other=NOT, third=NOT) + of_copies(NOT, NOT, CALLS), said(one=NOT)], (5, 1, [])),
     # Two functions are tried in one check, and what fails by what it calls after the others, and then alone.
     (TWO_FUNCTIONS, [said(one=NOT, other=NOT)], (2, 0, [])),
     (TWO_FUNCTIONS, [said(one=NOT, other=CALLS), said(other=NOT)], (2, 0, [])),
