@@ -39,8 +39,7 @@ class Change:
 @dataclass(frozen=True)
 class Body:
     """A wrong body: `text` in place of the body of its function, or else changes of the code. One
-    that `is_right` is there to be accepted, and one that `is_alone` is tried beside no other.
-    `clause` is the one that it is to break, or empty if that is any.
+    that `is_right` is there to be accepted. `clause` is the one that it is to break, or empty.
     """
 
     name: str
@@ -49,7 +48,6 @@ class Body:
     changes: tuple[Change, ...] = ()
     is_right: bool = False
     clause: str = ""
-    is_alone: bool = False
 
 
 @dataclass(frozen=True)
@@ -315,8 +313,7 @@ def together(bodies: Sequence[Body], folder: str, copies: Sequence[Copy]) -> tup
     texts = with_copies(copies, folder)
     taken = {name for copy in copies for name in (copy.function, *copy.body.functions)}
     for body in bodies:
-        is_apart = bool(taken) and body.is_alone or any(it.is_alone for it in chosen)
-        more = None if is_apart or taken & {*body.functions} else changed(texts, body, folder)
+        more = None if taken & {*body.functions} else changed(texts, body, folder)
         if more is not None:
             chosen, texts, taken = [*chosen, body], more, taken | {*body.functions}
     return chosen, texts

@@ -209,24 +209,18 @@ class Outcomes(InFolder):
                 self.assertEqual((len(tried.refused), tried.accepted, tried.lines), wanted)
 
     def test_a_body_as_a_text(self) -> None:
-        """It is always a copy, beside the function that it can call, and a control that calls it."""
-        folder = self.crate({WRONG: body("one() + 1")}).folder
+        """It is always a copy with the clause that it names, beside the function that it can call, and a control that
+        calls it and has all clauses."""
+        other = "ensures low { result < 2 }"
+        lib = ONE.replace("ensures {", f"{other}\n    ensures value {{")
+        folder = self.crate({LIB: lib, WRONG: body("one() + 1") + "clause: value\n"}).folder
         (copy, calling) = edits.copies_of(edits.bodies_of(folder), folder)
-        text = ONE.partition("\n")[2].partition("{\n")[0]
-        self.assertEqual(copy.text, text.replace("one(", "one_0(") + "{ one() + 1 }")
+        text = lib.partition("\n")[2].partition("{\n")[0]
+        self.assertEqual(copy.text, text.replace("one(", "one_0(").replace(other, "") + "{ one() + 1 }")
         self.assertEqual(calling.text, text.replace("one(", "one_calling_itself(") + "{ one() }")
         placed = edits.with_copies([copy, calling], folder)[LIB]
-        self.assertTrue(placed.startswith(ONE.rstrip()))
+        self.assertTrue(placed.startswith(lib.rstrip()))
         self.assertEqual(placed.count(copy.text) + placed.count(calling.text), 2)
-
-    def test_a_clause_that_is_named(self) -> None:
-        """The copy has no other, and the control has all."""
-        two = "    ensures value { result ≡ 1 }\n    ensures low { result < 2 }\n"
-        lib = ONE.replace("    ensures { result ≡ 1 }\n", two)
-        folder = self.crate({LIB: lib, WRONG: body("one() + 1") + "clause: low\n"}).folder
-        copies = edits.copies_of(edits.bodies_of(folder), folder)
-        self.assertEqual(["value" in copy.text for copy in copies], [False, True])
-        self.assertTrue(all("ensures low { result < 2 }" in copy.text for copy in copies))
 
     def test_bodies_of_no_form(self) -> None:
         for text in (body("2") + edit("2").partition("\n")[2], "refused: one\n", "body: 2\n"):
@@ -288,18 +282,14 @@ class Outcomes(InFolder):
                 self.assertEqual(edits.call_of(item, is_method), wanted)
 
     def test_status(self) -> None:
-        """What is wrong with a body is printed and makes the status 1; so does a run without a right body."""
+        """What is wrong with a body is printed and makes the status 1."""
         one = wrong_bodies.Tried
-        for results, are_all, wanted in (
-            ([one("a", ["b", "c"], 1)], True, (0, "3 passed, 0 failed\n")),
-            ([one("a", ["b", "c"], 0)], False, (0, "2 passed, 0 failed\n")),
-            ([one("a", ["c"], 1, ["b: NOT REFUSED"])], True, (1, "a/b: NOT REFUSED\n2 passed, 1 failed\n")),
+        for results, wanted in (
+            ([one("a", ["b", "c"], 1)], (0, "3 passed, 0 failed\n")),
+            ([one("a", ["c"], 1, ["b: NOT REFUSED"])], (1, "a/b: NOT REFUSED\n2 passed, 1 failed\n")),
         ):
             with contextlib.redirect_stdout(io.StringIO()) as printed:
-                self.assertEqual((wrong_bodies.judged(results, are_all), printed.getvalue()), wanted)
-        with contextlib.redirect_stdout(io.StringIO()) as printed:
-            self.assertEqual(wrong_bodies.judged([one("a", ["b"])], True), 1)
-        self.assertIn("no right body was accepted", printed.getvalue())
+                self.assertEqual((wrong_bodies.judged(results), printed.getvalue()), wanted)
 
     def test_no_copies(self) -> None:
         """A method can be there twice, with its attributes; one of a trait cannot, nor one that calls itself."""
