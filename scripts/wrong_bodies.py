@@ -23,8 +23,8 @@ refused and accepted. The last line is `N passed, M failed`, as of `rt ci`.
 """
 
 import concurrent.futures
+import functools
 import hashlib
-import multiprocessing
 import os
 import re
 import shutil
@@ -224,14 +224,6 @@ def tried_once(rtlib: Any, crate: Any) -> Tried:
 
 # ---- all
 
-# The crates of this run by their names. The processes that try them begin with what it has.
-CRATES: dict[str, Any] = {}
-
-
-def try_named(name: str) -> Tried:
-    """Tries the bodies of a crate of this run, in a process of its own."""
-    return tried_once(libraries.kit(), CRATES[name])
-
 
 def counts_of(names: Sequence[str]) -> dict[str, int]:
     """Returns how many bodies the crates have that have wrong ones, the most first."""
@@ -271,17 +263,14 @@ def main() -> int:
         print("0 passed, 1 failed")
         return 1
     rtlib = libraries.kit()
-    rtlib.guarded()  # once, before the processes call it
+    rtlib.guarded()  # once, before the threads call it
     of_kit = {it.name: it for it in rtlib.crates_below(sources.TOP)}
     crates = [of_kit[name] for name in counts]
     below = dict.fromkeys(dep for crate in crates for dep in crate.below())
     if libraries.build([*below], as_left):
         return 1
-    CRATES.update((it.name, it) for it in crates)
-    forked = multiprocessing.get_context("fork")
-    workers = len(os.sched_getaffinity(0))
-    with concurrent.futures.ProcessPoolExecutor(workers, mp_context=forked) as pool:
-        results = [*pool.map(try_named, counts)]
+    with concurrent.futures.ThreadPoolExecutor(len(os.sched_getaffinity(0))) as pool:
+        results = [*pool.map(functools.partial(tried_once, rtlib), crates)]
     return judged(results)
 
 
