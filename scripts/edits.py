@@ -43,7 +43,7 @@ class Body:
     """
 
     name: str
-    functions: tuple[str, ...]
+    function: str
     text: str = ""
     changes: tuple[Change, ...] = ()
     is_right: bool = False
@@ -86,25 +86,22 @@ def read_body(path: str) -> Body:
     """Returns the wrong or right body of a file. Stops where it has none of the two forms."""
     kind, name = path.split(os.sep)[-2:]
     last: dict[str, str] = {}
-    found: list[str] = []
     changes = []
     for line in sources.read(path).split("\n"):
         key, _, text = line.partition(":")
         last[key] = text.removeprefix(" ")
-        if key == "refused":
-            found += text.split()
-        elif key == "new":
+        if key == "new":
             changes.append(Change(last.get("file", ""), last.get("old", ""), last["new"]))
     text = f" {last['body']} " if last.get("body") else ""
     is_whole = all(one.file and one.old for one in changes) and bool(text) != bool(changes)
-    if not found or not is_whole or text and len(found) > 1:
+    if not last.get("refused") or not is_whole:
         sys.exit(
             f"{path}: a wrong body has a line 'refused:', and a line 'body:', or a line 'file:' "
             "and pairs of 'old:' and 'new:'"
         )
     name = name.removesuffix(".edit")
     is_right = kind == "right-bodies"
-    return Body(name, tuple(found), text, tuple(changes), is_right, last.get("clause", ""))
+    return Body(name, last["refused"], text, tuple(changes), is_right, last.get("clause", ""))
 
 
 def bodies_of(folder: str) -> list[Body]:
@@ -198,9 +195,9 @@ def fault_of_changes(body: Body, folder: str) -> str:
 def fault_of_text(body: Body, folder: str) -> str:
     """Returns what is wrong with a body of one text, or nothing."""
     copy = copy_of(body, "0", folder)
-    found = found_anywhere(body.functions[0], folder)
+    found = found_anywhere(body.function, folder)
     if copy is None or found is None:
-        return f"{body.functions[0]} is no function that can be there twice: write old: and new:"
+        return f"{body.function} is no function that can be there twice: write old: and new:"
     begin, end = found.block
     if code_of(found.file.text[begin:end]) == code_of(f"{{{body.text}}}"):
         return "it changes no code"
@@ -229,8 +226,7 @@ def copy_of(body: Body, ending: str, folder: str) -> Copy | None:
     """Returns a copy of the function of a body that is a text, with this ending of its name. There
     is none of a function of a trait, and of one that calls itself.
     """
-    function = body.functions[0]
-    found = found_anywhere(function, folder)
+    found = found_anywhere(body.function, folder)
     if found is None or "cycle" in [token.text for token in found.item.attributes]:
         return None
     file, one = found.file, found.item
@@ -240,9 +236,9 @@ def copy_of(body: Body, ending: str, folder: str) -> Copy | None:
     for name, (start, last) in clauses_of(one).items():
         if body.clause not in ("", name):
             head = head.replace(file.text[start:last], "")
-    renamed = dataclasses.replace(body, functions=(f"{function}_{ending}",))
+    renamed = dataclasses.replace(body, function=f"{body.function}_{ending}")
     margin = " " * one.tokens[0].column
-    return Copy(renamed, function, found.name, end, f"{margin}{attributes}{head}{{{body.text}}}")
+    return Copy(renamed, body.function, found.name, end, f"{margin}{attributes}{head}{{{body.text}}}")
 
 
 def parameters_of(words: Sequence[str]) -> list[str]:
@@ -282,7 +278,7 @@ def calling_itself(function: str, folder: str) -> Copy | None:
         return None
     *_, holder, _ = ["", *function.split("::")]
     text = f" {call_of(found.item, holder[:1].isupper())} "
-    body = Body(f"{function} calling itself", (function,), text, is_right=True)
+    body = Body(f"{function} calling itself", function, text, is_right=True)
     return copy_of(body, "calling_itself", folder)
 
 
@@ -291,7 +287,7 @@ def copies_of(bodies: Sequence[Body], folder: str) -> list[Copy]:
     one that calls it.
     """
     texts = [body for body in bodies if body.text]
-    controls = (calling_itself(it, folder) for it in dict.fromkeys(body.functions[0] for body in texts))
+    controls = (calling_itself(it, folder) for it in dict.fromkeys(body.function for body in texts))
     copies = (copy_of(body, str(number), folder) for number, body in enumerate(texts))
     return [copy for copy in (*copies, *controls) if copy]
 
@@ -306,14 +302,14 @@ def with_copies(copies: Sequence[Copy], folder: str) -> dict[str, str]:
 
 
 def together(bodies: Sequence[Body], folder: str, copies: Sequence[Copy]) -> tuple[list[Body], dict[str, str]]:
-    """Returns as many of the bodies that change code as fit beside copies, each in functions of
-    its own that no copy calls, and the texts of the files then.
+    """Returns as many of the bodies that change code as fit beside copies, each in a function
+    of its own that no copy calls, and the texts of the files then.
     """
     chosen: list[Body] = []
     texts = with_copies(copies, folder)
-    taken = {name for copy in copies for name in (copy.function, *copy.body.functions)}
+    taken = {name for copy in copies for name in (copy.function, copy.body.function)}
     for body in bodies:
-        more = None if taken & {*body.functions} else changed(texts, body, folder)
+        more = None if body.function in taken else changed(texts, body, folder)
         if more is not None:
-            chosen, texts, taken = [*chosen, body], more, taken | {*body.functions}
+            chosen, texts, taken = [*chosen, body], more, taken | {body.function}
     return chosen, texts

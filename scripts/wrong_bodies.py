@@ -58,7 +58,7 @@ LAST = re.compile(r"^(only|logic)=", re.M)
 
 
 class Outcome(Enum):
-    """What a check says of all functions of a body; `UNKNOWN`: one fails by what it calls, or by its form."""
+    """What a check says of the function of a body; `UNKNOWN`: one fails by what it calls, or by its form."""
 
     PROVED = auto()
     REFUSED = auto()
@@ -87,20 +87,19 @@ def outcome(crate: str, body: Body, asked: Sequence[Body], said: str) -> Outcome
     only by what it calls is as good as proved, if all its goals were tried. A copy is refused only
     for what it is to ensure, and not for a step on the way, such as an overflow.
     """
-    others = [name for it in asked for name in it.functions if name not in body.functions]
+    others = [it.function for it in asked if it.function != body.function]
     of_others = tuple(f"Rattle.{crate}.proofs.{it.replace('::', '.')}." for it in others)
-    found = [re.search(rf"^fn {crate}::{re.escape(it)}: (.*)$", said, re.M) for it in body.functions]
-    lines = [line[1] if line else "" for line in found]
-    are_proved = [bool(PROVED.match(line)) for line in lines]
-    if all(are_proved):
+    found = re.search(rf"^fn {crate}::{re.escape(body.function)}: (.*)$", said, re.M)
+    line = found[1] if found else ""
+    if PROVED.match(line):
         return Outcome.PROVED
-    if any(are_proved) or not all(lines):
+    if not line:
         return Outcome.NEITHER
-    if all(is_refused(line, of_others, of_form(crate, said)) for line in lines):
-        is_said = not body.text or all("`returns" in line for line in lines)
+    if is_refused(line, of_others, of_form(crate, said)):
+        is_said = not body.text or "`returns" in line
         return Outcome.REFUSED if is_said else Outcome.NEITHER
-    are_tried = not any(NOT_TRIED.format(crate, it) in said for it in body.functions)
-    return Outcome.PROVED if body.is_right and are_tried else Outcome.UNKNOWN
+    is_tried = NOT_TRIED.format(crate, body.function) not in said
+    return Outcome.PROVED if body.is_right and is_tried else Outcome.UNKNOWN
 
 
 @dataclass
@@ -170,7 +169,7 @@ def try_bodies(rtlib: Any, crate: Any, bodies: Sequence[Body], kept: str, tried:
     while copies or left:
         chosen, texts = edits.together(left[:most], crate.folder, copies)
         asked = [*(copy.body for copy in copies), *chosen]
-        names = [name for body in asked for name in body.functions]
+        names = [body.function for body in asked]
         again = tried.judge(asked, check(rtlib, crate, texts, names, kept))
         left = [body for body in left if body not in chosen]
         if again == asked and (copies or len(asked) == 1):

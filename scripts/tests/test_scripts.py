@@ -302,7 +302,7 @@ class Outcomes(InFolder):
             ("other::Some::one", None),
             ("cycle::one", None),
         ):
-            copy = edits.copy_of(edits.Body("", (function,), " 2 "), "0", self.folder)
+            copy = edits.copy_of(edits.Body("", function, " 2 "), "0", self.folder)
             self.assertEqual(copy and copy.text, wanted, function)
 
 
