@@ -196,7 +196,11 @@ def size_of(element: Element, first: str = "width", second: str = "height") -> S
 
 
 def length_of(text: Optional[str]) -> float:
-    """Returns a length; 0 where there is none."""
+    """Returns a length in millimetres; 0 where there is none.
+
+    >>> [round(length_of(text), 2) for text in ("9mm", "2.54cm", "1in", "72pt", "6pc", "72")]
+    [9.0, 25.4, 25.4, 25.4, 25.4, 25.4]
+    """
     match = LENGTH.fullmatch(text or "0")
     return float(match[1]) * UNITS[match[2]] if match else 0.0
 

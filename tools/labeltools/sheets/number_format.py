@@ -175,7 +175,11 @@ def not_understood(number_format: str, is_code: bool = False) -> RowError:
 
 @lru_cache(maxsize=256)
 def number_sections(number_format: str) -> tuple[Section, ...]:
-    """Returns the sections of a format that show numbers: a last one with `@` shows texts alone."""
+    """Returns the sections of a format that show numbers: a last one with `@` shows texts alone.
+
+    >>> [section.pattern for form in ("0;@", "@") for section in number_sections(form)]
+    ['0', '@']
+    """
     sections = sections_of(number_format)
     is_for_texts = len(sections) > 1 and sections[-1].pattern == "@"
     return sections[:-1] if is_for_texts else sections
