@@ -1,5 +1,7 @@
 """How each tool ends, where a stream fails or is closed: by a small tool, and then every tool."""
 
+import os
+import subprocess
 import sys
 import tempfile
 import unittest
@@ -56,6 +58,19 @@ main_of("small-tool", function)
         for argument in ("--wrong", "--hel"):
             wrong = f"small-tool: error: unrecognized arguments: {argument}; try small-tool --help"
             self.assertEqual(self.small_tool("pass", argument), (2, b"", f"{wrong}\n"))
+
+    def test_its_streams_wait(self) -> None:
+        """Who gives them may have made them such as do not."""
+        body = "import os; print(*map(os.get_blocking, range(3)))"
+        script = self.SCRIPT.format(tools=str(support.TOOLS), body=body)
+        source, sink = os.pipe()
+        for end in (source, sink):
+            os.set_blocking(end, False)
+        with open(source, "rb") as taken, open(sink, "wb") as given:
+            words = [sys.executable, "-c", script]
+            subprocess.run(words, stdin=taken, stdout=given, stderr=given, check=True)
+            given.close()
+            self.assertEqual(taken.read(), b"True True True\n")
 
     def test_a_full_disk(self) -> None:
         full = (1, b"", "small-tool: standard output: No space left on device\n")
