@@ -951,7 +951,8 @@ class Numbers(TableTest):
         )
         self.assertEqual((done.returncode, done.stdout), (1, b""))
         problem = "label-table: standard input: most codes in column 1 have a wrong check digit; if"
-        problem += " they have none, give --without-check-digit, or --symbology code128"
+        problem += " they have none, give --symbology code128, or --without-check-digit if they"
+        problem += " have 12 digits"
         self.assertEqual(support.messages(done)[-1], problem)
 
 

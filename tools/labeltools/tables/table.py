@@ -225,7 +225,10 @@ class TableRun:
         self.leave_out_held()
         if self.wrong_digits > max(1, self.writer.taken):
             what = Text("{}: most codes in {} have a wrong check digit", name, title)
-            hint = Text("if they have none, give --without-check-digit, or --symbology code128")
+            hint = Text(
+                "if they have none, give --symbology code128, or --without-check-digit if they "
+                "have 12 digits"
+            )
             raise ToolError(what, hint, offers=offers[:1])
 
     def say_all(self) -> None:
