@@ -57,8 +57,6 @@ WRONG_PAGES = {
 }
 IN_MANUAL = ".PP\n.RS\n.EX\n$ echo right\n{}\n.EE\n.RE\n"
 WRONG_MANUAL = f".TH WRONG 1\n.SH EXAMPLES\n{IN_MANUAL.format('right')}{IN_MANUAL.format('wrong')}.SH BUGS\nNone.\n"
-# zbar's warnings of its reader of another symbology, which are printed in some runs and not in others
-DATABAR = re.compile(r"WARNING: decoder/databar.*\n(?:\t.*\n)?")
 
 
 @dataclass(frozen=True)
@@ -79,7 +77,7 @@ class Commands:
             stderr=subprocess.STDOUT,
             timeout=SECONDS,
         )
-        printed = DATABAR.sub("", ran.stdout.decode("utf-8", "backslashreplace"))
+        printed = ran.stdout.decode("utf-8", "backslashreplace")
         is_good = ran.returncode == 0 and self.printed in (None, printed)
         return "" if is_good else f"status {ran.returncode} of:\n{self.text}it printed:\n{printed}"
 
