@@ -20,9 +20,9 @@ COMPLETED := $(filter-out label-window,$(TOOLS))
 MODULES := $(shell cd tools && find labeltools -name '*.py' -o -name '*.ui' -o -name '*.list')
 LANGUAGES := $(patsubst tools/po/%.po,%,$(wildcard tools/po/*.po))
 WINDOW = org.labels.Window
-# The pages, and the programs that they call.
-DOCUMENTS := README.md $(wildcard docs/*.md docs/pictures/* designs/* examples/*) lib/examples/read.py \
-    tools/tests/printers.py
+# The pages, the programs that they call, and the definitions that docs/PROOF.md has read.
+DOCUMENTS := README.md $(wildcard docs/*.md docs/pictures/* designs/* examples/* crates/*/specs/*.antt) \
+    crates/command/src/entry.rt lib/examples/read.py tools/tests/printers.py
 PYTHON = /usr/bin/python3
 library = $(MAKE) -C lib OUT=$(CURDIR)/out/lib PROVED=$(abspath $(PROVED)) $(1)
 link = ln -sfn $(1) $(DESTDIR)$(2)

@@ -14,6 +14,7 @@ import support
 
 TOOLS = sorted(path.name for path in support.TOOLS.glob("label-*"))
 PROVED = support.TOP / "crates/labels_c/out/liblabels_c.a"
+DEFINITIONS = ("crates/command/src/entry.rt", ":(glob)crates/*/specs/*.antt")
 NOT_INSTALLED = {"make.py", "labels.bash", "__pycache__"}  # that of bash is named as the command
 PROVED_ARM64 = support.TOP / "crates/labels_c/out/arm64/liblabels_c.a"
 
@@ -70,7 +71,7 @@ class Install(unittest.TestCase):
         """Of the tools with their translations, and of the pages with what they show."""
         for place, folders in (
             ("share/label-tools", ["tools/label-*", "tools/labeltools"]),
-            ("share/doc/labels", ["README.md", "docs", "designs", "examples"]),
+            ("share/doc/labels", ["README.md", "docs", "designs", "examples", *DEFINITIONS]),
         ):
             names = command_of("git", "ls-files", *folders).split()
             wanted = {name.removeprefix("tools/") for name in names}
