@@ -76,7 +76,7 @@ def prepared(
 def dots_of(found: Prepared, number: int = 0) -> jobs.Dots:
     """The dots of a label on its page, as they go out."""
     press = found.press(Silence())
-    (document,) = press.documents(press.part(found.labels[number], 1))
+    (document,) = press.documents(press.part([found.labels[number]]))
     return jobs.pictures_of_pbm(document)[0]
 
 

@@ -132,6 +132,11 @@ class Rows(Desk):
             self.assertEqual(on_paper(done), every[count:])
         self.said(printed("--after", "5", input=lines), 1, "there is no label to print")
 
+    def test_labels_that_go_out_as_one(self) -> None:
+        """All that have the same dots are named."""
+        done = printed("--print", Printer(torn=1).start().name, input=b"qr A\nqr A\nqr B\n")
+        self.said(done, 1, "; lines 1-2 may be (on paper|missing): ")
+
     def test_labels_of_a_journal_in_several_tables(self) -> None:
         """Those that may be missing are chosen by their codes."""
         rows = [(f"qr {table}{row}", {"row": row}) for table in "AB" for row in (2, 3, 4, 5)]

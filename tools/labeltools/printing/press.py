@@ -219,20 +219,27 @@ def check_count(job: Job, prints: Sequence[LaidOut]) -> None:
 
 @dataclass(frozen=True, slots=True)
 class Part:
-    """What goes out as a whole: pages of labels, or one label and its number of copies."""
+    """What goes out as a whole: pages of labels, or one label for all that have its dots; `items`
+    are its labels with their copies.
+    """
 
     pages: Sequence[Page]
-    copies: int = 1
+    items: Sequence[LaidOut]
 
     @property
-    def item(self) -> LaidOut:
-        """Its first label."""
-        return self.pages[0][0][0]
+    def labels(self) -> Sequence[LaidOut]:
+        """Its labels, once each."""
+        return [*{id(item): item for item in self.items}.values()]
 
     @property
     def count(self) -> int:
         """How many labels it has."""
-        return sum(map(len, self.pages)) * self.copies
+        return len(self.items)
+
+    @property
+    def copies(self) -> int:
+        """How often its pages are printed."""
+        return self.count // sum(map(len, self.pages))
 
 
 class Press:
@@ -273,18 +280,17 @@ class Press:
         """
         if self.job.form.is_roll and not self.job.is_each:
             for _, same in groupby(prints, DOTS_OF):
-                item, *copies = same
-                yield self.part(item, 1 + len(copies))
+                yield self.part([*same])
             return
         pages = [self.page(number, prints) for number in range(self.job.pages_of(len(prints)))]
         if self.job.form == PDF and not self.job.is_each:
-            yield Part(pages)
+            yield Part(pages, prints)
         else:
-            yield from (Part([page]) for page in pages)
+            yield from (Part([page], [item for item, _ in page]) for page in pages)
 
-    def part(self, item: LaidOut, copies: int) -> Part:
-        """Returns a label that goes out by itself, with its copies."""
-        return Part([[(item, self.job.plan.places[0])]], copies)
+    def part(self, items: Sequence[LaidOut]) -> Part:
+        """Returns labels of a roll that have the same dots."""
+        return Part([[(items[0], self.job.plan.places[0])]], items)
 
     def documents(self, part: Part, is_first: bool = True) -> Iterator[bytes]:
         """Yields files that are whole by themselves: one for a part, or for each copy of ESC/POS;

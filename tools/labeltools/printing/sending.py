@@ -63,7 +63,7 @@ class Sender:
             except ToolError as error:
                 if not self.outlet.is_direct:
                     raise
-                raise self.told(error, self.named([part.item])) from error
+                raise self.told(error, self.named(part.labels)) from error
             self.done += part.count
             talk.go_on(self.done - found.job.after, len(prints))
         self.end()
@@ -86,7 +86,7 @@ class Sender:
         """Sends what goes out as a whole, and returns how many bytes it has; 0 if the journal has
         its label. The way out ends after the last one, which is taken if that ends well.
         """
-        record = part.item.label.record
+        record = part.items[0].label.record
         journal = self.journal
         if journal is not None and self.again is None and journal.entry(record) is not None:
             self.known.add(code_of(record))  # as it was when the journal was last read
@@ -102,8 +102,8 @@ class Sender:
             return 0
         self.give(record, documents, is_last)
         self.taken += part.count
-        self.sent.append(part.item)
-        self.on_way.append(part.item)
+        self.sent += part.labels
+        self.on_way += part.labels
         if is_last:
             self.sent.clear()
             self.on_way.clear()
