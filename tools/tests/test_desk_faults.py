@@ -130,7 +130,8 @@ class Rows(Desk):
         for count in range(5):
             done = printed("--after", f"{count}", input=lines)
             self.assertEqual(on_paper(done), every[count:])
-        self.said(printed("--after", "5", input=lines), 1, "there is no label to print")
+        for many in ("5", "10000"):
+            self.said(printed("--after", many, input=lines), 1, "there is no label to print")
 
     def test_labels_that_go_out_as_one(self) -> None:
         """All that have the same dots are named."""

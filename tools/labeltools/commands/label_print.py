@@ -53,7 +53,7 @@ man label-print has all details."""
 # seconds after which progress is shown, and between two times that it is
 QUIET = 2.0
 BETWEEN = 0.2
-NUMBER = r"-?\d{1,4}(?:\.\d{1,4})?"
+NUMBER = r"-?\d{1,%d}(?:\.\d{1,4})?"
 MOST_NAMED = 10  # labels that a summary names
 
 
@@ -79,9 +79,14 @@ class PrintTalk(CommandTalk):
             print(f"\r{TOOL}: {done} of {total} labels", end=end, file=sys.stderr, flush=True)
 
 
-def reads(example: str, least: float = 0.0, kind: type = float) -> Callable[[str], Any]:
-    """Returns what reads numbers, from `least` on, that are written as in an example."""
-    pattern = re.compile(re.sub(NUMBER, lambda _: f"({NUMBER})", example), re.ASCII)
+def reads(
+    example: str, least: float = 0.0, kind: type = float, digits: int = 4
+) -> Callable[[str], Any]:
+    """Returns what reads numbers, from `least` on, that are written as in an example, of so many
+    digits at most.
+    """
+    one = NUMBER % digits
+    pattern = re.compile(re.sub(one, lambda _: f"({one})", example), re.ASCII)
 
     def number(argument: str) -> Any:
         match = pattern.fullmatch(argument)
@@ -237,7 +242,7 @@ def add_choice_options(parser: Parser) -> None:
         help=code,
     )
     after = "skip so many labels, which are on paper already (0)"
-    number = reads("9", 0, int)
+    number = reads("9", 0, int, 7)  # as many as one run takes
     add("--after", metavar="N", type=number, default=PrintOptions.after, help=after)
     unique = "skip a line whose code was there before, as on tickets and serial numbers"
     add("--unique", action="store_true", dest="is_unique", help=unique)
