@@ -138,6 +138,14 @@ class Rows(Desk):
         done = printed("--print", Printer(torn=1).start().name, input=b"qr A\nqr A\nqr B\n")
         self.said(done, 1, "; lines 1-2 may be (on paper|missing): ")
 
+    def test_what_is_broken_off_at_an_error_of_the_journal(self) -> None:
+        """The labels before it are named, as at any other end."""
+        printer = Printer(rude=True).start()
+        claims = [True, True, ToolError(Text("no space"))]
+        with mock.patch.object(Journal, "claim", mock.Mock(side_effect=claims)):
+            done = printed("--print", printer.name, "--journal", self.path)
+        self.said(done, 1, "at the end: it took 2 labels whole; lines 1-2 may be missing")
+
     def test_labels_of_a_journal_in_several_tables(self) -> None:
         """Those that may be missing are chosen by their codes."""
         rows = [(f"qr {table}{row}", {"row": row}) for table in "AB" for row in (2, 3, 4, 5)]
@@ -161,6 +169,14 @@ class Rows(Desk):
         before = len(printer.labels)
         self.said(printed(*words, *again, "--after", after), 0, "labels? taken by")
         self.assertEqual(len(printer.labels) - before, 11 - int(after))
+
+    def test_again_with_a_journal_that_is_full(self) -> None:
+        """Here, too, the same command would print the first of them twice."""
+        printed("--journal", self.path, input=TICKETS[:50])
+        size = Path(self.path).stat().st_size * 3 // 2  # the mark of line 3 is too much
+        words = ("--journal", self.path, "--only", "1-5", "--again", "standard output")
+        done = self.run_alone(*words, code=f"limit({size})")
+        self.said(done, 1, "writable; line 3 may be on paper: look there; with --after 2 the same")
 
     def test_a_signal_after_the_last_label(self) -> None:
         """Without a word it would look as if nothing had gone out."""
@@ -210,6 +226,18 @@ class Rows(Desk):
         done = support.run("/bin/sh", "-c", f"{words} > /dev/full", input=TICKETS)
         self.said(done, 1, "No space left on device: it took 0 labels whole: line 1 .*")
         self.said(done, 1, "were not sent; with --after 0 the same command goes on there\n")
+        with open(self.path, "wb") as output:
+            done = self.run_alone(code="limit(3000)", stdout=output)
+        self.said(done, 1, "sent; with --after [1-9] and >> the same command goes on there\n")
+
+    def test_a_pipe_whose_reader_ends(self) -> None:
+        """What it has not read is gone."""
+        run = self.begin(stdout=PIPE)
+        run.stdin.write(TICKETS * 20)
+        run.stdin.close()
+        run.stdout.read(1)
+        run.stdout.close()
+        self.assertRegex(run.stderr.read(), b"lines? 1.* may be missing: look at the last one")
 
     def test_rows_that_no_table_has(self) -> None:
         for rows in ("9-7", "0-", "0", "2,0-3", "00"):

@@ -305,7 +305,7 @@ class Ends(Desk):
         """It comes when the label is in the journal, and has not gone out yet."""
         done = self.run_alone("--journal", self.path, code="os.fdatasync = lambda file: end()")
         self.said(done, -signal.SIGTERM, "it took 1 label whole: line 2 and what follows it were")
-        self.said(done, -signal.SIGTERM, "not sent; the same command prints what is missing\n")
+        self.said(done, -signal.SIGTERM, "not sent; the same command prints the rest\n")
         self.assertEqual((len(labels_in(done)), self.events()), (1, ["sending", "taken"]))
 
     def test_a_way_out_that_breaks_off_after_a_signal(self) -> None:

@@ -44,7 +44,7 @@ FAR = 1 << 62  # of a file: bytes that are locked and never written
 NO_JOURNAL = Text("give a file that label-print --journal has made, or a new name")
 CUT_OFF = Text("its last line was cut off, and was taken out")
 NO_END = Text("its last line had no end")
-NOT_WRITTEN = Text("make it writable, then give the same command again")
+NOT_WRITTEN = Text("make it writable")
 NO_LOCKS = Text("put the journal on a disk that locks files")
 STRANGE = re.compile(rb"[^ -\[\]-~]| (?= *\Z)")  # what is written as escapes: blanks at the end too
 ESCAPES = {bytes([byte]): b"\\x%02X" % byte for byte in range(256)} | {b"\\": b"\\\\"}

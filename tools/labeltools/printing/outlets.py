@@ -4,6 +4,7 @@ collected in a temporary file until all of it is there.
 
 import os
 import re
+import select
 import stat
 import tempfile
 from collections.abc import Callable, Sequence
@@ -39,11 +40,13 @@ class Broken(ToolError):
 
 class Outlet:
     """Where labels go. `is_direct` is whether each is there for certain once it was sent, whatever
-    comes after it. `open` is called before a label is written into the journal.
+    comes after it; `is_kept` is whether what was sent is in a file on a disk. `open` is called
+    before a label is written into the journal.
     """
 
     name: str
     is_direct = False
+    is_kept = False
 
     def open(self) -> object:
         """Returns the way out, which is another one once it was made again after a good end; raises
@@ -78,8 +81,9 @@ class OpenFile(Outlet):
         """Writes a whole label; raises `Broken`, and what `open` does."""
         file = self.open()
         try:
+            self.is_kept = stat.S_ISREG(os.fstat(file).st_mode)
             send(data, file)
-            if self.is_synced and stat.S_ISREG(os.fstat(file).st_mode):
+            if self.is_synced and self.is_kept:
                 os.fdatasync(file)
         except OSError as error:
             self.drop()
@@ -203,6 +207,15 @@ class Collected(Outlet):
     def drop(self) -> None:
         """Forgets what was collected."""
         self.file.close()
+
+
+def has_reader(file: int) -> bool:
+    """Returns whether what is written may be read: False where the other end of a pipe, of a
+    connection or of a terminal has gone.
+    """
+    look = select.poll()
+    look.register(file, 0)  # errors and ends are always looked for
+    return not look.poll(0)
 
 
 def is_direct(printer: str) -> bool:

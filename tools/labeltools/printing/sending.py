@@ -7,6 +7,7 @@ from functools import partial
 from pathlib import Path
 from typing import Any, Iterable, Iterator, Mapping, Optional, Sequence, Sized
 
+from labeltools.common.command_line import standard_output
 from labeltools.common.files import save
 from labeltools.common.messages import Talk, ToolError, sentence
 from labeltools.common.report import MOST_RANGES, places_text
@@ -17,6 +18,7 @@ from labeltools.printing.cups import NOTHING_CHOSEN, Queue, SentJob, print_by
 from labeltools.printing.journal import Entry, Journal, SENDING, code_of
 from labeltools.printing.network import NetworkPrinter, SCHEME
 from labeltools.printing.outlets import Broken, Collected, Device, OUTPUT, Outlet, Untaken
+from labeltools.printing.outlets import has_reader
 from labeltools.printing.press import Part, Prepared, Press
 from labeltools.printing.selection import FILE
 
@@ -63,7 +65,9 @@ class Sender:
             except ToolError as error:
                 if not self.outlet.is_direct:
                     raise
-                raise self.told(error, self.named(part.labels)) from error
+                told = self.told(error, self.named(part.labels))
+                self.end()
+                raise told from error
             self.done += part.count
             talk.go_on(self.done - found.job.after, len(prints))
         self.end()
@@ -103,7 +107,8 @@ class Sender:
         self.give(record, documents, is_last)
         self.taken += part.count
         self.sent += part.labels
-        self.on_way += part.labels
+        if not self.outlet.is_kept:
+            self.on_way += part.labels
         if is_last:
             self.sent.clear()
             self.on_way.clear()
@@ -141,6 +146,11 @@ class Sender:
         return places_text([item.label.record.place for item in items], self.has_tables)
 
     @property
+    def is_lost(self) -> bool:
+        """Whether another program has taken the place of the journal."""
+        return self.journal is not None and self.journal.is_lost
+
+    @property
     def is_journal_enough(self) -> bool:
         """Whether the same command prints what is missing; it would print again what `again` has
         printed once more.
@@ -154,18 +164,23 @@ class Sender:
             what = Text("{}: {}", what, self.so_far())
         if isinstance(error, Broken):
             return ToolError(what, self.advice(error, place))
-        way_on = NOTHING
+        is_output = self.outlet.name == OUTPUT
+        way_on = missing = NOTHING
+        if is_output and self.sent and not has_reader(standard_output().fileno()):
+            missing = self.may_be_missing()  # it was in the pipe
         if self.sent or not error.hint:
             way_on = Text("with --after {} the same command goes on there", self.done)
             if self.is_journal_enough:
-                way_on = Text("the same command prints what is missing")
-        hint = joined("; ", filter(None, (error.hint, way_on)))
+                way_on = Text("the same command prints the rest")
+            elif is_output and self.outlet.is_kept:
+                way_on = Text("with --after {} and >> the same command goes on there", self.done)
+        hint = joined("; ", filter(None, (error.hint, missing, way_on)))
         what = Text("{}: {} and what follows it were not sent", what, place)
         return ToolError(what, hint, error.status)
 
     def advice(self, error: ToolError, place: Text) -> Text:
         """Returns what to do if a label went out in part."""
-        if error.hint:
+        if self.is_lost:
             return Text("{} may be on paper; {}", place, error.hint)
         way_on = Text("{} may be on paper: look there, then give the same command again", place)
         if not self.is_journal_enough:
@@ -173,7 +188,7 @@ class Sender:
                 "{} may be on paper: look there; with --after {} the same command goes on at it",
                 *(place, self.done),
             )
-        return joined("; ", filter(None, (self.may_be_missing(), way_on)))
+        return joined("; ", filter(None, (error.hint or self.may_be_missing(), way_on)))
 
     def may_be_missing(self) -> Text:
         """Returns what to do about labels that a printer took, and may have thrown away when it

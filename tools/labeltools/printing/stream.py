@@ -30,7 +30,7 @@ from labeltools.layout.letters import Letters
 from labeltools.lines.file import LineRecord, OBJECT, drawn_lines
 from labeltools.common.messages import Silence, ToolError, sentence, visible, write_message
 from labeltools.printing.job import Job, PrintOptions
-from labeltools.printing.outlets import Broken, OUTPUT
+from labeltools.printing.outlets import Broken, OUTPUT, has_reader
 from labeltools.printing.press import Prepared, Press, pens_of, prepared
 from labeltools.printing.remarks import SHORTENED
 from labeltools.common.report import places_text
@@ -251,9 +251,7 @@ class Stream:
         """Whether no label goes out any more: a label was drawn wrongly, standard output takes
         none, or another program has taken the place of the journal.
         """
-        journal = self.sender.journal
-        is_lost = journal is not None and journal.is_lost
-        return bool(self.status) or self.sender.is_at_end or is_lost
+        return bool(self.status) or self.sender.is_at_end or self.sender.is_lost
 
     def print(self, parts: Sequence[InputLine]) -> int:
         """Prints a label and returns how many bytes it has, 0 if its code was sent before; raises
@@ -321,15 +319,6 @@ class Stream:
         if is_turned not in self.presses:
             self.presses[is_turned] = found.press(Silence())
         return self.presses[is_turned]
-
-
-def has_reader(file: int) -> bool:
-    """Returns whether what is written may be read: False where the other end of a pipe, of a
-    connection or of a terminal has gone.
-    """
-    look = select.poll()
-    look.register(file, 0)  # errors and ends are always looked for
-    return not look.poll(0)
 
 
 def run(options: PrintOptions, job: Job, sender: Sender) -> int:
