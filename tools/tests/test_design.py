@@ -37,9 +37,9 @@ def setUpModule() -> None:
     os.environ["LABELS"] = str(support.labels_program())
 
 
-def png_of(width: int, height: int, dots: bytes = b"\xff") -> str:
-    """A PNG in base 64, white or of other dots; of a large one no more than 100 rows are there."""
-    rows = (b"\0" + dots * ((width + 7) // 8)) * min(height, 100)
+def png_of(width: int, height: int) -> str:
+    """A white PNG in base 64; of a large one no more than 100 rows are there."""
+    rows = (b"\0" + b"\xff" * ((width + 7) // 8)) * min(height, 100)
     head = struct.pack(">IIBBBBB", width, height, 1, 0, 0, 0, 0)
     parts = ((b"IHDR", head), (b"IDAT", zlib.compress(rows, 9)), (b"IEND", b""))
     data = b"\x89PNG\r\n\x1a\n"
@@ -47,9 +47,6 @@ def png_of(width: int, height: int, dots: bytes = b"\xff") -> str:
         check = struct.pack(">I", zlib.crc32(kind + part))
         data += struct.pack(">I", len(part)) + kind + part + check
     return base64.b64encode(data).decode()
-
-
-BLACK = png_of(8, 8, b"\0")
 
 
 def beside(dots: Any) -> Any:
