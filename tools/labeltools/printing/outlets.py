@@ -210,7 +210,7 @@ class Collected(Outlet):
 
 
 def has_reader(file: int) -> bool:
-    """Returns whether what is written may be read: False where the other end of a pipe, of a
+    """Returns whether what is written may be read: False if the other end of a pipe, of a
     connection or of a terminal has gone.
     """
     look = select.poll()
