@@ -13,10 +13,6 @@ each name of std and of the kit's clap. What stands behind clap's names is count
 `program` for both, or `library`. The first comment of a file says what the file is about. Lines
 `-- Why: ` after it say what its definitions follow: names between backticks, a colon, and the
 clause of a standard or a page.
-
---axioms compares docs/PROOF.md with how many contracts of C functions the kit's check of the
-program assumes. What `rt ci` said of it, in LOG, is taken where it is there; else the program is
-checked, in a minute, over libraries that are built where they are not.
 """
 
 import argparse
@@ -32,7 +28,6 @@ from typing import Iterable, Iterator, Sequence
 
 import bases
 import declared
-import libraries
 import sources
 from bases import Base, Lines, Repository
 from declared import CodeItem
@@ -50,8 +45,6 @@ OF_STD = "## Names of std"
 BEGIN, END = "<!-- believed: begin -->", "<!-- believed: end -->"
 # The number of README, by what stands after it.
 NUMBER = re.compile(r"[\d,]+(?=\s+lines\s+of\s+\[definitions\])")
-AXIOMS = re.compile(r"[\d,]+(?=\s+contracts\s+of\s+C\s+functions)")
-ASSUMED = re.compile(r"^logic=proved .*\baxioms=(\d+)", re.M)
 # The names of a `Why: `, before its first colon.
 WHY = re.compile(r"Why: ((?:`[^`]+`,? )*`[^`]+`): ")
 
@@ -261,37 +254,6 @@ def show(repository: Repository, base: Base) -> None:
         print("", *textwrap.wrap(said, 100), sep="\n")
 
 
-# ---- what the kit's check assumes
-
-
-def verdict_in(log: str) -> str:
-    """Returns what `rt ci` said of the program, or nothing where it proved it before."""
-    return log.partition(f"\n== {bases.PROGRAM}\n")[2].partition("\n== ")[0]
-
-
-def check_of_program(top: str, as_left: bool) -> str:
-    """Returns what the kit's check says of the program. Stops where a library is not proved."""
-    rtlib = libraries.kit()
-    crate = next(it for it in rtlib.crates_below(top) if it.name == bases.PROGRAM)
-    if not_proved := libraries.build(crate.below(), as_left):
-        sys.exit(f"{not_proved} is not proved: run rt check in its folder")
-    words = crate.words(["--jobs", "1"], keeps=False)
-    return libraries.check(rtlib, os.path.join(top, "crates", bases.PROGRAM), words)
-
-
-def compared_axioms(top: str, log: str, as_left: bool) -> int:
-    """Compares the number of PROOF with that of the check, and returns the status."""
-    said = verdict_in(log) or check_of_program(top, as_left)
-    verdict = ASSUMED.search(said)
-    if not verdict:
-        sys.exit(f"crates/{bases.PROGRAM} is not proved:\n{said[-2000:]}")
-    written = AXIOMS.findall(sources.read(os.path.join(top, PROOF)))
-    is_right = written == [verdict[1]]
-    says = "" if is_right else f", and {PROOF} has {' and '.join(written) or 'no number'}"
-    print(f"{verdict[1]} contracts of C functions are assumed{says}")
-    return 0 if is_right else 1
-
-
 def arguments() -> argparse.Namespace:
     """Returns what the arguments ask for."""
     parser = sources.parser_of(__doc__)
@@ -300,18 +262,12 @@ def arguments() -> argparse.Namespace:
     ways.add_argument("--write", action="store_true", help="make the numbers and the table anew")
     names = [*CLAUSES, "program", "library"]
     ways.add_argument("--show", choices=names, help="print what a contract rests on")
-    axioms = "compare the number of contracts of C functions that are assumed; LOG is of `rt ci`"
-    ways.add_argument("--axioms", nargs="?", const=os.devnull, metavar="LOG", help=axioms)
-    built = "with --axioms: take the libraries as `rt ci` left them, if it did"
-    parser.add_argument("--built", action="store_true", help=built)
     return parser.parse_args()
 
 
 def main() -> int:
     """Does what the arguments ask for, and returns the status."""
     given = arguments()
-    if given.axioms:
-        return compared_axioms(sources.TOP, sources.read(given.axioms), given.built)
     repository = bases.read_repository(sources.TOP)
     found = all_bases(repository)
     if given.show:

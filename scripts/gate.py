@@ -36,7 +36,7 @@ QUICK = (
     "run_tests.py tools/tests --quick",
 )
 PROOFS = "rt ci"
-AFTER_PROOFS = ("believed.py --axioms out/rt-ci.txt --built", "wrong_bodies.py --built")
+WRONG = "wrong_bodies.py --built"
 PLAIN = "plain_builds.py"
 BUILT = (
     "believed_rows.py --sample --built",
@@ -49,22 +49,25 @@ BUILT = (
     "run_recipes.py",
     "instructions.py --check",
 )
-ALL = (*QUICK, PROOFS, *AFTER_PROOFS, PLAIN, *BUILT)
+ALL = (*QUICK, PROOFS, WRONG, PLAIN, *BUILT)
 # The run ends after each of these where a step has failed, or it has itself.
 NEEDED = {QUICK[-1]: True, PROOFS: False, PLAIN: False}
 COUNTS = "scripts/counts.txt"
 # Seconds that a step may take, on a busy machine too.
 LONGEST = 7200.0
+ENDING = (signal.SIGTERM, signal.SIGHUP, signal.SIGINT)
 # What differs from run to run: how long `rt ci` took.
 VARIES = re.compile(r" \([^)]*\)$")
 
 
 def run(step: str) -> tuple[int, str]:
-    """The status of a step, and all that it wrote, which out/step.txt has meanwhile, and out/rt-ci.txt of `rt ci`.
-    What it started and left there is ended too."""
+    """The status of a step, and all that it wrote, which out/step.txt has meanwhile. What it started and left there is
+    ended too."""
     command = step.split() if step == PROOFS else [sources.PYTHON, *f"scripts/{step}".split()]
-    path = f"{sources.TOP}/out/{'rt-ci' if step == PROOFS else 'step'}.txt"
+    path = f"{sources.TOP}/out/step.txt"
     sources.write(path, "")
+    # A signal that comes before there is a process to end waits.
+    signal.pthread_sigmask(signal.SIG_BLOCK, ENDING)
     with open(path, "r+", encoding="utf-8", errors="replace") as said, subprocess.Popen(
         command,
         cwd=sources.TOP,
@@ -73,9 +76,11 @@ def run(step: str) -> tuple[int, str]:
         stdout=said,
         stderr=said,
         start_new_session=True,
+        preexec_fn=let_signals_in,
     ) as process:
         fault = ""
         try:
+            let_signals_in()
             process.wait(LONGEST)
         except subprocess.TimeoutExpired:
             fault = f"it took longer than {LONGEST:.0f} seconds, and was ended\n"
@@ -85,6 +90,11 @@ def run(step: str) -> tuple[int, str]:
         process.wait()
         said.seek(0)
         return process.returncode, said.read() + fault
+
+
+def let_signals_in() -> None:
+    """Has signals come that waited."""
+    signal.pthread_sigmask(signal.SIG_UNBLOCK, ENDING)
 
 
 def stop(number: int, _: object) -> NoReturn:

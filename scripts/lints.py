@@ -49,7 +49,7 @@ TYPED = (("scripts", "debian"), ("lib",), ("tools", "completions"))
 # black puts a space before the colon of a slice, which E203 is against.
 STYLE = f"flake8 --isolated --disable-noqa --extend-ignore E203 --max-complexity {MOST_WAYS} --max-line-length"
 LAYOUT = f"black --config {os.devnull} --quiet --check --line-length"
-TYPES = "mypy --no-error-summary --config-file scripts/mypy.ini --cache-dir out/mypy/"
+TYPES = "mypy --no-error-summary --config-file scripts/mypy.ini --cache-dir out/mypy"
 KEPT, PACKAGES = "out/lints.txt", "/var/lib/dpkg/status"
 # What silences a lint where it is written.
 WORDS = r"noqa|type:\s*ignore|fmt:\s*(?:off|skip)|pragma|mypy:|flake8:|shellcheck disable"
@@ -164,7 +164,7 @@ def all_lints(files: Mapping[str, Sequence[str]]) -> list[Lint]:
         Lint("shellcheck --norc --shell=bash", files["completion"], "wrong.bash", "rm $1\n"),
         *(Lint(f"{LAYOUT} {width}", paths, "wrong.py", "x = 'one'\n") for width, paths in layouts.items()),
         *(Lint(f"{STYLE} {width}", paths, "wrong.py", WRONG, FINDS) for width, paths in styles.items()),
-        *(Lint(TYPES + it[0], below(it, files["python"]), "wrong.py", UNTYPED, FINDS_TYPES) for it in TYPED),
+        *(Lint(TYPES, below(it, files["python"]), "wrong.py", UNTYPED, FINDS_TYPES) for it in TYPED),
         Lint("mandoc -Tlint -W warning", files["manual"], "wrong.1", ".TH WRONG 1\n.SH NAME\n.XX\n"),
     ]
 

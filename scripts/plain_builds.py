@@ -4,10 +4,13 @@ The library for arm64 is crates/labels_c/out/arm64/liblabels_c.a.
 
 It does what `rt run --cpu x86-64 < /dev/null`, `rt lib --target aarch64-unknown-linux-gnu` and `rt lib --cpu x86-64`
 do in these two folders, but after `rt ci` over the libraries that this has proved, which those commands would prove
-again. The status is 0 where all are built.
+again. The status is 0 where all are built, and docs/PROOF.md has as many contracts of C functions as the check of the
+program assumes.
 """
 
+import io
 import os
+import re
 import sys
 from typing import Any
 
@@ -15,6 +18,9 @@ import libraries
 import sources
 
 FLAGS = ["--jobs", "1", "--cpu", "x86-64"]
+# What the page and the verdict say of contracts of C functions.
+PAGE, SAID = f"{sources.TOP}/docs/PROOF.md", re.compile(r"([\d,]+)\s+contracts\s+of\s+C\s+functions")
+ASSUMED = re.compile(r"^logic=proved .*\baxioms=(\d+)", re.M)
 ARM64 = ["--jobs", "1", "--target", "aarch64-unknown-linux-gnu"]
 
 
@@ -28,6 +34,12 @@ def build_for_arm64(library: Any) -> int:
     return status
 
 
+def fault_of_page(page: str, verdict: str) -> str:
+    """What is wrong with the number of contracts on the page beside the verdict on the program, or nothing."""
+    said, assumed = SAID.findall(page), ASSUMED.findall(verdict)
+    return "" if said and said == assumed else f"docs/PROOF.md has {said} contracts of C functions, not {assumed}"
+
+
 def main() -> int:
     sources.parser_of(__doc__).parse_args()
     crates = {it.name: it for it in libraries.kit().crates_below(sources.TOP)}
@@ -37,9 +49,14 @@ def main() -> int:
         print(f"{not_proved} is not proved: run rt check in its folder")
         return 1
     program.held = []  # the locks that `rt run` lets go before the program runs
-    status = int(program.run(FLAGS, []) or build_for_arm64(library) or library.build_static(FLAGS))
-    print("the program and both libraries are built" if status == 0 else f"status {status}")
-    return status
+    program.out = io.StringIO()
+    status = int(program.run(FLAGS, []))
+    verdict = program.out.getvalue()
+    print(verdict, end="")
+    status = status or build_for_arm64(library) or int(library.build_static(FLAGS))
+    fault = f"status {status}" if status else fault_of_page(sources.read(PAGE), verdict)
+    print(fault or "the program and both libraries are built")
+    return 1 if fault else 0
 
 
 if __name__ == "__main__":

@@ -8,6 +8,7 @@ from pathlib import Path
 
 from support import LIB, LIBDIR, PROGRAM, PYTHON, PYTHONDIR, WithLibrary, run, text_of
 
+METADATA = f"{PYTHONDIR}/liblabels-1.2.0.dist-info/METADATA"
 FILES = {
     "usr/include/labels.ffi.h",
     "usr/include/labels.h",
@@ -21,7 +22,7 @@ FILES = {
     f"{PYTHONDIR}/liblabels/_pictures.py",
     f"{PYTHONDIR}/liblabels/_reading.py",
     f"{PYTHONDIR}/liblabels/py.typed",
-    f"{PYTHONDIR}/liblabels-1.2.0.dist-info/METADATA",
+    METADATA,
     "usr/share/man/man3/labels.3",
 }
 LAST = "const char *labels_version(void) { return LABELS_VERSION; }"
@@ -116,18 +117,22 @@ class Built(WithLibrary):
                 self.assertEqual((status, bool(re.search(said, text))), (1, True), text)
 
     def test_the_test_of_the_packages(self) -> None:
-        """debian/tests/library passes, and fails where one of the three ways to the library draws otherwise."""
+        """debian/tests/library passes, and fails where one of the three ways to the library draws otherwise, or has no
+        version."""
         self.assertEqual(self.packages_tested({}), 0)
-        place = "(uint32_t)symbology, data"
-        source = self.library.changed(("labels.c", place, place.replace("symbology", "symbology ^ 1")))
+        lower = "{LABELS_PBM, 1, 40, LABELS_LEVEL_M, 1, LABELS_MASK_AUTO, 0, {0}};"
+        source = self.library.changed(("labels.c", "defaults = LABELS_DEFAULTS;", f"defaults = {lower}"))
         wrong = Path(tempfile.mkdtemp(dir=self.library.folder))
         self.assertEqual(self.library.make(source, wrong, "all").returncode, 0)
         module = self.wrong_module("    return picture\n", "    return picture + picture\n")
         shared = self.library.shared.resolve().name
-        for name in (f"{LIBDIR}/liblabels.a", f"{LIBDIR}/{shared}", f"{PYTHONDIR}/liblabels/__init__.py"):
-            of_module = module / "liblabels/__init__.py"
+        for name, found in (
+            (f"{LIBDIR}/liblabels.a", wrong / "liblabels.a"),
+            (f"{LIBDIR}/{shared}", wrong / shared),
+            (f"{PYTHONDIR}/liblabels/__init__.py", module / "liblabels/__init__.py"),
+            (METADATA, module / "METADATA"),
+        ):
             with self.subTest(name):
-                found = of_module if name.endswith(".py") else wrong / Path(name).name
                 self.assertNotEqual(self.packages_tested({name: found}), 0)
 
     def packages_tested(self, changed: dict[str, Path]) -> int:

@@ -52,11 +52,16 @@ WRONG = (
 class Calls(WithLibrary):
     def program(self, name: str, *flags: str, source: Path = LIB, proved: "tuple[Path, ...]" = (PROVED,)) -> Path:
         """A test program with labels.c of a folder and the proved library, built with these flags."""
-        out = Path(tempfile.mkdtemp(dir=self.library.folder)) / name
-        files = (LIB / f"tests/{name}.c", source / "labels.c", *proved)
-        done = run("gcc", *FLAGS, *flags, f"-I{LIB}", f"-I{LIB}/tests", *files, "-o", out)
+        out = self.library.folder / f"{name}.o"
+        if not out.exists():
+            self.compile(*flags, "-c", LIB / f"tests/{name}.c", "-o", out)
+        program = Path(tempfile.mkdtemp(dir=self.library.folder)) / name
+        self.compile(*flags, out, source / "labels.c", *proved, "-o", program)
+        return program
+
+    def compile(self, *words: str | Path) -> None:
+        done = run("gcc", *FLAGS, f"-I{LIB}", f"-I{LIB}/tests", *words)
         self.assertEqual(done.returncode, 0, text_of(done))
-        return out
 
     def wrong(self, name: str, flags: "tuple[str, ...]", old: str, new: str) -> Path:
         return self.program(name, *flags, source=self.library.changed(("labels.c", old, new)))
@@ -98,10 +103,9 @@ class Calls(WithLibrary):
         program = self.wrong("threads", THREAD, own, own.replace("labels", "static labels", 1))
         self.assert_fails("env", "TSAN_OPTIONS=halt_on_error=1", program)
 
-    def test_exports(self) -> None:
-        """The proved calls by themselves, and a length that is wrong."""
-        self.run_ok(self.program("exports"))
-        self.assert_fails(self.program("exports", "-DEAN8_LENGTH=163"))
+    def test_answers(self) -> None:
+        self.run_ok(self.program("answers"))
+        self.assert_fails(self.wrong("answers", (), "*options = defaults;", "*options = (labels_options){0};"))
 
     def test_stack(self) -> None:
         most = int(self.run_ok(self.program("stack", "-O2")))

@@ -11,7 +11,7 @@ import unittest
 from typing import Any, Callable, Container, Iterable
 from unittest import mock
 
-from support import TOP, InCopy, in_copy, module, read, write
+from support import TOP, InCopy, in_copy, module, read
 
 believed_rows = module("believed_rows")
 judging = module("judging")
@@ -109,19 +109,6 @@ class Believed(InCopy):
             (penalty, "`penalty`: in the", "in the", f"{penalty}: 'Why: "),
         )
         self.assert_changes_fail(changes, lambda: self.judged("believed.py", "--show", "program"))
-
-    def test_axioms(self) -> None:
-        """The number of PROOF is that of the verdict on the program, and not one of another crate."""
-        log = self.path("log")
-        says_39 = "and docs/PROOF.md has 39"
-        for assumed, status, says in ((39, 0, "39 contracts"), (38, 1, says_39), (40, 1, says_39), (390, 1, says_39)):
-            verdict = f"logic=proved functions=3 axioms={assumed} target=x86_64\n"
-            other = "logic=proved functions=14 axioms=3 target=x86_64\n"
-            write(log, f"== examples\n{other}\n== labels\n{verdict}\n== labels: its tests\n{other}")
-            with self.subTest(assumed):
-                ended, said = self.judged("believed.py", "--axioms", log)
-                self.assertEqual(ended, status, said)
-                self.assertIn(says, said)
 
 
 class Rows(InCopy):

@@ -279,6 +279,14 @@ def is_program(path: str) -> bool:
         return file.read(2) == b"#!"
 
 
+def is_alive(process: str) -> bool:
+    """Whether there is a process of this number that has not ended."""
+    try:
+        return read(f"/proc/{process}/stat").rpartition(")")[2].split()[0] not in "ZX"
+    except FileNotFoundError:
+        return False
+
+
 # A step that says this, and ends so.
 STEP = "import sys\nprint({said!r})\nsys.exit({status})\n"
 # What steps end with, the lines that are kept, and what the gate then says of them: all passed, or which failed.
@@ -292,7 +300,7 @@ RUNS: tuple[tuple[dict[str, int | str], dict[str, str], int, str], ...] = (
     ({"rt": 3}, {}, 3, "7 passed, 1 failed"),
     ({"rt": "fewer proofs (1 minute)"}, {}, 1, "kept is: rt is right\nFAILED: rt ci, "),
     ({"wrong_bodies.py": 1}, {}, 1, "{but_one} passed, 1 failed"),  # what comes after it runs all the same
-    ({"plain_builds.py": 1}, {}, 1, "10 passed, 1 failed"),
+    ({"plain_builds.py": 1}, {}, 1, "9 passed, 1 failed"),
     ({"instructions.py": 1}, {}, 1, "{but_one} passed, 1 failed"),
 )
 INSTALL = "apt-get install -y --no-install-recommends zint"
@@ -343,11 +351,16 @@ class Gate(InFolder):
     def test_a_step_that_hangs(self) -> None:
         """It is ended, with what it started."""
         gate = module("gate")
-        text = "import os, time\nos.fork()\nprint('begun', flush=True)\ntime.sleep(9999)\n"
+        text = "import os, time\nprint('begun', os.fork(), flush=True)\ntime.sleep(99)\n"
         write(self.path("scripts/hangs.py"), text)
-        with mock.patch.object(gate, "LONGEST", 3.0), mock.patch.object(gate.sources, "TOP", self.folder):
+        with mock.patch.object(gate, "LONGEST", 9.0), mock.patch.object(gate.sources, "TOP", self.folder):
             status, said = gate.run("hangs.py")
-        self.assertEqual((status, said.split("\n")[-2]), (-9, "it took longer than 3 seconds, and was ended"))
+        self.assertEqual((status, said.split("\n")[-2]), (-9, "it took longer than 9 seconds, and was ended"))
+        (started,) = {*re.findall(r"begun (\d+)", said)} - {"0"}
+        end = time.monotonic() + 30
+        while is_alive(started) and time.monotonic() < end:
+            time.sleep(0.01)
+        self.assertFalse(is_alive(started))
 
     def test_a_signal_ends_the_step_too(self) -> None:
         write(self.path("scripts/lints.py"), "import time\nprint('begun', flush=True)\ntime.sleep(9999)\n")
@@ -360,7 +373,7 @@ class Gate(InFolder):
             children = read(f"/proc/{gate.pid}/task/{gate.pid}/children").split()
             gate.terminate()
             self.assertEqual(gate.wait(), 128 + signal.SIGTERM)
-        self.assertEqual([os.path.exists(f"/proc/{child}") for child in children], [False])
+        self.assertEqual([is_alive(child) for child in children], [False])
 
     def test_start(self) -> None:
         for words, variables, changed, status, said in STARTS:

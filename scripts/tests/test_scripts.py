@@ -24,6 +24,7 @@ believed = module("believed")
 pages = module("pages")
 run_recipes = module("run_recipes")
 pictures = module("pictures")
+plain_builds = module("plain_builds")
 sources = module("sources")
 stand_ins = module("stand_ins")
 wrong_bodies = module("wrong_bodies")
@@ -481,22 +482,17 @@ class Judges(unittest.TestCase):
         self.assertNotEqual([*pages.faults_of_words({"a.md": most, "b.md": "anew"})], [])
 
 
-SCRIPT = "#!/bin/sh\\n"
-# What stands in for the programs that debian/tests calls, as they are and as they must not be.
+# What stands in for the programs that debian/tests calls, as they are and as they must not be. That of the library
+# is tried in lib/tests.
 RIGHT_PROGRAMS = {
     "labels": "read line; case $line in *8) echo 'line 1: check digit is 8, should be 7' >&2 ;; *) echo P1 ;; esac",
     "label-table": "printf 'ean13 4006381333931\\nean13 4006381333948\\n'",
     "label-print": "[ $1 = --stock ] && echo %PDF-1.5 || printf '^XA\\n^XA\\n'",
     "man": "echo SYNOPSIS",
-    "pkg-config": "echo -llabels",
-    "gcc": f"printf '{SCRIPT}echo P1' > $2; chmod +x $2",
-    "python3": "case $2 in *version*) ;; *) echo P1 ;; esac",
-    "ldd": "[ $1 = static ] || echo liblabels.so.1",
     "bash": "true",
     "fish": "case $2 in *format*) echo ascii ;; *) echo zpl ;; esac",
     "zsh": "true",
 }
-OF_STATIC = f"[ $2 = shared ] && picture=P1 || picture=P2; printf '{SCRIPT}echo %s' $picture > $2; chmod +x $2"
 WRONG_PROGRAMS = (
     ("program", {"labels": "echo P1"}),
     ("program", {"labels": "read line; case $line in *8) echo 'line 1: check digit is 8, should be 7' >&2 ;; esac"}),
@@ -507,14 +503,6 @@ WRONG_PROGRAMS = (
     ("tools", {"man": "[ $3 = labels ] && echo NAME || echo SYNOPSIS"}),
     ("tools", {"man": "[ $3 = label-table ] && echo NAME || echo SYNOPSIS"}),
     ("tools", {"man": "[ $3 = label-print ] && echo NAME || echo SYNOPSIS"}),
-    ("library", {"pkg-config": "exit 1"}),
-    ("library", {"gcc": "[ $2 = shared ] || exit 1"}),
-    ("library", {"gcc": OF_STATIC}),
-    ("library", {"python3": "case $2 in *version*) ;; *) echo P2 ;; esac"}),
-    ("library", {"python3": "case $2 in *version*) exit 1 ;; *) echo P1 ;; esac"}),
-    ("library", {"ldd": "true"}),
-    ("library", {"ldd": "echo liblabels.so.1"}),
-    ("library", {"gcc": f"printf '{SCRIPT}exit 0' > $2; chmod +x $2", "python3": "true"}),
     ("shells", {"bash": "false"}),
     ("shells", {"fish": "echo ascii"}),
     ("shells", {"fish": "echo zpl"}),
@@ -535,7 +523,7 @@ class PackageTests(InFolder):
 
     def test_right_programs_pass(self) -> None:
         names = {name for name, *_ in WRONG_PROGRAMS}
-        self.assertEqual(names, {*os.listdir(f"{TOP}/debian/tests")} - {"control"})
+        self.assertEqual(names, {*os.listdir(f"{TOP}/debian/tests")} - {"control", "library"})
         for name in names:
             self.assertTrue(self.passes(name, TOP), name)
 
@@ -548,6 +536,16 @@ class PackageTests(InFolder):
                 write(self.path(gone, page), "")
             os.remove(self.path(gone, gone))
             self.assertFalse(self.passes("program", self.path(gone)), gone)
+
+
+class PlainBuilds(unittest.TestCase):
+    """The number of contracts of C functions on the page is that of the verdict on the program."""
+
+    def test_contracts_that_are_assumed(self) -> None:
+        page = "- 39 contracts\nof C functions"
+        for assumed, is_right in ((" axioms=39", True), (" axioms=38", False), (" axioms=390", False), ("", False)):
+            verdict = f"axioms libc: 39\nlogic=proved functions=3{assumed} target=x86_64\n"
+            self.assertEqual((assumed, plain_builds.fault_of_page(page, verdict) == ""), (assumed, is_right))
 
 
 class Instructions(unittest.TestCase):

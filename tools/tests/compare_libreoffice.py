@@ -64,7 +64,7 @@ def named_refusal(reason: str, theirs: str, number_format: str) -> str:
             else "a part of the format in which programs differ"
         )
     names = {
-        "without a number of decimals": "General with more digits than a column shows",
+        "in a format without fixed decimals": "General with more digits than a column shows",
         "before March 1900": "a number that is no date of every spreadsheet",
         "between two seconds": "a time between two seconds",
         "no value to show": "an error",

@@ -65,7 +65,7 @@ def prepared(
     chosen: dict[str, Any] = {"paper": PAPER, "dpi": 203, "to": "pbm"}
     chosen |= {"design": str(design), **options}
     wished = PrintOptions(**chosen)
-    found = labels_of(wished, planned(wished), "lines", lines_of(labels), Silence())
+    found = labels_of(planned(wished), "lines", lines_of(labels), Silence())
     pen = pen_of(found.job, Medium(found.job.plan.dpi, True), found.pens[0].letters)
     for item in found.labels if is_read else ():
         if fault := fault_of(item, found.laid_out.area, pen):
@@ -76,7 +76,7 @@ def prepared(
 def dots_of(found: Prepared, number: int = 0) -> jobs.Dots:
     """The dots of a label on its page, as they go out."""
     press = found.press(Silence())
-    (document,) = press.documents(press.part([found.labels[number]]))
+    document = press.document(press.part([found.labels[number]]))
     return jobs.pictures_of_pbm(document)[0]
 
 
@@ -98,4 +98,4 @@ def reasons_of(found: Prepared) -> list[str]:
 
 def said_of(found: Prepared) -> list[str]:
     """What is said of labels that are printed."""
-    return [str(remark.text) for remark in found.remarks]
+    return [str(remark.reason) for remark in found.remarks]

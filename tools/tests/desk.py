@@ -89,6 +89,11 @@ class Program(subprocess.Popen[bytes]):
                 pipe.close()
         self.wait(support.SECONDS)
 
+    def done(self, input: bytes = TICKETS) -> "support.Finished[bytes]":
+        """What becomes of it, once it has these lines."""
+        output, said = self.communicate(input, support.SECONDS)
+        return support.Finished(self.args, self.returncode, output, said)
+
     def write(self, lines: bytes) -> None:
         """Writes lines."""
         self.stdin.write(lines)
@@ -143,20 +148,6 @@ class Desk(unittest.TestCase):
 
     # ---- programs
 
-    def run_alone(
-        self, *words: str, code: str = "", input: bytes = TICKETS, stdout: End = PIPE
-    ) -> "support.Finished[bytes]":
-        """Runs label-print on a roll as a program, with some code before it."""
-        return subprocess.run(
-            [*program(code), *ROLL, *words],
-            input=input,
-            stdout=stdout,
-            stderr=PIPE,
-            env=support.environment(),
-            cwd=support.TOOLS,
-            timeout=support.SECONDS,
-        )
-
     def begin(
         self,
         *words: str,
@@ -196,10 +187,6 @@ class Desk(unittest.TestCase):
         return lane
 
     # ---- streams
-
-    def start(self, *words: str, code: str = "", stdout: End = NULL, stderr: End = PIPE) -> Program:
-        """Starts a stream."""
-        return self.begin("--stream", *words, code=code, stdout=stdout, stderr=stderr)
 
     def answers(self, input: bytes, *words: str) -> List[str]:
         """The answers to lines."""

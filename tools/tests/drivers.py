@@ -112,7 +112,7 @@ class Bars:
 def bars_of(words: Sequence[str], lines: bytes) -> Iterator[Bars]:
     """The bars of all labels on a sheet, as label-print places them by these words."""
     options = options_of(words)
-    prepared = labels_of(options, planned(options), "lines", lines, Silence())
+    prepared = labels_of(planned(options), "lines", lines, Silence())
     press = prepared.press(Silence())
     (part,) = press.parts(prepared.prints)
     for number, page in enumerate(part.pages):

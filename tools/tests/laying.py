@@ -65,7 +65,7 @@ def laid_out(data: bytes, cell: tuple[float, float], dpi: int = 300, **options: 
             cell=cell, columns=1, rows=1, page=cell, edge=NO_EDGES, dpi=dpi, to="pbm", **options
         )
     job = planned(sheet)
-    prepared = labels_of(sheet, job, "lines", data, Silence())
+    prepared = labels_of(job, "lines", data, Silence())
     return Laid(job, prepared, Pen(Medium(dpi, True), prepared.pens[0].letters))
 
 
@@ -73,7 +73,7 @@ def documents_of(found: Prepared) -> list[bytes]:
     """What goes out of labels: files that are whole by themselves."""
     press = found.press(Silence())
     parts = enumerate(press.parts(found.prints))
-    return [data for number, part in parts for data in press.documents(part, number == 0)]
+    return [press.document(part, number == 0) for number, part in parts]
 
 
 def look(test: unittest.TestCase, laid: Laid, item: LaidOut) -> None:

@@ -62,6 +62,7 @@ class Printer:
         self.pieces = 0
         self.at_end = threading.Event()
         self.told = threading.Event()
+        self.label = LABEL
         self.labels: List[bytes] = []
         self.file = ""
 
@@ -101,7 +102,7 @@ class Printer:
             self.told.wait()
         while data := self.received(line):
             buffer += data
-            found = LABEL.findall(buffer)
+            found = self.label.findall(buffer)
             self.keep(found)
             buffer = buffer[sum(map(len, found)) :]
             if self.stuck and len(self.labels) >= self.stuck:

@@ -1,4 +1,4 @@
-"""How each tool ends, where a stream fails or is closed: by a small tool, and then every tool."""
+"""How a tool ends, where a stream fails or is closed: tried by a small one."""
 
 import os
 import subprocess
@@ -7,14 +7,6 @@ import tempfile
 import unittest
 
 import support
-
-FULL = "standard output: No space left on device"
-
-# arguments and an input with which each tool writes a message and ends with status 1
-COMPLAINING = {
-    "label-print": (("--paper", "60x40"), b"ean8 1\n"),
-    "label-table": (("--code", "1"), b""),
-}
 
 
 class Ending(unittest.TestCase):
@@ -111,31 +103,6 @@ main_of("small-tool", function)
     def test_closed_streams(self) -> None:
         ended = self.small_tool("standard_output()", shell='"$@" >&-')
         self.assertEqual(ended, (1, b"", "small-tool: standard output is closed\n"))
-
-
-class EveryTool(unittest.TestCase):
-    def ended(
-        self, tool: str, arguments: tuple[str, ...], redirection: str, data: bytes = b""
-    ) -> tuple[int, bytes, list[str]]:
-        """The status, standard output and messages of a tool, run by a shell with a redirection."""
-        words = ["-c", f'"$@" {redirection}', "sh", tool, *arguments]
-        done = support.run("/bin/sh", *words, input=data)
-        return done.returncode, done.stdout, support.messages(done)
-
-    def test_all_are_here(self) -> None:
-        tools = {path.name for path in support.TOOLS.glob("label-*")}
-        self.assertEqual(sorted(COMPLAINING), sorted(tools - {"label-window"}))
-
-    def test_a_message(self) -> None:
-        for tool, (arguments, data) in COMPLAINING.items():
-            status, out, messages = self.ended(tool, arguments, "", data)
-            self.assertEqual((status, out), (1, b""), tool)
-            self.assertTrue(messages and messages[0].startswith(f"{tool}: "), messages)
-
-    def test_a_help_text_that_nobody_takes(self) -> None:
-        for tool in COMPLAINING:
-            ended = self.ended(tool, ("--help",), "> /dev/full")
-            self.assertEqual(ended, (1, b"", [f"{tool}: {FULL}"]))
 
 
 if __name__ == "__main__":

@@ -1,8 +1,7 @@
 """What is compared before a label goes out: faults are planted, and each has to stop the job."""
 
-import gettext
 import math
-import subprocess
+import re
 import tempfile
 import unittest
 from contextlib import contextmanager
@@ -22,13 +21,12 @@ from labeltools.printing import press
 from labeltools.lines.engine import Modules
 from labeltools.checking.pdf import pages_of
 from labeltools.drawing import dots, escpos, zpl
-from labeltools.drawing.dots import Picture
 from labeltools.layout.frames import Box
-from labeltools.common.kept import Kept
+from labeltools.paper.picture import Picture
 from labeltools.common.messages import Silence, ToolError
 from labeltools.printing.job import PrintOptions, planned
 from labeltools.printing.press import Prepared, labels_of
-from labeltools.common.text import Text, translated
+from labeltools.common.text import Text
 
 SHOP: list[tuple[str, dict[str, Any]]] = [
     ("ean13 4006381333931", {"title": "Bleistift, weich", "price": "0,80 €", "text": ["rot"]}),
@@ -76,7 +74,7 @@ def options_of(form: str, **others: Any) -> PrintOptions:
 def found_of(options: PrintOptions, labels: Sequence[Any] = SHOP) -> Prepared:
     """Labels that are laid out; none is left out."""
     lines = support.file_of(labels)
-    found = labels_of(options, planned(options), "lines", lines, Silence())
+    found = labels_of(planned(options), "lines", lines, Silence())
     if found.left_out:
         raise AssertionError(str(found.left_out[0].reason))
     return found
@@ -145,7 +143,7 @@ def drawn_grey(self: Any, canvas: Any, codes: Any, turn: int) -> None:
 
 def is_refused(wanted: compare.Wanted, rows: Sequence[bytes]) -> bool:
     """Whether dots of a page are not those of a symbol."""
-    page = decode.Dots(8 * len(rows[0]), len(rows), b"".join(rows))
+    page = Picture(8 * len(rows[0]), len(rows), b"".join(rows))
     try:
         compare.check_dots(wanted, page, 0.125)
     except compare.Different:
@@ -267,6 +265,7 @@ DRAWN = engine.drawn
 ENGINE_DRAW = engine.Engine.draw
 PAGE = press.Press.page
 IMAGE = escpos.image
+FIELDS_OF = zpl.graphic_fields
 PEN = "labeltools.drawing.pen."
 PAIR = [SHOP[0], ("ean13 5901234123457", SHOP[0][1])]
 COPIES = [(line, {**fields, "copies": 2}) for line, fields in SHOP]
@@ -375,6 +374,25 @@ FAULTS = {
     "a wrong byte in an image": Fault(
         "labeltools.drawing.escpos.image", lambda rows: IMAGE(rows)[:-1] + b"\x01", ("escpos",)
     ),
+    "a field at the left": Fault(
+        "labeltools.drawing.zpl.graphic_fields",
+        lambda picture: [re.sub(rb"\^FO\d+", b"^FO8", field) for field in FIELDS_OF(picture)],
+        ("zpl",),
+    ),
+    "an image without its last row": Fault(
+        "labeltools.drawing.escpos.image", lambda rows: IMAGE(rows[:-1]), ("escpos",)
+    ),
+    "pages exchanged": Fault(
+        "labeltools.printing.press.Press.told", lambda self, part: part.pages[::-1], ("pdf",)
+    ),
+    "a page lost": Fault(
+        "labeltools.printing.press.Press.told", lambda self, part: part.pages[1:], ("pdf",)
+    ),
+    "a row of a pbm blank": Fault(
+        "labeltools.printing.press.pbm",
+        lambda picture: dots.pbm(without_row(picture)),
+        ("pbm",),
+    ),
     "a row of a png blank": Fault(
         "labeltools.printing.press.png",
         lambda picture, dot: dots.png(without_row(picture), dot),
@@ -431,22 +449,6 @@ class Named(unittest.TestCase):
                 message = self.message(form, labels, turn=turn, **sheet)
                 self.assertRegex(message, r"^row 2: its code .* mm from the left, .* mm down$")
 
-    def test_languages(self) -> None:
-        support.needs("msgfmt")
-        message = self.message("zpl", PAIR)
-        for language, said in (
-            ("de", "sein Code ist in der Ausgabe falsch, .* mm von oben$"),
-            ("fr", "son code est incorrect dans la sortie, .* mm du haut$"),
-        ):
-            with self.subTest(language), tempfile.TemporaryDirectory() as folder:
-                path = Path(folder, language, "LC_MESSAGES", "label-tools.mo")
-                path.parent.mkdir(parents=True)
-                source = support.TOOLS / f"po/{language}.po"
-                subprocess.run(["msgfmt", "-o", path, source], check=True)
-                texts = gettext.translation("label-tools", folder, [language])
-                with mock.patch("labeltools.common.text.one_text", texts.gettext):
-                    self.assertRegex(translated(message), said)
-
 
 class OwnDesigns(unittest.TestCase):
     """Designs of the user's own: each symbol, turned or not, is compared in each form."""
@@ -501,9 +503,9 @@ class OwnDesigns(unittest.TestCase):
             options = options_of("zpl", design=design, paper=(100.0, 60.0))
             job = planned(options)
             lines = support.file_of(self.LABELS)
-            first = labels_of(options, job, "lines", lines, Silence()).labels[0].label
+            first = labels_of(job, "lines", lines, Silence()).labels[0].label
             with mock.patch("labeltools.designs.layout.values_of", texts):
-                found = labels_of(options, job, "lines", lines, Silence())
+                found = labels_of(job, "lines", lines, Silence())
         with self.assertRaisesRegex(ToolError, "^row 3: its code says other data than its line"):
             documents_of(found)
 
@@ -573,18 +575,6 @@ class LongTexts(unittest.TestCase):
 class Again(unittest.TestCase):
     """What comes on many labels is made twice, and then kept."""
 
-    def test_what_comes_twice_is_kept(self) -> None:
-        made = []
-
-        def make(key: str) -> str:
-            made.append(key)
-            return key.upper()
-
-        kept: Kept[str, str] = Kept(2)
-        found = [kept.get(key, make, lambda text: text + "!") for key in "aaabbbccca"]
-        self.assertEqual(found, ["A", "A", "A!", "B", "B", "B!", "C", "C", "C!", "A"])
-        self.assertEqual("".join(made), "aabbcca")
-
     def test_a_drawing_that_is_copied(self) -> None:
         """Its dots are those that Cairo paints."""
         with own_design() as design:
@@ -619,12 +609,14 @@ class Read(unittest.TestCase):
     def test_dots_are_read_as_they_were(self) -> None:
         rows = [bytes([row % 7 * 36, 255 * (row % 3 == 0), 0]) for row in range(40)]
         picture = Picture(24, 80, b"".join(rows) + bytes(40 * 3))
-        read = decode.dots_of("zpl", zpl.zpl(picture, 2), 24)
-        self.assertEqual((read.width, tuple(read.rows), read.copies), (24, picture.rows, 2))
-        read = decode.dots_of("escpos", escpos.escpos(picture, True, True), 24)
-        self.assertEqual((read.width, tuple(read.rows)), (24, picture.rows))
-        read = decode.dots_of("pbm", dots.pbm(picture), 24)
-        self.assertEqual((read.width, tuple(read.rows)), (24, picture.rows))
+        for form, data, copies in (
+            ("zpl", zpl.zpl(picture, 2), 2),
+            ("escpos", escpos.escpos(picture, True, True), 1),
+            ("pbm", dots.pbm(picture), 1),
+            ("png", dots.png(picture, 0.125), 1),
+        ):
+            with self.subTest(form=form):
+                self.assertEqual(decode.dots_of(form, data, 24), (picture, copies))
 
     def test_rows_by_the_manual(self) -> None:
         """The examples of the ZPL II manual for counts: M6 is seven of 6, hB forty of B."""
@@ -716,7 +708,7 @@ class Read(unittest.TestCase):
             with self.subTest(field=field), self.assertRaises(decode.NotDecoded):
                 decode.dots_of("zpl", label % field, 32)
         fields = first + b"^FO16,0^GFA,6,6,2,1234::^FS\n^FO0,2^GFA,1,1,1,FF^FS\n"
-        whole = decode.dots_of("zpl", label % fields, 32)
+        whole, _ = decode.dots_of("zpl", label % fields, 32)
         self.assertEqual(whole.packed.hex(" ", 4), "12001234 12001234 ff001234")
 
 

@@ -18,27 +18,17 @@ import support
 COMPLETIONS = support.TOP / "completions"
 SHELLS = ("bash", "fish", "zsh")
 TOOLS = ["label-print", "label-table"]  # the window is opened from a menu
-# What an option of the tools proposes, where that is no text of any kind; None: files.
+# What an option proposes; None: files, in bash by readline.
 VALUES: Dict[str, Optional[str]] = {
-    "label-table --symbology": "auto ean13 ean8 upca code128 qr",
+    "label-table --code": "",
     "label-table --new-since": None,
-    "label-print --dpi": "203 300 600",
     "label-print --design": "article shelf",
     "label-print --to": "pdf svg png pbm zpl escpos",
-    "label-print --each": None,
-    "label-print --journal": None,
+    "labels --height": "",
+    "labels --scale": "1 2 3 4 5 6 7 8",
+    "labels --level": "L M Q H",
 }
 ALSO_FILES = ("label-print --design",)  # it takes a name or a file
-NUMBERS = "1 2 3 4 5 6 7 8 9 10"
-OF_LABELS: Dict[str, Optional[str]] = {
-    "--format": "pbm ascii",
-    "--scale": NUMBERS[:15],
-    "--height": "",
-    "--level": "L M Q H",
-    "--min-version": NUMBERS,
-    "--mask": "0 1 2 3 4 5 6 7",
-}
-VALUES.update({f"labels {option}": values for option, values in OF_LABELS.items()})
 BASH = """
 complete() {{ :; }}; compopt() {{ :; }}
 source {completion}
@@ -157,9 +147,8 @@ class Completion(unittest.TestCase):
 
     @support.slow
     def test_values(self) -> None:
-        """Each value of an option is proposed, and no file; of one that takes any text nothing."""
-        more: Dict[str, Optional[str]] = {"label-table --code": "", "label-print --stock": ""}
-        for name, values in {**VALUES, **more}.items():
+        """Each value is proposed, and no file; of an option that takes any text nothing."""
+        for name, values in VALUES.items():
             files = ["my label.txt"] if values is None or name in ALSO_FILES else []
             for shell in SHELLS:
                 # in bash readline proposes the files

@@ -29,7 +29,7 @@ ONE: Label = ("code128 A", {"title": "Title"})
 PICTURE = '<image x="2" y="2" width="5" height="5" href="data:image/{};base64,{}"/>' + CODE
 NOT_EMBEDDED = "is of another file, or is not PNG or JPEG; embed it"
 NOT_DRAWN = "is not drawn; export it as a picture, or with texts as paths"
-PIXELS = "a picture has more than 25 million pixels; make its pictures smaller"
+PIXELS = "pictures have more than 25 million pixels; make its pictures smaller"
 HIDDEN = "the place title is hidden, or has no size; give it a width and a height, and show its"
 
 
@@ -65,14 +65,8 @@ REFUSED = (
     (f'<clipPath><rect id="title" {WIDE}/></clipPath>{CODE}', HIDDEN),
     (TITLE.format('x="2" y="2" width="9" height="9" transform="rotate(9)"'), "title is askew; tu"),
     (TITLE.format('x="2" y="2" width="9" height="9" transform="skewX(9)"'), "title is askew; turn"),
-    (
-        TITLE.format('x="50" y="2" width="20" height="9"'),
-        "title extends 10.0 mm beyond the label; the",
-    ),
-    (
-        TITLE.format('x="-1" y="2" width="20" height="9"'),
-        "title extends 1.0 mm beyond the label; the",
-    ),
+    (TITLE.format('x="50" y="2" width="20" height="9"'), "title extends 10.0 mm beyond the"),
+    (TITLE.format('x="-1" y="2" width="20" height="9"'), "title extends 1.0 mm beyond the lab"),
     (TITLE.format('x="2" y="15" width="9" height="9"'), "title and code overlap; move"),
     (f'<rect id="code-2" x="9" y="9" width="40" height="20"/>{CODE}', "code-2 and code overlap"),
     (f'<path d="M0 30H60" stroke="black"/>{CODE}', "is not white in the place code; a symbol nee"),
@@ -97,6 +91,7 @@ REFUSED = (
     (PICTURE.format("webp", "aGVsbG8="), f"image {NOT_EMBEDDED}"),
     (f'<image href="data:image/png,hello"/>{CODE}', f"image {NOT_EMBEDDED}"),
     (PICTURE.format("png", png_of(20_000, 20_000)), PIXELS),
+    (PICTURE.format("png", png_of(4_000, 4_000)) * 2, PIXELS),
     (PICTURE.format("png", "iVBORw0KGgo="), "a picture is broken; embed it again"),
     ('<rect data-place="code, blod"/>', '"code, blod": "blod" is not understood; after the name'),
     ('<rect data-place="title, level=Q"/>', '"level=Q" is not understood; after the name of a t'),
@@ -127,7 +122,7 @@ PAGES: tuple[tuple[str, dict[str, Any], str], ...] = (
     (designs.PAGE, {"turn": True}, "is 60 by 40 mm, and a label is 40 by 60 mm; set the size of"),
     (designs.PAGE, {"edge": (5.0, 13.0, 5.0, 5.0)}, "the place title is at the edge of the paper"),
     ('viewBox="0 0 90 40"', {}, "is 90 by 40 without a unit, and a label is 60 by 40 mm; draw"),
-    ('width="60" height="40"', {"paper": None}, "has no size in millimetres; name the paper by"),
+    ('width="60" height="40"', {"paper": None}, "has no size in millimetres; name the paper with"),
 )
 # what is in a file that is no SVG, and what it is refused with
 FILES = (
@@ -162,6 +157,10 @@ class OwnPages(unittest.TestCase):
     def said(self, found: Prepared) -> list[str]:
         """What is said of labels, without the name of the design."""
         return [text.removeprefix(f"{self.path}") for text in said_of(found)]
+
+    def sizes(self, found: Prepared) -> list[float]:
+        """How large the letters of all texts are, in millimetres."""
+        return [text.style.size * found.laid_out.area.dot for text in texts_of(found)]
 
     def ink(self, found: Prepared, number: int = 0) -> tuple[float, float, float, float]:
         """Where the ink above the code begins and ends, across and down, in millimetres."""
@@ -239,13 +238,9 @@ class Names(OwnPages):
             'id="title"',
             'id="rect9" inkscape:label="title"',
             'data-place="title" id="x"',
+            'data-place="title" inkscape:label="Title"',
         ):
-            self.assertEqual(self.places(f"<rect {name} {WIDE}/>"), ["title"])
-
-    def test_a_label_like_data_place_is_no_second_name(self) -> None:
-        self.assertEqual(
-            self.places(f'<rect data-place="title" inkscape:label="Title" {WIDE}/>'), ["title"]
-        )
+            self.assertEqual(self.places(f"<rect {name} {WIDE}/>"), ["title"], name)
 
     def test_rectangles_with_one_name_are_said(self) -> None:
         body = f'<rect id="a" data-place="title" {WIDE}/><rect data-place="Title, bold" {WIDE}/>'
@@ -293,6 +288,7 @@ class Names(OwnPages):
             (f'<flowRoot><flowPara/></flowRoot><rect id="Artboard1" {box}/>', 0),
             (f'<rect id="Rectangle-Copy 2" {box}/>', 0),
             (f'<rect id="canvas_background" {box}/>', 0),
+            ('<color-profile href="a.icm"/><path d="M2 2H11V11H2Z"/>', 0),
             ('<path id="p" d="M2 2H11V11H2Z" style="fill:url(&quot;#q&quot;) black"/>', 0),
         ):
             found = self.found(body + CODE, [("code128 A", {})])
@@ -322,32 +318,17 @@ class Names(OwnPages):
 
     def test_columns_with_numbers_are_no_second_places(self) -> None:
         """The second line of an address is empty on a label: the first one is not there twice."""
-        rects = [
-            f'<rect id="{name}" x="2" y="{2 + 6 * number}" width="56" height="5"/>'
-            for number, name in enumerate(("Line", "Line_2", "ID"))
-        ]
-        labels = [
-            ("code128 A", {"text": {"Line": "Am Hang 1", "Line 2": "Hinterhaus", "ID": "7"}}),
-            ("code128 B", {"text": {"Line": "Am Hang 2", "ID": "8"}}),
-        ]
-        found = self.found("".join(rects) + CODE, labels)
-        texts = ["Am Hang 1", "Hinterhaus", "7", "Am Hang 2", "8"]
-        self.assertEqual([text.text for text in texts_of(found)], texts)
-
-    def test_a_column_with_a_hyphen_is_no_second_place(self) -> None:
-        """Where a label has nothing for Line-2, Line is not there twice."""
-        rects = [
-            f'<rect id="{name}" x="2" y="{2 + 6 * number}" width="56" height="5"/>'
-            for number, name in enumerate(("Line", "Line-2"))
-        ]
-        for other in ({"Line": "Am Hang 2"}, {"Line": "Am Hang 2", "Line-2": ""}):
-            labels = [
-                ("code128 A", {"text": {"Line": "Am Hang 1", "Line-2": "Hinterhaus"}}),
-                ("code128 B", {"text": other}),
+        for second in ("Line 2", "Line-2"):
+            rects = [
+                f'<rect id="{name}" x="2" y="{2 + 6 * number}" width="56" height="5"/>'
+                for number, name in enumerate(("Line", second.replace(" ", "_"), "ID"))
             ]
-            found = self.found("".join(rects) + CODE, labels)
-            texts = ["Am Hang 1", "Hinterhaus", "Am Hang 2"]
-            self.assertEqual([text.text for text in texts_of(found)], texts)
+            first = {"Line": "Am Hang 1", second: "Hinterhaus", "ID": "7"}
+            for other in ({"Line": "Am Hang 2"}, {"Line": "Am Hang 2", second: ""}):
+                labels = [("code128 A", {"text": first}), ("code128 B", {"text": other})]
+                found = self.found("".join(rects) + CODE, labels)
+                texts = [*first.values(), "Am Hang 2"]
+                self.assertEqual([text.text for text in texts_of(found)], texts)
 
     def test_a_column_is_never_taken_for_a_part(self) -> None:
         place = f'<rect id="price" {WIDE}/>{CODE}'
@@ -369,7 +350,7 @@ class Names(OwnPages):
     def test_what_has_no_place_and_places_that_have_nothing_are_said_once(self) -> None:
         labels = [("code128 A", {"title": "a", "text": {"Seat": "1"}})] * 3
         found = self.found(f'<rect id="Saet" {WIDE}/>{CODE}', labels)
-        hint = 'name a column so, with label-table --text "Saet", or remove the name'
+        hint = 'give such a column with label-table --text "Saet", or remove the name'
         lost = " has no rectangle for title, Seat: not on the labels"
         self.assertEqual(self.said(found), [lost, f": no label has anything for Saet: {hint}"])
 
@@ -378,18 +359,21 @@ class Texts(OwnPages):
     """How texts fit their places."""
 
     def test_the_page_says_the_paper(self) -> None:
-        for page in (designs.PAGE, 'width="6cm" height="4cm" viewBox="0 0 60 40"'):
+        for page in ('width="6cm" height="4cm"', 'style="width:60mm;height:40mm"', designs.PAGE):
+            page = page if "viewBox" in page else f'{page} viewBox="0 0 60 40"'
             found = self.found(TITLE.format(WIDE), page=page, paper=None)
             self.assertEqual(found.job.plan.sheet.page, designs.PAPER)
 
     def test_pages_of_other_units_and_sizes(self) -> None:
         usual = self.ink(self.found(TITLE.format(WIDE)))
         scaled = f'<g transform="scale(10)">{TITLE.format(WIDE)}</g>'
+        metres = f'<g transform="scale(1e-3)">{TITLE.format(WIDE)}</g>'
         for body, page in (
             (TITLE.format(WIDE), 'width="600" height="400" viewBox="0 0 60 40"'),
             (TITLE.format(WIDE), 'viewBox="0 0 60 40"'),
             (scaled, 'viewBox="0 0 600 400"'),
             (scaled, 'width="600" height="400"'),
+            (metres, 'width="60mm" height="40mm" viewBox="0 0 .06 .04"'),
         ):
             self.assertEqual(self.ink(self.found(body, page=page)), usual)
         larger = 'width="61mm" height="40mm" viewBox="0 0 61 40"'  # it is put in the middle
@@ -399,13 +383,14 @@ class Texts(OwnPages):
 
     def test_letters_are_alike(self) -> None:
         some = [("code128 A", {"title": title}) for title in ("A", "A long title of a label")]
-        sizes = {text.size for text in texts_of(self.found(TITLE.format(WIDE), some))}
+        sizes = {text.style.size for text in texts_of(self.found(TITLE.format(WIDE), some))}
         self.assertEqual(len(sizes), 1)
 
     def test_one_line_fills_its_place_by_its_ink(self) -> None:
-        place = '<rect id="title" x="2" y="1" width="56" height="16"/>' + CODE
-        _, _, top, bottom = self.ink(self.found(place, [("code128 A", {"title": "A1"})]))
+        place = '<rect id="title" x="2" y="1" width="56" height="{}"/>' + CODE
+        _, _, top, bottom = self.ink(self.found(place.format(16), [("code128 A", {"title": "A1"})]))
         self.assertTrue(15 <= bottom - top <= 16, bottom - top)
+        self.assertEqual(len(self.found(place.format(0.05)).labels), 1)  # lower than a dot
 
     def test_where_a_text_is_in_its_place(self) -> None:
         box = 'x="10" y="4" width="40" height="12"'
@@ -422,35 +407,16 @@ class Texts(OwnPages):
         self.assertAlmostEqual(found[", bottom"][3], 16, delta=0.3)
 
     def test_turned_places(self) -> None:
-        for turn, quarters in ((0, 0), (90, 1), (180, 2), (270, 3)):
-            box = (
-                f'width="12" height="12" x="-6" y="-6" transform="translate(30 10) rotate({turn})"'
-            )
+        """Drawings of programs whose axis points upwards are mirrored: their places are upright."""
+        turns = [(f"rotate({90 * quarters})", quarters) for quarters in range(4)]
+        for turn, quarters in (*turns, ("scale(-1 1)", 0), ("scale(1 -1)", 0)):
+            box = f'width="12" height="12" x="-6" y="-6" transform="translate(30 10) {turn}"'
             found = self.found(f'<rect data-place="title, top, size=3" {box}/>{CODE}')
             (text,) = texts_of(found)
             self.assertEqual(text.place.quarters, quarters)
             left, right, top, bottom = self.ink(found)
             edges = (top - 4, 36 - right, 16 - bottom, left - 24)
             self.assertAlmostEqual(edges[quarters], 0, delta=0.3)
-
-    def test_places_in_large_units(self) -> None:
-        """Their own lengths are small numbers, as metres are."""
-        page = 'width="60mm" height="40mm" viewBox="0 0 .06 .04"'
-        body = '<rect id="code" x=".002" y=".02" width=".056" height=".018"/>'
-        body += (
-            '<g transform="scale(1e-3)"><rect id="title" x="2" y="2" width="56" height="10"/></g>'
-        )
-        usual = self.ink(self.found(TITLE.format(WIDE)))
-        self.assertEqual(self.ink(self.found(body, page=page)), usual)
-
-    def test_mirrored_places_are_upright(self) -> None:
-        """Drawings of programs whose axis points upwards are mirrored."""
-        for scale in ("-1 1", "1 -1"):
-            box = (
-                f'width="12" height="12" x="-6" y="-6" transform="translate(30 10) scale({scale})"'
-            )
-            (text,) = texts_of(self.found(f'<rect id="title" {box}/>{CODE}'))
-            self.assertEqual(text.place.quarters, 0)
 
     def test_texts_that_are_over_each_other_are_said(self) -> None:
         body = (
@@ -473,11 +439,11 @@ class Texts(OwnPages):
         words = "A long title that has many words"
         found = self.found(place.format(""), [("code128 A", {"title": words})])
         (text,) = texts_of(found)
-        self.assertGreater(text.lines, 1)
+        self.assertGreater(text.style.lines, 1)
         self.assertEqual(self.said(found), [])
         found = self.found(place.format(", lines=1"), [("code128 A", {"title": words})])
         self.assertEqual(self.said(found), ["line 2: shortened to fit, with an ellipsis"])
-        self.assertAlmostEqual(texts_of(found)[0].size * found.laid_out.area.dot, 1.8, delta=0.13)
+        self.assertAlmostEqual(self.sizes(found)[0], 1.8, delta=0.13)
 
     def test_a_text_in_another_font_is_cut(self) -> None:
         """DejaVu Serif is wider than the font of the texts."""
@@ -502,7 +468,7 @@ class Texts(OwnPages):
         ):
             found = self.found(place, [("code128 A", {"text": {"Count": count}})])
             shortened = [one for one in self.said(found) if "shortened" in one]
-            self.assertEqual((texts_of(found)[0].lines, len(shortened)), (lines, said), count)
+            self.assertEqual((texts_of(found)[0].style.lines, len(shortened)), (lines, said), count)
 
     def test_one_long_text_makes_no_others_small(self) -> None:
         """It has smaller letters alone, and is cut at the least ones."""
@@ -510,7 +476,7 @@ class Texts(OwnPages):
         labels = [("code128 A", {"title": title}) for title in ("Soap", "Salt", "x " * 99, "Tea")]
         for words, least in (("", 1.8), (", least=4", 4)):
             found = self.found(place.format(words), labels)
-            sizes = [text.size * found.laid_out.area.dot for text in texts_of(found)]
+            sizes = self.sizes(found)
             self.assertEqual(sizes[0], sizes[1])
             self.assertGreater(sizes[0], 10)
             self.assertTrue(least - 0.13 < sizes[2] < least + 0.5, sizes)
@@ -523,7 +489,7 @@ class Texts(OwnPages):
         sizes = set()
         for title in ("H", "-", ".", "…", "_"):
             (text,) = texts_of(self.found(place, [("code128 A", {"title": title})]))
-            sizes.add(text.size)
+            sizes.add(text.style.size)
         self.assertLess(max(sizes) / min(sizes), 1.35)  # what is below the line takes room, too
         _, _, top, bottom = self.ink(self.found(place, [("code128 A", {"title": "▲"})]))
         self.assertAlmostEqual(top, 1, delta=0.3)
@@ -541,7 +507,7 @@ class Texts(OwnPages):
             found = self.found(place.format(words, high), [("code128 A", {"title": title})])
             (text,) = texts_of(found)
             self.assertEqual(text.text.strip(), wanted.strip(), words)
-            self.assertGreaterEqual(text.size * found.laid_out.area.dot, 1.67)
+            self.assertGreaterEqual(self.sizes(found)[0], 1.67)
             cut = ["line 2: shortened to fit, with an ellipsis"] * is_cut
             self.assertEqual(self.said(found), cut)
 
@@ -560,7 +526,7 @@ class Texts(OwnPages):
             if not found.labels:
                 continue  # no font has these letters
             (text,) = texts_of(found)
-            self.assertGreater(text.lines, 1)
+            self.assertGreater(text.style.lines, 1)
             self.assertEqual(self.said(found), [])
 
     def test_a_price_is_never_cut(self) -> None:
@@ -682,7 +648,7 @@ class Drawings(OwnPages):
             options = PrintOptions(paper=designs.PAPER, dpi=203, to="pbm", design=str(path))
             ends = '"lines":1,"left_out":[],"left_out_count":0,"empty":["Logo"]}'
             lines = f'#{{"labels":1}}\n#{{"row":2}}\ncode128 A\n#{{"end":1,{ends}\n'.encode()
-            found = labels_of(options, planned(options), "lines", lines, Silence())
+            found = labels_of(planned(options), "lines", lines, Silence())
             self.assertEqual((dots_of(found)[:150].any(), self.said(found)), (is_drawn, []))
 
     def test_a_place_that_is_dark_in_part(self) -> None:
@@ -763,15 +729,6 @@ class Drawings(OwnPages):
                 found = self.found(around.format(*inside) + place.format(*sides))
                 self.assertEqual(len(found.labels), 1)
 
-    def test_a_font_that_is_not_there_is_said(self) -> None:
-        for style in ('"Nothing, serif"', '"DejaVu Sans Nothing"', "\"'Nothing'\""):
-            word = f'<text x="2" y="9" font-size="4" font-family={style}>a</text>{CODE}'
-            (said, _) = self.said(self.found(word))
-            self.assertRegex(said, "^: font-family:(DejaVu Sans )?Nothing may be drawn otherw")
-        for family in ("DejaVu Sans", "DejaVu Sans Light", "sans-serif"):
-            word = f'<text x="2" y="9" font-size="4" font-family="{family}">a</text>{CODE}'
-            self.assertEqual(len(self.said(self.found(word))), 1)
-
     def test_a_drawing_that_is_cut_is_said(self) -> None:
         """But for what loses no more than 0.5 mm."""
         bar = '<path d="M{}V11H{}Z"/>' + CODE
@@ -804,11 +761,6 @@ class Drawings(OwnPages):
         path = self.path.with_name("own.svgz")
         path.write_bytes(gzip.compress(self.path.read_bytes()))
         self.assertEqual(self.ink(designs.prepared(path, [ONE])), usual)
-
-    def test_a_page_whose_sides_are_in_its_style(self) -> None:
-        page = 'style="width:60mm;height:40mm" viewBox="0 0 60 40"'
-        usual = self.ink(self.found(TITLE.format(WIDE)))
-        self.assertEqual(self.ink(self.found(TITLE.format(WIDE), page=page, paper=None)), usual)
 
     def test_edges_that_take_no_ink(self) -> None:
         found = self.found(TITLE.format(WIDE), edge=(5.0, 2.0, 2.0, 2.0))
@@ -892,13 +844,6 @@ class Symbols(OwnPages):
         found = self.found(body, labels)
         self.assertEqual(len(found.labels), 1)
         self.assertRegex(reasons_of(found)[0], "^place Ean: .*check digit")
-
-    def test_labels_are_turned_where_their_paper_is(self) -> None:
-        labels = [designs.SHIPPED["address-88x25"]]
-        path = designs.FOLDER / "address-88x25.svg"
-        found = designs.prepared(path, labels, paper=(25.0, 88.0))
-        self.assertTrue(found.laid_out.area.is_turned)
-        self.assertEqual(dots_of(found).shape, (703, 200))
 
 
 class Papers(OwnPages):

@@ -1,36 +1,20 @@
-"""label-print at a desk: chosen labels, a network printer, the journal, lines as they come; and what
-fails there.
-"""
+"""label-print at a desk: chosen labels, a printer in the network, the journal, lines as they come."""
 
+import errno
 import functools
 import os
-import re
-import threading
 import unittest
 from pathlib import Path
 from unittest import mock
 
 import designs
 import support
-from desk import NULL, PIPE, TICKETS, Desk, entry, labels_in, printed
+from desk import PIPE, TICKETS, Desk, entry, labels_in, printed
 from labeltools.printing.journal import Journal, escaped
 from labeltools.lines.file import read_lines
-from labeltools.common.messages import Silence
 from labeltools.printing.network import NetworkPrinter
-from labeltools.printing.job import PrintOptions, planned
-from labeltools.printing.outlets import Outlet
-from labeltools.printing.press import labels_of
 from labeltools.printing.selection import ranges_in, selection_of
-from labeltools.printing.sending import Sender
 from printers import Printer
-
-# How many labels a printer took, and what may be missing or half there then.
-BROKEN = (
-    r"broke off: it took (\d+) labels whole; lines 1-(\d+) may be missing: look at the last one "
-    r"on paper, and print what follows it with --after N; line (\d+) may be on paper: look there; with "
-    r"--after (\d+) the same command goes on at it\n"
-)
-SHORT = functools.partial(NetworkPrinter, stuck=0.5)
 
 
 def setUpModule() -> None:
@@ -54,20 +38,8 @@ class Chosen(Desk):
         for data in (b"T00005\r\n\nT00001\n", b"\xef\xbb\xbfT00001\r\nT00005"):
             codes.write_bytes(data)
             self.assertEqual(self.rows("", f"@{codes}"), [2, 6])
-
-    def test_what_is_not_there_is_said(self) -> None:
-        done = printed("--only", "40-", "--only-code", "T9", "--only-code", "T00001")
-        self.said(done, 1, "row 40: named by --only, but not in the input")
-        self.said(done, 1, "label-print: T9: named by --only-code, but not in the input")
-        self.assertEqual(len(labels_in(done)), 1)
-        self.said(printed("--only-code", f"@{self.folder}/no"), 1, "no: No such file")
-
-    def test_few_are_named(self) -> None:
-        """Rows and codes together are the labels of either."""
-        done = printed("--only", "3", "--only-code", "T00007", "--summary")
-        self.said(done, 0, "2 labels: line 3, T00003; line 7, T00007")
-        copies = support.file_of([("qr A", {"copies": 3})])
-        self.said(printed("--only", "2", "--summary", input=copies), 0, "3 labels: row 2, A; print")
+        codes.write_bytes(b"\n")  # without codes all labels would be chosen
+        self.said(printed("--only-code", f"@{codes}"), 1, "codes: there is no code\n$")
 
     def test_each_code_once(self) -> None:
         lines = b"qr 4006381333931\nean13 4006381333931\nean13 400638133393\nqr A\nqr A\n"
@@ -123,19 +95,18 @@ class Network(Desk):
         self.assertEqual(self.events(), [])
         self.said(printed("--print", "tcp://no.invalid"), 1, "line 1 and what follows it")
 
-    def test_the_row_to_go_on_from(self) -> None:
-        printer = Printer(cut=10).start()
-        done = printed("--print", printer.name)
-        found = re.search(BROKEN, done.stderr.decode())
-        assert found is not None, done.stderr
-        taken, last, first, after = map(int, found.groups())
-        self.assertEqual((taken, last, first), (after, after, after + 1))
-        rest = labels_in(printed("--after", f"{after}"))
-        self.assertEqual(rest, labels_in(printed())[after:])
+    def test_one_that_does_not_answer(self) -> None:
+        """Whoever waits at a desk hears so while he still waits."""
+        error = TimeoutError(errno.ETIMEDOUT, "Connection timed out")
+        with mock.patch("socket.create_connection", side_effect=error) as connect:
+            done = printed("--print", "tcp://till-3")
+        self.said(done, 1, "timed out: line 1 and what follows it were not sent; is it switched on")
+        self.assertEqual(connect.call_args[0], (("till-3", 9100), 10))
 
     def test_one_that_hangs(self) -> None:
         printer = Printer(stuck=3).start()
-        with mock.patch("labeltools.printing.sending.NetworkPrinter", SHORT):
+        short = functools.partial(NetworkPrinter, stuck=0.5)
+        with mock.patch("labeltools.printing.sending.NetworkPrinter", short):
             done = printed("--print", printer.name, "--dpi", "600")
         self.said(done, 1, "has taken nothing for 0 seconds: it took .* may be missing: look at")
 
@@ -149,11 +120,6 @@ class Network(Desk):
             *("socket://till-3", "ipp://till-3/ipp"),
         ):
             self.said(printed("--print", name), 2, "argument --print: ")
-        self.said(printed("--print", "TCP://no.invalid"), 1, "line 1 and what follows it were not")
-        printer = Printer().start()
-        words = ("--print", printer.name.upper(), "--journal", self.path, "--only", "1")
-        for again in ((), ("--again", printer.name.upper())):
-            self.said(printed(*words, *again), 0, "1 label taken by tcp://127")
 
     def test_a_queue_and_other_forms_are_refused(self) -> None:
         for words in (("--journal", self.path), ("--stream",)):
@@ -201,7 +167,7 @@ class Journals(Desk):
         printer = Printer(cut=12).start()
         words = ("--journal", self.path, "--print", printer.name)
         done = printed(*words)
-        self.said(done, 1, "line [0-9]+ may be on paper: look there, then give the same")
+        self.said(done, 1, "line [0-9]+ may be on paper: look there; the same command prints the r")
         self.said(
             done,
             1,
@@ -221,69 +187,26 @@ class Journals(Desk):
         Path(self.path).write_text(text.replace(line, line.replace("sending", "taken")))
         self.said(printed(*words), 0, "30 labels in")  # it was looked at, and is there
 
-    def test_two_lanes(self) -> None:
-        """A lock is of a process: the other lane is one."""
-        code = (
-            "from labeltools.lines.file import read_lines\n"
-            "ours = journal.Journal(sys.argv[1], 'tcp://b'); print(ours.lane)\n"
-            "records = read_lines(b'qr T00001\\nqr T00002\\n', '').records\n"
-            "print([ours.claim(record) for record in records], flush=True); sys.stdin.read()\n"
-        )
-        ours = Journal(self.path, "tcp://a")
-        self.assertTrue(ours.claim(self.records[0]))
-        other = self.other(code, self.path)
-        assert other.stdout is not None
-        self.assertEqual(other.stdout.readline(), b"2\n")
-        self.assertEqual(other.stdout.readline(), b"[False, True]\n")
-        self.assertFalse(ours.claim(self.records[1]))
-        self.assertFalse(self.is_doubtful(ours, 1))
-        other.kill()
-        other.wait()
-        self.assertTrue(self.is_doubtful(ours, 1))
-
-    def test_a_lane_that_is_killed_while_another_one_waits(self) -> None:
-        ours = Journal(self.path, "tcp://a")
-        other = self.holding()
-        late = threading.Timer(0.3, other.kill)
-        late.start()
-        self.assertTrue(ours.claim(self.records[0]))
-        late.join()
-
     def test_lines_that_are_cut_off(self) -> None:
+        """A label whose line is cut was not sent, unless it lacks its end alone; one whose mark is
+        cut was sent, and is in doubt, wherever the mark ends.
+        """
         journal = Journal(self.path, "tcp://a")
         journal.claim(self.records[0])
         journal.take(self.records[0])
         journal.claim(self.records[1])
-        whole = Path(self.path).read_bytes()
-        start = whole.rstrip(b"\n").rfind(b"\n") + 1
-        for end in range(start + 1, len(whole)):
-            Path(self.path).write_bytes(whole[:end])
-            again = Journal(self.path, "tcp://a")
-            self.assertTrue(again.mended)
-            self.assertEqual(self.is_doubtful(again, 1), end == len(whole) - 1)
-            self.assertTrue(again.entry(self.records[0]))
-            self.assertTrue(Path(self.path).read_bytes().startswith(whole[:start]))
-            Journal(self.path, "tcp://a")  # it is whole now
-        Path(self.path).write_bytes(whole[: start + 40])
+        head, line, mark, other = Path(self.path).read_bytes().splitlines(keepends=True)
+        for before, last, number in ((head + line + mark, other, 1), (head + line, mark, 0)):
+            for end in range(1, len(last)):
+                Path(self.path).write_bytes(before + last[:end])
+                again = Journal(self.path, "tcp://a")
+                is_sent = number == 0 or end == len(last) - 1
+                self.assertEqual(self.is_doubtful(again, number), is_sent)
+                self.assertTrue(Path(self.path).read_bytes().startswith(before))
+                os.close(again.file)
+        Path(self.path).write_bytes(head + line + mark + other[:40])
         done = printed("--journal", self.path)
-        self.said(done, 0, "its last line was cut off, and was taken out\n")
-        self.assertEqual(len(labels_in(done)), 29)
-
-    def test_a_mark_that_is_cut_off(self) -> None:
-        """Its label was sent, and is in doubt, wherever the mark ends."""
-        journal = Journal(self.path, "tcp://a")
-        journal.claim(self.records[0])
-        journal.take(self.records[0])
-        os.close(journal.file)
-        whole = Path(self.path).read_bytes()
-        start = whole[:-1].rfind(b"\n") + 1
-        for end in range(start + 1, len(whole)):
-            Path(self.path).write_bytes(whole[:end])
-            again = Journal(self.path, "tcp://a")
-            self.assertTrue(again.mended and self.is_doubtful(again, 0))
-            self.assertEqual(Path(self.path).read_bytes(), whole[:start])
-            os.close(again.file)
-        self.said(printed("--journal", self.path), 1, "line 1: may be on paper, from tcp://a")
+        self.assertEqual((done.returncode, len(labels_in(done))), (0, 29), done.stderr)
 
     def test_a_mark_that_is_cut_to_another_code(self) -> None:
         """It is the mark of no label but the one that waits for it."""
@@ -292,7 +215,6 @@ class Journals(Desk):
         for before in (sent, other + sent):
             self.journal(before, entry("taken", "qr T0001", "row 12")[:-1])
             done = printed("--journal", self.path, input=b"qr T0001\nqr T00012\n")
-            self.said(done, 1, "its last line was cut off, and was taken out\n")
             self.said(done, 1, "lines? (1-)?2: may be on paper, from tcp://a: look for it")
             self.assertEqual(len(labels_in(done)), int(before == sent))
 
@@ -309,54 +231,6 @@ class Journals(Desk):
         self.said(printed("--journal", "/dev/null"), 1, "/dev/null is not a journal")
         self.said(printed("--journal", self.folder), 1, "Is a directory")
         self.said(printed("--journal", f"{self.folder}/no/journal"), 1, "No such file")
-
-    def test_a_line_that_is_none(self) -> None:
-        Path(self.path).write_bytes(b"#labels journal 1\n# my remark\nT00001\n")
-        done = printed("--journal", self.path)
-        self.said(done, 1, "line 3 is not a line of a journal; correct it; delete it only if")
-        self.assertEqual(labels_in(done), [])
-
-    def test_a_label_is_written_down_before_it_goes_out(self) -> None:
-        """On the disk, and marked after it went: a power cut leaves one label in doubt at most."""
-        order: list[str] = []
-        path = self.path
-
-        class Recorder(Outlet):
-            """Keeps what happens, and the events in the journal then."""
-
-            name = "tcp://a"
-            is_direct = True
-
-            def open(self) -> None:
-                order.append("open")
-
-            def send(self, data: bytes) -> None:
-                order.append("sent after " + Path(path).read_text().split("\t")[-5])
-
-            def close(self) -> None:
-                order.append("close")
-
-            def drop(self) -> None:
-                order.append("drop")
-
-        options = PrintOptions(paper=(60.0, 40.0), dpi=203, to="zpl")
-        found = labels_of(options, planned(options), "lines", TICKETS[:21], Silence())
-        sender = Sender(Recorder(), Journal(self.path, "tcp://a"))
-        with mock.patch("os.fdatasync", lambda file: order.append("synced")):
-            sender.send_all(found, Silence())
-        self.assertEqual(order, ["open", "synced", "sent after sending"] * 2 + ["close"])
-        self.assertEqual(self.events(), ["sending", "taken"] * 2)
-
-    def test_two_commands_at_once(self) -> None:
-        """Each label goes to one of two printers."""
-        lanes = Printer().start(), Printer().start()
-        lines = Path(self.folder, "lines")
-        lines.write_bytes(TICKETS)
-        words = ("--journal", self.path, str(lines), "--print")
-        runs = [self.begin(*words, lane.name, stderr=NULL) for lane in lanes]
-        self.assertEqual([run.wait(support.SECONDS) for run in runs], [0, 0])
-        labels = [*lanes[0].labels, *lanes[1].labels]
-        self.assertEqual(sorted(labels), sorted(labels_in(printed())))
 
     def test_each_byte_comes_back(self) -> None:
         """By Python's own escapes, which these are. A blank at the end cannot get lost."""
@@ -380,7 +254,7 @@ class FullDisks(Desk):
         for size in (4, len(head), both - 1, both, both + len(mark) + 5):
             with self.subTest(size=size):
                 os.unlink(self.path)
-                done = self.run_alone("--journal", self.path, code=f"limit({size})")
+                done = self.begin("--journal", self.path, code=f"limit({size})", stdout=PIPE).done()
                 self.said(done, 1, "journal: File too large")
                 went = labels_in(done)
                 rest = printed("--journal", self.path)
@@ -389,6 +263,16 @@ class FullDisks(Desk):
                 is_doubtful = b"may be on paper" in rest.stderr
                 self.assertEqual(rest.returncode, int(is_doubtful), rest.stderr)
                 self.assertEqual(is_doubtful, size == both)
+
+    def test_a_last_line_whose_end_has_no_room(self) -> None:
+        """It is not taken out: its label may be on paper."""
+        journal = Path(self.journal(entry("sending", "qr T00001")[:-1]))
+        size = journal.stat().st_size
+        done = self.begin("--journal", self.path, code=f"limit({size})", stdout=PIPE).done()
+        self.said(done, 1, "journal: File too large")
+        done = printed("--journal", self.path)
+        self.said(done, 1, "line 1: may be on paper, from tcp://a")
+        self.assertEqual(len(labels_in(done)), 29)
 
 
 class Streams(Desk):
@@ -400,7 +284,7 @@ class Streams(Desk):
             b'#{"row":7,"title":"Heft"}\nean13 400638133393\n',
             b"ean13 4006381333932\n",
         ]
-        stream = self.start("--unique", stdout=PIPE)
+        stream = self.begin("--stream", "--unique", stdout=PIPE)
         for line, word in zip([*lines, b"qr A\n"], ("taken", "taken", "refused", "known")):
             stream.write(line)
             answer = stream.stderr.readline().decode().split()
@@ -413,21 +297,22 @@ class Streams(Desk):
         self.assertEqual(stream.stderr.read(), b"refused 6 cut off before its line end\n")
         self.assertEqual(stream.wait(), 1)
 
-    def test_what_is_said_of_a_design(self) -> None:
+    def test_what_is_reported_of_a_design(self) -> None:
         """Once, but of each text that is shortened; these lines are no answers."""
         place = '<rect data-place="title, lines=1" x="2" y="2" width="20" height="4"/>'
-        odd = '<path style="fill:var(--ink)" d="M30 2H39V9Z"/>'
         titles = ("A long title of many words", "A", "Another long title of words")
-        lines = "".join(f'#{{"title":"{title}"}}\nqr A\n' for title in titles)
-        path = designs.written(Path(self.folder, "own.svg"), place + odd + designs.CODE)
+        lines = "".join(f'#{{"title":"{one}","price":"1,00"}}\nqr A\n' for one in titles)
+        path = designs.written(Path(self.folder, "own.svg"), place + designs.CODE)
         words = ("--design", str(path), "--to", "zpl", "--dpi", "203", "--stream")
         done = support.printed(*words, input=lines.encode())
+        said = done.stderr.decode().splitlines()
         note = "label-print:"
-        words_before = (line.split()[0] for line in done.stderr.decode().splitlines())
-        said = [word for word in words_before if word in (note, "taken")]
-        self.assertEqual(said, [note, note, "taken", "taken", note, "taken"], done.stderr)
-        self.assertEqual(done.stderr.count(b"var(--ink)"), 1)
-        self.assertEqual(done.stderr.count(b": shortened to fit, with an ellipsis\n"), 2)
+        firsts = [word for line in said if (word := line.split()[0]) in (note, "taken")]
+        self.assertEqual(firsts, [note, note, "taken", "taken", note, "taken"], said)
+        self.assertEqual(sum(": not on the labels" in line for line in said), 1)
+        self.assertEqual(
+            sum(line.endswith(": shortened to fit, with an ellipsis") for line in said), 2
+        )
 
     def test_the_status(self) -> None:
         """Each line was taken, or one was not, though it is known."""
@@ -438,7 +323,7 @@ class Streams(Desk):
     def test_lines_that_have_no_label(self) -> None:
         lines = {
             b"qr " + b"A" * 1098: "refused 1 line is longer than 1100 bytes",
-            b"qr " + b"A" * 70_000: "refused 1 longer than 65536 bytes",
+            b"qr " + b"A" * 70_000: "refused 1 line is longer than 1100 bytes",
             b"PALLET": "refused 1 unknown symbology",
             b'#{"row":"x"}\nqr A': "refused 2 .*not understood: .row.",
             b'#{"row":1,"copies":0}\nqr A': "refused 2 none is printed: it has 0 copies",
@@ -487,53 +372,20 @@ class Streams(Desk):
         self.assertEqual(stream.stderr.read(), b"")
         self.assertEqual(stream.wait(), 0)
 
-    def test_a_fifo_is_kept_open(self) -> None:
-        fifo = self.fifo()
-        stream = self.start(fifo, stdout=PIPE)
-        for code in ("A", "B"):
-            self.written(stream, fifo, f"qr {code}\n".encode())
-            answer = stream.stderr.readline().split()
-            self.assertEqual(answer[3:], [b"qr", code.encode()])
-            stream.stdout.read(int(answer[2]))
-        stream.terminate()
-
     @support.slow
     def test_memory_and_descriptors_are_level(self) -> None:
-        stream = self.start(stdout=PIPE)
+        stream = self.begin("--stream", stdout=PIPE)
         status = Path(f"/proc/{stream.pid}/status")
         found = []
-        spent = []
         for number in range(900):
-            start = processor_time(stream.pid)
             stream.write(b"ean13 400638133393\n" if number % 4 == 0 else b"qr %d\n" % number)
             answer = stream.stderr.readline().split()
             stream.stdout.read(int(answer[2]))
-            spent.append(processor_time(stream.pid) - start)
             if number in (300, 899):
                 size = int(status.read_text().split("VmRSS:")[1].split()[0])
                 found.append((size, len(os.listdir(f"/proc/{stream.pid}/fd"))))
         self.assertEqual(found[0][1], found[1][1])
         self.assertLess(found[1][0], found[0][0] * 1.05)
-        self.assertLess(sum(spent[100:]) / len(spent[100:]), 0.02)
-
-
-def processor_time(process: int) -> float:
-    """The processor time of a process in seconds."""
-    fields = Path(f"/proc/{process}/stat").read_text().rpartition(")")[2].split()
-    return (int(fields[11]) + int(fields[12])) / os.sysconf("SC_CLK_TCK")
-
-
-class Receipts(Desk):
-    """ESC/POS without white at the right."""
-
-    def test_half_the_bytes(self) -> None:
-        """A ticket of 72 by 110 mm would be 79 kB of whole rows."""
-        labels = [("qr T00001", {"title": "Konzert", "price": "12,00 €", "text": ["Reihe 7"]})]
-        words = ("--paper", "72x110", "--dpi", "203", "--to", "escpos")
-        done = support.printed(*words, input=support.file_of(labels))
-        whole = 72 * 110 * (203 / 25.4) ** 2 / 8
-        self.assertLess(len(done.stdout), whole / 2)
-        self.assertGreater(len(done.stdout), 5000)
 
 
 if __name__ == "__main__":

@@ -9,24 +9,27 @@ import random
 import re
 import signal
 import socket
-import threading
 import time
 import unittest
 from pathlib import Path
-from typing import Callable, Sequence
+from typing import Any, Callable, Sequence
 from unittest import mock
 
 import support
-from desk import PIPE, ROLL, TICKETS, Desk, Program, entry, labels_in, on_paper, printed
+from desk import NULL, PIPE, ROLL, TICKETS, Desk, Program, entry, labels_in, on_paper, printed
 from labeltools.printing import journal as journals
 from labeltools.printing.journal import Journal
 from labeltools.common.messages import ToolError
 from labeltools.printing.network import NetworkPrinter
 from labeltools.printing.outlets import Unreachable
 from labeltools.common.text import Text
+from jobs import CUT
 from printers import BROKEN, LABEL, Printer
 
 SEED = 20
+TAKEN = re.compile(b"^taken ", re.MULTILINE)
+# a label of ESC/POS, to its cut
+RECEIPT = re.compile(b".*?" + re.escape(CUT), re.DOTALL)
 ENDINGS = (signal.SIGTERM, signal.SIGINT, signal.SIGHUP)
 
 
@@ -67,18 +70,26 @@ class Printers(Desk):
             outlet.close()
         self.assertGreater(printer.pieces, 100)
 
-    def test_one_that_does_not_answer(self) -> None:
-        """Whoever waits at a desk hears so while he still waits."""
-        error = TimeoutError(errno.ETIMEDOUT, "Connection timed out")
-        with mock.patch("socket.create_connection", side_effect=error) as connect:
-            done = printed("--print", "tcp://till-3")
-        self.said(done, 1, "timed out: line 1 and what follows it were not sent; is it switched on")
-        ((_, seconds), _) = connect.call_args
-        self.assertLessEqual(seconds, 30)
-
     def test_what_a_variable_without_a_value_leaves_empty(self) -> None:
         for word in ("--journal", "--again", "--only-code"):
             self.said(printed(word, ""), 2, f"argument {word}: it is empty")
+
+    def test_copies_to_one_that_ends_each_connection(self) -> None:
+        """Each copy of ESC/POS is a label, and the advice counts it."""
+        lines = support.file_of([("qr A", {"copies": 3})])
+        printer = Printer(ends=True).start()
+        printer.label = RECEIPT
+        words = ("--to", "escpos", "--print", printer.name)
+        status = 1
+        while status and (before := len(printer.labels)) < 3:
+            done = printed(*words, "--after", f"{before}", input=lines)
+            status = done.returncode
+            after = re.findall("with --after ([0-9])", done.stderr.decode())
+            self.assertTrue(all(int(number) > before for number in after), done.stderr)
+        printer.wait(3)
+        self.assertEqual(len(printer.labels), 3)
+        answer = self.answers(b'#{"copies":3}\nqr A\n', "--to", "escpos")
+        self.assertRegex(answer[0], "^taken 2 ")
 
 
 class Rows(Desk):
@@ -155,27 +166,12 @@ class Rows(Desk):
             said, r"A.csv, rows? 2.* may be missing: .* with --only-code @FILE --again t"
         )
 
-    def test_again_breaks_off(self) -> None:
-        """The same command would print the first of them twice."""
-        printer = Printer().start()
-        words = ("--journal", self.path, "--print", printer.name)
-        self.assertEqual(printed(*words).returncode, 0)
-        printer.cut = len(printer.labels) + 3
-        again = ("--only", "20-", "--again", printer.name)
-        done = printed(*words, *again)
-        self.said(done, 1, "lines? 20.* may be missing: .* with --only ROWS --again tcp://")
-        self.said(done, 1, "line 2[123] may be on paper: look there; with --after [123] the same ")
-        after = re.findall(r"--after (\d)", done.stderr.decode())[0]
-        before = len(printer.labels)
-        self.said(printed(*words, *again, "--after", after), 0, "labels? taken by")
-        self.assertEqual(len(printer.labels) - before, 11 - int(after))
-
     def test_again_with_a_journal_that_is_full(self) -> None:
         """Here, too, the same command would print the first of them twice."""
         printed("--journal", self.path, input=TICKETS[:50])
         size = Path(self.path).stat().st_size * 3 // 2  # the mark of line 3 is too much
         words = ("--journal", self.path, "--only", "1-5", "--again", "standard output")
-        done = self.run_alone(*words, code=f"limit({size})")
+        done = self.begin(*words, code=f"limit({size})", stdout=PIPE).done()
         self.said(done, 1, "writable; line 3 may be on paper: look there; with --after 2 the same")
 
     def test_a_signal_after_the_last_label(self) -> None:
@@ -190,14 +186,6 @@ class Rows(Desk):
         said = run.stderr.read()
         self.assertEqual(run.wait(support.SECONDS), -signal.SIGTERM)
         self.assertIn(b"it took 30 labels whole, and these are all\n", said)
-
-    def test_one_row_twice(self) -> None:
-        """A file that was joined with itself: its rows are those of other labels all the same."""
-        twice = 2 * b'#{"row":5}\nqr A\n'
-        for words in (("--unique",), ("--journal", self.path)):
-            done = printed(*words, input=twice + b"qr B\n")
-            self.said(done, 1, "row 5: has the code of row 5\n")
-            self.assertEqual(len(labels_in(done)), 2)
 
     def test_one_that_is_off_after_some(self) -> None:
         """A printer that ends its connection between labels, and takes no new one."""
@@ -218,17 +206,17 @@ class Rows(Desk):
             done.clear()
             printed("--print", printer.name, "--journal", self.path)
             done.clear()
-            pattern = "line 5 .* not sent; .*with --after 2 the same command goes on there\n"
+            pattern = "line 5 .* not sent; .*with --after 2 the same command begins with it\n"
             self.said(printed("--print", printer.name, *again), 1, pattern)
 
     def test_labels_of_a_roll_on_a_full_disk(self) -> None:
-        words = " ".join([str(support.TOOLS / "label-print"), *ROLL])
-        done = support.run("/bin/sh", "-c", f"{words} > /dev/full", input=TICKETS)
-        self.said(done, 1, "No space left on device: it took 0 labels whole: line 1 .*")
-        self.said(done, 1, "were not sent; with --after 0 the same command goes on there\n")
+        with open("/dev/full", "wb") as output:
+            done = self.begin(stdout=output).done()
+        self.said(done, 1, "No space left on device: it took 0 labels whole: line 1 and what follo")
+        self.said(done, 1, "were not sent; with --after 0 the same command begins with it\n")
         with open(self.path, "wb") as output:
-            done = self.run_alone(code="limit(3000)", stdout=output)
-        self.said(done, 1, "sent; with --after [1-9] and >> the same command goes on there\n")
+            done = self.begin(code="limit(3000)", stdout=output).done()
+        self.said(done, 1, "sent; with --after [1-9] and >> the same command begins with it\n")
 
     def test_a_pipe_whose_reader_ends(self) -> None:
         """What it has not read is gone."""
@@ -242,9 +230,6 @@ class Rows(Desk):
     def test_rows_that_no_table_has(self) -> None:
         for rows in ("9-7", "0-", "0", "2,0-3", "00"):
             self.said(printed("--only", rows), 2, f"'{rows}': write rows as 2,7-9 or 7-")
-        done = printed("--only", "2,2000000")
-        self.said(done, 1, "row 2000000: named by --only, but not in the input")
-        self.assertEqual(len(labels_in(done)), 1)
 
 
 class Editors(Desk):
@@ -256,27 +241,24 @@ class Editors(Desk):
         self.assertEqual(labels_in(done), [], done.stderr)
         return done
 
-    def test_line_ends_of_windows_blanks_and_empty_lines(self) -> None:
+    def test_what_an_editor_leaves(self) -> None:
+        """Remarks and empty lines are nothing; what may hide a code is refused."""
         printed("--journal", self.path)
         journal = Path(self.path)
-        lines = journal.read_bytes().splitlines()
-        one = [lines[0], lines[1] + b"\r", *lines[2:]]
-        for changed in (
-            b"\r\n".join([*lines, b""]),
-            b"\n".join([*one, b""]),
-            b" \n".join([*lines, b""]),
-            b"\n".join([*lines, b"", b""]),
-            b"\xef\xbb\xbf" + b"\r\n".join([*lines, b""]),
+        head, first, *lines = journal.read_bytes().splitlines()
+        time, _, code = first.rpartition(b"\t")
+        quoted = b'%b\t"%b"' % (time, code)
+        for changed, said in (
+            ([head, b"# remark", b"", first, *lines, b"", b""], ""),
+            ([head, first + b"\r", *lines, b""], "line 2"),
+            ([head, first + b" ", *lines, b""], "line 2"),
+            ([head, b'"%b"' % first, *lines, b""], "line 2"),
+            ([head, quoted, *lines, b""], "line 2"),
+            ([b"\xef\xbb\xbf" + head, first, *lines, b""], "journal is not a journal"),
         ):
-            journal.write_bytes(changed)
-            self.said(self.done_again(), 0, "30 labels in .* already")
-            self.assertEqual(journal.read_bytes(), changed)
-        second = lines[1].rpartition(b"\t")
-        for line in (b'"%b"' % lines[1], b'%b\t"%b"' % second[::2]):
-            quoted = b"\n".join([lines[0], line, *lines[2:], b""])
-            journal.write_bytes(quoted)
-            self.said(self.done_again(), 1, "line 2 is not a line of a journal")
-            self.assertEqual(journal.read_bytes(), quoted)
+            journal.write_bytes(b"\n".join(changed))
+            self.said(self.done_again(), int(bool(said)), said or "30 labels in .* already")
+            self.assertEqual(journal.read_bytes(), b"\n".join(changed))
 
     def test_a_journal_of_version_1_1_0(self) -> None:
         """It has a UPC-A as its line has it."""
@@ -296,16 +278,12 @@ class Editors(Desk):
         printed("--journal", self.path)
         journal = Path(self.path)
         lines = journal.read_bytes().splitlines()
-        for left, said in (
-            (lines, "its last line was cut off, and was taken out"),
-            ([*lines[:-2], lines[-2] + b"    "], "its last line had no end"),
-        ):
+        for left in (lines, lines[:-1]):
             journal.write_bytes(b"\n".join(left))
-            done = self.done_again()
-            self.said(done, 1, f"journal: {said}\n")
-            self.said(done, 1, "line 30: may be on paper, from standard output")
-            self.assertEqual(journal.read_bytes().splitlines(), lines[:-1])
-            self.said(self.done_again(), 1, "line 30: may be on paper")
+            for _ in range(2):
+                said = "line 30: may be on paper, from standard output"
+                self.said(self.done_again(), 1, said)
+                self.assertEqual(journal.read_bytes().splitlines(), lines[:-1])
 
     def test_an_editor_that_had_read_it_before(self) -> None:
         """What was printed since then is not in the new file."""
@@ -337,12 +315,9 @@ class Editors(Desk):
     def written_to(self, path: str, mode: str = "wb") -> "support.Finished[bytes]":
         """Runs label-print with a file as standard output."""
         with open(path, mode) as output:
-            return self.run_alone("--journal", self.path, stdout=output)
+            return self.begin("--journal", self.path, stdout=output).done()
 
     def test_standard_output(self) -> None:
-        done = self.written_to(self.path)
-        self.said(done, 1, "journal is the journal and standard output: name another file")
-        os.unlink(self.path)
         for pattern in ("^$", "journal has labels of an earlier file: with > that file has lost"):
             self.said(self.written_to(f"{self.folder}/labels"), 0, pattern)
         os.unlink(f"{self.folder}/labels")
@@ -388,11 +363,11 @@ class Lanes(Desk):
         self.assertEqual(done.returncode, 0)
         size = Path(self.path).stat().st_size
         words = ("--journal", self.path)
-        done = self.run_alone(*words, code=f"limit({size})")
+        done = self.begin(*words, code=f"limit({size})", stdout=PIPE).done()
         self.said(
             done, 1, "File too large: line 2 and what follows it were not sent; make it writable"
         )
-        done = self.run_alone(*words, "--stream", code=f"limit({size})", input=TICKETS[:20])
+        done = self.begin(*words, "--stream", code=f"limit({size})", stdout=PIPE).done(TICKETS[:20])
         self.said(done, 1, "^known 1 qr T00001\nunsent 2 .*File too large; make it writable")
         self.assertEqual(labels_in(done), [])
 
@@ -431,13 +406,13 @@ class Streams(Desk):
         """Until it is printed by another command, while the stream goes on."""
         printer = Printer(hangs_up=True).start()
         words = ("--journal", self.path, "--print", printer.name)
-        stream = self.start(*words)
+        stream = self.begin("--stream", *words)
         self.assertRegex(stream.answer(b"qr T00001\n"), "^doubtful 1 .* broke off")
         printer.hangs_up = False
         self.assertRegex(stream.answer(b"qr T00001\n"), "^doubtful 2 may be on paper, from")
         again = ("--only-code", "T00001", "--again", printer.name)
         done = support.run("label-print", *ROLL, *words, *again, input=TICKETS)
-        self.said(done, 0, "1 label taken by .*: line 1, T00001\n")
+        self.said(done, 0, "1 label taken by")
         self.assertEqual(stream.answer(b"qr T00001\n"), "known 3 qr T00001\n")
         self.assertRegex(stream.answer(b"qr T00002\n"), "^taken 4 ")
         self.assertEqual(len(printer.labels), 2)
@@ -447,7 +422,9 @@ class Streams(Desk):
         printer = Printer().start()
         ours, theirs = socket.socketpair()
         for answers in (PIPE, theirs.fileno()):
-            stream = self.start("--print", printer.name, "--journal", self.path, stderr=answers)
+            stream = self.begin(
+                "--stream", "--print", printer.name, "--journal", self.path, stderr=answers
+            )
             stream.write(b"qr %d\n" % (answers == PIPE))
             said = stream.stderr if stream.stderr else ours.makefile("rb")
             self.assertRegex(said.readline(), b"^taken 1 ")
@@ -461,7 +438,7 @@ class Streams(Desk):
 
     def test_nobody_reads_the_labels_any_more(self) -> None:
         """The label has not gone out, and is not in doubt."""
-        stream = self.start("--journal", self.path, stdout=PIPE)
+        stream = self.begin("--stream", "--journal", self.path, stdout=PIPE)
         self.assertRegex(stream.answer(b"qr A\n"), "^taken 1 ")
         stream.stdout.close()
         said = "unsent 2 standard output: Broken pipe\n"
@@ -475,7 +452,7 @@ class Streams(Desk):
         moments = random.Random(SEED)
         for _ in range(12):
             printer = Printer().start()
-            stream = self.start("--print", printer.name)
+            stream = self.begin("--stream", "--print", printer.name)
             stream.write(TICKETS)
             printer.wait(1)
             time.sleep(moments.uniform(0.0, 0.1))
@@ -488,12 +465,12 @@ class Streams(Desk):
     def test_half_a_line_of_a_writer_that_has_gone(self) -> None:
         """It is not one line with that of the next writer."""
         fifo = self.fifo()
-        stream = self.start(fifo)
+        stream = self.begin("--stream", fifo)
         for line, pattern in (
             (b"qr A\n", b"taken 1 "),
             (b"qr T000", b"refused 2 cut off before its line end"),
             (b"qr B\n", b"taken 3 "),
-            (b"qr " + b"C" * 70_000, b"refused 4 longer than"),
+            (b"qr " + b"C" * 70_000, b"refused 4 cut off before its line end"),
             (b"qr D\n", b"taken 5 "),
         ):
             Path(fifo).write_bytes(line)
@@ -505,40 +482,17 @@ class Streams(Desk):
 
     def test_labels_and_answers_that_are_read_late(self) -> None:
         """By streams that do not wait."""
-        source, target = pipe_that_does_not_wait()
-        run = self.begin(stdout=target)
-        self.assertEqual(len(LABEL.findall(self.late(run, source, target))), 400)
-        source, target = pipe_that_does_not_wait()
-        run = self.start(stderr=target)
-        self.assertEqual(self.late(run, source, target).count(b"taken "), 400)
-
-    def late(self, run: Program, source: int, target: int) -> bytes:
-        """What a program writes that has many lines to print, and is read late."""
-        os.close(target)
-        lines = b"".join(b"qr W%05d\n" % number for number in range(400))
-        threading.Thread(target=self.write, args=(run, lines), daemon=True).start()
-        time.sleep(1)
-        with open(source, "rb") as file:
-            found = file.read()
-        self.assertEqual(run.wait(support.SECONDS), 0)
-        return found
-
-    def write(self, run: Program, lines: bytes) -> None:
-        """Writes lines to a program, and ends them."""
-        run.stdin.write(lines)
-        run.stdin.close()
-
-    def test_lines_that_come_slowly_by_an_input_that_does_not_wait(self) -> None:
-        source, target = os.pipe()
-        os.set_blocking(source, False)
-        run = self.begin(stdin=source, stdout=PIPE)
-        os.close(source)
-        for start in range(0, 30, 10):
-            time.sleep(0.4)
-            os.write(target, TICKETS[start * 10 : (start + 10) * 10])
-        os.close(target)
-        output, _ = run.communicate(timeout=support.SECONDS)
-        self.assertEqual((run.returncode, len(LABEL.findall(output))), (0, 30))
+        lines = Path(self.folder, "lines")
+        lines.write_bytes(b"".join(b"qr W%05d\n" % number for number in range(400)))
+        for words, name, pattern in (((), "stdout", LABEL), (["--stream"], "stderr", TAKEN)):
+            source, target = pipe_that_does_not_wait()
+            end: dict[str, Any] = {name: target}
+            run = self.begin(*words, str(lines), stdin=NULL, **end)
+            os.close(target)
+            time.sleep(1)
+            with open(source, "rb") as file:
+                self.assertEqual(len(pattern.findall(file.read())), 400)
+            self.assertEqual(run.wait(support.SECONDS), 0)
 
     def test_a_client_that_breaks_off(self) -> None:
         """Its line is printed and answered, and what cannot be read is not standard output."""
@@ -561,18 +515,11 @@ class Streams(Desk):
             (printed_by_hand, "line 4 is not a line of a"),
         )
         for change, said in changes:
-            stream = self.start("--journal", self.path)
+            stream = self.begin("--stream", "--journal", self.path)
             self.assertRegex(stream.answer(b"qr A\n"), "^taken 1 ")
             change(self.path)
             self.assertRegex(stream.answer(b"qr B\n"), f"^unsent 2 .*{said}")
             self.assertEqual(stream.wait(support.SECONDS), 1)
-
-    def test_a_mark_that_the_journal_does_not_take(self) -> None:
-        with mock.patch(
-            "labeltools.printing.outlets.send", lambda file, output: os.unlink(self.path)
-        ):
-            done = printed("--stream", "--journal", self.path)
-        self.said(done, 1, r"\Adoubtful 1 .*another program has changed it.*\n\Z")
 
     def test_a_label_that_is_drawn_wrongly(self) -> None:
         """The stream ends with an answer, and status 3."""
@@ -580,21 +527,6 @@ class Streams(Desk):
             done = printed("--stream", input=TICKETS)
         self.said(done, 3, r"\Aunsent 1 .*\n\Z")
         self.assertEqual(done.stdout, b"")
-
-    def test_what_no_line_can_be_printed_without(self) -> None:
-        words = ("label-print", *ROLL, "--stream")
-        done = support.run(*words, input=TICKETS, LABELS_LIBRARY="/no/such.so")
-        self.said(done, 1, r"\Alabel-print: the library liblabels cannot be loaded: .*\n\Z")
-
-    def test_a_line_that_was_cut_off_is_said_before_the_answers(self) -> None:
-        """It begins as no answer does."""
-        journal = Journal(self.path, "tcp://a")
-        journal.claim(self.records[0])
-        os.close(journal.file)
-        Path(self.path).write_bytes(Path(self.path).read_bytes()[:-20])
-        done = printed("--stream", "--journal", self.path, input=TICKETS[:10])
-        said = "its last line was cut off, and was taken out"
-        self.said(done, 0, rf"\Alabel-print: .*/journal: {said}\ntaken 1 .*\n\Z")
 
 
 def printed_by_hand(path: str) -> None:

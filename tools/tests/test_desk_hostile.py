@@ -16,7 +16,7 @@ from unittest import mock
 import support
 from desk import PIPE, ROLL, TICKETS, Desk, entry, labels_in, open_files, printed, program
 from labeltools.common import files
-from labeltools.printing import network, stream
+from labeltools.printing import network, outlets, stream
 from labeltools.printing.journal import Journal
 from labeltools.printing.network import NetworkPrinter
 from labeltools.printing.outlets import Broken
@@ -75,7 +75,7 @@ class Connections(Desk):
         line = outlet.open()
         outlet.send(label)  # its system has taken the label, and it reads it then
         printer.told.set()
-        self.assertTrue(network.wait_for(line, network.BREAK, support.SECONDS))
+        self.assertTrue(outlets.events_of(line.fileno(), network.BREAK, support.SECONDS))
         outlet.open()
         with self.assertRaises(Broken):
             outlet.send(label)
@@ -106,7 +106,7 @@ class Connections(Desk):
         """It has connected, and finds that another lane was first."""
         printer = Printer()
         words = ("--print", printer.start().name, "--journal", self.path)
-        stream = self.start(*words)
+        stream = self.begin("--stream", *words)
         self.assertRegex(stream.answer(b"qr T00001\n"), "^taken 1 ")
         done = printed(*words, "--only", "2")
         self.assertEqual(done.returncode, 0, done.stderr)
@@ -120,7 +120,9 @@ class Connections(Desk):
         """A program that starts the tool may hand on as many as it has."""
         fifo = self.fifo()
         printer = Printer(slow=0.02).start()
-        stream = self.start("--print", printer.name, "--dpi", "600", fifo, code=MANY_FILES)
+        stream = self.begin(
+            "--stream", "--print", printer.name, "--dpi", "600", fifo, code=MANY_FILES
+        )
         Path(fifo).write_bytes(b"qr A\n")
         self.assertRegex(stream.stderr.readline(), b"^taken 1 ")
 
@@ -165,18 +167,6 @@ class Doubts(Desk):
         done = printed("--journal", self.path, "--only", "1", "--again", "tcp://a")
         self.assertNotIn(b"may be on paper", done.stderr)
         self.said(printed("--journal", self.path, "--only", "3-"), 0, "28 labels in .* already\n$")
-
-    def test_one_that_the_input_has_no_more(self) -> None:
-        """Its code is named, and its printer."""
-        for words in ((), ("--only", "2")):
-            done = printed("--journal", self.waiting("tcp://a"), *words, input=TICKETS[10:30])
-            pattern = (
-                r"^label-print: qr T00001: may be on paper, from tcp://a, and not in the input"
-            )
-            self.said(
-                done, 1, f"{pattern}: look for it; if it is there, change sending to taken in its"
-            )
-            self.said(done, 1, "; if not, .* with --again .*, or delete that line if nobody")
 
     def test_a_line_that_was_cut_within_its_code(self) -> None:
         """A label that there never was: what the message says ends it, on paper or not."""
@@ -238,12 +228,12 @@ class Doubts(Desk):
         """That lane may break off: whoever is told `known` would tick it off."""
         printer = Printer(stuck=2).start()
         words = ("--print", printer.name, "--journal", self.path)
-        busy = self.start(*words, code=PATIENT)
+        busy = self.begin("--stream", *words, code=PATIENT)
         busy.write(b"qr T00001\nqr T00002\n")
         self.assertRegex(busy.stderr.readline(), b"^taken 1 ")
         while self.events() != ["sending", "taken", "sending"]:
             time.sleep(0.01)
-        other = self.start("--journal", self.path)
+        other = self.begin("--stream", "--journal", self.path)
         self.assertEqual(other.answer(b"qr T00001\n"), "known 1 qr T00001\n")
         text = "is sending it: send the line again to see whether it was taken"
         self.assertEqual(other.answer(b"qr T00002\n"), f"doubtful 2 {printer.name} {text}\n")
@@ -251,20 +241,13 @@ class Doubts(Desk):
         busy.wait()
         self.assertRegex(other.answer(b"qr T00002\n"), "^doubtful 3 may be on paper, from")
 
-    def test_what_can_be_typed(self) -> None:
-        done = printed("--journal", self.waiting("standard output"), input=TICKETS[:10])
-        self.said(done, 1, "print only it with --only 1 --again 'standard output'\n")
-        self.waiting("standard output")
-        words = ("--journal", self.path, "--only-code", "T00001", "--again", "standard output")
-        self.assertEqual(len(labels_in(printed(*words, input=TICKETS[:10]))), 1)
-
     def test_a_full_disk_at_the_mark_of_a_stream(self) -> None:
         """The stream goes on; another command names the label, and prints it by --again."""
         printer = Printer().start()
         words = ("--print", printer.name, "--journal", self.path)
         size = Path(self.waiting(printer.name)).stat().st_size
         os.unlink(self.path)
-        stream = self.start(*words, code=f"limit({size + 2})")
+        stream = self.begin("--stream", *words, code=f"limit({size + 2})")
         self.assertRegex(stream.answer(b"qr T00001\n"), "^doubtful 1 .*File too large")
         self.assertRegex(stream.answer(b"qr T00002\n"), "^unsent 2 .*File too large")
         lines = TICKETS[:10]
@@ -282,20 +265,11 @@ class Doubts(Desk):
 
     def test_a_line_that_a_stream_has_printed_itself(self) -> None:
         """Whoever is told to send it again would print it twice."""
-        stream = self.start("--journal", self.path)
+        stream = self.begin("--stream", "--journal", self.path)
         self.assertRegex(stream.answer(b"qr T00001\n"), "^taken 1 ")
         os.rename(self.path, f"{self.path}.old")
         self.assertEqual(stream.answer(b"qr T00001\n"), "known 2 qr T00001\n")
         self.assertRegex(stream.answer(b"qr T00002\n"), "^unsent 3 .* has changed it")
-
-    def test_a_place_in_other_letters(self) -> None:
-        """An editor may have written it, and another program the journal."""
-        journal = Path(self.waiting("tcp://a"))
-        journal.write_bytes(journal.read_bytes().replace(b"line 1\t", b"Zeile \xfc\t"))
-        stream = self.start("--journal", self.path)
-        self.assertRegex(stream.answer(b"qr T00002\n"), "^taken 1 ")
-        os.unlink(self.path)
-        self.assertRegex(stream.answer(b"qr T00003\n"), "^unsent 2 .* it lacks Zeile \ufffd")
 
 
 class Ends(Desk):
@@ -303,37 +277,34 @@ class Ends(Desk):
 
     def test_a_signal_leaves_no_label_in_doubt(self) -> None:
         """It comes when the label is in the journal, and has not gone out yet."""
-        done = self.run_alone("--journal", self.path, code="os.fdatasync = lambda file: end()")
+        done = self.begin(
+            "--journal", self.path, code="os.fdatasync = lambda file: end()", stdout=PIPE
+        ).done()
         self.said(done, -signal.SIGTERM, "it took 1 label whole: line 2 and what follows it were")
         self.said(done, -signal.SIGTERM, "not sent; the same command prints the rest\n")
         self.assertEqual((len(labels_in(done)), self.events()), (1, ["sending", "taken"]))
 
     def test_a_way_out_that_breaks_off_after_a_signal(self) -> None:
         """The signal ends the tool, and the row is named all the same."""
-        done = self.run_alone(code="StandardOutput.send = lambda outlet, data: end() or broken()")
+        done = self.begin(
+            code="StandardOutput.send = lambda outlet, data: end() or broken()", stdout=PIPE
+        ).done()
         self.said(done, -signal.SIGTERM, "it is off: it took 0 labels whole; line 1 may be on pap")
-        self.said(done, -signal.SIGTERM, "with --after 0 the same command goes on at it\n")
+        self.said(done, -signal.SIGTERM, "with --after 0 the same command begins with it\n")
 
     def test_a_way_out_that_breaks_off_before_a_label(self) -> None:
         """As of a printer that has ended the connection: of that label nothing was sent."""
         code = "StandardOutput.open = lambda outlet, left=[1] * 4: left.pop() if left else broken()"
-        done = self.run_alone("--journal", self.path, code=code)
+        done = self.begin("--journal", self.path, code=code, stdout=PIPE).done()
         self.said(done, 1, "it is off: it took 2 labels whole: line 3 and what follows it were not")
         self.said(done, 1, "not sent; lines 1-2 may be missing: look there, and print what is")
         self.assertEqual(self.events(), ["sending", "taken"] * 2)
-
-    def test_a_way_out_that_breaks_off_after_no_label(self) -> None:
-        """All labels are those of another lane, and the connection was made for the first one."""
-        code = "StandardOutput.close = lambda outlet: broken()"
-        printed("--journal", self.path)
-        done = self.run_alone("--journal", self.path, code=code)
-        self.said(done, 1, "^label-print: it is off: it took 0 labels whole\n$")
 
     def limited_answers(self, path: str, room: int, lines: bytes, *words: str) -> bytes:
         """The answers of a stream to a file that takes so many bytes."""
         with open(path, "wb") as output:
             words = ("--stream", *words)
-            done = self.run_alone(*words, code=f"limit({room})", input=lines, stdout=output)
+            done = self.begin(*words, code=f"limit({room})", stdout=output).done(lines)
         self.assertEqual(done.returncode, 1)
         return done.stderr
 
@@ -358,21 +329,24 @@ class Ends(Desk):
 
     def test_what_is_on_the_disk_when_the_power_fails(self) -> None:
         """The name of a new journal, each label of a file before its mark."""
+        order: list[str] = []
+
+        def sync(file: int) -> None:
+            events = Path(self.path).read_text().split("\t")[1::5]
+            order.append(" ".join([Path(os.readlink(f"/proc/self/fd/{file}")).name, *events]))
+
+        def send(_: bytes, file: int) -> None:
+            order.append("sent")
+
         with open(f"{self.folder}/labels", "wb") as labels:
-            names = {labels.fileno(): "labels"}
-            order: list[str] = []
-
-            def sync(file: int) -> None:
-                path = os.readlink(f"/proc/self/fd/{file}")
-                events = Path(self.path).read_text().split("\t")[1::5]
-                order.append(" ".join([names.get(file) or Path(path).name, *events]))
-
             with mock.patch.multiple("os", fsync=sync, fdatasync=sync):
-                with mock.patch("labeltools.printing.outlets.standard_output", lambda: labels):
-                    done = printed("--journal", self.path, input=TICKETS[:10])
+                with mock.patch.multiple(outlets, standard_output=lambda: labels, send=send):
+                    done = printed("--journal", self.path, input=TICKETS[:20])
         self.assertEqual(done.returncode, 0, done.stderr)
-        folder = Path(self.folder).name
-        self.assertEqual(order, [folder, "journal sending", "labels sending"])
+        first = [Path(self.folder).name, "journal sending", "sent", "labels sending"]
+        both = "sending taken sending"
+        self.assertEqual(order, [*first, f"journal {both}", "sent", f"labels {both}"])
+        self.assertEqual(self.events(), ["sending", "taken"] * 2)
 
     def test_a_journal_in_place_of_a_stream_that_is_closed(self) -> None:
         """What a library writes on standard error is not in it."""
@@ -388,7 +362,7 @@ class Ends(Desk):
 
     def test_no_folder_for_temporary_files(self) -> None:
         """The message names no other file, and has what to do."""
-        done = self.run_alone("--to", "pdf", code=NO_FOLDER)
+        done = self.begin("--to", "pdf", code=NO_FOLDER, stdout=PIPE).done()
         self.said(done, 1, r"label-print: \$TMPDIR: none; make room there, or name another folder")
 
     def test_labels_of_others_in_the_same_file(self) -> None:
@@ -436,7 +410,7 @@ class Streams(Desk):
         """Its half line is not one with the line of the next writer."""
         fifo = self.fifo()
         printer = Printer(waits=True).start()
-        stream = self.start("--print", printer.name, fifo)
+        stream = self.begin("--stream", "--print", printer.name, fifo)
         for line in (b"qr A\n", b"qr T000", b"qr B\n"):
             self.written(stream, fifo, line)
         printer.told.set()
@@ -452,9 +426,9 @@ class Streams(Desk):
             with mock.patch("labeltools.printing.stream.BufferedReader") as reader:
                 reader.return_value.readline.side_effect = reads
                 lines = stream.Ahead(stream.Fifo(path))
-                self.assertEqual(lines.readline(9), b"qr A\n")
+                self.assertEqual(lines.readline(), b"qr A\n")
                 with self.assertRaises(type(error)):
-                    lines.readline(9)
+                    lines.readline()
 
     def test_what_libraries_say_is_no_answer(self) -> None:
         """Fontconfig warns of this locale, which a ssh from another system may set."""
@@ -468,20 +442,12 @@ class Streams(Desk):
         done = subprocess.run(command, input=TICKETS, stdout=PIPE, env=support.environment())
         self.assertEqual((done.returncode, done.stdout), (1, b""))
 
-    def test_an_object_that_is_too_long(self) -> None:
-        """Its line is not printed without it; a remark is none of it."""
-        lines = b'#{"title":"%s"}\nqr A\n# %s\nqr B\n' % (b"x" * 70_000, b"x" * 70_000)
-        done = printed("--stream", input=lines)
-        refused, taken = done.stderr.decode().splitlines()
-        self.assertEqual(refused, "refused 2 the remark before it is longer than 65536 bytes")
-        self.assertRegex(taken, "^taken 4 .* qr B$")
-
     def test_two_objects_before_a_line(self) -> None:
         """One of them is that of a line which got lost: a plain run refuses such a file, too."""
         lines = b'#{"title":"A"}\n#{"title":"B"}\nqr A\n#{"title":"C"}\nqr C\n'
         done = printed("--stream", input=lines)
         refused, taken = done.stderr.decode().splitlines()
-        self.assertEqual(refused, "refused 3 there are two remarks before it")
+        self.assertRegex(refused, "^refused 3 .*: something is missing before line 2")
         self.assertRegex(taken, "^taken 5 .* qr C$")
         self.assertEqual(labels_in(done), labels_in(printed(input=b'#{"title":"C"}\nqr C\n')))
         self.said(printed(input=lines), 1, "something is missing before line 2")
@@ -502,10 +468,10 @@ class Streams(Desk):
     def test_a_fifo_that_another_file_has_replaced(self) -> None:
         """Nobody can write to it any more."""
         fifo = Path(self.folder, "till")
-        makers: tuple[Callable[[], object], ...] = (fifo.touch, lambda: os.mkfifo(fifo))
+        makers: tuple[Callable[[], object], ...] = (fifo.touch, lambda: os.mkfifo(fifo), os.sync)
         for make in makers:
             os.mkfifo(fifo)
-            stream = self.start(str(fifo))
+            stream = self.begin("--stream", str(fifo), code="stream.LOOK = 0.1")
             with fifo.open("wb", buffering=0) as writer:
                 writer.write(b"qr A\n")
                 self.assertRegex(stream.stderr.readline(), b"^taken 1 ")
@@ -513,27 +479,13 @@ class Streams(Desk):
                 make()
             self.assertEqual(stream.wait(support.SECONDS), 1)
             self.assertRegex(stream.stderr.read(), b"till: another program has changed it; make")
-            fifo.unlink()
-
-    def test_a_fifo_that_goes_while_nobody_writes(self) -> None:
-        fifo = self.fifo()
-        stream = self.start(fifo, code="stream.LOOK = 0.1")
-        Path(fifo).write_bytes(b"qr A\n")
-        self.assertRegex(stream.stderr.readline(), b"^taken 1 ")
-        while open_files(stream, fifo) < 2:
-            time.sleep(0.01)  # it waits for the next writer when it is one itself
-        os.unlink(fifo)
-        self.assertEqual(stream.wait(support.SECONDS), 1)
-        said = (
-            b"/till: No such file or directory; make the FIFO again with mkfifo, then give the same"
-        )
-        self.assertIn(said, stream.stderr.read())
+            fifo.unlink(missing_ok=True)
 
     def test_a_fifo_that_a_writer_has_taken_for_itself(self) -> None:
         """It has opened it, and taken its name away: it may write whenever it likes."""
         fifo = Path(self.folder, "till")
         os.mkfifo(fifo)
-        stream = self.start(str(fifo), code="stream.LOOK = 0.1")
+        stream = self.begin("--stream", str(fifo), code="stream.LOOK = 0.1")
         with fifo.open("wb", buffering=0) as writer:
             while open_files(stream, str(fifo)) < 1:
                 time.sleep(0.01)
@@ -548,21 +500,8 @@ class Streams(Desk):
 class Choices(Desk):
     """Rows and codes of large files."""
 
-    def test_rows_beyond_those_of_a_spreadsheet(self) -> None:
-        """Lines of one's own may be more: each that is asked for is printed."""
-        last = 2_000_000
-        lines = b"".join(b'#{"row":%d}\nqr R%d\n' % (row, row) for row in range(last - 9, last + 1))
-        for rows, count in ((f"1999996-{last}", 5), ("1-9999999", 10), ("1999999-", 2)):
-            done = printed("--only", rows, input=lines)
-            self.assertEqual(len(labels_in(done)), count, rows)
-            self.assertEqual(done.returncode, int(count == 10))
-
     def test_all_that_is_missing_is_counted(self) -> None:
         """In one message, however much it is."""
-        done = printed("--only", "20-9999999,7,3-8")
-        self.said(
-            done, 1, r"\Alabel-print: rows 31-9999999: named by --only, but not in the input\n\Z"
-        )
         codes = [word for number in range(12) for word in ("--only-code", f"X{number:02}")]
         done = printed("--only", "1", *codes)
         named = ", ".join(f"X{number:02}" for number in range(10))

@@ -10,13 +10,15 @@ import subprocess
 import tempfile
 import time
 import unittest
-import unittest.mock
 from pathlib import Path
-from typing import Any, Callable, Dict, Iterator, Sequence, Tuple
+from typing import Any, Callable, Sequence, Tuple
+from unittest import mock
 
+import desk
 import jobs
 import support
 from labeltools.lines.file import LineRecord, read_lines
+from labeltools.common.command_line import CommandTalk
 from labeltools.common.messages import ToolError
 
 LABELS = [
@@ -27,6 +29,7 @@ LABELS = [
     for number in range(40)
 ]
 ROLL = ("--paper", "60x40", "--dpi", "203", "--to")
+ENDINGS = (signal.SIGTERM, signal.SIGINT, signal.SIGHUP)
 ROWS = (("articles", 2), ("articles", 3), ("b", 2))
 HEAD, END = (
     '#{"labels":1,"table":"t.csv"}\n',
@@ -57,7 +60,7 @@ def said_after(form: str, labels: int) -> Tuple[str, ...]:
     row = labels + 2
     message = (
         f"label-print: standard output: it took {whole} whole: row {row} and what follows it were"
-        f" not sent; with --after {labels} the same command goes on there\n"
+        f" not sent; with --after {labels} the same command begins with it\n"
     )
     return (message,) if labels else ("", message)
 
@@ -145,27 +148,20 @@ class FileBetween(unittest.TestCase):
         )
 
 
-class Running(unittest.TestCase):
-    def ended(
-        self, shell: str, *arguments: str, data: bytes, **variables: str
-    ) -> Tuple[int, bytes, str]:
-        """The status, the output and the messages of label-print in a shell, as `"$@"`."""
-        command = ["bash", "-c", shell, "sh", str(support.TOOLS / "label-print"), *arguments]
-        environment = {**support.environment(), **variables}
-        done = subprocess.run(
-            command, input=data, capture_output=True, env=environment, timeout=support.SECONDS
-        )
-        return done.returncode, done.stdout, done.stderr.decode()
+def in_shell(
+    shell: str, *words: str, data: bytes = b"", **variables: str
+) -> "support.Finished[bytes]":
+    """Runs label-print in a shell, as `"$@"`."""
+    tool = ("sh", str(support.TOOLS / "label-print"))
+    return support.run("/bin/bash", "-c", shell, *tool, *words, input=data, **variables)
 
+
+class Running(unittest.TestCase):
     def test_from_any_folder_by_a_link_and_with_a_safe_path(self) -> None:
         with tempfile.TemporaryDirectory() as folder:
             link = Path(folder, "label-print")
             link.symlink_to(support.TOOLS / "label-print")
-            for tool in (
-                link,
-                support.TOOLS / "label-print",
-                link.parent.with_name(link.parent.name) / "label-print",
-            ):
+            for tool in (link, support.TOOLS / "label-print"):
                 variables = {"PYTHONSAFEPATH": "1", "HOME": "/nonexistent"}
                 done = support.run(
                     tool, *ROLL, "zpl", input=support.file_of(LABELS[:1]), cwd=folder, **variables
@@ -179,198 +175,141 @@ class Running(unittest.TestCase):
 
     def test_a_full_disk(self) -> None:
         for form in ("pdf", "svg", "png", "pbm", "zpl", "escpos"):
-            status, out, said = self.ended('"$@" > /dev/full', *ROLL, form, data=b"ean8 7351353\n")
-            self.assertEqual((status, out), (1, b""), form)
-            self.assertRegex(said, "^label-print: standard output: No space left on device[\n:]")
+            done = in_shell('"$@" > /dev/full', *ROLL, form, data=b"ean8 7351353\n")
+            self.assertEqual((done.returncode, done.stdout), (1, b""), form)
+            self.assertRegex(
+                done.stderr, b"^label-print: standard output: No space left on device[\n:]"
+            )
 
     def test_a_pdf_that_does_not_fit_leaves_nothing(self) -> None:
         with tempfile.TemporaryDirectory() as folder:
             shell = f'trap "" XFSZ; ulimit -f 8; "$@" > {folder}/sheet.pdf'
             data = support.file_of(LABELS)
-            environment = {"TMPDIR": folder}
-            status, _, said = self.ended(shell, "--stock", "l7160", data=data, **environment)
-            self.assertEqual((status, Path(folder, "sheet.pdf").stat().st_size), (1, 0), said)
+            done = in_shell(shell, "--stock", "l7160", data=data, TMPDIR=folder)
+            size = Path(folder, "sheet.pdf").stat().st_size
+            self.assertEqual((done.returncode, size), (1, 0), done.stderr)
             self.assertEqual(os.listdir(folder), ["sheet.pdf"])
 
     def test_a_closed_pipe_and_closed_streams(self) -> None:
         data = support.file_of(LABELS)
         for form in ("pdf", "zpl"):
-            status, out, said = self.ended(
-                '"$@" | true; exit "${PIPESTATUS[0]}"', *ROLL, form, data=data
-            )
-            self.assertEqual((status, out), (1, b""), form)
-            self.assertRegex(said, "^label-print: standard output: Broken pipe[\n:]", form)
-        self.assertEqual(self.ended('"$@" >&-', *ROLL, "zpl", data=data)[0], 1)
-        self.assertEqual(self.ended('"$@" <&-', *ROLL, "zpl", data=data)[:2], (1, b""))
+            done = in_shell('"$@" | true; exit "${PIPESTATUS[0]}"', *ROLL, form, data=data)
+            self.assertEqual((done.returncode, done.stdout), (1, b""), form)
+            self.assertRegex(done.stderr, b"^label-print: standard output: Broken pipe[\n:]", form)
+        self.assertEqual(in_shell('"$@" >&-', *ROLL, "zpl", data=data).returncode, 1)
+        done = in_shell('"$@" <&-', *ROLL, "zpl", data=data)
+        self.assertEqual((done.returncode, done.stdout), (1, b""))
         for shell in ('"$@" 2>&-', '"$@" 2> /dev/full'):
-            status, out, said = self.ended(shell, *ROLL, "zpl", data=data + b"ean8 1\n")
-            self.assertEqual(
-                (status, len(jobs.dots_of_zpl(out)), said), (1, len(LABELS), ""), shell
-            )
+            done = in_shell(shell, *ROLL, "zpl", data=data + b"ean8 1\n")
+            found = done.returncode, len(jobs.dots_of_zpl(done.stdout)), done.stderr
+            self.assertEqual(found, (1, len(LABELS), b""), shell)
 
     def test_what_is_missing_is_named_with_its_package(self) -> None:
         with tempfile.TemporaryDirectory() as folder:
             Path(folder, "gi.py").write_text("raise ImportError('No module named here')\n")
-            ended = self.ended('"$@"', *ROLL, "zpl", data=b"ean8 7351353\n", PYTHONPATH=folder)
-            self.assertEqual(ended[:2], (1, b""))
-            self.assertIn("apt-get install python3-gi-cairo", ended[2])
-            self.assertNotIn("Traceback", ended[2])
+            words = (*ROLL, "zpl")
+            done = support.run("label-print", *words, input=b"ean8 7351353\n", PYTHONPATH=folder)
+            self.assertEqual((done.returncode, done.stdout), (1, b""))
+            self.assertIn(b"apt-get install python3-gi-cairo", done.stderr)
+            self.assertNotIn(b"Traceback", done.stderr)
 
     def test_progress_on_a_terminal(self) -> None:
-        import pty
-
-        from labeltools.commands.label_print import PrintTalk
-
-        controller, terminal = pty.openpty()
-        with open(terminal, "w") as stream, unittest.mock.patch("sys.stderr", stream):
-            with unittest.mock.patch("labeltools.commands.label_print.QUIET", 0.0):
-                talk = PrintTalk()
-            for done in (0, 1, 2, 3):
-                talk.go_on(done, 3)
-        shown = b""
-        while not shown.endswith(b"\n"):
-            shown += os.read(controller, 999)
-        self.assertEqual(shown, b"\rlabel-print: 1 of 3 labels\rlabel-print: 3 of 3 labels\r\n")
-        os.close(controller)
+        own, terminal = os.openpty()
+        with open(terminal, "w") as stream, mock.patch("sys.stderr", stream):
+            for tool, total in (("label-table", 0), ("label-print", 3)):
+                with mock.patch("labeltools.common.command_line.QUIET", 0.0):
+                    talk = CommandTalk(tool)
+                for done in (0, 1, 2):
+                    talk.go_on(done, total)
+        shown = os.read(own, 999)
+        self.assertEqual(shown, b"label-table: 1 rows\rlabel-print: 1 of 3 labels\r")
+        os.close(own)
 
 
-class Signals(unittest.TestCase):
+class Signals(desk.Desk):
     """A signal at twenty moments of each form: a label is whole or is not there, a document too."""
 
     MOMENTS = 20
 
+    def setUp(self) -> None:
+        super().setUp()
+        self.lines = f"{self.folder}/lines"
+        Path(self.lines).write_bytes(support.file_of(LABELS))
+
     def test_labels_are_whole(self) -> None:
-        data = support.file_of(LABELS)
-        whole = {
-            form: support.run("label-print", *ROLL, form, input=data)
-            for form in ("zpl", "escpos", "pbm")
-        }
-        decode: Dict[str, Callable[[bytes], Sequence[Any]]] = {
-            "zpl": jobs.dots_of_zpl,
-            "escpos": jobs.dots_of_escpos,
-            "pbm": jobs.pictures_of_pbm,
-        }
-        for form, done in whole.items():
-            self.assertEqual((done.returncode, done.stderr), (0, b""), form)
-            output, seen = done.stdout, set()
-            for moment, (found, said) in enumerate(self.outputs(form, data, len(output))):
-                if not output.startswith(found):
-                    same = len(os.path.commonprefix([output, found]))
-                    self.fail(f"{form}, {moment}, {same}: {found[same - 40 : same + 80]!r}")
-                count = len(decode[form](found)) if found else 0
+        forms: Sequence[Tuple[str, Callable[[bytes], Sequence[Any]]]] = (
+            ("zpl", jobs.dots_of_zpl),
+            ("escpos", jobs.dots_of_escpos),
+            ("pbm", jobs.pictures_of_pbm),
+        )
+        for form, decode in forms:
+            whole = support.printed(*ROLL, form, self.lines).stdout
+            seen = set()
+            for moment in range(self.MOMENTS):
+                found, said = self.stopped(form, len(whole) * moment // self.MOMENTS, moment)
+                self.assertTrue(whole.startswith(found), (form, moment))
+                count = len(decode(found)) if found else 0
                 self.assertIn(said, said_after(form, count), (form, moment))
                 seen.add(count)
             self.assertGreater(len(seen), 3, form)
 
-    def outputs(self, form: str, data: bytes, size: int) -> Iterator[Tuple[bytes, str]]:
-        """What goes out where the reader waits after a part, a signal comes, and the reader goes
-        on; and the messages.
+    def stopped(self, form: str, size: int, moment: int) -> Tuple[bytes, str]:
+        """The output and the messages of a run that gets a signal after so many bytes of it were
+        read, while it waits, and whose reader goes on then.
         """
-        command = [str(support.TOOLS / "label-print"), *ROLL, form]
-        with tempfile.TemporaryDirectory() as folder:
-            path = Path(folder, "lines")
-            path.write_bytes(data)
-            runs = []
-            for moment in range(self.MOMENTS):
-                reader, writer = os.pipe()
-                run = subprocess.Popen(
-                    [*command, str(path)],
-                    stdout=writer,
-                    stderr=subprocess.PIPE,
-                    env=support.environment(),
-                )
-                os.close(writer)
-                runs.append((run, reader, size * moment // self.MOMENTS))
-                if len(runs) % 4 == 0 or moment == self.MOMENTS - 1:
-                    yield from [self.stopped(*one, moment) for moment, one in enumerate(runs)]
-                    runs = []
-
-    def stopped(
-        self, run: "subprocess.Popen[bytes]", reader: int, size: int, number: int
-    ) -> Tuple[bytes, str]:
-        """The output and the messages of a run that gets a signal after `size` bytes of it were
-        read.
-        """
-        found = b""
-        while len(found) < size and (part := os.read(reader, min(4096, size - len(found)))):
-            found += part
-        if run.poll() is None:
-            run.send_signal((signal.SIGTERM, signal.SIGINT, signal.SIGHUP)[number % 3])
-        while part := os.read(reader, 1 << 16):
-            found += part
-        os.close(reader)
-        with run:
-            said = run.stderr.read() if run.stderr else b""
-            ended = (run.wait(), said, len(found), size)
-            self.assertIn(ended[0], (0, -signal.SIGTERM, -signal.SIGINT, -signal.SIGHUP), ended)
-        return found, said.decode()
+        run = self.begin("--to", form, self.lines, stdin=desk.NULL, stdout=desk.PIPE)
+        found = run.stdout.read(size)
+        ending = ENDINGS[moment % len(ENDINGS)]
+        run.send_signal(ending)
+        found += run.stdout.read()
+        said = run.stderr.read().decode()
+        self.assertIn(run.wait(support.SECONDS), (0, -ending), said)
+        return found, said
 
     def test_documents_are_whole_or_not_there(self) -> None:
-        data = support.file_of(LABELS)
-        whole = support.run("label-print", "--stock", "l7160", input=data).stdout
+        whole = support.printed(*ROLL, "pdf", self.lines).stdout
         self.assertTrue(whole)
+        output = Path(self.folder, "sheet.pdf")
         for moment in range(self.MOMENTS):
-            with tempfile.TemporaryDirectory() as folder:
-                lines, output = Path(folder, "lines"), Path(folder, "sheet.pdf")
-                lines.write_bytes(data)
-                with output.open("wb") as stream:
-                    command = [str(support.TOOLS / "label-print"), "--stock", "l7160", str(lines)]
-                    with subprocess.Popen(command, stdout=stream, env=support.environment()) as run:
-                        time.sleep(0.03 * moment)
-                        run.terminate()
-                self.assertIn(output.read_bytes(), (b"", whole), moment)
+            with output.open("wb") as stream:
+                run = self.begin("--to", "pdf", self.lines, stdin=desk.NULL, stdout=stream)
+                time.sleep(0.03 * moment)
+                run.terminate()
+                run.wait(support.SECONDS)
+            self.assertIn(output.read_bytes(), (b"", whole), moment)
 
     def test_files_of_each_are_whole(self) -> None:
-        data = support.file_of(LABELS)
         for moment in range(self.MOMENTS // 2):
-            with tempfile.TemporaryDirectory() as folder:
-                lines, files = Path(folder, "lines"), Path(folder, "new")
-                lines.write_bytes(data)
-                command = [
-                    str(support.TOOLS / "label-print"),
-                    *ROLL,
-                    "png",
-                    "--each",
-                    f"{files}/%d.png",
-                    str(lines),
-                ]
-                with subprocess.Popen(command, env=support.environment()) as run:
-                    while run.poll() is None and len(list(files.glob("*"))) < moment:
-                        time.sleep(0.002)
-                    run.send_signal(signal.SIGINT)
-                for path in files.glob("*"):
-                    self.assertRegex(path.name, r"^[0-9]+\.png$")
-                    self.assertTrue(path.read_bytes().endswith(b"IEND\xaeB`\x82"), path)
+            files = Path(self.folder, f"new-{moment}")
+            each = ("--to", "png", "--each", f"{files}/%d.png", self.lines)
+            run = self.begin(*each, stdin=desk.NULL)
+            while run.poll() is None and len(list(files.glob("*"))) < moment:
+                time.sleep(0.002)
+            run.send_signal(signal.SIGINT)
+            run.wait(support.SECONDS)
+            for path in files.glob("*"):
+                self.assertRegex(path.name, r"^[0-9]+\.png$")
+                self.assertTrue(path.read_bytes().endswith(b"IEND\xaeB`\x82"), path)
 
     def test_a_second_signal_ends_it_at_once(self) -> None:
         reader, writer = os.pipe()
         fcntl.fcntl(writer, fcntl.F_SETPIPE_SZ, 4096)
-        lines = support.file_of([(line, {"copies": 99}) for line, _ in LABELS])
-        with tempfile.NamedTemporaryFile() as file:
-            Path(file.name).write_bytes(lines)
-            command = [str(support.TOOLS / "label-print"), *ROLL, "pbm", file.name]
-            with subprocess.Popen(command, stdout=writer, env=support.environment()) as run:
-                os.close(writer)
-                os.read(reader, 1)  # a label is larger than the pipe: its write waits
-                self.assertTrue(takes(run, signal.SIGTERM))
-                run.terminate()
-                while takes(run, signal.SIGTERM):
-                    time.sleep(0.01)
-                self.assertIsNone(run.poll())
-                run.terminate()
-                self.assertEqual(run.wait(support.SECONDS), -signal.SIGTERM)
+        run = self.begin("--to", "pbm", self.lines, stdin=desk.NULL, stdout=writer)
+        os.close(writer)
+        os.read(reader, 1)  # a label is larger than the pipe: its write waits
+        self.assertTrue(takes(run, signal.SIGTERM))
+        run.terminate()
+        while takes(run, signal.SIGTERM):
+            time.sleep(0.01)
+        self.assertIsNone(run.poll())
+        run.terminate()
+        self.assertEqual(run.wait(support.SECONDS), -signal.SIGTERM)
         os.close(reader)
 
     def test_an_ignored_signal_stays_ignored(self) -> None:
-        printing = f"{support.TOOLS}/label-print --paper 60x40 --dpi 203 --to zpl"
-        command = f'trap "" HUP; exec 3<&0; {printing} <&3 & kill -HUP $!; wait $!'
-        done = subprocess.run(
-            ["bash", "-c", command],
-            input=support.file_of(LABELS[:2]),
-            capture_output=True,
-            env=support.environment(),
-        )
-        self.assertEqual((done.returncode, len(jobs.dots_of_zpl(done.stdout))), (0, 2))
+        printing = " ".join([*desk.program(), *desk.ROLL, self.lines])
+        done = in_shell(f'trap "" HUP; {printing} & kill -HUP $!; wait $!')
+        self.assertEqual((done.returncode, len(jobs.dots_of_zpl(done.stdout))), (0, len(LABELS)))
 
 
 if __name__ == "__main__":

@@ -165,7 +165,7 @@ class OwnLines(unittest.TestCase):
         wanted = [
             text.text.replace(LINE_END, "\n").split("\n")
             for text in designs.texts_of(found)
-            if text.lines > 1
+            if text.style.lines > 1
         ]
         self.assertEqual(drawn, wanted)
         return drawn

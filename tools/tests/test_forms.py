@@ -91,7 +91,7 @@ def bars_of(data: bytes, dpi: int) -> tuple[slice, slice, jobs.Dots]:
     """Where the bars of a label are, and their dots by the modules of labels(1)."""
     options = PrintOptions(paper=PAPER, dpi=dpi, to="pbm")
     job = planned(options)
-    found = labels_of(options, job, "lines", data, Silence())
+    found = labels_of(job, "lines", data, Silence())
     (item,) = found.laid_out.labels
     box = item.layout.boxes["bars"]
     left, top = job.plan.places[0]
@@ -121,36 +121,6 @@ class SameDots(unittest.TestCase):
                         same = numpy.array_equal(dots[rows, columns], wanted)
                         self.assertTrue(same, (line, fields, dpi, form))
 
-    def test_a_wrong_row_would_be_seen(self) -> None:
-        data = support.file_of([(LINES[0], {"title": "Seife"})])
-        rows, columns, wanted = bars_of(data, 203)
-        dots = jobs.pictures_of_pbm(printed(data, "pbm", 203))[0].copy()
-        self.assertTrue(numpy.array_equal(dots[rows, columns], wanted))
-        dots[rows.stop - 1, columns.start + 40] ^= 1
-        self.assertFalse(numpy.array_equal(dots[rows, columns], wanted))
-
-    def test_guards_are_where_their_bars_are(self) -> None:
-        """In a PDF they were rectangles of their own, which some programs draw a dot beside."""
-        support.needs("pdftoppm", "gs", "mutool")
-        data = support.file_of([(LINES[0], {"title": "Seife", "price": "1,20 €"})])
-        pdf = printed(data, "pdf", 203)
-        rows, columns, wanted = bars_of(data, 203)
-        renderers = {
-            "poppler": ["pdftoppm", "-r", "203", "-mono", "FILE", "out"],
-            "ghostscript": (
-                "gs -q -dBATCH -dNOPAUSE -sDEVICE=pbmraw -r203 -sOutputFile=out FILE".split()
-            ),
-            "mupdf": "mutool draw -q -r 203 -c mono -F pbm -o out FILE 1".split(),
-        }
-        module = (columns.stop - columns.start) // 113
-        for name, command in renderers.items():
-            dots = rendered(command, pdf)
-            below = dots[rows.stop + 2 * module, columns]
-            for guard in (11, 13, 57, 59, 103, 105):
-                place = slice(guard * module, (guard + 1) * module)
-                self.assertTrue(below[place].all(), (name, guard))
-                self.assertFalse(below[place.start - 1] or below[place.stop], (name, guard))
-
     def test_turned_labels(self) -> None:
         support.needs("pdftoppm")
         data = support.file_of([(LINES[0], {"title": "Seife", "price": "1,20 €"})])
@@ -178,10 +148,6 @@ class Zpl(unittest.TestCase):
         self.assertEqual(job.count(b"^XA"), 4)
         self.assertEqual(len(jobs.dots_of_zpl(job)), 1503)
         self.assertLess(len(job), 30_000)
-
-    def test_each_label_begins_upright_at_the_corner(self) -> None:
-        job = self.job([(LINES[0], {"title": "Seife"}), (LINES[1], {})])
-        self.assertEqual(job.count(b"^XA^PON^LH0,0^LS0^PW639^LL400\n"), 2)
 
     def test_run_lengths_as_the_manual_has_them(self) -> None:
         """The worked example of the ZPL II manual: M is 7, hM is 47 (40 and 7), and so on."""
@@ -216,12 +182,6 @@ class Zpl(unittest.TestCase):
         self.assertLessEqual(max(int(size) for _, size in fields), 99_999)
         (dots,), (wanted,) = jobs.dots_of_zpl(zpl), jobs.pictures_of_pbm(pbm)
         self.assertTrue(numpy.array_equal(dots, wanted))
-
-    def test_a_decoder_that_would_see_a_wrong_count(self) -> None:
-        with self.assertRaises(jobs.JobError):
-            jobs.data_of_run_lengths(b"MF,", 3)
-        with self.assertRaises(jobs.JobError):
-            jobs.data_of_run_lengths(b"KF", 3)
 
 
 if __name__ == "__main__":

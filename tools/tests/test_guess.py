@@ -6,6 +6,7 @@ import unittest
 from pathlib import Path
 
 import support
+from sheets import KINDS, Sheet
 from labeltools.sheets.options import FileOptions
 from labeltools.tables.guess import Guess, guess, guess_of
 from labeltools.common.messages import Silence
@@ -15,7 +16,7 @@ from labeltools.tables.options import TableOptions
 TABLES = """\
 Warengruppe;Artikel;GTIN;Preis EUR
 Brot;Roggenbrot;4006381333931;3,20
-- title code price
+?title ?title code price
 Référence;Désignation;Code-barres;Prix achat;Prix TTC;Qté stock
 JR1;Poupée Léa;4006381333931;2,10;5,90 €;40
 - title code - price -
@@ -42,13 +43,13 @@ A1;Drop zoet;4006381333931;1,00;1,95
 - title code ?price ?price
 Autor;Titel;ISBN;Ladenpreis
 K. Lenz;Herbstlicht;978-3-16-148410-0;24,00 €
-- title code price
+?title ?title code price
 PLU;Ware;Herkunft;Preis;Grundpreis;EAN
 4100;Birnen Conference;Italien;2,99;2,33 €/kg;4006381333931
-- title - price - code
+- ?title ?title price - code
 Inventarnummer;Gegenstand;Raum
 INV-00118;Drehstuhl;Büro
-code title -
+code ?title ?title
 Charge;Sorte;Datum
 L26-0011A;Apfelsaft;11.03.2026
 code title -
@@ -102,7 +103,7 @@ FR26-0099123;B14
 ?code -
 Etikett;Eingang;Spender;Ort
 C00812;03.11.2026;Anna;Ulm
-?code - - -
+?code - ?title ?title
 """.splitlines()
 SYMBOLOGIES = {
     "Regal": "qr",
@@ -143,6 +144,7 @@ class Guesses(unittest.TestCase):
             ("", 1),
             ("Preisliste;;;\n;;;\n", 3),
             ("Stand;Mai;;\n", 2),
+            ("Liste;Stand:;01.11.2026;\n", 2),
             ("Preisliste, Stand Mai\n", 2),  # one that has no delimiter, or another one
             ("Preisliste\nMai\n\nStand 1\n", 5),
         ):
@@ -187,12 +189,39 @@ class Guesses(unittest.TestCase):
                 ),
                 support.messages(support.run("label-table", path))[-1],
             )
+            said = support.messages(support.run("label-table", "--symbology", "qr", path))[-1]
+            self.assertNotIn("code128", said)  # what was asked for stays
             self.check_proposals(Path(folder))
             path.write_text("Name;Ort\nUlla;Ulm\n")
             said = support.messages(support.run("label-table", path))[-1]
             self.assertTrue(said.endswith("required: --code; try label-table --help"), said)
             done = support.run("label-table", Path(folder, "none.csv"))
             self.assertIn("No such file", support.messages(done)[-1])
+
+    @support.slow
+    def test_codes_that_are_no_ean_are_asked_about_and_each_way_runs(self) -> None:
+        """Their check digits are wrong or missing, or their zeros are lost; else they are any text."""
+        none = "--symbology code128"
+        for name, codes, ways in (
+            ("Nr", "4006381333932 4006381333933 4006381333934", [none]),
+            ("Nr", "400638133390 400638133391 400638133392", ["--without-check-digit", none]),
+            ("EAN", "72651101016 72651101023 72651101030", ["--fill-zeros", none]),
+            ("EAN", "4006381 4006382 4006383", ["--without-check-digit", none]),
+            ("Barcode", "AB-1001 AB-1002 AB-1003", [none]),
+        ):
+            with tempfile.TemporaryDirectory() as folder:
+                path = Path(folder, "table.csv")
+                path.write_text("\n".join([name, *codes.split()]))
+                said = support.messages(support.run_here("label-table", path))[-1]
+                self.assertIn(f"most codes in {name} are not EAN or UPC: ", said)
+                proposed = said.partition("; try label-table ")[2].split(", label-table ")
+                self.assertEqual(proposed, [f"--code {name} {one} {path}" for one in ways])
+                for one in proposed:
+                    done = support.run_here("label-table", *shlex.split(one))
+                    self.assertIn(b'"row"', done.stdout, one)
+                    self.assertNotIn(b"most codes", done.stderr)
+                done = support.run_here("label-table", *shlex.split(ways[0]), path)
+                self.assertIn(f"--code {name} {ways[0]} {path}", support.messages(done)[-1])
 
     def check_proposals(self, folder: Path) -> None:
         """Racks, lots, short numbers and tickets, and what was given, in two commands."""
@@ -205,6 +234,11 @@ class Guesses(unittest.TestCase):
             (f"EAN|Name|Preis\n{CODES[0]}|Käse|1,20\n", "--encoding cp1252", "--title Name"),
             (f"EAN+Name+Preis\n{CODES[0]}+Tee+1,20\n", "--delimiter + --decimal comma", ""),
             (f"Liste, Mai\nEAN;Name\n{CODES[0]};Tee\n", "", "--header-row 2"),
+            (
+                "Platz;Platz\nA-01-01;Ost\nA-01-02;Ost\n",
+                "",
+                "--symbology code128 --header-row 1",
+            ),
             (f"EAN;Text\n{CODES[0]};Tee\n", "--title Text --settings height=20", "--code EAN"),
         ):
             path = Path(folder, "table.csv")
@@ -214,7 +248,7 @@ class Guesses(unittest.TestCase):
             self.assertTrue(words in proposed and more in proposed, proposed)
             done = support.run(*shlex.split(proposed))
             self.assertEqual((done.returncode, done.stderr), (0, b""), proposed)
-            titles = 2 if "header-row" in more else 1
+            titles = 2 if "header-row 2" in more else 1
             self.assertEqual(done.stdout.count(b'"row"'), text.count("\n") - titles)
 
 
@@ -342,6 +376,16 @@ class Codes(unittest.TestCase):
             said = [found.columns["title"]] if "title" in found.columns else []
             self.assertEqual(said, wanted, names)
             self.assertEqual(found.doubts.get("title", [1, 2]), [1, 2], names)
+
+    def test_names_that_are_there_again_are_no_articles(self) -> None:
+        found = guessed("PLU;Artikel\n101;Gurke\nPLU;Artikel\n102;Tomate\nPLU;Artikel\n")
+        self.assertEqual(found.columns, {"code": 0, "title": 1})
+
+    def test_hidden_rows_are_not_looked_at(self) -> None:
+        sheet = Sheet([["EAN"], [CODES[0]], ["4006381333932"]], hidden=(2,))
+        for kind in KINDS:
+            found = guess_of(kind(sheet), "x", TableOptions(), Silence())
+            self.assertIn("the check digit is 2", found.codes[0].problem)
 
     def test_numbers_of_articles_are_no_titles(self) -> None:
         columns = [["Item", *NUMBERS[1]], ["UPC", *CODES], ["Desc", "Tea", "Book", "Gum"]]

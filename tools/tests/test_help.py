@@ -6,7 +6,6 @@ import re
 import subprocess
 import tempfile
 import unittest
-from html.parser import HTMLParser
 from io import BytesIO
 from pathlib import Path
 from typing import Iterator
@@ -15,24 +14,12 @@ import support
 
 SOURCE = support.TOOLS / "help/window_help.py"
 UI = (support.TOOLS / "labeltools/window/window.ui").read_text(encoding="utf-8")
-MENU = (support.TOOLS / "labeltools/window/menu.py").read_text(encoding="utf-8")
+MENU = (support.TOOLS / "labeltools/window/presets.py").read_text(encoding="utf-8")
 ON_SCREEN = (*re.findall('translatable="yes">([^<]+)<', UI), *re.findall(r'_\("([^"]+)"\)', MENU))
 SPEC = importlib.util.spec_from_file_location("window_help", SOURCE)
 assert SPEC and SPEC.loader
 window_help = importlib.util.module_from_spec(SPEC)
 SPEC.loader.exec_module(window_help)
-
-
-class Links(HTMLParser):
-    """What a page needs from elsewhere: the addresses of its links and pictures."""
-
-    def __init__(self, page: str) -> None:
-        super().__init__()
-        self.found: list[str] = []
-        self.feed(page)
-
-    def handle_starttag(self, tag: str, attrs: list[tuple[str, str | None]]) -> None:
-        self.found += [value or "" for name, value in attrs if name in ("href", "src")]
 
 
 def translation(language: str) -> gettext.NullTranslations:
@@ -79,8 +66,8 @@ class Help(unittest.TestCase):
             for language, page in window_help.pages().items():
                 html = Path(folder, language, "label-window/index.html").read_text(encoding="utf-8")
                 self.assertIn(f"<h1>{page[2:].splitlines()[0]}</h1>", html)
-                links = Links(html).found
-                self.assertEqual([one[:22] for one in links], ["data:image/png;base64,"])
+                links = re.findall(r'\b(?:src|href)="([^"]{,22})', html)
+                self.assertEqual(links, ["data:image/png;base64,"])
 
 
 if __name__ == "__main__":

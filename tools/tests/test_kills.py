@@ -7,12 +7,12 @@ import random
 import re
 import signal
 import sys
-import tempfile
 import time
 import unittest
 from pathlib import Path
 from typing import List, Set
 
+import desk
 import support
 from printers import LABEL, Printer
 
@@ -27,20 +27,17 @@ def setUpModule() -> None:
 
 
 @support.slow
-class Kills(unittest.TestCase):
+class Kills(desk.Desk):
     """Two lanes are killed a hundred times."""
 
     def setUp(self) -> None:
-        folder = tempfile.TemporaryDirectory()
-        self.addCleanup(folder.cleanup)
-        self.journal = f"{folder.name}/journal"
-        self.lines = f"{folder.name}/lines"
+        super().setUp()
+        self.lines = f"{self.folder}/lines"
         self.random = random.Random(SEED)
         self.kills = 0
 
     def words(self, printer: Printer) -> List[str]:
-        roll = ["--paper", "40x30", "--dpi", "203", "--to", "zpl"]
-        return [*roll, "--journal", self.journal, "--print", printer.name, self.lines]
+        return [*desk.ROLL, "--journal", self.path, "--print", printer.name, self.lines]
 
     def lane(self, printer: Printer) -> int:
         """Starts a lane, which prints until it is killed, as a process; returns its number."""
@@ -65,8 +62,8 @@ class Kills(unittest.TestCase):
         """
         lanes = [self.lane(printer) for printer in printers]
         for process in lanes:
-            last = self.events() + self.random.randrange(8)
-            while self.events() < last and not os.waitid(os.P_PID, process, ENDED):
+            last = self.count() + self.random.randrange(8)
+            while self.count() < last and not os.waitid(os.P_PID, process, ENDED):
                 time.sleep(0.001)
             time.sleep(self.random.uniform(0.0, 0.01))
             os.kill(process, signal.SIGKILL)
@@ -74,9 +71,9 @@ class Kills(unittest.TestCase):
             _, state = os.waitpid(process, 0)
             self.kills += os.WIFSIGNALED(state)
 
-    def events(self) -> int:
+    def count(self) -> int:
         """How many events the journal has."""
-        path = Path(self.journal)
+        path = Path(self.path)
         return path.read_bytes().count(b"\n") if path.exists() else 0
 
     def test_each_label_is_on_paper_once_or_named(self) -> None:
@@ -85,7 +82,7 @@ class Kills(unittest.TestCase):
         while self.kills < KILLS:
             batch += 1
             self.assertLess(batch, KILLS, "lanes end by themselves, before they are killed")
-            Path(self.journal).unlink(missing_ok=True)
+            Path(self.path).unlink(missing_ok=True)
             codes = [f"B{batch:02}-{number:03}" for number in range(TICKETS)]
             Path(self.lines).write_text("".join(f"qr {code}\n" for code in codes))
             printers = [Printer().start(), Printer().start()]

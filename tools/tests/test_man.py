@@ -7,7 +7,13 @@ from typing import Dict
 
 import support
 from labeltools.commands import label_print, label_table
-from labeltools.printing import job, network
+from labeltools.common import report
+from labeltools.designs import drawing
+from labeltools.layout import frames
+from labeltools.lines import file
+from labeltools.paper import area
+from labeltools.printing import job, network, stream
+from labeltools.sheets import csv_table, workbook
 
 PAGES = sorted((support.TOP / "man").glob("label*.1"))
 TOOLS = sorted(path.name for path in support.TOOLS.glob("label-*"))
@@ -18,7 +24,7 @@ NAMED = re.compile(
     r"|The default is (\w+)\.|(\w+), which is the default"
 )
 NUMBER = re.compile(r"LABELS_[A-Z0-9_]+")
-# Numbers of label-print(1), and what they are in the tools.
+# Numbers of label-print(1) and label-table(1), and what they are in the tools.
 NUMBERS = (
     (r"svg, which take (\d+)", job.DRAWING_DPI),
     (r"sheets are drawn at (\d+) dpi", job.DRAWING_DPI),
@@ -27,6 +33,20 @@ NUMBERS = (
     (r"takes nothing for (a minute)", {60.0: "a minute"}.get(network.STUCK)),
     (r"waits (\d+) seconds for that", network.FAREWELL),
     (r"(a twentieth) of a second", {0.05: "a twentieth"}.get(network.REGRET)),
+    (r"within (\d+) seconds if the FIFO", stream.LOOK),
+    (r"drawing that takes (\d+) seconds", drawing.MOST_SECONDS),
+    (r"seconds or (\d+) MB", drawing.MOST_MEMORY // 1_000_000),
+    (r"the smallest \(([\d.]+)\)", frames.LEAST_TEXT),
+    (r"above 60 mm, at most ([\d.]+) mm", area.LARGEST_MODULE),
+    (
+        r"at most (nine) such messages",
+        {8: "nine"}.get(report.MOST_REASONS),
+    ),  # and that of the others
+    (r"with at most (\d+) rows that were skipped", file.MOST_LEFT_OUT),
+    (r"a part of more than (\d+) MB", workbook.LARGEST_PART >> 20),
+    (r"CSV of more than (\d+) MB", csv_table.LARGEST_FILE >> 20),
+    (r"than (\d+) rows or", workbook.MOST_ROWS),
+    (r"rows or (\d+) columns", workbook.MOST_COLUMNS),
 )
 
 
@@ -89,7 +109,7 @@ class Pages(unittest.TestCase):
 
     def test_numbers_are_those_of_the_tools(self) -> None:
         support.needs("mandoc")
-        text = " ".join(shown("label-print.1").split())
+        text = " ".join(f"{shown('label-print.1')} {shown('label-table.1')}".split())
         for pattern, wanted in NUMBERS:
             found = re.search(pattern, text)
             said = found[1].replace(",", "") if found else None

@@ -330,6 +330,12 @@ class Files(unittest.TestCase):
         self.assertEqual(sorted(os.listdir(self.folder / "copies")), ["1.zpl", "2.zpl"])
         self.assertEqual(len(jobs.dots_of_zpl((self.folder / "copies/1.zpl").read_bytes())), 1)
 
+    def test_the_numbers_of_the_rest(self) -> None:
+        """Files of a second run have no name of the first one."""
+        done = self.each("rest/%d.zpl", support.file_of(SHELF[:4]), "--after", "2")
+        self.assertEqual(done.returncode, 0, done.stderr)
+        self.assertEqual(sorted(os.listdir(self.folder / "rest")), ["3.zpl", "4.zpl"])
+
     def test_old_files_are_not_among_new_ones(self) -> None:
         (self.folder / "old.png").write_bytes(b"")
         done = self.each("%d.png", b"ean8 7351353\n")
@@ -355,23 +361,10 @@ class Files(unittest.TestCase):
                 "--paper", "60x40", "--dpi", "300", "--to", form, input=EVERY.encode()
             )
             self.assertEqual((done.returncode, done.stdout), (1, b""))
-            self.assertIn(b"a file of each by --each", done.stderr)
+            self.assertIn(b"a file of each with --each", done.stderr)
 
 
 class ReadBack(unittest.TestCase):
-    def test_good_labels(self) -> None:
-        for dpi in (203, 300, 600):
-            laid = laid_out(EVERY.encode(), (90.0, 40.0), dpi)
-            self.assertEqual([laid.fault(item) for item in laid.labels], [None] * 5)
-
-    def test_bytes_of_all_values(self) -> None:
-        parts = (
-            bytes(value for value in range(start, start + 128) if value != 10) for start in (0, 128)
-        )
-        data = b"".join(b"qr " + part + b"\n" for part in parts)
-        laid = laid_out(data, (40.0, 40.0), 600)
-        self.assertEqual([laid.fault(item) for item in laid.labels], [None] * 2)
-
     def test_a_wrong_label(self) -> None:
         laid = laid_out(b"ean13 400638133393\nean13 501234567890\n", (60.0, 40.0), 300)
         first, second = laid.labels

@@ -308,6 +308,9 @@ class Together(unittest.TestCase):
         boxes = [bars_in(dots, line) for (line, _), dots in zip([*[short] * 9, long], found)]
         assert boxes[0] is not None and boxes[9] is not None
         self.assertGreater(boxes[0].module, boxes[9].module)
+        alone = bars_in(pictures([short], *roll((60.0, 40.0), 600))[0], QR)
+        assert alone is not None
+        self.assertGreaterEqual(boxes[0].module, 0.9 * alone.module)
 
     def test_only_keeps_the_frame_of_the_whole_file(self) -> None:
         """A torn label that is printed again looks as it did, also if it alone had more room."""
@@ -350,6 +353,7 @@ class Said(unittest.TestCase):
         messages = said([(EAN, PRICED)] * 2, *sheet((60.0, 20.0), 300))
         self.assertEqual(len(messages), 1)
         self.assertRegex(messages[0], r"^rows 2-3: bars of \d+\.\d mm: hand scanners read them")
+        self.assertEqual(said([(EAN, PRICED)], *sheet((60.0, 20.0), 300, "--design", "shelf")), [])
 
     def test_dense_qr(self) -> None:
         messages = said([(f"qr {'x' * 150}", {})] * 2, *roll((20.0, 20.0), 600))
@@ -400,13 +404,6 @@ class Forms(unittest.TestCase):
         self.assertEqual(len(found), len(wanted))
         for one, other in zip(found, wanted):
             self.assertTrue(numpy.array_equal(one, other))
-
-    def test_copies_are_counted_by_the_printer(self) -> None:
-        job = printed(
-            [(EAN, {**PRICED, "copies": 500})] * 2, *roll((60.0, 40.0), 203, "--to", "zpl")
-        )
-        self.assertLess(len(job), 10_000)
-        self.assertIn(b"^PQ1000", job)
 
     def test_some_symbologies_without_a_price(self) -> None:
         self.check([(EAN, PRICED), (QR, {"title": "Regal 7"})])
@@ -563,6 +560,8 @@ class Users(unittest.TestCase):
     def test_sheets_by_size_and_by_two_makers(self) -> None:
         done = support.run("label-print", "--list-stock", "herma 70x37")
         self.assertIn(b"Herma 4464: 24 of 70.2 by 37.04 mm", done.stdout)
+        done = support.run("label-print", "--list-stock", "herma", "70x37")
+        self.assertEqual((done.returncode, done.stdout), (2, b""))
         done = support.run("label-print", "--list-stock", "Avery Zweckform L7160")
         self.assertIn(b"Avery L7160: 21 of", done.stdout)
         done = support.run("label-print", "--list-stock", "nowhere")
@@ -595,8 +594,8 @@ class Users(unittest.TestCase):
         cells = ("--cell", "1x1", "--columns", "9999", "--rows", "9999", "--page", "9999x9999")
         copies = support.file_of([("ean8 7351353", {"copies": 9999})] * 101)
         for data, arguments, what in (
-            (label, cells, "the maximum is 10,000"),
-            (copies, self.ROLL, "the maximum is 1,000,000"),
+            (label, cells, "the maximum is 10,000\n"),
+            (copies, self.ROLL, "the maximum is 1,000,000;"),
         ):
             script = 'ulimit -v 600000 -t 60; exec "$@"'
             command = ["bash", "-c", script, "sh", str(support.TOOLS / "label-print"), *arguments]

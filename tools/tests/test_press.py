@@ -45,7 +45,7 @@ class Pages(unittest.TestCase):
         self.data = support.file_of(COPIED)
         self.options = PrintOptions(stock="l7160", first=5)
         self.job = planned(self.options)
-        self.found = labels_of(self.options, self.job, "lines", self.data, Silence())
+        self.found = labels_of(self.job, "lines", self.data, Silence())
 
     def test_a_page_by_its_number(self) -> None:
         press = self.found.press(Silence())
@@ -62,7 +62,7 @@ class Pages(unittest.TestCase):
             sheet = ("--paper", "60x40", "--dpi", "203", "--to", form)
             written = support.printed(*sheet, input=self.data).stdout
             options = PrintOptions(paper=(60.0, 40.0), dpi=203, to=form)
-            found = labels_of(options, planned(options), "lines", self.data, Silence())
+            found = labels_of(planned(options), "lines", self.data, Silence())
             with tempfile.TemporaryDirectory() as folder:
                 path = Path(folder, "labels")
                 save_to(found, path, Silence())
@@ -71,7 +71,7 @@ class Pages(unittest.TestCase):
 
     def test_labels_that_are_left_out_are_values(self) -> None:
         data = support.file_of([LABELS[0], ("ean13 4006381333932", {})])
-        found = labels_of(self.options, self.job, "lines", data, Silence())
+        found = labels_of(self.job, "lines", data, Silence())
         (one,) = found.left_out
         self.assertEqual(one.place, Place("articles.xlsx", "row", 3))
         self.assertEqual((one.data, one.reason), ("4006381333932", "check digit is 2, should be 1"))
@@ -83,12 +83,12 @@ class Pages(unittest.TestCase):
                     save_to(self.found, Path(folder, "labels.pdf"), Stopping(end))
                 self.assertEqual(os.listdir(folder), [])
         with self.assertRaises(Cancelled):
-            labels_of(self.options, self.job, "lines", self.data, Stopping(1))
+            labels_of(self.job, "lines", self.data, Stopping(1))
 
     def test_one_form_after_another_in_one_run(self) -> None:
         """Cairo keeps a font as it was first used: dots are the same after a PDF was drawn."""
         roll = PrintOptions(paper=(60.0, 40.0), dpi=203, to="pbm")
-        found = labels_of(roll, planned(roll), "lines", self.data, Silence())
+        found = labels_of(planned(roll), "lines", self.data, Silence())
         written = support.run(
             "label-print", "--paper", "60x40", "--dpi", "203", "--to", "pbm", input=self.data
         ).stdout

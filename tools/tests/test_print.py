@@ -256,13 +256,6 @@ class Printers(unittest.TestCase):
                         numpy.array_equal(raster[:, : picture.shape[1]], picture), (paper, dpi)
                     )
 
-    def test_zbar_reads_them(self) -> None:
-        codes, job = self.job("60x40", 203, "zpl")
-        paths = [Path(FOLDER.name, f"thermal-{number}.pbm") for number in range(len(codes))]
-        for path, dots in zip(paths, jobs.dots_of_zpl(job)):
-            path.write_bytes(jobs.pbm_of(dots))
-        self.assertEqual(support.read_codes(*paths), [f"EAN-13:{code}" for code in codes])
-
     def test_cuts_and_widths(self) -> None:
         data = support.file_of(shelf(2))
         done = support.printed(
@@ -274,7 +267,7 @@ class Printers(unittest.TestCase):
             "--paper", "60x40", "--dpi", "203", "--to", "escpos", "--dots", "384", input=data
         )
         self.assertEqual((done.returncode, done.stdout), (2, b""))
-        self.assertIn(b"480 dots, and the printer has 384", done.stderr)
+        self.assertIn(b"480 dots wide, and the printer has 384", done.stderr)
 
 
 if __name__ == "__main__":

@@ -1,9 +1,7 @@
 """label-print and CUPS: the line to type, --print, and the edges of a page."""
 
-import contextlib
 import os
 import re
-import socket
 import subprocess
 import tempfile
 import unittest
@@ -17,7 +15,7 @@ import support
 import drivers
 from labeltools.printing.job import PrintOptions, planned
 from labeltools.printing.cups import SentJob, lp_line, queue_of, queues
-from drivers import NEAR, Bars, bars_of, shift_of, with_end
+from drivers import Bars, bars_of, shift_of, with_end
 from laying import laid_out, look
 from printers import Printer
 from jobs import Dots, JobError
@@ -290,30 +288,6 @@ class Devices(unittest.TestCase):
             self.assertEqual(os.listdir(folder), [])
 
 
-class Networks(unittest.TestCase):
-    def test_a_printer_that_does_not_answer(self) -> None:
-        """The system that it runs on takes no more connections. What is asked for is waited for."""
-        waited: list[float] = []
-
-        def connect(address: Any, seconds: float) -> socket.socket:
-            waited.append(seconds)
-            return socket_of(address, 0.1)
-
-        socket_of = socket.create_connection
-        with socket.socket() as server, contextlib.ExitStack() as others:
-            server.bind(("127.0.0.1", 0))
-            server.listen(0)
-            for _ in range(3):
-                other = others.enter_context(socket.socket())
-                other.setblocking(False)
-                other.connect_ex(server.getsockname())
-            name = f"tcp://127.0.0.1:{server.getsockname()[1]}"
-            with mock.patch("labeltools.printing.network.socket.create_connection", connect):
-                done = support.printed(*Devices.WORDS, "--print", name, input=LINES)
-        self.assertEqual((done.returncode, waited), (1, [10]))
-        self.assertIn(f"{name}: timed out: row 2 and what follows it", done.stderr.decode())
-
-
 class Languages(unittest.TestCase):
     """Jobs as the manuals of the printers describe them, written by hand."""
 
@@ -349,21 +323,15 @@ class Languages(unittest.TestCase):
 
 
 class Shifts(unittest.TestCase):
-    def setUp(self) -> None:
-        generator = numpy.random.default_rng(7)
-        self.bars = Bars(0, 20, 30, generator.integers(0, 2, (40, 60)).astype(numpy.uint8))
-        self.page = numpy.zeros((200, 200), dtype=numpy.uint8)
-        self.page[28:68, 25:85] = self.bars.dots
-
-    def test_bars_are_found_where_they_are(self) -> None:
-        self.assertEqual(shift_of(self.page, self.bars), (5, -2))
-
     def test_one_dot_that_is_wrong(self) -> None:
-        self.page[50, 60] ^= 1
-        self.assertIsNone(shift_of(self.page, self.bars))
-
-    def test_white_rows_at_the_end_are_given_back(self) -> None:
-        self.assertEqual(with_end(self.page[:68]).shape, (68 + 2 * NEAR, 200))
+        """Bars are found where they are, and no others."""
+        generator = numpy.random.default_rng(7)
+        bars = Bars(0, 20, 30, generator.integers(0, 2, (40, 60)).astype(numpy.uint8))
+        page = numpy.zeros((200, 200), dtype=numpy.uint8)
+        page[28:68, 25:85] = bars.dots
+        self.assertEqual(shift_of(page, bars), (5, -2))
+        page[50, 60] ^= 1
+        self.assertIsNone(shift_of(page, bars))
 
 
 class Edges(unittest.TestCase):
@@ -387,11 +355,6 @@ class Edges(unittest.TestCase):
         for edge in ("1,2", "1,2,3", "1,2,3,4,5", "a", "1,2,3,-4"):
             done = support.printed("--paper", "89x36", "--edge", edge, input=LINES)
             self.assertEqual((done.returncode, done.stdout), (2, b""), edge)
-
-    def test_one_edge_for_all(self) -> None:
-        one = support.printed("--paper", "89x36", "--edge", "3", input=LINES).stdout
-        four = support.printed("--paper", "89x36", "--edge", "3,3,3,3", input=LINES).stdout
-        self.assertTrue(one and one == four)
 
 
 class Hostile(unittest.TestCase):
@@ -444,20 +407,14 @@ class Hostile(unittest.TestCase):
             self.assertIn(f"label-print: {folder}/new/1.pbm: File too large", done.stderr.decode())
             self.assertEqual(os.listdir(f"{folder}/new"), [])
 
-    def test_control_characters_in_arguments(self) -> None:
-        for option in ("--stock", "--font", "--print"):
-            sheet = () if option == "--stock" else ("--paper", "60x40", "--dpi", "203")
-            done = support.run("label-print", *sheet, option, "\x1b[2J\u202e", input=LINES)
-            self.assertNotEqual(done.returncode, 0)
-            self.assertNotIn(b"\x1b", done.stderr, option)
-            self.assertNotIn("\u202e".encode(), done.stderr, option)
-
-    def test_bytes_that_are_no_text(self) -> None:
-        for option in (b"--stock", b"--font", b"--note"):
-            sheet = (b"--paper", b"60x40") if option != b"--stock" else ()
-            done = support.run("label-print", *sheet, option, b"\xff\xfe", input=LINES)
-            self.assertNotEqual(done.returncode, 0, option)
-            self.assertNotIn(b"Traceback", done.stderr, option)
+    def test_arguments_that_are_no_text(self) -> None:
+        for option in ("--stock", "--font", "--note", "--print"):
+            sheet = ("--paper", "60x40", "--dpi", "203") if option != "--stock" else ()
+            for text in ("\x1b[2J\u202e".encode(), b"\xff\xfe"):
+                done = support.run("label-print", *sheet, option, text, input=LINES)
+                self.assertNotEqual(done.returncode, 0, option)
+                for sign in (b"\x1b", "\u202e".encode(), b"Traceback"):
+                    self.assertNotIn(sign, done.stderr, option)
 
     def test_a_library_that_is_not_there(self) -> None:
         with tempfile.TemporaryDirectory() as folder:

@@ -1,12 +1,9 @@
-"""What `make deb` and `make release` make: packages and source as an apt repository, the same each
-time.
+"""What `make deb` and `make release` make: packages and source, the same each time; `make deb-test`
+installs them.
 """
 
 import hashlib
 import os
-import re
-import shutil
-import subprocess
 import tempfile
 import unittest
 from pathlib import Path
@@ -118,32 +115,6 @@ class Release(unittest.TestCase):
         self.assertEqual(files, {*committed, "debian/changelog"})
         for name in sorted(committed):
             self.assertEqual((source / name).read_bytes(), (clone / name).read_bytes(), name)
-
-    def apt(self, release: Path, *words: str) -> "subprocess.CompletedProcess[str]":
-        """Runs apt-get with a repository alone, and in folders of its own."""
-        own = self.folder / "apt"
-        (own / "lists/partial").mkdir(parents=True, exist_ok=True)
-        (own / "list").write_text(f"deb [trusted=yes] file:{release} ./\n", encoding="utf-8")
-        places = {"Etc::sourcelist": own / "list", "Etc::sourceparts": "-"}
-        places |= {"State::lists": own / "lists", "Cache": own / "cache"}
-        options = [
-            word for name, place in places.items() for word in ("-o", f"Dir::{name}={place}")
-        ]
-        return subprocess.run(["apt-get", *options, *words], capture_output=True, text=True)
-
-    def test_apt_takes_it(self) -> None:
-        """All packages can be installed from it; an index that was changed is refused."""
-        names = sorted(self.packages())
-        self.assertEqual(self.apt(self.release, "update").returncode, 0)
-        how = ("--simulate", "--no-install-recommends", "install")
-        done = self.apt(self.release, *how, *names)
-        found = re.findall(r"^Inst (\S+)", done.stdout, re.M)
-        self.assertEqual((done.returncode, sorted(found)), (0, names), done.stderr)
-        bent = self.folder / "bent"
-        shutil.copytree(self.release, bent)
-        for name in ("Packages", "Packages.gz"):
-            (bent / name).write_bytes((bent / name).read_bytes() + b"\n")
-        self.assertNotEqual(self.apt(bent, "update").returncode, 0)
 
 
 if __name__ == "__main__":

@@ -9,8 +9,6 @@ test_table_workbooks.
 import functools
 import json
 import re
-import shutil
-import subprocess
 import tempfile
 import unittest
 from pathlib import Path
@@ -48,6 +46,10 @@ def parts_of(output: bytes) -> Tuple[Label, List[Tuple[Label, str]], Label]:
     return remarks[0], list(zip(remarks[1:-1], texts[2::2])), remarks[-1]
 
 
+AROUND = (
+    "has a setting, space, quote or asterisk around the data, which would be drawn: remove it; "
+)
+AROUND += "settings are given with --settings"
 OTHER = "a code that is not an EAN or UPC needs --symbology code128 (bars) or qr"
 
 
@@ -139,7 +141,7 @@ class TableTest(unittest.TestCase):
 
 
 class Encodings(TableTest):
-    FIX = "save it as UTF-8, or give the right one of these by --encoding: "
+    FIX = "save it as UTF-8, or give the right one of these with --encoding: "
     WIDE = "save it as UTF-8, or give --encoding utf-16-le or utf-16-be"
     TEXT = f"Nummer;Größe;Name\r\n{PENCIL};ß;Käse\r\n{SMALL};ü;Öl €\r\n"
     ARGUMENTS = "--code Nummer --title Name --text Größe".split()
@@ -231,12 +233,8 @@ class Encodings(TableTest):
             "<table><tr>",
         ):
             self.check(start, ["--code", "1"], [], [problem], 1)
-        for data, kind in (
-            (b"\x89PNG\r\n", "picture"),
-            (b"\xff\xd8\xff", "picture"),
-            (b"%PDF-", "PDF"),
-        ):
-            problem = f"standard input is a {kind}: give the table itself: .xlsx, .ods or CSV"
+        problem = "standard input is a picture or a PDF: give the table itself: .xlsx, .ods or CSV"
+        for data in (b"\x89PNG\r\n", b"\xff\xd8\xff", b"%PDF-"):
             self.check(data, ["--code", "1"], [], [problem], 1)
 
 
@@ -414,10 +412,7 @@ class Cells(TableTest):
         for end in ("\n", "\r\n", "\r"):
             self.check_cells([], {f"{SMALL}{end}": f"ean8 {SMALL}"})
             seen = f"LOT 7{end}".replace("\r", "<U+000D>").replace("\n", "<U+000A>")
-            problem = (
-                f'refused: "{seen}" has a space before or after the data, which would be drawn:'
-                " remove it"
-            )
+            problem = f'refused: "{seen}" {AROUND}'
             self.check_cells(["--symbology", "code128"], {f"LOT 7{end}": problem})
 
 
@@ -533,18 +528,6 @@ class Texts(TableTest):
             '#{"end":1,"lines":2,"left_out":[3,5],"left_out_count":2}',
         ]
         self.assertEqual(done.stdout.decode().split("\n"), [*written, ""])
-
-    def test_the_order_of_the_rows_does_not_matter(self) -> None:
-        rows = [f"{PENCIL};pencil", f"{SMALL};eraser", f"{BOOK};book"]
-        titles = {PENCIL: "pencil", SMALL: "eraser", BOOK: "book"}
-        for order in (rows, rows[::-1], [rows[1], "x;y", rows[0]]):
-            table = "\n".join(["code;name", *order])
-            done = support.run_here(
-                "label-table", "--code", "code", "--title", "name", input=table.encode()
-            )
-            found = {line.split()[1]: label["title"] for label, line in parts_of(done.stdout)[1]}
-            self.assertEqual(found, {code: titles[code] for code in found})
-            self.assertGreater(len(found), 1)
 
     def test_the_name_of_the_table(self) -> None:
         path = self.folder / "Käse 1.csv"
@@ -677,12 +660,137 @@ class Texts(TableTest):
         self.check(table, ["--code", "code"], [f"ean8 {SMALL}"], problems, 1)
 
 
+# what messages say in several places
+SAID = {
+    "lengths": "ean8 has 8, upca has 12, ean13 has 13",
+    "lost": "if leading zeros are lost",
+    "none": "if the column has no check digits, give --without-check-digit",
+    "case": "a GTIN-14 is drawn as ITF-14, which labels does not draw",
+    "isbn": "is an ISBN of ten digits: its EAN-13 is",
+    "rounded": "the spreadsheet has rounded the number; format the column as text, enter it again",
+    "looks": "looks rounded by the spreadsheet: enter it again as text, or give --allow-zeros",
+    "upce": "may be a UPC-E, which labels does not draw: for an EAN-8 give --symbology ean8",
+    "zeros": "may be an EAN-8 with zeros in front: write its 8 digits, or give --symbology",
+    "either": "may have its check digit: if not, give --symbology",
+    "whole": "give --without-check-digit only if no number has one",
+    "signs": "has other characters than digits: character",
+    "other": OTHER,
+}
+# options, and below them cells with the line that each gives, or what is said of its row. GS1 General
+# Specifications 1.4: no GTIN-8 begins with 0, and 01234565 is the UPC-E of 012345000065; a GTIN-8 in
+# a field of 14 or 13 digits has zeros in front. 4006350000000 is 4,00635E+12 with a check digit that
+# is right by chance; ISBN 0-306-40615-2 is 978-0-306-40615-7. 01234565 and 036000291452 without their
+# first digit still have a check digit.
+NUMBERS = """\
+--symbology auto
+4006381333931 | 9780306406157 -> ean13 {}
+73513537 | 20000103 -> ean8 {}
+036000291452 -> upca {}
+4006381333931.0 | 4006381333931,00 | '4006381333931 | =""4006381333931"" -> ean13 4006381333931
+4 006381 333931 | 04006381333931 -> ean13 4006381333931
+978-0-306-40615-7 | 978 0 306 40615 7 | 978-0306406157 -> ean13 9780306406157
+7351 3537 -> ean8 73513537
+0 36000 29145 2 -> upca 036000291452
+00036000291452 -> ean13 0036000291452
+4006381333932 | 4006381333932.0 | '4006381333932 -> ! 4006381333932: the check digit is 2, should be 1
+9780306406158 | 978-0-306-40615-8 -> ! 9780306406158: the check digit is 8, should be 7
+73513530 -> ! {}: the check digit is 0, should be 7
+036000291453 -> ! {}: the check digit is 3, should be 2; {none}
+36000291452 -> ! {} has 11 digits, {lengths}: give --fill-zeros {lost}
+36000291453 -> ! {} has 11 digits, {lengths}: {none}
+7351353 -> ! {} has 7 digits, {lengths}: {none}
+5 -> ! {} has 1 digit, {lengths}: {other}
+04006381333932 | 12345678901234 | 10614141543219 -> ! {} has 14 digits, {lengths}: {case}
+777777777777777777777777777777 -> ! 77777777777777777777 has 30 digits, {lengths}: {other}
+4,00638E+12 | 4.00638E+12 | 4E+12 | 4,006381333931e12 -> ! "{}": {rounded}
+4006350000000 | 20000004 -> ! {} {looks}
+01234565 -> ! {} {upce}
+0306406152 | 0-306-40615-2 | 0 306 40615 2 -> ! {} {isbn} 9780306406157
+080442957X | 0-8044-2957-x -> ! {} {isbn} 9780804429573
+0000073513537 | 000073513537 -> ! {} {zeros}
+00000073513537 -> ! 0000073513537 {zeros}
+2024-05-17 -> ! "{}" {signs} 5 is "-"; {other}
+40063-81333931 -> ! "{}" {signs} 6 is "-"; {other}
+4006381  333931 -> ! "{}" {signs} 8 is a space; {other}
+4006381333931,5 -> ! "{}" {signs} 14 is ","; {other}
+4.006.381.333.931 -> ! "{}" {signs} 2 is "."; {other}
+400638133393l -> ! "{}" {signs} 13 is "l"; {other}
+４006381333931 -> ! "{}" {signs} 1 is fullwidth digit four (U+FF14); {other}
+978–0306406157 -> ! "{}" {signs} 4 is en dash (U+2013); {other}
+--symbology ean13
+4006381333931 | 0000073513537 -> ean13 {}
+036000291452 -> ! {} has 12 digits, ean13 has 13: give --symbology auto, or --fill-zeros {lost}
+73513537 -> ! {} has 8 digits, ean13 has 13: give --symbology auto, or --fill-zeros {lost}
+--symbology upca
+036000291452 -> upca {}
+00036000291452 -> upca 036000291452
+4006381333931 -> ! {} has 13 digits, upca has 12: give --symbology auto
+--symbology ean8
+01234565 -> ean8 {}
+--fill-zeros
+36000291452 | 036000291452 -> ean13 0036000291452
+4006381333931 -> ean13 {}
+73513537 -> ean8 {}
+36000291453 -> ! 0036000291453: the check digit is 3, should be 2
+0 | 00000000 | 0000000000 | 0000000000000 -> ! "{}" has only zeros, and is not an article number
+600029145 -> ! {} has 9 digits, {lengths}: {other}
+36000300000 -> ! 0036000300000 {looks}
+01234565 | 1234565 -> ! {} {upce}
+0306406152 | 0-306-40615-2 -> ! {} {isbn} 9780306406157
+--fill-zeros --symbology ean13
+36000291452 | 036000291452 -> ean13 0036000291452
+36000291453 -> ! 0036000291453: the check digit is 3, should be 2
+73513537 -> ! {} has 8 digits, ean13 has 13: give --symbology auto, or --fill-zeros {lost}
+--fill-zeros --symbology upca
+36000291452 | 036000291452 -> upca 036000291452
+73513537 -> ! {} has 8 digits, upca has 12: give --symbology auto, or --fill-zeros {lost}
+306406152 | 0306406152 -> ! {} {isbn} 9780306406157
+--fill-zeros --symbology ean8
+1234565 -> ean8 01234565
+--allow-zeros
+4006350000000 -> ean13 {}
+20000004 -> ean8 {}
+--without-check-digit
+400638133393 | 978030640615 -> ean13 {}
+7351353 -> ean8 {}
+03600029145 -> upca {}
+1234565 -> ! {} {either} ean8
+36000291452 -> ! {} {either} upca
+036000291452 -> ! {} {either} ean13
+73513537 -> ! {} has 8 digits, ean8 has 7, upca has 11, ean13 has 12: {whole}
+0123456 -> ! {} {upce}
+--without-check-digit --symbology ean13
+400638133393 | 978030640615 | 036000291452 | 400635100000 -> ean13 {}
+4006381333931 -> ! {} has 13 digits, ean13 has 12: {whole}
+400635000000 -> ! {} {looks}
+400638133393.0 -> ! "{}" {signs} 13 is "."; {other}
+978-0-306-40615 -> ! "{}" {signs} 4 is "-"; {other}
+--without-check-digit --symbology ean8
+7351353 | 1234565 -> ean8 {}
+73513537 -> ! {} has 8 digits, ean8 has 7: {whole}
+--without-check-digit --symbology upca
+03600029145 | 36000291452 -> upca {}
+036000291452 -> ! {} has 12 digits, upca has 11: {whole}
+--symbology code128
+1E10 -> code128 {}
+4,00638E+12 -> ! "{}": {rounded}
+--symbology qr
+1E10 -> qr {}
+4,00638E+12 -> ! "{}": {rounded}
+"""
+
+
 class Numbers(TableTest):
-    LENGTHS = "ean8 has 8, upca has 12, ean13 has 13"
-    LOST = "give --symbology auto, or --fill-zeros if leading zeros are lost"
-    LOST_IN_AUTO = "give --fill-zeros if leading zeros are lost"
-    NONE = "if the column has no check digits, give --without-check-digit"
-    CASE = "a GTIN-14 is drawn as ITF-14, which labels does not draw"
+    def test_what_becomes_of_each_number(self) -> None:
+        for block in re.split("^(?=--)", NUMBERS, flags=re.MULTILINE)[1:]:
+            options, *rows = block.splitlines()
+            wanted = {}
+            for row in rows:
+                cells, _, result = row.partition(" -> ")
+                for cell in cells.split(" | "):
+                    said = result.replace("! ", REFUSED, 1).format(cell, **SAID)
+                    wanted[cell] = said
+            self.check_cells(options.split(), wanted)
 
     def test_each_symbology(self) -> None:
         for symbology, number in (("ean13", PENCIL), ("ean8", SMALL), ("upca", SOAP)):
@@ -691,176 +799,6 @@ class Numbers(TableTest):
             self.check_cells(
                 arguments, {number: line, f" {number} ": line, f"\u00a0{number}\u202f": line}
             )
-
-    def test_auto_goes_by_length_and_check_digit(self) -> None:
-        wanted = {
-            PENCIL: f"ean13 {PENCIL}",
-            BOOK: f"ean13 {BOOK}",
-            SMALL: f"ean8 {SMALL}",
-            SOAP: f"upca {SOAP}",
-            "4006381333932": "refused: 4006381333932: the check digit is 2, should be 1",
-            "9780306406158": "refused: 9780306406158: the check digit is 8, should be 7",
-            "73513530": "refused: 73513530: the check digit is 0, should be 7",
-            "036000291453": (
-                f"refused: 036000291453: the check digit is 3, should be 2; {self.NONE}"
-            ),
-        }
-        self.check_cells([], wanted)
-
-    def test_numbers_of_another_symbology(self) -> None:
-        wanted = {
-            SOAP: f"refused: {SOAP} has 12 digits, ean13 has 13: {self.LOST}",
-            SMALL: f"refused: {SMALL} has 8 digits, ean13 has 13: {self.LOST}",
-        }
-        self.check_cells(["--symbology", "ean13"], wanted)
-        ean13 = f"refused: {PENCIL} has 13 digits, upca has 12: give --symbology auto"
-        self.check_cells(["--symbology", "upca"], {PENCIL: ean13})
-
-    def test_other_lengths(self) -> None:
-        wanted = {
-            "36000291452": f"refused: 36000291452 has 11 digits, {self.LENGTHS}: {self.LOST_IN_AUTO}",
-            "36000291453": f"refused: 36000291453 has 11 digits, {self.LENGTHS}: {self.NONE}",
-            "7351353": f"refused: 7351353 has 7 digits, {self.LENGTHS}: {self.NONE}",
-            "5": f"refused: 5 has 1 digit, {self.LENGTHS}: {OTHER}",
-            "12345678901234": f"refused: 12345678901234 has 14 digits, {self.LENGTHS}: {self.CASE}",
-            "10614141543219": f"refused: 10614141543219 has 14 digits, {self.LENGTHS}: {self.CASE}",
-            "7" * 30: (f"refused: {'7' * 20} has 30 digits, {self.LENGTHS}: {OTHER}"),
-        }
-        self.check_cells([], wanted)
-
-    def test_fill_zeros(self) -> None:
-        wanted = {
-            "36000291452": "ean13 0036000291452",
-            SOAP: "ean13 0036000291452",
-            PENCIL: f"ean13 {PENCIL}",
-            "36000291453": "refused: 0036000291453: the check digit is 3, should be 2",
-        }
-        self.check_cells("--fill-zeros --symbology ean13".split(), wanted)
-        self.check_cells(["--fill-zeros"], {**wanted, SMALL: f"ean8 {SMALL}"})
-        self.check_cells(
-            "--fill-zeros --symbology upca".split(),
-            {"36000291452": f"upca {SOAP}", SOAP: f"upca {SOAP}"},
-        )
-
-    def test_fill_zeros_adds_at_most_three(self) -> None:
-        zeros = ("0", "00000000", "0000000000", "0000000000000")
-        wanted = {
-            **{
-                cell: f'refused: "{cell}" has only zeros, and is not an article number'
-                for cell in zeros
-            },
-            "600029145": f"refused: 600029145 has 9 digits, {self.LENGTHS}: {OTHER}",
-            "": 'refused: column 1 ("code") is empty',
-        }
-        self.check_cells(["--fill-zeros"], wanted)
-        for symbology, lengths in (("ean13", "ean13 has 13"), ("upca", "upca has 12")):
-            problem = f"{SMALL} has 8 digits, {lengths}: {self.LOST}"
-            self.check_cells(
-                ["--fill-zeros", "--symbology", symbology], {SMALL: f"refused: {problem}"}
-            )
-
-    def test_without_check_digit(self) -> None:
-        lines = {"ean13": [PENCIL, BOOK], "ean8": [SMALL], "upca": [SOAP]}
-        wanted = {
-            symbology: {number[:-1]: f"{symbology} {number[:-1]}" for number in numbers}
-            for symbology, numbers in lines.items()
-        }
-        for symbology, cells in wanted.items():
-            self.check_cells(["--without-check-digit", "--symbology", symbology], cells)
-        self.check_cells(
-            ["--without-check-digit"], {**wanted["ean13"], **wanted["ean8"], **wanted["upca"]}
-        )
-
-    def test_without_check_digit_a_number_that_has_lost_a_zero_may_have_its_check_digit(
-        self,
-    ) -> None:
-        # 01234565 and 036000291452 without their first digit: the last one is still their check
-        # digit
-        either = "may have its check digit: if not, give --symbology"
-        wanted = {
-            "1234565": f"refused: 1234565 {either} ean8",
-            "36000291452": f"refused: 36000291452 {either} upca",
-        }
-        self.check_cells(["--without-check-digit"], wanted)
-        for symbology, number in (("ean8", "1234565"), ("upca", "36000291452")):
-            arguments = ["--without-check-digit", "--symbology", symbology]
-            self.check_cells(arguments, {number: f"{symbology} {number}"})
-
-    def test_without_check_digit_refuses_a_whole_number(self) -> None:
-        fix = "give --without-check-digit only if no number has one"
-        for symbology, number in (("ean13", PENCIL), ("ean8", SMALL), ("upca", SOAP)):
-            count = len(number)
-            problem = f"{number} has {count} digits, {symbology} has {count - 1}: {fix}"
-            self.check_cells(
-                ["--symbology", symbology, "--without-check-digit"], {number: f"refused: {problem}"}
-            )
-        wanted = {
-            SMALL: f"refused: {SMALL} has 8 digits, ean8 has 7, upca has 11, ean13 has 12: {fix}",
-            SOAP: f"refused: {SOAP} may have its check digit: if not, give --symbology ean13",
-        }
-        self.check_cells(["--without-check-digit"], wanted)
-        self.check_cells("--without-check-digit --symbology ean13".split(), {SOAP: f"ean13 {SOAP}"})
-
-    def test_rounded_by_the_spreadsheet(self) -> None:
-        rest = "the spreadsheet has rounded the number; format the column as text, enter it again"
-        cells = ("4,00638E+12", "4.00638E+12", "4E+12", "4,006381333931e12")
-        self.check_cells([], {cell: f'refused: "{cell}": {rest}' for cell in cells})
-        for symbology in ("code128", "qr"):
-            wanted = {"4,00638E+12": f'refused: "4,00638E+12": {rest}', "1E10": f"{symbology} 1E10"}
-            self.check_cells(["--symbology", symbology], wanted)
-
-    def test_numbers_that_may_have_been_rounded(self) -> None:
-        # 4,00635E+12 written out, with the check digit that is right by chance; 3,60003E+11 as a
-        # UPC-A
-        looks = "looks rounded by the spreadsheet: enter it again as text, or give --allow-zeros"
-        self.check_cells([], {"4006350000000": f"refused: 4006350000000 {looks}"})
-        cells = {"4006350000000": "ean13 4006350000000", "20000004": "ean8 20000004"}
-        self.check_cells(["--allow-zeros"], cells)
-        self.check_cells(
-            [], {"20000004": f"refused: 20000004 {looks}", "20000103": "ean8 20000103"}
-        )
-        self.check_cells(["--fill-zeros"], {"36000300000": f"refused: 0036000300000 {looks}"})
-        arguments = "--without-check-digit --symbology ean13".split()
-        self.check_cells(
-            arguments,
-            {
-                "400635000000": f"refused: 400635000000 {looks}",
-                "400635100000": "ean13 400635100000",
-            },
-        )
-
-    def test_an_eight_digit_number_with_a_zero_in_front_may_be_a_upc_e(self) -> None:
-        # GS1 General Specifications 1.4: no GTIN-8 begins with 0; 01234565 is the UPC-E of
-        # 012345000065
-        may_be = "may be a UPC-E, which labels does not draw: for an EAN-8 give --symbology ean8"
-        self.check_cells([], {"01234565": f"refused: 01234565 {may_be}"})
-        self.check_cells(
-            ["--fill-zeros"],
-            {cell: f"refused: {cell} {may_be}" for cell in ("01234565", "1234565")},
-        )
-        self.check_cells(["--without-check-digit"], {"0123456": f"refused: 0123456 {may_be}"})
-        self.check_cells(["--symbology", "ean8"], {"01234565": "ean8 01234565"})
-        self.check_cells("--symbology ean8 --fill-zeros".split(), {"1234565": "ean8 01234565"})
-
-    def test_an_isbn_of_ten_digits(self) -> None:
-        # ISBN 0-306-40615-2 is 978-0-306-40615-7, ISBN 0-8044-2957-X is 978-0-8044-2957-3
-        book, other = "9780306406157", "9780804429573"
-        cells = {
-            "0306406152": book,
-            "0-306-40615-2": book,
-            "0 306 40615 2": book,
-            "080442957X": other,
-            "0-8044-2957-x": other,
-        }
-        wanted = {
-            cell: f"refused: {cell} is an ISBN of ten digits: its EAN-13 is {ean}"
-            for cell, ean in cells.items()
-        }
-        for arguments in ((), ("--fill-zeros",), "--fill-zeros --symbology upca".split()):
-            self.check_cells(arguments, wanted)
-        # without its zero
-        wanted = {"306406152": f"refused: 306406152 is an ISBN of ten digits: its EAN-13 is {book}"}
-        self.check_cells("--fill-zeros --symbology upca".split(), wanted)
 
     def test_no_right_isbn_of_ten_digits_becomes_an_ean(self) -> None:
         cells = []
@@ -876,64 +814,8 @@ class Numbers(TableTest):
             messages = support.messages(done)
             self.assertTrue(all("is an ISBN of ten digits" in text for text in messages[:-1]))
             same = "skipped for the same reason as row 2"
-            rest = f"label-table: rows 52, 53, 54, 55, 56 and 945 more: {same}"
+            rest = f"label-table: rows 52-1001: {same}"
             self.assertEqual((len(messages), messages[-1]), (51, rest))
-
-    def test_read_where_the_check_digit_is_right(self) -> None:
-        pencils = f"""{PENCIL}.0|{PENCIL},00|'{PENCIL}|=""{PENCIL}""|4 006381 333931|0{PENCIL}"""
-        read = {
-            **{cell: f"ean13 {PENCIL}" for cell in pencils.split("|")},
-            **{
-                cell: f"ean13 {BOOK}"
-                for cell in ("978-0-306-40615-7", "978 0 306 40615 7", "978-0306406157")
-            },
-            "7351 3537": f"ean8 {SMALL}",
-            "0 36000 29145 2": f"upca {SOAP}",
-            "00036000291452": f"ean13 0{SOAP}",
-        }
-        self.check_cells(["--symbology", "upca"], {"00036000291452": f"upca {SOAP}"})
-        wrong = {
-            f"{PENCIL[:-1]}2.0": "refused: 4006381333932: the check digit is 2, should be 1",
-            "'4006381333932": "refused: 4006381333932: the check digit is 2, should be 1",
-            "978-0-306-40615-8": "refused: 9780306406158: the check digit is 8, should be 7",
-            "04006381333932": f"refused: 04006381333932 has 14 digits, {self.LENGTHS}: {self.CASE}",
-        }
-        self.check_cells([], {**read, **wrong})
-
-    def test_zeros_in_front_of_an_ean_8(self) -> None:
-        # GS1 General Specifications: a GTIN-8 in a field of 14 or 13 digits has zeros in front
-        problem = "may be an EAN-8 with zeros in front: write its 8 digits, or give --symbology"
-        cells = {
-            "0000073513537": "0000073513537",
-            "00000073513537": "0000073513537",
-            "000073513537": "000073513537",
-        }
-        self.check_cells(
-            [], {cell: f"refused: {digits} {problem}" for cell, digits in cells.items()}
-        )
-        self.check_cells(["--symbology", "ean13"], {"0000073513537": "ean13 0000073513537"})
-
-    def test_not_digits(self) -> None:
-        cells = (
-            ("2024-05-17", 5, '"-"'),
-            ("40063-81333931", 6, '"-"'),
-            ("4006381  333931", 8, "a space"),
-            ("4006381333931,5", 14, '","'),
-            ("4.006.381.333.931", 2, '"."'),
-            ("400638133393l", 13, '"l"'),
-            ("４006381333931", 1, "fullwidth digit four (U+FF14)"),
-            ("978–0306406157", 4, "en dash (U+2013)"),
-        )
-        problem = (
-            f'refused: "{{}}" has other characters than digits: character {{}} is {{}}; {OTHER}'
-        )
-        refused = {cell: problem.format(cell, place, name) for cell, place, name in cells}
-        self.check_cells([], {PENCIL: f"ean13 {PENCIL}", **refused})
-        for cell in (f"{PENCIL[:-1]}.0", "978-0-306-40615"):
-            place, name = (13, '"."') if cell.endswith(".0") else (4, '"-"')
-            arguments = "--without-check-digit --symbology ean13".split()
-            right = {PENCIL[:-1]: f"ean13 {PENCIL[:-1]}"}
-            self.check_cells(arguments, {**right, cell: problem.format(cell, place, name)})
 
     def test_a_column_without_an_ean_or_upc_has_one_message(self) -> None:
         """Racks, lots, tickets and short numbers are told what draws them, once for all rows."""
@@ -954,6 +836,11 @@ class Numbers(TableTest):
         problem += " they have none, give --symbology code128, or --without-check-digit if they"
         problem += " have 12 digits"
         self.assertEqual(support.messages(done)[-1], problem)
+        table = f"code;price\n{SMALL};1\n{PENCIL};?\n73513538;1\n73513539;1\n"
+        done = support.run_here(
+            "label-table", "--code", "code", "--price", "price", input=table.encode()
+        )
+        self.assertEqual([line for _, line in parts_of(done.stdout)[1]], [f"ean8 {SMALL}"])
 
 
 class Data(TableTest):
@@ -976,28 +863,12 @@ class Data(TableTest):
         self.check_cells(arguments, {"Käse 日本": "qr,level=Q,mask=auto Käse 日本"})
 
     def test_drawn_though_unmeant(self) -> None:
-        space = "has a space before or after the data, which would be drawn: remove it"
-        setting = (
-            "has a setting in front, which would be drawn: remove it; settings of all lines are"
-            " given by --settings"
-        )
-        quotes = "has quotes round the data, which would be drawn: remove them"
-        apostrophe = (
-            "has an apostrophe in front, a spreadsheet's sign of text, which would be drawn: remove"
-            " it"
-        )
+        around: Tuple[str, ...] = (" LOT 7", "LOT 7 ", "“LOT 7”", "'LOT 7'", "'00123", "*LOT 9*")
+        around += ("level=H abc", "height=30 LOT", "mask=2 1", "min-version=3 x")
         wanted = {
-            " LOT 7": f'refused: " LOT 7" {space}',
-            "LOT 7 ": f'refused: "LOT 7 " {space}',
-            "LOT 7\u00a0": f'refused: "LOT 7<U+00A0>" {space}',
-            **{
-                cell: f'refused: "{cell}" {setting}'
-                for cell in ("level=H abc", "height=30 LOT", "mask=2 1", "min-version=3 x")
-            },
-            '""LOT 7""': f'refused: ""LOT 7"" {quotes}',
-            "“LOT 7”": f'refused: "“LOT 7”" {quotes}',
-            "'LOT 7'": f"refused: \"'LOT 7'\" {quotes}",
-            "'00123": f'refused: "\'00123" {apostrophe}',
+            **{cell: f'refused: "{cell}" {AROUND}' for cell in around},
+            "LOT 7\u00a0": f'refused: "LOT 7<U+00A0>" {AROUND}',
+            '""LOT 7""': f'refused: ""LOT 7"" {AROUND}',
             "=A1": 'refused: column 1 ("code") has "=A1", a formula: export its value',
             '=""00123""': "{symbology} 00123",
             '=""say """"hi"""" now""': '{symbology} say "hi" now',
@@ -1007,12 +878,6 @@ class Data(TableTest):
                 cell: result.replace("{symbology}", symbology) for cell, result in wanted.items()
             }
             self.check_cells(["--symbology", symbology], cells)
-
-    def test_what_labels_refuses_is_left_to_it(self) -> None:
-        self.check_cells(
-            ["--symbology", "code128"], {"A" * 81: f"code128 {'A' * 81}", "Käse": "code128 Käse"}
-        )
-        self.check_cells(["--symbology", "qr"], {"x" * 2000: f"qr {'x' * 2000}"})
 
     def test_a_delimiter_that_may_be_data_is_asked_for(self) -> None:
         for symbology in ("code128", "qr"):
@@ -1059,15 +924,6 @@ class Data(TableTest):
 
 
 class Arguments(TableTest):
-    def test_help(self) -> None:
-        for argument in ("--help", "-h"):
-            done = support.run("label-table", argument)
-            self.assertEqual((done.returncode, done.stderr), (0, b""))
-            for (
-                option
-            ) in "--code --title --text --price --copies --sheet --hidden --decimal".split():
-                self.assertIn(option, done.stdout.decode())
-
     def test_bad_arguments(self) -> None:
         done = support.run("label-table", input=b"code\n")
         self.assertEqual((done.returncode, done.stdout), (2, b""))
@@ -1080,9 +936,7 @@ class Arguments(TableTest):
         signs = 'argument --decimal: ";" is neither comma nor point'
         self.check_usage("--code 1 --decimal ;".split(), signs)
         for argument in (";;", "", '"', " ", "ä"):
-            text = (
-                f'--delimiter "{argument}" is not tab, none or a character that can separate cells'
-            )
+            text = f'argument --delimiter: "{argument}" is not tab, none or a character that can separate cells'
             self.check_usage(["--code", "1", "--delimiter", argument], text)
 
     def test_arguments_that_do_not_go_together(self) -> None:
@@ -1109,26 +963,13 @@ class Arguments(TableTest):
     def test_bad_settings(self) -> None:
         wrong = "|height|height 30|level=H 123|level=H,|,level=H|level=H\n|level"
         for setting in wrong.split("|"):
-            text = f"--settings {shown(setting)}: write it as height=30 or level=Q,mask=2"
+            text = f"argument --settings: {shown(setting)}: write it as height=30 or level=Q,mask=2"
             self.check_usage(["--code", "1", "--symbology", "qr", "--settings", setting], text)
 
     def test_options_of_the_other_kind_of_table(self) -> None:
         for words in (["--sheet", "x"], ["--hidden"], ["--links"], ["--date-as", "dd.mm.yyyy"]):
             problem = f"standard input is CSV: leave out {words[0]}"
             self.check(f"code\n{SMALL}\n", ["--code", "code", *words], [], [problem], 2)
-
-    def test_files(self) -> None:
-        table = self.folder / "my table.csv"
-        table.write_text(f"code;name\n{SMALL};a\n")
-        done = support.run("label-table", "--code", "code", str(table))
-        self.assertEqual((done.returncode, done.stderr), (0, b""))
-        self.assertEqual(parts_of(done.stdout)[1], [({"row": 2}, f"ean8 {SMALL}")])
-        done = support.run("label-table", "--code", "code", "nothing.csv", cwd=self.folder)
-        problem = ["label-table: nothing.csv: No such file or directory"]
-        self.assertEqual((done.returncode, done.stdout, support.messages(done)), (1, b"", problem))
-        done = support.run("label-table", "--code", "code", str(self.folder))
-        problem = [f"label-table: {self.folder}: Is a directory"]
-        self.assertEqual((done.returncode, done.stdout, support.messages(done)), (1, b"", problem))
 
     def test_standard_input(self) -> None:
         (self.folder / "-").write_text(f"code\n{PENCIL}\n")
@@ -1146,119 +987,6 @@ class Arguments(TableTest):
             )
         done = support.run("label-table", "--code", "code", "./-", cwd=self.folder)
         self.assertEqual(parts_of(done.stdout)[1], [({"row": 2}, f"ean13 {PENCIL}")])
-
-    def test_it_finds_its_modules_and_leaves_nothing_behind(self) -> None:
-        tools = self.folder / "tools"
-        shutil.copytree(support.TOOLS, tools, ignore=shutil.ignore_patterns("tests", "__pycache__"))
-        link = self.folder / "link"
-        link.symlink_to(tools / "label-table")
-        self.assertTrue((tools / "label-table").read_bytes().startswith(b"#!/usr/bin/python3\n"))
-        environment = {
-            name: value
-            for name, value in support.environment().items()
-            if name != "PYTHONDONTWRITEBYTECODE"
-        }
-        for safe in (dict[str, str](), {"PYTHONSAFEPATH": "1"}):
-            command = [str(link), "--code", "code"]
-            done = subprocess.run(
-                command,
-                input=f"code\n{SMALL}\n".encode(),
-                capture_output=True,
-                env={**environment, **safe},
-                cwd="/",
-            )
-            self.assertEqual((done.returncode, done.stderr), (0, b""))
-        self.assertEqual(list(tools.rglob("__pycache__")), [])
-
-    def shell(self, commands: str, data: str) -> Tuple[int, List[str], List[str]]:
-        done = subprocess.run(
-            ["sh", "-c", commands],
-            input=data.encode(),
-            capture_output=True,
-            env=support.environment(),
-            timeout=support.SECONDS,
-        )
-        return done.returncode, done.stdout.decode().splitlines(), done.stderr.decode().splitlines()
-
-    @support.slow
-    def test_outputs_that_fail(self) -> None:
-        table = f"code\n{SMALL}\n73513538\n"
-        row = "label-table: row 3: 73513538: the check digit is 8, should be 7"
-        full = "label-table: standard output: No space left on device"
-        for unbuffered in ("", "export PYTHONUNBUFFERED=1; "):
-            commands = f"{unbuffered}label-table --code code > /dev/full"
-            self.assertEqual(self.shell(commands, table), (1, [], [row, full]))
-        closed = "label-table: standard output is closed"
-        self.assertEqual(self.shell("label-table --code code >&-", table), (1, [], [closed]))
-        closed = "label-table: standard input is closed"
-        self.assertEqual(self.shell("label-table --code code <&-", table), (1, [], [closed]))
-        for error in ("2>&-", "2> /dev/full"):
-            status, lines, messages = self.shell(f"label-table --code code {error}", table)
-            self.assertEqual((status, len(lines), messages), (1, 4, []))
-
-    def test_reader_that_has_gone(self) -> None:
-        commands = '{ label-table --code code; echo "status $?" >&2; } | true'
-        status, _, problems = self.shell(commands, "code\n" + f"{SMALL}\n" * 20000)
-        self.assertEqual(
-            (status, problems), (0, ["label-table: standard output: Broken pipe", "status 1"])
-        )
-
-
-class WithLabels(TableTest):
-    def test_labels_draws_each_line(self) -> None:
-        support.labels_program()
-        tables = (
-            (
-                "--fill-zeros --title 1".split(),
-                "\n".join(["code", PENCIL, BOOK, SMALL, "36000291452", SOAP]),
-            ),
-            ("--symbology upca --settings height=30".split(), f"code\n{SOAP}\n"),
-            (["--without-check-digit"], "\n".join(["code", PENCIL[:-1], SMALL[:-1], SOAP[:-1]])),
-            (
-                "--symbology code128 --settings height=500".split(),
-                f"code\nLOT 7\nC:\\new\n{'A' * 80}\n",
-            ),
-            (
-                "--symbology qr --settings level=H,min-version=02,mask=7".split(),
-                f"code\nKäse\n{'ß' * 59}\n{'7' * 288}\n",
-            ),
-        )
-        for arguments, table in tables:
-            done = support.run("label-table", "--code", "code", *arguments, input=table.encode())
-            self.assertEqual((done.returncode, done.stderr), (0, b""))
-            picture, problems, status = support.draw(done.stdout)
-            self.assertEqual((status, problems), (0, b""))
-            self.assertEqual(picture.count(b"P1\n"), len(table.splitlines()) - 1)
-
-    def test_data_is_what_zbarimg_reads(self) -> None:
-        table = f"code;name\n{PENCIL};a\n{SMALL};b\n36000291452;c\n".encode()
-        lines = support.run("label-table", "--code", "code", "--fill-zeros", input=table).stdout
-        codes = []
-        for picture in support.draw(lines, "--scale", "3")[0].split(b"P1\n")[1:]:
-            path = self.folder / "label.pbm"
-            path.write_bytes(b"P1\n" + picture)
-            codes.append(support.read_codes(path))
-        self.assertEqual(
-            codes, [[f"EAN-13:{PENCIL}"], [f"EAN-8:{SMALL}"], ["EAN-13:0036000291452"]]
-        )
-
-
-class Manual(unittest.TestCase):
-    PAGE = support.TOP / "man/label-table.1"
-
-    def test_each_option_is_in_the_manual(self) -> None:
-        text = support.run("label-table", "--help").stdout.decode()
-        options = set(re.findall("--[a-z-]+", text))
-        self.assertGreater(len(options), 10)
-        page = self.PAGE.read_text("utf-8").replace("\\-", "-")
-        self.assertEqual([option for option in sorted(options) if option not in page], [])
-
-    def test_mandoc_finds_nothing(self) -> None:
-        support.needs("mandoc")
-        done = subprocess.run(
-            ["mandoc", "-Tlint", "-W", "warning", str(self.PAGE)], capture_output=True
-        )
-        self.assertEqual((done.returncode, done.stdout + done.stderr), (0, b""))
 
 
 if __name__ == "__main__":

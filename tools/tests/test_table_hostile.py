@@ -7,7 +7,6 @@ import resource
 import subprocess
 import unittest
 import zipfile
-from typing import Dict
 
 import support
 from test_table import SMALL, TableTest
@@ -34,15 +33,6 @@ class Hostile(TableTest):
         self.assertNotIn(b"Traceback", done.stderr)
         self.assertIn(done.returncode, (0, 1, 2), done.stderr[-300:])
         return support.messages(done)[-1] if done.stderr else ""
-
-    def large_part(self, parts: Dict[str, str], name: str, piece: bytes, count: int) -> bytes:
-        """A zip with a part of many equal pieces."""
-        stream = io.BytesIO(packed({one: text for one, text in parts.items() if one != name}))
-        with zipfile.ZipFile(stream, "a", zipfile.ZIP_DEFLATED) as archive:
-            with archive.open(name, "w") as part:
-                for _ in range(count):
-                    part.write(piece)
-        return stream.getvalue()
 
     @support.slow
     def test_one_cell_many_times(self) -> None:
@@ -83,17 +73,6 @@ class Hostile(TableTest):
         with zipfile.ZipFile(stream, "a", zipfile.ZIP_DEFLATED) as archive:
             archive.writestr(sheet, f"{begin}{'<a/>' * MANY}<sheetData>{end}")
         self.assertIn("more than 1 MB", self.ended(stream.getvalue()))
-
-    @support.slow
-    def test_a_manifest_of_250_mb(self) -> None:
-        parts = unpacked(ods(table(["EAN"], [SMALL])))
-        self.assertEqual(
-            self.ended(self.large_part(parts, "META-INF/manifest.xml", b" " * (1 << 20), 250)), ""
-        )
-        self.assertIn(
-            "more than 256 MB",
-            self.ended(self.large_part(parts, "META-INF/manifest.xml", b" " * (1 << 20), 257)),
-        )
 
     @support.slow
     def test_lines_of_csv(self) -> None:

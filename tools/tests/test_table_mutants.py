@@ -95,26 +95,17 @@ def base_files() -> List[Dict[str, str]]:
     return [parts, unpacked(ods(sheet, styles=style))]
 
 
-def changed_value(text: str, numbers: random.Random) -> str:
-    """A value of an attribute, or a text, becomes a hostile one."""
-    places = [
-        match.span(1)
-        for match in re.finditer('="([^"]*)"|>([^<>]+)<', text)
-        if match[1] is not None
-    ]
-    if not places:
-        return text
-    first, last = numbers.choice(places)
-    return text[:first] + numbers.choice(HOSTILE) + text[last:]
+def hostile_at(pattern: str) -> Callable[[str, random.Random], str]:
+    """A change of one of the places that a pattern finds to a hostile value."""
 
+    def changed(text: str, numbers: random.Random) -> str:
+        places = [match.span(1) for match in re.finditer(pattern, text)]
+        if not places:
+            return text
+        first, last = numbers.choice(places)
+        return text[:first] + numbers.choice(HOSTILE) + text[last:]
 
-def changed_text(text: str, numbers: random.Random) -> str:
-    """A text between two tags becomes a hostile one."""
-    places = [match.span(1) for match in re.finditer(">([^<>]+)<", text)]
-    if not places:
-        return text
-    first, last = numbers.choice(places)
-    return text[:first] + numbers.choice(HOSTILE) + text[last:]
+    return changed
 
 
 def without_a_slice(text: str, numbers: random.Random) -> str:
@@ -150,9 +141,9 @@ def with_another_letter(text: str, numbers: random.Random) -> str:
 
 
 CHANGES: Sequence[Callable[[str, random.Random], str]] = (
-    changed_value,
-    changed_value,
-    changed_text,
+    hostile_at('="([^"]*)"'),
+    hostile_at('="([^"]*)"'),
+    hostile_at(">([^<>]+)<"),
     without_a_slice,
     with_a_slice_twice,
     with_another_tag,

@@ -230,6 +230,14 @@ def is_short(mine: Found, theirs: Found, number_format: str) -> bool:
     return abs(value - float(str(theirs.text))) <= abs(value) * 1e-5
 
 
+def is_cut(mine: Found, theirs: Found, number_format: str) -> bool:
+    """A time whose last part is one less."""
+    if mine.text is None or theirs.text is None or ":" not in number_format:
+        return False
+    one, other = (int(re.findall("[0-9]+", text)[-1]) for text in (mine.text, theirs.text))
+    return (one + 1) % 60 == other % 60
+
+
 DIFFERENCES: Dict[str, Difference] = {
     "the format depends on the program: the row is left out": lambda mine, theirs, number_format: (
         number_format in NOT_UNDERSTOOD and mine.text is None and "number format" in mine.reason
@@ -238,11 +246,9 @@ DIFFERENCES: Dict[str, Difference] = {
         "is not understood"
     ),
     "General with more digits than a column shows: the row is left out": refused(
-        "without a number of decimals"
+        "in a format without fixed decimals"
     ),
-    "a time between two seconds: LibreOffice cuts it, Gnumeric rounds": refused(
-        "between two seconds"
-    ),
+    "a time between two seconds: LibreOffice cuts it, Gnumeric rounds": is_cut,
     "a number that is no date of every spreadsheet": refused(
         "is a date before March 1900 or after 9999"
     ),

@@ -103,7 +103,7 @@ class Prices(RulesTest):
         no_number = "has no number; give --price-text if it is right"
         self.assertEqual(self.price("verzinkt"), no_number)
         self.assertEqual(self.price("auf Anfrage ab 5"), WORDS)
-        hint = "if this is a currency, give it by --currency-name"
+        hint = "if this is a currency, give it with --currency-name"
         self.assertEqual(
             self.price("Zz12.50"), f"has letters before its digits, as a code has; {hint}"
         )
@@ -114,7 +114,7 @@ class Prices(RulesTest):
     def test_a_zero_that_is_a_dash(self) -> None:
         dash = Cell(0, '#,##0.00\\ "€";-#,##0.00\\ "€";"-"\\ "€"', "- €")
         problem = f'row 2: column 2 ("Preis") has "- €", {NO_PRICE} has no number; '
-        problem += "it is a zero, which its number format shows so"
+        problem += "it is a zero, which its number format shows like this"
         for kind in KINDS:
             data = kind(Sheet([["EAN", "Preis"], [SMALL, dash]]))
             self.check(data, "--code EAN --price Preis".split(), [], [problem], 1)
@@ -145,10 +145,7 @@ class Prices(RulesTest):
 
     def test_what_a_column_says_once(self) -> None:
         cases = {
-            (
-                "1.234",
-                "5.678",
-            ): "1.234 in row 2 and 1 more may have thousands or decimals: it is printed as it is",
+            ("1.234", "5.678"): "",
             ("1,50", "1.50"): "",
             ("7.5", "8.25"): "",
             ("7.5", "8"): "",
@@ -156,9 +153,6 @@ class Prices(RulesTest):
             ("0,00", "0"): "row 2 has the price 0,00 (2 rows)",
             ("5 €", "5 CHF"): "the prices have several currencies: CHF, EUR",
             ("1.234", "0,80"): "",
-            ("1,234", "0,80"): (
-                "1,234 in row 2 may have thousands or decimals: it is printed as it is"
-            ),
             ("1,005", "1234,500"): "",
         }
         for prices, wanted in cases.items():
@@ -182,8 +176,8 @@ class Prices(RulesTest):
         refused = {
             ("2.675", "0,00 €"): "may have thousands or decimals; give --decimal comma or point",
             ("0.001", "0,00 €"): "would be printed as zero",
-            ("3 €", "0,00"): "has EUR, and the pattern of prices has no currency",
-            ("3", "0,00 ¤"): "has no currency, and the pattern of prices wants one",
+            ("3 €", "0,00"): "has EUR, and the format of prices has no currency",
+            ("3", "0,00 ¤"): "has no currency, and the format of prices wants one",
         }
         for (price, pattern), wanted in refused.items():
             found = self.price(price, "--price-as", pattern)
@@ -203,7 +197,7 @@ class Prices(RulesTest):
         text = f"EAN;Preis\n{SMALL};1.005\n{BOOK};0.80\n"
         status, messages, labels = self.said(text, *arguments)
         problem = 'row 2: column 2 ("Preis") has "1.005", which cannot be printed like that: '
-        problem += "it has three digits behind ., which is the decimal sign of its column"
+        problem += "it has three digits after ., which is the decimal sign of its column"
         self.assertEqual((status, messages, len(labels)), (1, [problem], 1))
 
     def test_a_currency_in_a_column_of_its_own(self) -> None:
@@ -219,7 +213,7 @@ class Prices(RulesTest):
         self.assertEqual(found, ["EUR 7,50", "CHF 3,20", "RF 1,00"])
         status, messages, labels = self.said(text, *arguments, "--price-as", "0,00 €")
         self.assertEqual((status, [label["price"] for label, _ in labels]), (1, ["7,50 €"]))
-        self.assertIn("it has CHF, and the pattern of prices has EUR", messages[0])
+        self.assertIn("it has CHF, and the format of prices has EUR", messages[0])
 
     def test_a_column_that_has_no_currencies(self) -> None:
         """One that is not known is said; one with digits, none, or another one than that of the
@@ -237,7 +231,7 @@ class Prices(RulesTest):
             'row 4: column 4 ("Währung") has "7", which is not a currency',
             f'row 5: column 2 ("Preis") has "1.00", {cannot} no currency, and its row has none',
             f'row 6: column 2 ("Preis") has "1.00 €", {cannot} EUR, and its row has USD',
-            'row 3 has the currency "Soap", which is not known: if it is right, give it by '
+            'row 3 has the currency "Soap", which is not known: if it is right, give it with '
             "--currency-name",
         ):
             self.assertIn(message, messages)
@@ -277,8 +271,8 @@ class Titles(RulesTest):
         )
         arguments = "--code EAN --title Name --price Preis".split()
         status, messages, labels = self.said(f"EAN;Name;Preis\n{lines}", *arguments)
-        said = ["rows 4, 11, 18, 25, 32 and 1 more have no title (6 of 40 labels)"]
-        said.append("rows 2, 3, 4, 5, 6 and 35 more have no price (40 of 40 labels)")
+        said = ["rows 4, 11, 18, 25, 32, 39 have no title (6 of 40 labels)"]
+        said.append("rows 2-41 have no price (40 of 40 labels)")
         self.assertEqual((status, messages, len(labels)), (0, said, 40))
 
     def test_what_programs_write_is_no_title(self) -> None:
@@ -315,7 +309,7 @@ class Codes(RulesTest):
 
     def test_a_code_unlike_all_others_is_said(self) -> None:
         text = "EAN;Name\nA-1;x\nA-2;y\nA-3;z\nSumme;\n"
-        said = 'the code of row 5 has no digit, "Summe", and others have: is it one?'
+        said = 'the code of row 5, "Summe", has no digit, and others have: is it a code?'
         self.check(
             text, self.FREE, [f"code128 {code}" for code in ("A-1", "A-2", "A-3", "Summe")], [said]
         )
@@ -525,7 +519,7 @@ class Workbooks(RulesTest):
         self.assertEqual(dates("h:mm AM/PM"), ["12:00 AM"])
         said = (
             'dates are printed as "2026-11-25": is that right? else give --date-as dd.mm.yyyy, or'
-            " another pattern"
+            " another format"
         )
         self.assertEqual(dates(14), ["2026-11-25", said])
         formats: list[str | int] = [
@@ -548,7 +542,7 @@ class Workbooks(RulesTest):
         )
 
     def test_damaged_numbers_and_counts(self) -> None:
-        damaged = "standard input is damaged, or neither .xlsx nor .ods "
+        damaged = "standard input is damaged, has a password, or is neither .xlsx nor .ods "
         ods_files = [
             ods(table(["EAN", "x"], [SMALL, ods_cell("1", "float", f'office:value="{value}"')]))
             for value in ("abc", "sNaN", "1e1000000", "NaN", "Infinity")

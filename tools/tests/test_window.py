@@ -5,6 +5,7 @@ import re
 import subprocess
 import sys
 import tempfile
+import threading
 import time
 import unittest
 from contextlib import redirect_stdout
@@ -31,19 +32,17 @@ TABLE = """Nr;EAN;Name;Price;Stock;Labels
 """
 PROGRAMS = ("Xvfb", "pdftoppm", "msgfmt")
 WAIT = 300.0  # seconds for work, on a busy machine too
-BEAT = 10  # milliseconds between two heart beats
-LONGEST_WORK = 0.5  # processor seconds without a heart beat
-LONGEST_WAIT = 10.0  # seconds without one
+BEAT = 10  # milliseconds between two looks at the window
 SCALE = 4  # pixels of a millimetre
-TRIES = 3  # a window that stands still does so each time
 # What setUpModule makes.
 screen: Any = None
 scheduler: Any = None
 folder: Any = None
 application: Any = None
 dialog: Any = None
-menu: Any = None
+ways: Any = None
 window: Any = None
+work: Any = None
 Gdk: Any = None
 Gio: Any = None
 GLib: Any = None
@@ -79,11 +78,11 @@ def setUpModule() -> None:
 
 def load() -> None:
     """Loads the window, where there is a screen."""
-    global application, dialog, menu, window, Gdk, Gio, GLib, Gtk
+    global application, dialog, ways, window, work, Gdk, Gio, GLib, Gtk
     sys.path.insert(0, str(support.TOOLS))
-    application, dialog, menu, window, gtk = (
+    application, dialog, ways, window, work, gtk = (
         import_module(f"labeltools.window.{name}")
-        for name in ("application", "dialog", "menu", "window", "gtk")
+        for name in ("application", "dialog", "ways", "window", "work", "gtk")
     )
     Gdk, Gio, GLib, Gtk = gtk.Gdk, gtk.Gio, gtk.GLib, gtk.Gtk
     Gtk.init([])
@@ -95,50 +94,6 @@ def tearDownModule() -> None:
     screen.wait()
     scheduler.stop()
     folder.cleanup()
-
-
-class Heart:
-    """A heart that beats in the main loop, where a key or a click would be seen.
-
-    `longest_wait` are the most seconds without a beat, and `longest_work` those of them in which
-    the processor worked for this program: on a busy machine it waits for other programs too.
-    """
-
-    def __init__(self) -> None:
-        self.longest_work = 0.0
-        self.longest_wait = 0.0
-        self.clock = time.monotonic()
-        self.worked = time.process_time()
-        self.source = GLib.timeout_add(BEAT, self.beat)
-
-    def beat(self) -> bool:
-        """Takes the time since the last beat; returns that there is another."""
-        wait = time.monotonic() - self.clock
-        work = min(wait, time.process_time() - self.worked)  # two threads work twice as much
-        self.longest_wait = max(self.longest_wait, wait)
-        self.longest_work = max(self.longest_work, work)
-        self.clock += wait
-        self.worked = time.process_time()
-        return True
-
-    def stop(self) -> None:
-        """Ends the heart."""
-        self.beat()
-        GLib.source_remove(self.source)
-
-    def stood_still(self) -> bool:
-        """Whether the window stood still for too long."""
-        return self.longest_work > LONGEST_WORK or self.longest_wait > LONGEST_WAIT
-
-    def __repr__(self) -> str:
-        return f"{self.longest_work:.3f} s of work and {self.longest_wait:.3f} s without a beat"
-
-
-def work_for(seconds: float) -> None:
-    """Works for some processor seconds."""
-    end = time.thread_time() + seconds
-    while time.thread_time() < end:
-        pass
 
 
 def settle(seconds: float) -> None:
@@ -182,31 +137,6 @@ def answer_dialog(printer: str, response: Any = None) -> Any:
     return True
 
 
-def print_once(table: str, printer: str) -> None:
-    """Opens a table in a window, prints it by clicks, and shows what the window answers, and then
-    the texts of its controls.
-    """
-    load()
-    one = window.Window()
-    one.present()
-    one.open(Path(table))
-    end = time.monotonic() + WAIT
-    while not one.has_labels and time.monotonic() < end:
-        settle(BEAT / 1000)
-    GLib.timeout_add(BEAT, answer_dialog, printer)
-    one.print_button.clicked()
-    while not one.done.get_visible() and time.monotonic() < end:
-        settle(BEAT / 1000)
-    print(one.said.get_text())
-    for part in inside(one):
-        for name in ("label", "title", "placeholder-text", "tooltip-text"):
-            if part.find_property(name):
-                print(part.get_property(name))
-        if isinstance(part, Gtk.ComboBox):
-            print(*(row[1] for row in part.get_model()), sep="\n")
-        print(part.get_accessible().get_name())
-
-
 def named(widget: Any) -> Any:
     """Yields the controls in a widget that a keyboard reaches, with their names."""
     kinds = (Gtk.Button, Gtk.ComboBox, Gtk.Entry, Gtk.TreeView, Gtk.DrawingArea)
@@ -218,7 +148,9 @@ def named(widget: Any) -> Any:
             yield one, one.get_accessible().get_name() or label or labelled
 
 
-class WindowTest(unittest.TestCase):
+class Keeper(unittest.TestCase):
+    """A shop keeper at a window: what he does, and what he sees."""
+
     def setUp(self) -> None:
         self.raised: list[Any] = []
         hook = sys.excepthook
@@ -289,11 +221,11 @@ class WindowTest(unittest.TestCase):
 
     def remade(self, change: Callable[[], Any]) -> None:
         """Changes something, and waits for other labels than before."""
-        before = getattr(self.window, "labels", None)
+        before = self.window.__dict__.get("made")
         self.window.info.hide()
         change()
         self.until(
-            lambda: self.window.has_labels and self.window.labels is not before or self.problem()
+            lambda: self.window.has_labels and self.window.made is not before or self.problem()
         )
 
     def problem(self) -> Any:
@@ -311,7 +243,7 @@ class WindowTest(unittest.TestCase):
     def saved(self, name: str) -> Any:
         """What the window saves."""
         path = self.folder / name
-        self.said_after(self.window.save, path)
+        self.said_after(self.window.ways.save, path)
         self.assertEqual(self.problem(), "")
         return path.read_bytes()
 
@@ -329,6 +261,8 @@ class WindowTest(unittest.TestCase):
     def rows(self) -> Any:
         return [tuple(row) for row in self.window.notes]
 
+
+class WindowTest(Keeper):
     def test_saves_what_the_commands_print(self) -> None:
         self.open()
         self.assertEqual(self.window.of.get_text(), "of 1")
@@ -378,7 +312,7 @@ class WindowTest(unittest.TestCase):
         self.window.number.set_value(number)
         return self.shown()
 
-    def test_shows_pages_and_labels_in_their_size_and_in_dots(self) -> None:
+    def test_shows_pages_and_labels(self) -> None:
         self.open()
         page, dark = self.look("page")
         self.assertGreater(dark, 500)
@@ -386,18 +320,6 @@ class WindowTest(unittest.TestCase):
         self.assertGreater(dark, 100)
         self.assertLess(len(label), len(page))
         self.assertNotEqual(hash(self.look("label", 2)[0]), hash(label))
-        dots, dark = self.look("dots")
-        self.assertGreater(dark, 100)
-        self.assertNotEqual(hash(dots), hash(label))
-        self.until(lambda: self.paper_width() > 1000)
-        self.look("true")
-        true = self.window.true_scale() * self.window.shown.size[0]
-        self.assertAlmostEqual(self.paper_width(), true, delta=2)
-
-    def paper_width(self) -> Any:
-        """The pixels of what is looked at, from left to right."""
-        settle(0.2)
-        return self.window.paper.get_allocated_width()
 
     def test_a_click_begins_at_a_cell(self) -> None:
         self.open()
@@ -484,12 +406,12 @@ class WindowTest(unittest.TestCase):
 
     def test_many_labels_are_asked_for(self) -> None:
         self.open()
-        self.assertTrue(self.window.is_meant())
+        self.assertTrue(self.window.ways.is_meant())
         self.open(TABLE.replace("5000;3", "5000;998"))
         dialog = self.window.many
         for answer, is_meant in ((Gtk.ResponseType.CANCEL, False), (Gtk.ResponseType.OK, True)):
             self.answer("many", run=answer)
-            self.assertEqual(self.window.is_meant(), is_meant)
+            self.assertEqual(self.window.ways.is_meant(), is_meant)
         summary = dialog.get_property("secondary-text")
         self.assertIn("1001 labels from 3 rows", summary)
 
@@ -499,27 +421,28 @@ class WindowTest(unittest.TestCase):
         self.change(roll=True, to="zpl", dpi="203")
         device = self.folder / "lp0"
         device.touch()
-        asked = []
-        with mock.patch.object(window, "USB", self.folder):
-            self.window.ask_way = lambda *values: asked.append(values)
-            self.window.ask_printer()
+        asked: list[list[str]] = []
+        with mock.patch.object(ways, "USB", self.folder):
+            self.window.ways.ask_way = asked.append
+            self.window.print_button.clicked()
             self.until(lambda: asked)
-        (names,) = asked[0]
-        self.assertEqual(names[-1], str(device))
-        window.Window.ask_way(self.window, names)
+        self.assertEqual(asked[0][-1], str(device))
+        ways.Ways.ask_way(self.window.ways, asked[0])
         printer = Printer().start()
         self.addCleanup(printer.off)
         wanted = self.by_commands("--paper", "60x40", "--to", "zpl", "--dpi", "203")
         self.answer("network")
         self.window.address.set_text(printer.name[6:])
-        self.assertEqual(self.said_after(self.window.ask_address, None), f"taken by {printer.name}")
+        self.assertEqual(self.said_after(self.window.ways.ask_address), f"taken by {printer.name}")
         self.assertEqual(b"".join(printer.labels), wanted)
-        self.assertEqual(self.said_after(self.window.send, None, str(device)), f"taken by {device}")
+        self.assertEqual(
+            self.said_after(self.window.ways.send_to, str(device)), f"taken by {device}"
+        )
         self.assertEqual(device.read_bytes(), wanted)
         other = Printer().start()
         self.addCleanup(other.off)
         scheduler.add("roll", device=other.name.replace("tcp", "socket"))
-        self.assertIn("sent to roll", self.said_after(self.window.send, None, "roll"))
+        self.assertIn("sent to roll", self.said_after(self.window.ways.send_to, "roll"))
         other.wait(3)
         self.assertEqual(b"".join(other.labels), wanted)
 
@@ -527,23 +450,23 @@ class WindowTest(unittest.TestCase):
         self.open()
         self.answer("network")
         self.window.address.set_text("")
-        self.assertIn("write it as tcp://HOST", self.said_after(self.window.ask_address, None))
+        self.assertIn("write it as tcp://HOST", self.said_after(self.window.ways.ask_address))
 
     def test_a_queue_of_other_dots_gets_no_file_of_dots(self) -> None:
         self.open()
         self.change(roll=True, to="zpl", dpi="203")
-        with mock.patch.object(window, "queue_of", return_value=Queue("zebra", 300, {})):
-            said = self.said_after(self.window.send, None, "zebra")
+        with mock.patch.object(ways, "queue_of", return_value=Queue("zebra", 300, {})):
+            said = self.said_after(self.window.ways.send_to, "zebra")
         self.assertIn("prints at 300 dpi", said)
 
     def test_no_printer(self) -> None:
         """What a shop keeper can do then; a printer in the network needs no CUPS."""
         self.open()
-        with mock.patch.object(window, "queues", return_value=[]):
-            said = self.said_after(self.window.ask_printer)
+        with mock.patch.object(ways, "queues", return_value=[]):
+            said = self.said_after(self.window.ways.ask_printer)
         self.assertIn("there is no printer\nadd it in the settings", said)
-        with mock.patch.object(window, "queues", side_effect=ToolError(NOTHING)):
-            self.assertEqual(window.printers(True, None), [])
+        with mock.patch.object(ways, "queues", side_effect=ToolError(NOTHING)):
+            self.assertEqual(ways.printers(True, None), [])
 
     def test_guesses_and_remembers_by_names(self) -> None:
         self.open()
@@ -593,14 +516,14 @@ class WindowTest(unittest.TestCase):
         self.saved("labels.pdf")
         self.open(TABLE.replace("Soap", "Soap, blue"))
         self.assertTrue(self.window.new_only.get_visible())
-        everything = self.window.table.lines.count
+        everything = self.window.made.lines.count
         self.change(new_only=True)
-        self.assertEqual(self.window.table.lines.count, 1)
+        self.assertEqual(self.window.made.lines.count, 1)
         self.assertIn("--new-since", self.window.command.get_text())
         self.saved("changed.pdf")
         self.open()
         self.change(new_only=False)
-        self.assertEqual(self.window.table.lines.count, everything)
+        self.assertEqual(self.window.made.lines.count, everything)
         self.change(new_only=True)
         self.assertIn("no label", self.problem())  # all went out
 
@@ -610,17 +533,18 @@ class WindowTest(unittest.TestCase):
         """
         self.open()
         self.change(roll=True, to="zpl", dpi="203", width=30, height=20)
+        self.assertIn("1 row skipped; can be printed: 1 label", self.counted())
         self.saved("small.zpl")
         self.assertEqual(self.printed(), [b"96385074"])
         self.change(width=60, height=40, for_print="--only 3")
         # what is typed is read when nothing is typed any more
-        self.until(lambda: {it.label.title for it in self.window.labels.labels} == {"Soap"})
+        self.until(lambda: {it.label.title for it in self.window.made.labels.labels} == {"Soap"})
         self.saved("one.zpl")
         self.assertEqual(self.printed(), [b"96385074", b"036000291452"])
         self.open()
         self.change(new_only=True)
-        self.assertEqual(self.window.table.lines.count, 1)
-        self.assertIn("0,80", self.window.table.lines.summary)
+        self.assertEqual(self.window.made.lines.count, 1)
+        self.assertIn("0,80", self.window.made.lines.summary)
 
     def printed(self) -> Any:
         """The codes that went out, as they are kept."""
@@ -633,7 +557,7 @@ class WindowTest(unittest.TestCase):
         self.assertTrue(self.window.text_2.get_visible())
         self.change(text="3", text_2="5")
         self.saved("labels.pdf")
-        texts = [item.label.text for item in self.window.labels.labels]
+        texts = [item.label.text for item in self.window.made.labels.labels]
         self.assertEqual(texts[0], "Pencil, red\n5000")
         self.open()  # it is kept
         self.assertTrue(self.window.text_2.get_visible())
@@ -645,9 +569,9 @@ class WindowTest(unittest.TestCase):
         self.open()
         self.change(roll=True, to="zpl")
         self.assertEqual(self.window.choices()["dpi"], "203")
-        self.assertEqual(self.window.labels.job.plan.dpi, 203)
+        self.assertEqual(self.window.made.labels.job.plan.dpi, 203)
         self.change(dpi="300")
-        self.assertEqual(self.window.labels.job.plan.dpi, 300)
+        self.assertEqual(self.window.made.labels.job.plan.dpi, 300)
         self.change(to="pdf")
         self.assertEqual(self.window.choices()["dpi"], "600")
         self.change(to="zpl", dpi="300")
@@ -666,7 +590,7 @@ class WindowTest(unittest.TestCase):
         self.open()
         self.change(roll=True, width=60, height=40)
         built_in, _ = self.shown()
-        with mock.patch.object(self.window, "design_opener") as opener:
+        with mock.patch.object(self.window, "design_opener", create=True) as opener:
             opener.run.return_value = Gtk.ResponseType.ACCEPT
             opener.get_filename.return_value = str(path)
             self.change(design="file")
@@ -691,37 +615,39 @@ class WindowTest(unittest.TestCase):
         self.window.preset_name.set_text("shelf roll")
         self.window.lookup_action("keep-preset").activate(None)
         self.change(sheet=True, to="pdf", width=60)
-        self.window.menu.fill()
+        self.window.presets.fill()
         self.assertEqual(self.in_menu()[0], "shelf roll")
         preset = GLib.Variant("s", "shelf roll")
         self.remade(lambda: self.window.lookup_action("preset").activate(preset))
         chosen = self.window.choices()
         self.assertEqual((chosen["roll"], chosen["width"], chosen["to"]), (True, 50, "zpl"))
-        self.assertEqual(self.window.labels.job.plan.sheet.page, (50, 25))
+        self.assertEqual(self.window.made.labels.job.plan.sheet.page, (50, 25))
         self.window.lookup_action("forget-preset").activate(preset)
-        self.window.menu.fill()
+        self.window.presets.fill()
         self.assertNotIn("shelf roll", self.in_menu())
 
     def in_menu(self, model: Any = None) -> Any:
         """The texts of the menu, and of its parts."""
-        model = model or self.window.menu.model
+        model = model or self.window.menu
         found = []
         for place in range(model.get_n_items()):
             text = model.get_item_attribute_value(place, "label", None)
-            found += [text.get_string()] if text and model is not self.window.menu.model else []
+            found += [text.get_string()] if text and model is not self.window.menu else []
             for link in ("section", "submenu"):
                 inner = model.get_item_link(place, link)
                 found += self.in_menu(inner) if inner else []
         return found
 
-    def test_tables_that_were_opened_are_in_the_menu(self) -> None:
+    def test_tables_that_were_opened_are_beside_the_button(self) -> None:
         self.open()
         # GTK writes the list a little later
-        self.until(lambda: str(self.table) in menu.recent_tables())
-        self.window.menu.fill()
-        self.assertIn("articles.csv", self.in_menu())
+        self.until(lambda: str(self.table) in self.recent())
         self.table.unlink()
-        self.assertNotIn(str(self.table), menu.recent_tables())
+        self.assertNotIn(str(self.table), self.recent())
+
+    def recent(self) -> list[str]:
+        """The tables that the button beside Open has."""
+        return [item.get_uri_display() for item in self.window.recent.get_items()]
 
     def test_a_printer_of_other_dots_gets_labels_for_these(self) -> None:
         """They are looked at first; what is chosen in the dialog counts."""
@@ -731,7 +657,7 @@ class WindowTest(unittest.TestCase):
         self.assertIn("name prints at 360 dpi: the labels are drawn for it", said)
         self.until(lambda: self.window.has_labels)
         self.assertEqual(self.window.dpi.get_active_id(), "360")
-        self.assertEqual(self.window.labels.job.plan.dpi, 360)
+        self.assertEqual(self.window.made.labels.job.plan.dpi, 360)
         self.assertIn("sent to name, at 360 dpi", self.answered("name"))
         self.assertEqual(raster_of(scheduler.printed("name"))[0], (720, 360))
         settings = Gtk.PrintSettings()
@@ -747,7 +673,7 @@ class WindowTest(unittest.TestCase):
         self.open()
         self.change(roll=True, dpi="600")
         queue = Queue("zebra", 203, {203: "203dpi", 600: "600dpi"})
-        self.window.print_on({}, queue)
+        self.window.ways.print_on({}, queue)
         self.until(self.problem)
         self.assertEqual(self.window.dpi.get_active_id(), "203")
 
@@ -756,7 +682,7 @@ class WindowTest(unittest.TestCase):
         scheduler.add("paused", "both")
         subprocess.run(["cupsdisable", "paused"], check=True)
         self.open()
-        with mock.patch.object(window, "WATCH", BEAT):
+        with mock.patch.object(ways, "WATCH", BEAT):
             said = self.answered("paused")
             self.assertRegex(said, "^sent to paused, at 600 dpi: job [0-9]+")
             self.until(lambda: "paused: it is paused" in self.window.said.get_text())
@@ -765,31 +691,29 @@ class WindowTest(unittest.TestCase):
             self.until(lambda: "was cancelled" in self.window.said.get_text())
         state = JobState(NOTHING, "The printer is not responding.", True)
         future: Any = mock.Mock(exception=lambda: None, result=lambda: state)
-        self.window.show_state(None, "6 labels sent", "", future)
+        self.window.ways.show_state(None, "6 labels sent", "", future)
         self.assertIn("not responding", self.window.said.get_text())
 
-    def test_from_a_table_to_a_driverless_printer_in_three_languages(self) -> None:
-        """By clicks alone, with an answer and controls of the language."""
-        scheduler.add_driverless("home")
-        texts = re.findall('translatable="yes">([^<]*)<', window.FILE.read_text())
-        same = {"_Code", "Code 128", "QR", "203 dpi", "300 dpi", "600 dpi"}
-        in_french = {*same, "_Code", "Menu", "Page"}
-        self.assertGreater(len(texts), 40)
-        for language, answer, as_in_english in (
-            ("en", "6 labels sent to home, at 600 dpi: job ", {*texts}),
-            ("de", "6 Etiketten an home gesendet, mit 600 dpi: Auftrag ", same),
-            ("fr", "6 étiquettes envoyées à home, à 600 dpi : travail ", in_french),
+    def test_the_window_speaks_the_language(self) -> None:
+        """Its controls, and what it tells."""
+        code = "import test_window; test_window.load(); one = test_window.window.Window(); "
+        code += "test_window.work.Work.stop(one.work); one.on_stop(None); "
+        code += "print(one.print_button.get_label(), one.name_of('price_as'), one.said.get_text())"
+        for language, texts in (
+            ("en", "_Print… Prices as Stopped: nothing was printed"),
+            ("de", "_Drucken … Preise als Abgebrochen: es wurde nichts gedruckt"),
+            ("fr", "_Imprimer… Format des prix Arrêté : rien n'a été imprimé"),
         ):
-            code = f"import test_window; test_window.print_once({str(self.table)!r}, 'home')"
             environment = support.speaking(language, self.folder / "locale")
-            environment["XDG_CONFIG_HOME"] = str(self.folder / language)
             how: Any = {"cwd": support.TESTS, "env": environment, "capture_output": True}
             ran = subprocess.run([sys.executable, "-c", code], text=True, check=True, **how)
-            said, *controls = ran.stdout.splitlines()
-            self.assertEqual(said.rstrip("0123456789"), answer)
-            found = {*texts} & {*controls}
-            self.assertEqual((found - as_in_english, len(found) > 40), (set(), language == "en"))
-            self.assertEqual(raster_of(scheduler.printed("home"))[0], (600, 600))
+            self.assertEqual(ran.stdout.replace("\u00a0", " "), f"{texts}\n")
+
+    def test_a_driverless_printer(self) -> None:
+        scheduler.add_driverless("home")
+        self.open()
+        self.assertRegex(self.answered("home"), "^sent to home, at 600 dpi: job [0-9]+")
+        self.assertEqual(raster_of(scheduler.printed("home"))[0], (600, 600))
 
     def test_a_file_is_read_next_week_as_this_week(self) -> None:
         """Its encoding is kept for its name: without it the names cannot be read."""
@@ -803,7 +727,7 @@ class WindowTest(unittest.TestCase):
         self.closed()
         self.open("EAN;Name\n96385074;Füller, rot\n")  # now it is UTF-8
         self.assertEqual(self.problem(), "")
-        self.assertEqual(self.window.labels.labels[0].label.title, "Füller, rot")
+        self.assertEqual(self.window.made.labels.labels[0].label.title, "Füller, rot")
 
     def test_a_table_that_cannot_be_read_shows_nothing_of_the_last_one(self) -> None:
         self.open()
@@ -817,50 +741,43 @@ class WindowTest(unittest.TestCase):
 
     def test_what_came_of_work_is_shown_at_once(self) -> None:
         """Nothing looks at the work again and again; how far it is, is shown twice a second."""
-        wait = mock.Mock(side_effect=window.GLib.timeout_add)
-        with mock.patch.object(window.GLib, "timeout_add", wait):
+        wait = mock.Mock(side_effect=work.GLib.timeout_add)
+        with mock.patch.object(work.GLib, "timeout_add", wait):
             self.open()
-        self.assertEqual({call.args[0] for call in wait.mock_calls}, {window.PATIENCE})
-        self.window.start(lambda talk: settle_until(lambda: talk.is_stopped), bool)
-        self.window.talk.go_on(1200, 20000)
-        self.assertFalse(self.window.working.get_visible())
-        self.until(self.window.working.get_visible)
-        self.assertEqual(self.window.progress.get_text(), "1200 of 20000")
-        self.window.on_stop()
-        self.assertFalse(self.window.working.get_visible())
-
-    def test_reading_is_shown_with_a_count(self) -> None:
-        """How many rows a table has is not known."""
-        self.window.start(
-            lambda talk: settle_until(lambda: talk.is_stopped), bool, "reading a.csv…"
+        self.assertEqual({call.args[0] for call in wait.mock_calls}, {work.PATIENCE})
+        self.window.work.start(
+            lambda talk: settle_until(lambda: talk.stops), bool, "reading a.csv…"
         )
-        self.window.talk.go_on(0, 0)
+        self.window.work.talk.go_on(1200, 0)  # how many rows a table has is not known
+        self.assertFalse(self.window.working.get_visible())
         self.until(self.window.working.get_visible)
-        self.assertEqual(self.window.progress.get_text(), "reading a.csv…")
-        self.window.talk.go_on(1200, 0)
-        self.until(lambda: self.window.progress.get_text() == "reading a.csv… 1200")
-        self.window.on_stop()
+        self.assertEqual(self.window.progress.get_text(), "reading a.csv… 1200")
+        self.window.work.talk.go_on(1200, 20000)
+        self.until(lambda: self.window.progress.get_text() == "1200 of 20000")
+        self.window.on_stop(None)
+        self.assertFalse(self.window.working.get_visible())
 
     def test_stop_while_a_table_is_read_says_so(self) -> None:
-        self.window.start(lambda talk: settle_until(lambda: talk.is_stopped), bool)
+        self.window.work.start(lambda talk: settle_until(lambda: talk.stops), bool)
         self.window.stack.set_visible_child_name("work")
-        self.window.on_stop_button(None)
+        self.window.on_stop(None)
         self.assertEqual(self.window.stack.get_visible_child_name(), "empty")
         self.assertTrue(self.window.done.get_visible())
 
     def test_a_sheet_is_looked_for_when_its_name_is_whole(self) -> None:
         self.open()
-        before = self.window.labels
-        entry = mock.Mock()
-        entry.has_focus.return_value = True
-        entry.get_text.return_value = "Avery L71"
-        with mock.patch.object(self.window, "make") as make:
-            self.window.on_sheet(entry)
-            self.assertFalse(make.called)
-            entry.get_text.return_value = next(iter(window.list_stock("L7160"))).partition(": ")[0]
-            self.window.on_sheet(entry)
-            self.assertTrue(make.called)
-        self.assertIs(self.window.labels, before)
+        before = self.window.made
+        self.window.stock.grab_focus()
+        self.until(self.window.stock.has_focus)
+        self.window.stock.set_text("Avery L716")
+        settle(0.5)
+        self.assertIs(self.window.made, before)
+        self.remade(lambda: self.window.stock.set_text("Avery L7163"))
+        self.assertEqual(len(self.window.made.labels.job.plan.places), 14)
+        self.window.stock.set_text("avery l7160")
+        settle(0.5)
+        self.remade(self.window.first.grab_focus)  # which leaves it
+        self.assertEqual(len(self.window.made.labels.job.plan.places), 21)
 
     def test_sheets_that_begin_with_what_is_typed_come_first(self) -> None:
         self.window.stock.set_text("Herma 44")
@@ -878,10 +795,14 @@ class WindowTest(unittest.TestCase):
             ),
             "“Sheet” X: no such sheet\nthe names are in row 3: give “Row of the names” 3",
         )
+        self.assertEqual(
+            text(Text("--stock X: no such sheet"), Text("--list-stock WORD lists the sheets")),
+            "“Sheet” X: no such sheet\ntype a part of its name, and choose it from the list",
+        )
         for hint, typed in (
             ("else give --decimal comma or point", "--decimal comma"),
             ("give --hidden to print them", "--hidden"),
-            ("give --date-as dd.mm.yyyy, or another pattern", "--date-as dd.mm.yyyy"),
+            ("give --date-as dd.mm.yyyy, or another format", "--date-as dd.mm.yyyy"),
             ("give --encoding utf-16-le: try it", "--encoding utf-16-le"),
             ("give --sheet 'May 2026'", "--sheet 'May 2026'"),
         ):
@@ -892,18 +813,18 @@ class WindowTest(unittest.TestCase):
         """It is reported that they have none, and chosen from what the column has."""
         self.open(TABLE.replace(" €", ""))
         self.assertIn("3 prices without a currency", self.counted())
-        shown = [row[0] for row in self.window.patterns]
+        shown = [row[0] for row in self.window.price_as.get_model()]
         self.assertEqual(shown[:3], ["as in the table  –  0,80", "0,80 €", "€0.80"])
         self.change(price_as="€0.00")
         self.assertNotIn("without", self.counted())
-        self.assertEqual(self.window.labels.labels[0].label.price, "€0.80")
+        self.assertEqual(self.window.made.labels.labels[0].label.record.label.price, "€0.80")
         self.saved("labels.pdf")
         self.open()  # it is kept
         self.assertEqual(self.window.choices()["price-as"], "€0.00")
         self.change(price="5")
         self.assertEqual(self.window.choices()["price-as"], "")
         self.open(TABLE.replace("€", "CHF"))
-        self.assertNotIn("0,80 €", [row[0] for row in self.window.patterns])
+        self.assertNotIn("0,80 €", [row[0] for row in self.window.price_as.get_model()])
 
     def test_the_wheel_changes_no_choice(self) -> None:
         """It scrolls what the controls are in."""
@@ -920,27 +841,10 @@ class WindowTest(unittest.TestCase):
 
     def test_reasons_wrap_at_the_edge_of_the_list(self) -> None:
         self.open()
-        widths = []
-        for width in (800, 1180):
-            self.window.resize(width, 800)
-            settle(0.5)
-            widths.append(self.window.reason.get_property("wrap-width"))
-        self.assertLess(widths[0], widths[1])
-
-    def test_many_labels_are_compared_quickly(self) -> None:
-        """What is compared dot for dot is not read by a second scanner, which took 19 ms each."""
-        numbers = range(401_234_500_000, 401_234_500_400)
-        rows = "".join(f"{support.ean13(one)};Title {one};1,00 €\n" for one in numbers)
-        self.open("EAN;Name;Price\n" + rows)
-        before = time.process_time()
-        self.saved("labels.pdf")
-        self.assertLess(time.process_time() - before, 0.005 * len(numbers))
-
-    def test_a_child_that_is_not_there_is_seen_at_the_start(self) -> None:
-        self.assertEqual(window.lacking(self.window), [])
-        count, self.window.count = self.window.count, None
-        self.assertEqual(window.lacking(self.window), ["count"])
-        self.window.count = count
+        self.window.resize(800, 800)
+        self.until(lambda: self.window.reason.get_property("wrap-width") < 400)
+        self.window.resize(1180, 800)
+        self.until(lambda: self.window.reason.get_property("wrap-width") > 400)
 
     def test_saves_beside_the_table(self) -> None:
         self.open()
@@ -950,13 +854,13 @@ class WindowTest(unittest.TestCase):
             mock.patch.object(type(chooser), "set_current_folder") as folder_of,
             mock.patch.object(type(chooser), "set_current_name") as name_of,
         ):
-            self.window.ask_file()
+            self.window.save_button.clicked()
         folder_of.assert_called_once_with(str(self.table.parent))
         name_of.assert_called_once_with(f"{self.table.stem}-labels.pdf")
 
     def test_offers_sheets_and_encodings(self) -> None:
         self.open("EAN;Name\n96385074;Füller, blau\n".encode("cp1252"))
-        self.assertIn("--encoding", self.problem())
+        self.assertIn("choose below what reads well", self.problem())
         (offer,) = self.window.offers.get_children()
         self.window.info.hide()
         offer.clicked()
@@ -1016,57 +920,61 @@ class WindowTest(unittest.TestCase):
 
     def test_a_wrong_picture_stops_the_print(self) -> None:
         self.open()
-        made = self.window.labels
+        made = self.window.made.labels
         first = made.labels[0]
         packed = bytearray(first.label.modules.packed)
         packed[len(packed) // 2] ^= 0b00111100
         wrong = replace(first.label, modules=replace(first.label.modules, packed=bytes(packed)))
         bad = replace(first, label=wrong)
         prints = [bad if item is first else item for item in made.prints]
-        self.window.labels = replace(made, prints=prints)
+        self.window.made = replace(self.window.made, labels=replace(made, prints=prints))
         path = self.folder / "wrong.pdf"
-        self.assertIn("row 2", self.said_after(self.window.save, path))
+        self.assertIn("row 2", self.said_after(self.window.ways.save, path))
         self.assertFalse(path.exists())
 
-    def heart_of(self, work: Callable[[], Any]) -> Heart:
-        """The heart of a window that does some work."""
-        heart = Heart()
-        work()
-        heart.stop()
-        return heart
-
-    def test_a_window_that_stands_still_is_found(self) -> None:
-        for wait, work, stands_still in (
-            (LONGEST_WAIT, lambda: work_for(0.7), True),
-            (LONGEST_WAIT, lambda: work_for(0.1), False),
-            (LONGEST_WAIT, lambda: time.sleep(0.7), False),
-            (0.6, lambda: time.sleep(0.7), True),
-        ):
-            with mock.patch(f"{__name__}.LONGEST_WAIT", wait):
-                self.assertEqual(self.heart_of(work).stood_still(), stands_still)
-
-    def test_long_work_keeps_beating_and_stops(self) -> None:
-        numbers = range(401_234_500_000, 401_234_520_000)
+    def test_long_work_leaves_the_window_alone_and_stops(self) -> None:
+        """It is done in another thread; a file that is stopped is not there."""
+        numbers = range(401_234_500_000, 401_234_502_000)
         rows = "".join(f"{one};{support.ean13(one)};Title {one};1,00 €\n" for one in numbers)
-        path = self.folder / "long.csv"
-        path.write_text("Nr;EAN;Name;Price\n" + rows)
+        threads: list[threading.Thread] = []
+        save = ways.save_to
 
-        def work() -> None:
-            self.open(path=path)
-            self.window.save(self.folder / "long.pdf")
-            settle(1)
+        def save_here(*values: Any) -> None:
+            threads.append(threading.current_thread())
+            save(*values)
 
-        hearts = [self.heart_of(work)]
-        while hearts[-1].stood_still() and len(hearts) < TRIES:
-            hearts.append(self.heart_of(work))
-        self.assertFalse(hearts[-1].stood_still(), hearts)
-        self.window.on_stop(None)
-        settle(0.5)
+        self.open("Nr;EAN;Name;Price\n" + rows)
+        with mock.patch.object(ways, "save_to", save_here):
+            self.window.ways.save(self.folder / "long.pdf")
+            self.window.on_stop(None)
+            self.until(self.window.done.get_visible)
+        self.assertEqual(self.window.said.get_text(), "Stopped: nothing was printed")
+        self.assertNotIn(threading.main_thread(), threads)
         self.assertEqual(list(self.folder.glob("*.pdf")), [])
         self.assertTrue(self.window.print_button.is_sensitive())
         self.window.take({"price": ""})
         self.window.on_stop(None)  # the labels that are there are not those that are chosen
         self.assertFalse(self.window.print_button.is_sensitive())
+
+    def test_stop_tells_how_many_labels_a_printer_took(self) -> None:
+        """While they go out nothing else is chosen or opened."""
+        codes = map(support.ean13, range(401_234_500_000, 401_234_500_040))
+        self.open("EAN;Name;Price\n" + "".join(f"{code};Pen;1,00 €\n" for code in codes))
+        self.change(roll=True, to="zpl", dpi="203")
+        printer = Printer(stuck=2).start()
+        self.addCleanup(printer.off)
+        self.window.ways.send_to(printer.name)
+        self.until(lambda: len(printer.labels) > 1)
+        self.assertFalse(self.window.stack.is_sensitive())
+        self.window.open(self.table)
+        self.window.on_stop(None)
+        printer.told.set()
+        self.until(self.problem)
+        taken = re.search("it took ([0-9]+) labels whole", self.problem())
+        self.assertEqual(int(taken[1]) if taken else 0, len(printer.labels))
+        self.assertLess(len(printer.labels), 40)
+        self.assertTrue(self.window.stack.is_sensitive())
+        self.assertEqual(self.printed(), [])
 
     def test_the_desktop_finds_the_window(self) -> None:
         support.needs("desktop-file-validate", "appstreamcli")

@@ -13,7 +13,8 @@ from operator import mul
 from typing import Any, Iterator, NamedTuple, Optional, Sequence
 
 from labeltools.paper.area import Plan
-from labeltools.checking.decode import Dots, NotDecoded, dots_of, rows_in, rows_reader
+from labeltools.paper.picture import Picture, rows_reader
+from labeltools.checking.decode import NotDecoded, dots_of
 from labeltools.checking.pdf import DrawnPage, is_at, pages_of
 from labeltools.checking.svg import dots_of_svg
 from labeltools.lines.engine import Engine, LABELS_FAILED, Refused, bytes_a_row
@@ -27,6 +28,7 @@ from labeltools.common.text import Text
 
 Labels = Sequence[tuple[LaidOut, tuple[int, int]]]
 Kind = tuple[str, tuple[int, int, int, int], int, int]  # symbology, quiet zones, width, rows
+How = tuple[int, Box, int]  # quarters to the right, the bars in their room, dots of a module
 LONGER = 5  # modules by which guards are longer (GS1 General Specifications, 5.2)
 # modules of the longer bars, from the first bar on: ISO/IEC 15420
 GUARDS = {
@@ -35,14 +37,14 @@ GUARDS = {
     "upca": ((0, 10), (45, 50), (85, 95)),
 }
 KNOWN = 4096  # places of symbols that are kept: most pages share them
+DIGITS = bytes.maketrans(b"\0\1", b"01")
 
 
-class Different(Exception):
+class Different(NotDecoded):
     """What differs in a label of a line, if that is known."""
 
     def __init__(self, what: Text, record: Optional[LineRecord] = None) -> None:
         super().__init__(what)
-        self.what = what
         self.record = record
 
 
@@ -54,29 +56,7 @@ class Document(NamedTuple):
     data: bytes
     pages: Sequence[Labels]
     copies: int = 1
-    drawn: Optional[bytes] = None
-
-
-class SpotPlace(NamedTuple):
-    """Where a symbol has to be in its label: the room in which it is, which is turned by some
-    quarters, and its bars in that room; the dots of a module.
-    """
-
-    room: Box
-    quarters: int
-    bars: Box
-    module: int
-
-
-class Spot(NamedTuple):
-    """What a symbol of a label has to say: its line, whether that has escapes for certain, its
-    data; and where it has to be.
-    """
-
-    line: bytes
-    is_escaped: bool
-    data: bytes
-    place: SpotPlace
+    drawn: Optional[Picture] = None
 
 
 class Where(NamedTuple):
@@ -126,13 +106,13 @@ class Comparison:
         """
         try:
             self.compare(document)
-        except (Different, NotDecoded) as error:
+        except NotDecoded as error:
             record = error.record if isinstance(error, Different) else None
             place = (record or first_of(document.pages[0])).place.text
             raise ToolError(Text("{}: {}", place, error.what), FAULT, LABELS_FAILED) from error
 
     def compare(self, document: Document) -> None:
-        """Raises `Different` and `NotDecoded` as `check` does."""
+        """Raises `NotDecoded` as `check` does."""
         wanted, again = tee([*self.wanted_on(labels)] for labels in document.pages)
         dpi = self.plan.dpi
         if self.form == "pdf":
@@ -140,36 +120,34 @@ class Comparison:
             for labels, symbols in zip(document.pages, wanted):
                 self.talk.go_on(0, 0)
                 try:
-                    check_codes(symbols, next(pages), self.plan.dot)
+                    drawn = next(pages)
                 except NotDecoded as error:
                     raise Different(error.what, first_of(labels)) from error
+                check_codes(symbols, drawn, self.plan.dot)
             return
-        symbols = next(wanted)
         if self.form == "svg":
-            dots = dots_of_svg(document.data, dpi, self.plan.page)
+            page = dots_of_svg(document.data, dpi, self.plan.page)
         else:
-            dots = dots_of(self.form, document.data, self.plan.page[0])
-            self.check_size(dots, document.copies)
-            self.check_drawn(dots, document)
-        for symbol in symbols:
-            check_dots(symbol, dots, self.plan.dot)
+            page, copies = dots_of(self.form, document.data, self.plan.page[0])
+            self.check_size(page, copies, document.copies)
+            self.check_drawn(page, document)
+        for symbol in next(wanted):
+            check_dots(symbol, page, self.plan.dot)
 
-    def check_size(self, dots: Dots, copies: int) -> None:
+    def check_size(self, page: Picture, found: int, copies: int) -> None:
         """Raises `Different` where a page has not its size, or not its copies."""
-        width, height = self.plan.page
-        if (dots.width, dots.height) != (width, height):
-            found = Text("{} by {}", dots.width, dots.height)
-            its = Text("{} by {}", width, height)
-            raise Different(Text("a page has {} dots in the output instead of {}", found, its))
-        if dots.copies != copies:
-            what = Text("the output has {} copies instead of {}", dots.copies, copies)
-            raise Different(what)
+        size = (page.width, page.height)
+        if size != self.plan.page:
+            both = (Text("{} by {}", *sides) for sides in (size, self.plan.page))
+            raise Different(Text("a page has {} dots in the output instead of {}", *both))
+        if found != copies:
+            raise Different(Text("the output has {} copies instead of {}", found, copies))
 
-    def check_drawn(self, dots: Dots, document: Document) -> None:
+    def check_drawn(self, page: Picture, document: Document) -> None:
         """Raises `Different` where dots are not those of the page that was drawn."""
-        if document.drawn is None or dots.packed == document.drawn:
+        if document.drawn is None or page == document.drawn:
             return
-        pairs = enumerate(zip(dots.rows, rows_in(document.drawn, dots.stride)))
+        pairs = enumerate(zip(page.rows, document.drawn.rows))
         number = next(number for number, (found, row) in pairs if found != row)
         what = Text("its dots are wrong in the output, {:.1f} mm down", number * self.plan.dot)
         high = self.plan.area.height
@@ -179,22 +157,22 @@ class Comparison:
     def wanted_on(self, labels: Labels) -> Iterator[Wanted]:
         """Yields what has to be on a page, in the order of its drawing; raises `Different`."""
         for item, at in labels:
-            for spot in spots_of(item, self.area):
+            record = item.label.record
+            for spot in symbols_of(item, self.area):
                 try:
-                    yield self.wanted(spot, at, item.label.record)
+                    symbol = self.symbol(spot, record)
+                    kind = (symbol.symbology, symbol.quiet_zones, symbol.width, symbol.rows)
+                    how = (spot.place.quarters, spot.boxes["bars"], spot.module)
+                    yield Wanted(record, symbol, self.where(at, spot.box, how, kind))
                 except Different as error:
-                    raise Different(error.what, item.label.record) from error
+                    raise Different(error.what, record) from error
 
-    def wanted(self, spot: Spot, at: tuple[int, int], record: LineRecord) -> Wanted:
-        """Returns what has to be on a page for a symbol of a label whose area is at a place."""
-        symbol = self.code(spot)
-        kind = (symbol.symbology, symbol.quiet_zones, symbol.width, symbol.rows)
-        return Wanted(record, symbol, self.where(spot.place, at, kind))
-
-    def new_where(self, place: SpotPlace, at: tuple[int, int], kind: Kind) -> Where:
-        """Returns where a symbol of a kind has to be on the page; raises `Different`."""
+    def new_where(self, at: tuple[int, int], room: Box, how: How, kind: Kind) -> Where:
+        """Returns where a symbol of a kind has to be on the page, in a room of a label whose area
+        is at a place; raises `Different`.
+        """
+        quarters, bars, scale = how
         symbology, (left, right, above, below), width, rows = kind
-        bars, scale = place.bars, place.module
         wide = left + width + right
         high = bars.height // max(1, scale) if rows == 1 else above + rows + below
         if not scale or (wide * scale, high * scale) != (bars.width, bars.height):
@@ -205,30 +183,37 @@ class Comparison:
             Box(bars.left + (left + first) * scale, bars.bottom, (end - first) * scale, longer)
             for first, end in spans
         ]
-        whites = tuple(self.on_page(place, box, at) for box in (bars, *guards))
         whole = bars._replace(height=bars.height + longer * bool(spans))
-        picture = self.on_page(place, whole, at)
+        picture, *whites = (self.on_page(room, quarters, one, at) for one in (whole, bars, *guards))
         self.check_cell(at, picture)
-        return Where(picture, whites, (place.quarters + self.is_turned) % 4, scale, wide, high)
+        return Where(picture, tuple(whites), (quarters + self.is_turned) % 4, scale, wide, high)
 
-    def code(self, spot: Spot) -> Any:
-        """Returns the symbol of a spot, drawn anew from its line; raises `Different` where that
-        does not say its data.
+    def symbol(self, spot: OwnSymbol, record: LineRecord) -> Any:
+        """Returns a symbol of a label, drawn anew from its line; raises `Different` where that does
+        not say its data.
         """
-        engine = self.escaped if spot.is_escaped else self.engine
+        place = spot.place
+        engine, line, data = self.engine, record.line, record.data
+        if place.symbology:
+            text = own_text(place, record)
+            said = spot.data if text is None else text.encode("utf-8", "surrogateescape")
+            escaped = said.replace(b"\\", b"\\\\").replace(b"\n", b"\\n")
+            line = ",".join((place.symbology, *place.settings)).encode() + b" " + escaped
+            engine, data = self.escaped, spot.data
         try:
-            symbol = engine.symbol(spot.line)
+            symbol = engine.symbol(line)
         except Refused as refused:
             raise Different(Text("{}", str(refused))) from refused
-        if symbol.data != spot.data:
+        if symbol.data != data:
             raise Different(Text("its code says other data than its line"))
         return symbol
 
-    def on_page(self, place: SpotPlace, box: Box, at: tuple[int, int]) -> Box:
-        """Returns where a box in the room of a symbol is on the page."""
-        room = place.room
-        size = (room.height, room.width) if place.quarters % 2 else (room.width, room.height)
-        found = turned(box, size, place.quarters)
+    def on_page(self, room: Box, quarters: int, box: Box, at: tuple[int, int]) -> Box:
+        """Returns where a box in the room of a symbol, which is turned by some quarters, is on the
+        page.
+        """
+        size = (room.height, room.width) if quarters % 2 else (room.width, room.height)
+        found = turned(box, size, quarters)
         found = found._replace(left=found.left + room.left, top=found.top + room.top)
         if self.is_turned:
             found = turned(found, (self.area.width, self.area.height), 1)
@@ -240,13 +225,11 @@ class Comparison:
         """
         if at not in self.cells:
             raise Different(Text("it is at no place of its sheet"))
-        x, y = self.cells[at]
-        wide, high = self.plan.sheet.cell
         dot = self.plan.dot
-        is_across = x - dot <= box.left * dot and box.right * dot <= x + wide + dot
-        is_down = y - dot <= box.top * dot and box.bottom * dot <= y + high + dot
-        if not is_across or not is_down:
-            raise Different(Text("its code extends beyond its cell"))
+        for side, first, last in ((0, box.left, box.right), (1, box.top, box.bottom)):
+            start, size = self.cells[at][side], self.plan.sheet.cell[side]
+            if not start - dot <= first * dot or not last * dot <= start + size + dot:
+                raise Different(Text("its code extends beyond its cell"))
 
 
 def first_of(labels: Labels) -> LineRecord:
@@ -254,51 +237,48 @@ def first_of(labels: Labels) -> LineRecord:
     return labels[0][0].label.record
 
 
-def check_dots(wanted: Wanted, dots: Dots, dot: float) -> None:
+def check_dots(wanted: Wanted, page: Picture, dot: float) -> None:
     """Raises `Different` where dots of a page are not those of a symbol."""
     box = wanted.where.picture
-    if box.left < 0 or box.right > dots.width or not 0 <= box.top <= box.bottom <= dots.height:
+    if box.left < 0 or box.right > page.width or not 0 <= box.top <= box.bottom <= page.height:
         raise Different(Text("its code extends beyond the page"), wanted.record)
     first, last = box.left // 8, bytes_a_row(box.right)
     behind = 8 * last - box.right
-    read = rows_reader(first, last - first, dots.stride - last, box.height)
-    rows = iter(read(dots.packed, box.top * dots.stride))
+    start, stride = box.top * page.stride, page.stride
     for dark, looked, high in rows_of(wanted):
-        for row in {*islice(rows, high)}:  # most are the same
+        band = page.packed[start : start + high * stride]
+        is_one = band == band[:stride] * high  # as of bars with nothing beside them
+        read = rows_reader(first, last - first, stride - last, 1 if is_one else high)
+        for row in {*read(band)}:
             if ((int.from_bytes(row, "big") >> behind) ^ dark) & looked:
                 raise wrong(wanted, dot)
+        start += len(band)
 
 
 def rows_of(wanted: Wanted) -> Iterator[tuple[int, int, int]]:
     """Yields the rows of dots of a symbol as it is on a page: which are dark, and which are looked
-    at, as numbers; and how many rows one below another are so.
+    at, as numbers; and how many rows one below another are so. Between longer guards none are
+    looked at, since digits are there.
     """
-    where = wanted.where
-    rows, highs, looks = bands_of(wanted)
+    symbol, where = wanted.symbol, wanted.where
+    left, right, above, below = symbol.quiet_zones
+    modules = symbol.modules.translate(DIGITS).decode()
+    parts = (modules[at : at + symbol.width] for at in range(0, len(modules), symbol.width))
+    rows = ["0" * left + part + "0" * right for part in parts]
+    highs: tuple[int, ...] = (where.high,)
+    symbology = symbol.symbology if symbol.symbology in GUARDS else ""
+    if symbology:
+        rows, highs = rows * 2, (where.high, LONGER)
+    elif symbol.rows > 1:
+        blank = ["0" * where.wide]
+        rows, highs = blank * above + rows + blank * below, (1,) * where.high
     wides = (1,) * where.wide
     for _ in range(where.quarters):
         rows = ["".join(column) for column in zip(*rows[::-1])]
         highs, wides = wides, highs[::-1]
     dots = {row: number_of(row, wides, where.scale) for row in {*rows}}
-    for row, look, high in zip(rows, looks, highs):
+    for row, look, high in zip(rows, looks_of(where, symbology, left), highs):
         yield dots[row], look, high * where.scale
-
-
-def bands_of(wanted: Wanted) -> tuple[list[str], tuple[int, ...], Sequence[int]]:
-    """Returns the rows of a symbol with its quiet zones as digits, those of bars and of longer
-    guards once; how many modules each of them is high; and which dots are looked at on a page in
-    each of them, as it is turned: between longer guards none, since digits are there.
-    """
-    symbol, where = wanted.symbol, wanted.where
-    packed = symbol.packed(quiet_zones=True)
-    size = bytes_a_row(where.wide)
-    numbers = [int.from_bytes(packed[at : at + size], "big") for at in range(0, len(packed), size)]
-    rows = [f"{number:0{8 * size}b}"[: where.wide] for number in numbers]
-    if symbol.rows > 1:
-        return rows, (1,) * len(rows), looks_of(where, "", 0)
-    if symbol.symbology not in GUARDS:
-        return rows, (where.high,), looks_of(where, "", 0)
-    return rows * 2, (where.high, LONGER), looks_of(where, symbol.symbology, symbol.quiet_zones[0])
 
 
 @lru_cache(KNOWN)
@@ -355,9 +335,7 @@ def modules_of(wanted: Wanted) -> tuple[int, int, bytes]:
     """
     symbol, where = wanted.symbol, wanted.where
     packed: bytes = symbol.packed(quiet_zones=True)
-    if symbol.rows > 1:
-        return where.wide, where.high, packed
-    rows = packed * where.high
+    rows = packed if symbol.rows > 1 else packed * where.high
     if symbol.symbology not in GUARDS:
         return where.wide, where.high, rows
     digits = guards_of(symbol.symbology, symbol.quiet_zones[0], where.wide)
@@ -374,25 +352,6 @@ def wrong(wanted: Wanted, dot: float) -> Different:
         "its code is wrong in the output, {:.1f} mm from the left, {:.1f} mm down", across, down
     )
     return Different(what, wanted.record)
-
-
-def spots_of(item: LaidOut, area: Box) -> Iterator[Spot]:
-    """Yields where the symbols of a label have to be."""
-    for symbol in symbols_of(item, area):
-        yield spot_of(symbol, item.label.record)
-
-
-def spot_of(symbol: OwnSymbol, record: LineRecord) -> Spot:
-    """Returns where a symbol has to be."""
-    place = symbol.place
-    where = SpotPlace(symbol.box, place.quarters, symbol.boxes["bars"], symbol.module)
-    if not place.symbology:
-        return Spot(record.line, False, record.data, where)
-    text = own_text(place, record)
-    data = symbol.data if text is None else text.encode("utf-8", "surrogateescape")
-    escaped = data.replace(b"\\", b"\\\\").replace(b"\n", b"\\n")
-    line = ",".join((place.symbology, *place.settings)).encode() + b" " + escaped
-    return Spot(line, True, symbol.data, where)
 
 
 def own_text(place: Place, record: LineRecord) -> Optional[str]:

@@ -7,9 +7,10 @@ from itertools import takewhile
 from xml.etree import ElementTree
 from xml.etree.ElementTree import Element
 
-from labeltools.checking.decode import Dots, NotDecoded
+from labeltools.checking.decode import NotDecoded
 from labeltools.checking.pdf import POINTS, sides_of
 from labeltools.common.text import Text
+from labeltools.paper.picture import Picture
 
 PATH = "{http://www.w3.org/2000/svg}path"
 WHITE = "fill:rgb(100%,100%,100%);fill-opacity:1"
@@ -18,7 +19,7 @@ NUMBER = r"-?[0-9.]+(?:e-?[0-9]+)?"
 RECTANGLE = re.compile(r"M X X L X X L X X L X X Z ".replace("X", f"({NUMBER})"))
 
 
-def dots_of_svg(data: bytes, dpi: float, size: tuple[int, int]) -> Dots:
+def dots_of_svg(data: bytes, dpi: float, size: tuple[int, int]) -> Picture:
     """Returns the rectangles that a page ends in as dots; what none of them fills is dark. Raises
     `NotDecoded` where one is not on whole dots, or leaves the page.
     """
@@ -40,7 +41,7 @@ def dots_of_svg(data: bytes, dpi: float, size: tuple[int, int]) -> Dots:
                     rows[row] = rows[row] & ~bits if is_white else rows[row] | bits
     except (ElementTree.ParseError, ValueError, LookupError) as error:
         raise NotDecoded(Text("no svg of Cairo: {}", error)) from error
-    return Dots(width, height, b"".join([row.to_bytes(stride, "big") for row in rows]))
+    return Picture(width, height, b"".join([row.to_bytes(stride, "big") for row in rows]))
 
 
 def is_rectangles(element: Element) -> bool:

@@ -6,7 +6,6 @@ import os
 import re
 import stat
 import sys
-import time
 from dataclasses import replace
 from pathlib import Path
 from typing import Any, Callable, Optional, Sequence
@@ -25,18 +24,17 @@ from labeltools.common.report import places_text, report
 from labeltools.common.text import Text, counted, joined
 from labeltools.designs.design import is_file
 from labeltools.drawing.forms import FORMS
-from labeltools.layout.layout import LaidOut
 from labeltools.lines.file import LineRecord
 from labeltools.paper.area import DESIGNS
 from labeltools.paper.stock import forget, list_stock
 from labeltools.printing.cups import Queue, lp_line, queue_of
-from labeltools.printing.job import DRAWING_DPI, Job, PrintOptions, form_of, planned
+from labeltools.printing.job import DRAWING_DPI, Job, PrintOptions, form_of, planned, refuse
 from labeltools.printing.journal import Journal
-from labeltools.printing.network import SCHEME, address_of
+from labeltools.printing.network import address_of
 from labeltools.printing.outlets import Files, OUTPUT, Outlet, StandardOutput
 from labeltools.printing.press import Prepared, check_count, labels_of
 from labeltools.printing.selection import Ranges, ranges_in, selection_of
-from labeltools.printing.sending import Sender, direct_outlet, doubts, labels_text, print_on
+from labeltools.printing.sending import Sender, direct_outlet, labels_text, print_on
 
 TOOL = "label-print"
 USAGE = """label-print --stock NAME [OPTIONS] [LINES]
@@ -50,33 +48,7 @@ EXAMPLES = """examples:
   label-print --paper 60x40 --dpi 203 --to zpl --print tcp://HOST articles.lines
 
 man label-print has all details."""
-# seconds after which progress is shown, and between two times that it is
-QUIET = 2.0
-BETWEEN = 0.2
 NUMBER = r"-?\d{1,%d}(?:\.\d{1,4})?"
-MOST_NAMED = 10  # labels that a summary names
-
-
-class PrintTalk(CommandTalk):
-    """The talk of label-print: it shows on a terminal how many labels are done, where that takes
-    long.
-    """
-
-    def __init__(self) -> None:
-        super().__init__(TOOL)
-        self.next_time = time.monotonic() + QUIET
-        self.is_shown = False
-
-    def go_on(self, done: int, total: int) -> None:
-        """Shows progress."""
-        is_last = self.is_shown and done == total
-        if not done or not total or not sys.stderr.isatty():
-            return
-        if time.monotonic() >= self.next_time or is_last:
-            self.is_shown = True
-            self.next_time = time.monotonic() + BETWEEN
-            end = "\n" if done == total else ""
-            print(f"\r{TOOL}: {done} of {total} labels", end=end, file=sys.stderr, flush=True)
 
 
 def reads(
@@ -109,7 +81,7 @@ def design_of(argument: str) -> str:
     """Returns the name of a design, or the file of a user's own, which may be one of those that are
     installed with this package.
     """
-    if argument in DESIGNS:
+    if argument in DESIGNS or is_file(argument) and "/" in argument:
         return argument
     if not is_file(argument):
         known = ", ".join(DESIGNS)
@@ -117,7 +89,7 @@ def design_of(argument: str) -> str:
         raise wrong_argument(what)
     share = Path(__file__).resolve().parents[3]  # of a checkout, or PREFIX/share
     folders = (Path(), share / "designs", share / "doc/labels/designs")
-    paths = [folder / argument for folder in (folders if "/" not in argument else folders[:1])]
+    paths = (folder / argument for folder in folders)
     return next((str(path) for path in paths if path.exists()), argument)
 
 
@@ -135,144 +107,114 @@ def filled(argument: str) -> str:
     return argument
 
 
-def outlet_of(argument: str) -> str:
-    """Returns the name of a printer as a journal has it."""
-    scheme, colon, rest = filled(argument).partition("://")
-    return f"{scheme.lower()}{colon}{rest}" if colon else argument
-
-
 def printer_of(argument: str) -> str:
-    """Returns the name of a queue of CUPS, or of a printer in the network."""
-    name = outlet_of(argument)
-    if name.startswith(SCHEME):
+    """Returns the name of a queue of CUPS, of a printer in the network, or of a file."""
+    if "://" in filled(argument):
         try:
-            address_of(name)
+            address_of(argument)
         except ToolError as error:
             raise wrong_argument(error.what) from error
-    elif "://" in name:
-        raise wrong_argument(
-            Text("{!r}: write it as tcp://HOST, or name a queue of CUPS", argument)
-        )
-    return name
+    return argument
+
+
+SIZE = reads("63x38", 0.0001)
+POINT = reads("7x15")
+COUNT = reads("3", 1, int)
 
 
 def command_line() -> Parser:
-    """Returns the arguments; their names are those of `PrintOptions`."""
+    """Returns the arguments; their names are those of `PrintOptions`, which has their defaults."""
     parser = Parser(TOOL, USAGE, ABOUT, EXAMPLES)
-    add_sheet_options(parser)
-    add_size_options(parser)
-    add_choice_options(parser)
-    add_output_options(parser)
-    add = parser.add_argument
+    add_sheet_options(parser.add_argument_group("the paper"))
+    add_size_options(parser.add_argument_group("how labels look"))
+    add_choice_options(parser.add_argument_group("what is printed"))
+    add_output_options(parser.add_argument_group("output"))
     lines = "the file of label-table, or lines (standard input)"
-    add("lines", metavar="LINES", nargs="?", help=lines)
+    parser.add_argument("lines", metavar="LINES", nargs="?", help=lines)
     summary = "report what was written and how to print it (always on a terminal)"
-    add("--summary", action="store_true", dest="is_summed", help=summary)
+    flag(parser, "--summary", "is_summed", summary)
+    parser.set_defaults(**vars(PrintOptions()))
     return parser
 
 
-def add_sheet_options(parser: Parser) -> None:
+def value(group: Any, name: str, metavar: str, kind: Any, text: str, **how: Any) -> None:
+    """Adds an option with a value, which `kind` reads; `metavar` stands for it in the help."""
+    group.add_argument(name, metavar=metavar, type=kind, help=text, **how)
+
+
+def flag(group: Any, name: str, target: str, text: str, is_on: bool = True) -> None:
+    """Adds an option without a value, which sets its target."""
+    group.add_argument(name, action="store_const", const=is_on, dest=target, help=text)
+
+
+def add_sheet_options(group: Any) -> None:
     """Adds the options of the paper."""
-    group = parser.add_argument_group("the paper")
-    count = reads("3", 1, int)
-    size = reads("63x38", 0.0001)
-    one = group.add_mutually_exclusive_group().add_argument
+    one = group.add_mutually_exclusive_group()
     stock = "the sheet of labels by its name, such as 'Avery L7160' or l7160"
-    one("--stock", metavar="NAME", help=stock)
+    value(one, "--stock", "NAME", str, stock)
     listed = "list the sheets that have these words or this size, or all"
-    one("--list-stock", metavar="WORD", nargs="?", const="", help=listed)
-    paper = "one label on each page of this size, as on a roll"
-    one("--paper", metavar="WxH", type=size, help=paper)
-    cell = "a grid, with --columns and --rows: the size of a cell"
-    one("--cell", metavar="WxH", type=size, help=cell)
-    add = group.add_argument
-    add("--columns", metavar="N", type=count, help="cells side by side")
-    add("--rows", metavar="N", type=count, help="cells below one another")
-    page = "the size of the page (210x297)"
-    add("--page", metavar="WxH", type=size, help=page)
+    value(one, "--list-stock", "WORD", str, listed, nargs="?", const="")
+    value(one, "--paper", "WxH", SIZE, "one label on each page of this size, as on a roll")
+    value(one, "--cell", "WxH", SIZE, "a grid, with --columns and --rows: the size of a cell")
+    value(group, "--columns", "N", COUNT, "cells side by side")
+    value(group, "--rows", "N", COUNT, "cells below one another")
+    value(group, "--page", "WxH", SIZE, "the size of the page (210x297)")
     margin = "where the first cell begins (all are in the middle)"
-    add("--margin", metavar="LEFTxTOP", type=reads("7x15"), help=margin)
-    gap = "between two cells (0x0)"
-    add("--gap", metavar="XxY", type=reads("7x15"), help=gap)
-    edge = "white at the edges of a page: one for all, or left,top,right,bottom (5; of a roll 0)"
-    add("--edge", metavar="MM", type=edges, help=edge)
+    value(group, "--margin", "LEFTxTOP", POINT, margin)
+    value(group, "--gap", "XxY", POINT, "the distance between two cells (0x0)")
+    edge = "white at the edges of a page: one for all, or left,top,right,bottom (5; on a roll 0)"
+    value(group, "--edge", "MM", edges, edge)
     shift = "move all, for a printer that feeds off centre"
-    move = reads("-0.5,1", -10000)
-    add("--shift", metavar="X,Y", type=move, default=PrintOptions.shift, help=shift)
+    value(group, "--shift", "X,Y", reads("-0.5,1", -10000), shift)
 
 
-def add_size_options(parser: Parser) -> None:
+def add_size_options(group: Any) -> None:
     """Adds the options of how labels look."""
-    group = parser.add_argument_group("how labels look")
-    add = group.add_argument
     design = "article: bars for a till (the default); shelf: a large price; or a page of SVG"
-    add("--design", metavar="NAME", type=design_of, default=PrintOptions.design, help=design)
-    turn = group.add_mutually_exclusive_group().add_argument
-    turned = "turn labels to the right (they are if more of them fit so)"
-    turn("--turn", action="store_const", const=True, help=turned)
-    turn("--no-turn", action="store_const", const=False, dest="turn", help="never turn labels")
+    value(group, "--design", "NAME", design_of, design)
+    one = group.add_mutually_exclusive_group()
+    flag(one, "--turn", "turn", "turn labels to the right, as is done if more of them fit")
+    flag(one, "--no-turn", "turn", "never turn labels", False)
     module = "the narrowest bar, or a square of QR (what fits best)"
-    add("--module", metavar="MM", type=reads("38.1", 0.0001), help=module)
-    note = "a line of text for all labels, such as a date"
-    add("--note", metavar="TEXT", default=PrintOptions.note, help=note)
-    font = "of titles, texts and prices (DejaVu Sans)"
-    add("--font", metavar="NAME", default=PrintOptions.font, help=font)
+    value(group, "--module", "MM", reads("38.1", 0.0001), module)
+    value(group, "--note", "TEXT", str, "a line of text for all labels, such as a date")
+    value(group, "--font", "NAME", str, "the font of titles, texts and prices (DejaVu Sans)")
 
 
-def add_choice_options(parser: Parser) -> None:
+def add_choice_options(group: Any) -> None:
     """Adds the options of which labels are printed, and from which lines."""
-    group = parser.add_argument_group("what is printed")
-    add = group.add_argument
-    first = "begin at this cell of the first page (1)"
-    count = reads("3", 1, int)
-    add("--first", metavar="N", type=count, default=PrintOptions.first, help=first)
+    value(group, "--first", "N", COUNT, "begin at this cell of the first page (1)")
     only = "print only these rows of the table, such as 2,7-9, or 7- for all from 7 on"
-    add("--only", metavar="ROWS", type=rows, dest="rows_only", default=(), help=only)
-    code = (
-        "print the label with this code, or those of @FILE, a code on each line; with --only those "
-        "of either"
-    )
-    add(
-        "--only-code",
-        metavar="CODE",
-        type=filled,
-        action="append",
-        default=[],
-        dest="codes",
-        help=code,
-    )
-    after = "skip so many labels, which are on paper already (0)"
-    number = reads("9", 0, int, 7)  # as many as one run takes
-    add("--after", metavar="N", type=number, default=PrintOptions.after, help=after)
-    unique = "skip a line whose code was there before, as on tickets and serial numbers"
-    add("--unique", action="store_true", dest="is_unique", help=unique)
-    escapes = "read escapes in data, as labels --escapes does"
-    add("--escapes", action="store_true", dest="is_escaped", help=escapes)
+    value(group, "--only", "ROWS", rows, only, dest="rows_only")
+    code = "print the label with this code, or those of @FILE, a code on each line; with --only "
+    code += "those of either"
+    value(group, "--only-code", "CODE", filled, code, action="append", dest="codes", default=[])
+    after = reads("9", 0, int, 7)  # as many as one run takes
+    value(group, "--after", "N", after, "skip this many labels, which are on paper already (0)")
+    unique = "skip a line whose code came before, as for tickets and serial numbers"
+    flag(group, "--unique", "is_unique", unique)
+    flag(group, "--escapes", "is_escaped", "read escapes in data, as labels --escapes does")
 
 
-def add_output_options(parser: Parser) -> None:
+def add_output_options(group: Any) -> None:
     """Adds the options of where labels go, and in which form."""
-    group = parser.add_argument_group("output")
-    add = group.add_argument
-    count = reads("3", 1, int)
     forms = ", ".join(name for name in FORMS if name != "pbm")  # which is for tests
-    add("--to", metavar="FORM", choices=tuple(FORMS), help=f"{forms} (pdf)")
+    value(group, "--to", "FORM", str, f"{forms} (pdf)", choices=tuple(FORMS))
     dpi = f"dots an inch of the printer (pdf and svg: {DRAWING_DPI})"
-    add("--dpi", metavar="N", type=count, help=dpi)
-    out = group.add_mutually_exclusive_group().add_argument
-    out("--each", metavar="NAME", help="a file for each label: %%d is its number, %%s its data")
+    value(group, "--dpi", "N", COUNT, dpi)
+    one = group.add_mutually_exclusive_group()
+    each = "a file for each label: %%d is its number, %%s its data"
+    value(one, "--each", "NAME", str, each)
     queue = "print on this queue of CUPS, tcp://HOST or /dev/usb/lp0, not to standard output"
-    out("--print", metavar="QUEUE", type=printer_of, dest="queue", help=queue)
+    value(one, "--print", "QUEUE", printer_of, queue, dest="queue")
     journal = "write each label into this file before it is sent; what is there is not sent again"
-    add("--journal", metavar="FILE", type=filled, help=journal)
-    again = "with --only or --only-code: print what the journal has of this printer once more"
-    add("--again", metavar="PRINTER", type=outlet_of, help=again)
+    value(group, "--journal", "FILE", filled, journal)
+    again = "with --only or --only-code: print once more what the journal has of this printer"
+    value(group, "--again", "PRINTER", filled, again)
     stream = "print each label as soon as its line has come in, and answer on standard error"
-    add("--stream", action="store_true", dest="is_stream", help=stream)
-    dots = "escpos: dots across the paper (576)"
-    add("--dots", metavar="N", type=count, help=dots)
-    cut = "escpos: do not cut after each label"
-    add("--no-cut", action="store_false", dest="is_cut", help=cut)
+    flag(group, "--stream", "is_stream", stream)
+    value(group, "--dots", "N", COUNT, "escpos: dots across the paper (576)")
+    flag(group, "--no-cut", "is_cut", "escpos: do not cut after each label", False)
 
 
 def options_of(words: Optional[Sequence[str]] = None) -> PrintOptions:
@@ -280,7 +222,7 @@ def options_of(words: Optional[Sequence[str]] = None) -> PrintOptions:
     `OSError`.
     """
     given = vars(command_line().parse_args(words))
-    given["only"] = selection_of(given.pop("rows_only"), given.pop("codes"))
+    given["only"] = selection_of(given.pop("rows_only") or (), given.pop("codes"))
     return PrintOptions(**given)
 
 
@@ -290,78 +232,74 @@ def run() -> int:
     if options.is_stream:
         keep_standard_error()
     if options.list_stock is not None:
-        return listed(options.list_stock)
-    queue = queue_asked(options)
+        one_word = Text("--list-stock takes one WORD: put quotes around several")
+        refuse(options.lines, one_word)
+        print(listed(options.list_stock))
+        return 0
+    queue = None
+    if options.queue and not options.is_stream and not options.is_sent_singly:
+        queue = queue_of(options.queue)
     if queue and options.dpi is None:
         is_sheet = bool(options.stock or options.cell) and not form_of(options).is_roll
         options = replace(options, dpi=queue.dpi_for(is_sheet) or None)
     job = planned(options)
     forget()
-    check_way(options, job, queue)
+    check_way(job, queue)
     if options.is_stream:
         from labeltools.printing import stream
 
-        return stream.run(options, job, sender_of(options, direct_way(options, job), ()))
+        return stream.run(job, sender_of(job, direct_way(job), ()))
     gc.disable()  # no label leaves a cycle behind, and to look for them takes time
-    return print_lines(options, job, queue, PrintTalk())
+    return print_lines(job, queue, CommandTalk(TOOL))
 
 
-def print_lines(options: PrintOptions, job: Job, queue: Optional[Queue], talk: PrintTalk) -> int:
+def print_lines(job: Job, queue: Optional[Queue], talk: CommandTalk) -> int:
     """Prints the lines of a file; returns 1 where a label is left out or doubtful."""
-    found = labels_of(options, job, *read_input(options.lines), talk)
-    for message in [*report(found.left_out, found.tables), *(one.text for one in found.remarks)]:
+    found = labels_of(job, *read_input(job.options.lines), talk)
+    for message in [*report(found.left_out, found.tables), *(one.reason for one in found.remarks)]:
         write_message(TOOL, message)
     check_count(job, found.prints)
-    if job.after:
+    if after := job.options.after:
         place = places_text([found.prints[0].label.record.place], len(found.tables) > 1)
-        write_message(TOOL, Text("--after {}: the first label is {}", job.after, place))
+        write_message(TOOL, Text("--after {}: the first label is {}", after, place))
     if queue is None:
-        return give_out(options, found, talk)
+        return give_out(found, talk)
     sent, text = print_on(found, queue, talk)
     write_message(TOOL, joined("; ", filter(None, (text, sent.state().trouble))))
     return 1 if found.left_out else 0
 
 
-def listed(wanted: str) -> int:
-    """Writes the sheets that have some words; returns the status."""
-    lines = list(list_stock(wanted))
-    if not lines:
-        hint = Text("try a part of the name, or the size of a cell, such as 70x37")
-        what = Text("no sheet has all of these words: {}", wanted)
-        write_message(TOOL, Text("{}: {}", what, hint))
-        return 1
-    print(*lines, sep="\n")
-    return 0
+def listed(wanted: str) -> str:
+    """Returns the sheets that have some words; raises `ToolError` if there is none."""
+    hint = Text("try a part of the name, or the size of a cell, such as 70x37")
+    what = Text("no sheet has all of these words: {}", wanted)
+    if lines := "\n".join(list_stock(wanted)):
+        return lines
+    raise ToolError(Text("{}: {}", what, hint))
 
 
-def queue_asked(options: PrintOptions) -> Optional[Queue]:
-    """Returns what the queue of CUPS says on which labels are printed, if they are."""
-    if options.queue is None or options.is_stream or options.is_sent_singly:
-        return None
-    return queue_of(options.queue)
-
-
-def check_way(options: PrintOptions, job: Job, queue: Optional[Queue]) -> None:
+def check_way(job: Job, queue: Optional[Queue]) -> None:
     """Raises `ToolError` where a queue does not print a job, or standard output is closed or would
     show a drawing.
     """
     if queue is not None:
         queue.options(job)
-    elif options.queue is None and options.each is None:
+    elif job.options.queue is None and not job.is_each:
         if standard_output().isatty() and not job.form.is_roll:
             hint = Text("add > labels.{}", job.form.name)
             raise ToolError(Text("standard output is a terminal"), hint, BAD_ARGUMENTS)
 
 
-def direct_way(options: PrintOptions, job: Job) -> Outlet:
+def direct_way(job: Job) -> Outlet:
     """Returns the way to a printer, or else standard output."""
-    if options.queue:
-        return direct_outlet(options.queue)
-    return StandardOutput(job.form.is_roll, is_synced=options.journal is not None)
+    if job.options.queue:
+        return direct_outlet(job.options.queue)
+    return StandardOutput(job.form.is_roll, is_synced=job.options.journal is not None)
 
 
-def sender_of(options: PrintOptions, outlet: Outlet, records: Sequence[LineRecord]) -> Sender:
+def sender_of(job: Job, outlet: Outlet, records: Sequence[LineRecord]) -> Sender:
     """Returns what sends the labels of some lines, after a look at the journal."""
+    options = job.options
     journal = Journal(options.journal, outlet.name) if options.journal else None
     if journal is not None:
         check_journal(options, journal)
@@ -369,49 +307,45 @@ def sender_of(options: PrintOptions, outlet: Outlet, records: Sequence[LineRecor
 
 
 def check_journal(options: PrintOptions, journal: Journal) -> None:
-    """Says what was wrong with a journal, and that a file has lost what it had before; raises
-    `ToolError` where labels cannot be printed by it.
+    """Says that a file has lost what it had before; raises `ToolError` where labels cannot be
+    printed by a journal.
     """
-    if journal.mended:
-        write_message(TOOL, Text("{}: {}", journal.path, journal.mended))
     if options.again and options.again not in journal.printers():
         names = ", ".join(sorted(journal.printers())) or Text("nothing")
         what = Text("{} has no label of {}", journal.path, options.again)
         raise ToolError(what, Text("--again: the journal has these printers: {}", names))
-    if not options.queue:
+    if OUTPUT in journal.printers() and not options.queue and not options.is_stream:
         output = standard_output().fileno()
         state = os.fstat(output)
-        if os.path.samestat(state, os.fstat(journal.file)):
-            what = Text("{} is the journal and standard output", journal.path)
-            raise ToolError(what, Text("name another file for one of them"))
         is_added = fcntl.fcntl(output, fcntl.F_GETFL) & os.O_APPEND
-        is_new = stat.S_ISREG(state.st_mode) and not state.st_size and not is_added
-        if is_new and OUTPUT in journal.printers() and not options.is_stream:
+        if stat.S_ISREG(state.st_mode) and not state.st_size and not is_added:
             what = Text("{} has labels of an earlier file", journal.path)
             hint = Text("with > that file has lost them, with >> it keeps them")
             write_message(TOOL, sentence(what, hint))
 
 
-def give_out(options: PrintOptions, found: Prepared, talk: PrintTalk) -> int:
+def give_out(found: Prepared, talk: CommandTalk) -> int:
     """Writes labels or sends them; returns 1 where one is left out or doubtful."""
-    outlet = direct_way(options, found.job)
+    options = found.job.options
+    outlet = direct_way(found.job)
     if options.each is not None:
-        outlet = Files(options.each, [item.label.record.data for item in found.prints])
-    sender = sender_of(options, outlet, found.records)
+        data = [item.label.record.data for item in found.prints]
+        outlet = Files(options.each, data, options.after + 1)
+    sender = sender_of(found.job, outlet, found.records)
     try:
         send(sender, found, talk)
     finally:
         doubtful = sender.doubtful()
-        for message in doubts(doubtful, found.records, len(found.tables) > 1):
+        for message in sender.doubts(doubtful):
             write_message(TOOL, message)
     known = len(sender.known - doubtful.keys())
     is_asked = options.is_summed or sys.stderr.isatty()
     if options.each is None and (known or options.queue or is_asked):
-        write_message(TOOL, summary_of(options, found, sender, known))
+        write_message(TOOL, summary_of(found.job, sender.taken, known))
     return 1 if found.left_out or doubtful else 0
 
 
-def send(sender: Sender, found: Prepared, talk: PrintTalk) -> None:
+def send(sender: Sender, found: Prepared, talk: CommandTalk) -> None:
     """Sends labels; raises `ToolError`. If they go out one by one a signal ends it after the label
     that is on its way: that is such an error, which is said here, since the signal then ends the
     tool.
@@ -430,20 +364,16 @@ def send(sender: Sender, found: Prepared, talk: PrintTalk) -> None:
             talk.say(Text("{}: {}, and these are all", sender.outlet.name, sender.so_far()))
 
 
-def summary_of(options: PrintOptions, found: Prepared, sender: Sender, known: int) -> Text:
-    """Returns what was written or sent, with the names of labels that were asked for, how many the
-    journal had, and else the line that prints a file.
+def summary_of(job: Job, taken: int, known: int) -> Text:
+    """Returns how many labels were written or sent, how many the journal had, and else the line
+    that prints a file.
     """
-    job = found.job
-    text = labels_text(sender.taken)
+    options = job.options
+    text = labels_text(taken)
     if options.queue:
         text = Text("{} taken by {}", text, options.queue)
-    if options.only:
-        printed = {id(item): item for item in found.prints}
-        text = with_names(text, sender.sent if options.is_sent_singly else [*printed.values()])
     if not job.form.is_roll:
-        pages = counted("{} page", "{} pages", job.pages_of(sender.taken))
-        text = Text("{} on {}", text, pages)
+        text = Text("{} on {}", text, counted("{} page", "{} pages", job.pages_of(taken)))
     if known:
         there = counted("{} label in {} already", "{} labels in {} already", known, options.journal)
         text = joined("; ", (text, there))
@@ -451,17 +381,3 @@ def summary_of(options: PrintOptions, found: Prepared, sender: Sender, known: in
     if line and not options.is_sent_singly:
         text = Text("{}; print the file with: {}", text, line)
     return text
-
-
-def with_names(text: Text, items: Sequence[LaidOut]) -> Text:
-    """Returns a text with the labels that were asked for one by one, where they are few; with their
-    tables where these are several.
-    """
-    if not items or len(items) > MOST_NAMED:
-        return text
-    records = [item.label.record for item in items]
-    has_tables = len({one.table for one in records}) > 1
-    places = (places_text([one.place], has_tables) for one in records)
-    codes = (one.data.decode("utf-8", "backslashreplace") for one in records)
-    names = [joined(", ", both) for both in zip(places, codes)]
-    return Text("{}: {}", text, joined("; ", names))

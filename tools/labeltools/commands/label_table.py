@@ -5,7 +5,7 @@ import gc
 import re
 import shlex
 import sys
-import time
+from dataclasses import fields
 from pathlib import Path
 from typing import Any, Callable, Mapping, Sequence, TypeVar
 
@@ -19,12 +19,12 @@ from labeltools.tables.guess import Guess, guess_of
 from labeltools.lines.file import LinesFile, read_lines
 from labeltools.common.messages import BadArguments, Place, Silence, ToolError
 from labeltools.common.messages import quoted, sentence, write_message
-from labeltools.common.names import listed
+from labeltools.common.report import listed
 from labeltools.sheets.number_format import date_section
 from labeltools.tables.prices import PricePattern
 from labeltools.lines.symbologies import EAN13, SYMBOLOGIES
-from labeltools.tables.table import Lines, lines_of_table
-from labeltools.tables.options import ColumnOptions, PriceRules, TableOptions
+from labeltools.tables.table import lines_of_table
+from labeltools.tables.options import Columns, PriceRules, TableOptions
 
 TOOL = "label-table"
 USAGE = "label-table --code COLUMN [OPTIONS] [TABLE]"
@@ -36,11 +36,10 @@ EXAMPLES = """examples:
   label-table --code Place --symbology code128 racks.csv > racks.lines
 
 label-print prints these files; man label-table has all details."""
-SETTINGS = re.compile("[a-z-]+=[A-Za-z0-9]+(?:,[a-z-]+=[A-Za-z0-9]+)*")
-DELIMITER = re.compile('[^"\r\n\0 \x80-\U0010ffff]|tab|none')
+SETTINGS = "[a-z-]+=[A-Za-z0-9]+(?:,[a-z-]+=[A-Za-z0-9]+)*"
+DELIMITER = '[^"\r\n\0 \x80-\U0010ffff]|tab|none'
 SIGNS = {"comma": ",", "point": ".", ",": ",", ".": "."}
 MOST_PROPOSED = 3  # commands
-QUIET, BETWEEN = 1.0, 0.3  # seconds before progress is shown, and until it is shown again
 MOST_ALIKE = 50  # messages about rows that differ in their cells alone
 Made = TypeVar("Made")
 
@@ -53,26 +52,6 @@ class TableTalk(CommandTalk):
     def __init__(self) -> None:
         super().__init__(TOOL)
         self.rows: dict[str, list[int]] = {}
-        self.next_time = time.monotonic() + QUIET
-        self.is_shown = False
-
-    def go_on(self, done: int, total: int) -> None:
-        """Shows on a terminal how many rows are read."""
-        if sys.stderr.isatty() and time.monotonic() >= self.next_time:
-            self.is_shown = True
-            self.next_time = time.monotonic() + BETWEEN
-            print(f"\r{TOOL}: {done} rows", end="", file=sys.stderr, flush=True)
-
-    def end_progress(self) -> None:
-        """Ends the line that shows progress."""
-        if self.is_shown:
-            self.is_shown = False
-            print(file=sys.stderr)
-
-    def say(self, text: Text, hint: Text = NOTHING) -> None:
-        """Writes something about the whole."""
-        self.end_progress()
-        super().say(text, hint)
 
     def note(self, place: Place, cell: str, reason: Text, hint: Text) -> None:
         """Writes why a row is left out."""
@@ -80,13 +59,11 @@ class TableTalk(CommandTalk):
         rows = self.rows.setdefault(kind, [])
         rows.append(place.number)
         if len(rows) <= MOST_ALIKE:
-            self.end_progress()
             super().note(place, cell, reason, hint)
 
     def finish(self) -> None:
         """Writes how many more rows were left out for each reason."""
-        self.end_progress()
-        for kind, rows in self.rows.items():
+        for rows in self.rows.values():
             more = rows[MOST_ALIKE:]
             if more:
                 what = Text("{}: skipped for the same reason as row {}", listed(more), rows[0])
@@ -106,54 +83,66 @@ def command_line() -> Parser:
     header = groups[OF_FILE].add_mutually_exclusive_group().add_argument
     said: dict[str, Any] = {"dest": "has_header", "default": None}
     header("--header", action="store_true", help="row 1 has the names of the columns", **said)
-    text = "row 1 is an article, and no names of columns"
+    text = "row 1 is an article, not the names of columns"
     header("--no-header", action="store_false", help=text, **said)
     text = "this row has the names of the columns"
-    header("--header-row", metavar="N", type=row_number, help=text)
+    header("--header-row", metavar="N", type=lambda text: int(row_number(text)), help=text)
     return parser
 
 
-def checked(make: Callable[[str], Made], text: str) -> Made:
-    """Returns what a function makes of an argument; its ValueError has a `Text`."""
-    try:
-        return make(text)
-    except ValueError as error:
-        raise wrong_argument(error.args[0]) from None
+def argument(make: Callable[[str], Made]) -> Callable[[str], Made]:
+    """Returns a function of an argument whose ValueError, which has a `Text`, is reported."""
+
+    def of(text: str) -> Made:
+        try:
+            return make(text)
+        except ValueError as error:
+            raise wrong_argument(error.args[0]) from None
+
+    return of
 
 
-def pattern(text: str) -> PricePattern:
-    """Returns the pattern of prices that an argument is."""
-    return checked(PricePattern.of, text)
-
-
-def date_pattern(text: str) -> str:
+@argument
+def dates(text: str) -> str:
     """Returns the pattern of dates that an argument is."""
-    checked(date_section, text)
+    date_section(text)
     return text
 
 
+@argument
 def condition(text: str) -> tuple[str, str]:
     """Returns the column and the value of an argument."""
     column, sign, value = text.partition("=")
     if not sign or not column:
-        raise wrong_argument(Text("{}: write it as COLUMN=VALUE", quoted(text)))
+        raise ValueError(Text("{}: write it as COLUMN=VALUE", quoted(text)))
     return column, value
 
 
+@argument
 def sign(text: str) -> str:
     """Returns the decimal sign that an argument is."""
     if text not in SIGNS:
-        raise wrong_argument(Text("{} is neither comma nor point", quoted(text)))
+        raise ValueError(Text("{} is neither comma nor point", quoted(text)))
     return SIGNS[text]
 
 
-def row_number(text: str) -> int:
-    """Returns the number of a row that an argument is."""
-    if not re.fullmatch("[1-9][0-9]{0,6}", text, re.ASCII):
-        raise wrong_argument(Text("{} is not the number of a row", quoted(text)))
-    return int(text)
+def like(pattern: str, said: Callable[[str], Text]) -> Callable[[str], str]:
+    """Returns a function of an argument that has to match a pattern, and of what is said if not."""
+
+    def of(text: str) -> str:
+        if not re.fullmatch(pattern, text, re.ASCII):
+            raise wrong_argument(said(quoted(text)))
+        return text
+
+    return of
 
 
+settings = like(SETTINGS, lambda one: Text("{}: write it as height=30 or level=Q,mask=2", one))
+delimiter = like(
+    DELIMITER, lambda one: Text("{} is not tab, none or a character that can separate cells", one)
+)
+row_number = like("[1-9][0-9]{0,6}", lambda one: Text("{} is not the number of a row", one))
+pattern = argument(PricePattern.of)
 OF_TABLE = "the table; standard input if it is not given, or is -"
 OF_SUMMARY = "report at the end how many labels there are, and which prices"
 OF_FILE = "the file"
@@ -183,71 +172,57 @@ OPTIONS: Mapping[str, Sequence[tuple[str, str, str, dict[str, Any]]]] = {
     "codes": (
         ("symbology", "NAME", f"{', '.join(NAMES)} [default: auto]", CODE_NAMES),
         ("symbology-column", "COLUMN", "the column of the symbologies", {}),
-        ("settings", "TEXT", "for each line, such as height=30 or level=Q,mask=2", {}),
-        ("fill-zeros", "", "put back up to three zeros that were lost before the digits", {}),
+        (
+            *("settings", "TEXT", "settings of all lines, such as height=30 or level=Q,mask=2"),
+            {"type": settings},
+        ),
+        ("fill-zeros", "", "put back up to three lost leading zeros", {}),
         ("without-check-digit", "", "the numbers have no check digit; labels adds it", {}),
         ("allow-zeros", "", "take numbers that end in many zeros, which look rounded", {}),
-        ("links", "", "draw the address that the cell of a code leads to", {}),
+        ("links", "", "draw the address of the link in the cell of a code", {}),
     ),
     "prices and dates": (
-        ("price-as", "FORMAT", "write prices so, such as '0,00 €' or '¤ 0.00'", {"type": pattern}),
+        ("price-as", "FORMAT", "write prices like '0,00 €' or '¤ 0.00'", {"type": pattern}),
         ("price-text", "", "prices may be any text, such as 'on request'", {}),
         ("currency-name", "NAME", "a currency that label-table does not know", {"default": ""}),
-        ("decimal", "SIGN", "of numbers, comma or point [default: the locale's]", {"type": sign}),
-        ("date-as", "FORMAT", "write dates so, such as dd.mm.yyyy", {"type": date_pattern}),
+        ("decimal", "SIGN", "decimal sign: comma or point [default: the locale's]", {"type": sign}),
+        ("date-as", "FORMAT", "write dates like dd.mm.yyyy", {"type": dates}),
     ),
     OF_FILE: (
         ("sheet", "NAME", "the sheet of .xlsx or .ods [default: the visible one with data]", {}),
-        ("delimiter", "C", "between cells of CSV; tab; none for one column", {}),
-        ("encoding", "NAME", "of CSV [default: UTF-8, or by its mark]", {}),
+        (
+            *("delimiter", "C", "the character between cells of CSV, tab, or none for one column"),
+            {"type": delimiter},
+        ),
+        ("encoding", "NAME", "the encoding of CSV [default: UTF-8, or by its mark]", {}),
     ),
 }
+
+
+def made(kind: type[Made], arguments: argparse.Namespace, **more: Any) -> Made:
+    """Returns a record whose fields are the arguments of these names, or what is given beside
+    them; a field keeps its default if there is no such argument.
+    """
+    found = {**vars(arguments), **more}
+    names = (one.name for one in fields(kind))
+    return kind(**{name: found[name] for name in names if found[name] is not None})
 
 
 def options_of(arguments: argparse.Namespace) -> TableOptions:
     """Returns the options that the arguments are; raises `ToolError` and `OSError` for older lines
     that cannot be read.
     """
-    is_standard = arguments.table in (None, "-")
-    return TableOptions(
-        columns=ColumnOptions(
-            code=arguments.code,
-            title=tuple(arguments.title),
-            text=tuple(arguments.text),
-            price=arguments.price,
-            unit_price=arguments.unit_price,
-            old_price=arguments.old_price,
-            currency=arguments.currency,
-            copies=arguments.copies,
-            symbology=arguments.symbology_column,
-            where=tuple(arguments.where),
-        ),
-        file=file_options(arguments),
-        codes=CodeRules(
-            symbology=arguments.symbology,
-            fill_zeros=arguments.fill_zeros,
-            without_check_digit=arguments.without_check_digit,
-            allow_zeros=arguments.allow_zeros,
-        ),
+    several = {name: tuple(getattr(arguments, name)) for name in ("title", "text", "where")}
+    older = arguments.new_since
+    return made(
+        TableOptions,
+        arguments,
+        columns=made(Columns, arguments, symbology=arguments.symbology_column, **several),
+        file=made(FileOptions, arguments),
+        codes=made(CodeRules, arguments),
         prices=PriceRules(arguments.price_text, arguments.price_as, arguments.currency_name),
-        settings=arguments.settings or "",
-        links=arguments.links,
-        new_since=None if arguments.new_since is None else older_lines(arguments.new_since),
-        table="" if is_standard else arguments.table,
-    )
-
-
-def file_options(arguments: argparse.Namespace) -> FileOptions:
-    """Returns how the file is to be read."""
-    return FileOptions(
-        sheet=arguments.sheet,
-        hidden=arguments.hidden,
-        decimal=arguments.decimal,
-        date_as=arguments.date_as or "",
-        delimiter=arguments.delimiter,
-        encoding=arguments.encoding,
-        has_header=arguments.has_header,
-        header_row=arguments.header_row,
+        new_since=None if older is None else older_lines(older),
+        table="" if arguments.table in (None, "-") else arguments.table,
     )
 
 
@@ -264,17 +239,9 @@ def understood(words: Sequence[str]) -> argparse.Namespace:
 
 def check(parser: Parser, arguments: argparse.Namespace) -> None:
     """Raises `BadArguments` for arguments that are wrong, or do not go together."""
-    check_settings(parser, arguments)
-    delimiter = arguments.delimiter
-    if delimiter is not None and not DELIMITER.fullmatch(delimiter):
-        parser.error(
-            Text(
-                "--delimiter {} is not tab, none or a character that can separate cells",
-                quoted(delimiter),
-            )
-        )
-    is_free = CodeRules(arguments.symbology).is_free and arguments.symbology_column is None
-    if arguments.fill_zeros + arguments.without_check_digit + is_free > 1:
+    rules = made(CodeRules, arguments)
+    is_free = rules.is_free and arguments.symbology_column is None
+    if rules.fill_zeros + rules.without_check_digit + is_free > 1:
         parser.error(
             Text(
                 "--fill-zeros, --without-check-digit and --symbology code128 or qr do not go"
@@ -286,18 +253,9 @@ def check(parser: Parser, arguments: argparse.Namespace) -> None:
     is_priced = arguments.price or arguments.unit_price or arguments.old_price
     if arguments.price_as and not is_priced:
         parser.error(Text("--price-as needs --price, --unit-price or --old-price"))
-
-
-def check_settings(parser: Parser, arguments: argparse.Namespace) -> None:
-    """Raises `BadArguments` for settings that are wrong, or that no row can have."""
-    settings = arguments.settings or ""
-    if arguments.settings is not None and not SETTINGS.fullmatch(settings):
-        parser.error(
-            Text("--settings {}: write it as height=30 or level=Q,mask=2", quoted(settings))
-        )
     if arguments.symbology_column is None:
-        one = SYMBOLOGIES[EAN13.name if arguments.symbology == AUTO else arguments.symbology]
-        wrong = TableOptions(settings=settings).wrong_setting(one.name)
+        one = SYMBOLOGIES[EAN13.name if rules.symbology == AUTO else rules.symbology]
+        wrong = TableOptions(settings=arguments.settings or "").wrong_setting(one.name)
         if wrong:
             parser.error(Text("{} has no setting {}", one.title, wrong))
 
@@ -309,43 +267,47 @@ def proposed(words: Sequence[str], arguments: argparse.Namespace) -> Text:
     if arguments.table in (None, "-"):
         return NOTHING
     name, data = read_input(arguments.table)
-    guess = guess_of(data, name, TableOptions(file=file_options(arguments)), Silence())
-    codes = guess.doubts.get("code", ()) or [
-        guess.columns[one] for one in guess.columns if one == "code"
+    options = TableOptions(file=made(FileOptions, arguments))
+    guess = guess_of(data, name, options, Silence())
+    is_given = made(CodeRules, arguments) != CodeRules() or arguments.symbology_column is not None
+    commands = [
+        command_for(guess, code, rules, words, arguments)
+        for code, ways in guess.codes.items()
+        for rules in ([CodeRules()] if is_given else ways.rules)
     ]
-    commands = [command_for(guess, code, words, arguments) for code in codes[:MOST_PROPOSED]]
-    asked = [
-        Text(
-            "--{} may be {}",
-            kind,
-            ", ".join(shlex.quote(column_word(guess.names, at)) for at in places),
-        )
-        for kind, places in guess.doubts.items()
-        if len(places) > 1 or kind != "code"
-    ]
-    tried = [Text("try {}", joined(", ", commands))] if commands else []
-    return joined("; ", [*asked, *tried])
+    said = []
+    for at, ways in guess.codes.items():
+        if ways.problem and not is_given:
+            name = column_word(guess.names, at)
+            said.append(Text("most codes in {} are not EAN or UPC: {}", name, ways.problem))
+    for kind, places in guess.doubts.items():
+        if len(places) > 1 or kind != "code":
+            names = ", ".join(shlex.quote(column_word(guess.names, at)) for at in places)
+            said.append(Text("--{} may be {}", kind, names))
+    tried = Text("try {}", joined(", ", commands[:MOST_PROPOSED]))
+    return joined("; ", [*said, tried]) if commands else NOTHING
 
 
 def command_for(
-    guess: Guess, code: int, words: Sequence[str], arguments: argparse.Namespace
+    guess: Guess, code: int, rules: CodeRules, words: Sequence[str], arguments: argparse.Namespace
 ) -> str:
-    """Returns the command that a guess proposes with the codes of a column."""
+    """Returns the command that a guess proposes with the codes of a column, which are read by
+    rules.
+    """
     columns = {**guess.columns, "code": code}
     options: dict[str, Any] = {
         option: column_word(guess.names, columns[option])
         for option in ("code", "title", "price", "copies")
         if option in columns and not getattr(arguments, option)
     }
-    symbology = guess.symbologies.get(code, AUTO)
-    if arguments.symbology == AUTO and symbology != AUTO:
-        options["symbology"] = symbology
+    options["symbology"] = rules.symbology if rules.is_free else ""
+    options["fill-zeros"] = rules.fill_zeros
+    options["without-check-digit"] = rules.without_check_digit
     if arguments.header_row is None and arguments.has_header is None:
-        options["header-row"] = guess.header if guess.header > 1 else 0
+        is_asked = guess.header > 1 or column_word(guess.names, code).isdecimal()
+        options["header-row"] = guess.header if is_asked else 0
         options["no-header"] = not guess.header
-    is_last = words[-1:] == [arguments.table]
-    front, behind = (words[:-1], words[-1:]) if is_last else (words, [])
-    return shlex.join([TOOL, *front, *words_of(options), *behind])
+    return shlex.join([TOOL, *words_of(options), *words])
 
 
 def older_lines(path: str) -> LinesFile:
@@ -368,15 +330,10 @@ def run() -> int:
     talk = TableTalk()
     lines = lines_of_table(data, name, options, talk)
     talk.finish()
-    tell(lines, arguments.summary, talk)
+    if arguments.summary or sys.stderr.isatty():
+        talk.say(lines.summary)
     output.write(lines.output)
     return 1 if lines.left_out else 0
-
-
-def tell(lines: Lines, is_asked: bool, talk: TableTalk) -> None:
-    """Writes the summary, where it was asked for or somebody is at the terminal."""
-    if is_asked or sys.stderr.isatty():
-        talk.say(lines.summary)
 
 
 def main() -> None:

@@ -6,6 +6,7 @@ import argparse
 import os
 import signal
 import sys
+import time
 from contextlib import contextmanager, suppress
 from importlib import import_module
 from io import RawIOBase, TextIOWrapper
@@ -24,8 +25,9 @@ from labeltools.common.messages import (
 )
 
 STANDARD_ERROR = 2
+QUIET, BETWEEN = 1.0, 0.3  # seconds before progress is shown, and until it is shown again
 DRAWING = ("python3-gi-cairo", "gir1.2-pango-1.0")  # the packages that draw labels
-AsWritten = argparse.RawDescriptionHelpFormatter  # what stands around the options
+AS_WRITTEN = argparse.RawDescriptionHelpFormatter  # what is around the options
 ENDING = (signal.SIGHUP, signal.SIGINT, signal.SIGTERM)
 HELD: list[list[int]] = []  # the signals that came while they are held back, where they are
 
@@ -53,7 +55,7 @@ class Parser(argparse.ArgumentParser):
 
     def __init__(self, tool: str, usage: str, about: str, examples: str = "") -> None:
         super().__init__(
-            tool, usage, about, examples, formatter_class=AsWritten, allow_abbrev=False
+            tool, usage, about, examples, formatter_class=AS_WRITTEN, allow_abbrev=False
         )
         version = f"{tool} {RELEASE}"
         self.add_argument("--version", action="version", help="print the version", version=version)
@@ -73,6 +75,7 @@ class CommandTalk:
 
     def __init__(self, tool: str) -> None:
         self.tool = tool
+        self.next_time = time.monotonic() + QUIET
 
     def note(self, place: Place, cell: str, reason: Text, hint: Text) -> None:
         """Writes why a row or line is left out."""
@@ -83,7 +86,13 @@ class CommandTalk:
         write_message(self.tool, sentence(text, hint))
 
     def go_on(self, done: int, total: int) -> None:
-        """Does nothing: a signal ends a command."""
+        """Shows on a terminal how many of the labels are done, or how many rows, until another
+        message takes its place.
+        """
+        if done and time.monotonic() >= self.next_time and sys.stderr.isatty():
+            self.next_time = time.monotonic() + BETWEEN
+            count = f"{done} of {total} labels" if total else f"{done} rows"
+            print(f"{self.tool}: {count}", end="\r", file=sys.stderr, flush=True)
 
 
 def words_of(options: Mapping[str, Any]) -> list[str]:
@@ -180,7 +189,10 @@ def status_of(tool: str, function: Callable[[], Optional[int]]) -> int:
     """Returns the status of a tool; its messages are written."""
     try:
         buffer_output()
-        status = ended(function)
+        try:
+            status = function() or 0
+        except SystemExit as end:  # argparse ends so after a help text
+            status = int(end.code or 0)
         if sys.stdout is not None:
             sys.stdout.flush()
         return status
@@ -195,16 +207,6 @@ def status_of(tool: str, function: Callable[[], Optional[int]]) -> int:
     except OSError as error:
         write_message(tool, of_system(error).args[0])
         return 1
-
-
-def ended(function: Callable[[], Optional[int]]) -> int:
-    """Returns the status of a function, also where argparse ends it after a help text or bad
-    arguments.
-    """
-    try:
-        return function() or 0
-    except SystemExit as end:
-        return int(end.code or 0)
 
 
 def buffer_output() -> None:

@@ -1,14 +1,14 @@
-"""The row of names, the rows that repeat it, and the rows that are named together in a message."""
+"""The row of names, the rows that repeat it, and rows that lack something."""
 
 import re
 import unicodedata
 from collections import Counter
 from typing import Iterable, Sequence
 
+from labeltools.common.report import listed
 from labeltools.common.text import Text, counted
 
 NUMBER = re.compile("[0-9]{1,15}(?:[.,][0-9]{1,9})?")
-MOST_NAMED = 5  # rows in one message
 
 
 def name_of(text: str) -> str:
@@ -30,13 +30,8 @@ def is_repeated(cells: Iterable[str], names: Sequence[str]) -> bool:
     >>> is_repeated(["EAN", "Name", ""], names), is_repeated(["EAN", "Pen", "1"], names)
     (True, False)
     """
-    same = 0
-    for cell, name in zip(cells, names):
-        if cell.strip():
-            if name_of(cell) != name:
-                return False
-            same += 1
-    return same > 1
+    filled = [(name_of(cell), name) for cell, name in zip(cells, names) if cell.strip()]
+    return len(filled) > 1 and all(cell == name for cell, name in filled)
 
 
 def row_of_names(rows: Iterable[tuple[int, Sequence[str]]], asked: Sequence[str]) -> int:
@@ -55,31 +50,13 @@ def row_of_names(rows: Iterable[tuple[int, Sequence[str]]], asked: Sequence[str]
     return 0
 
 
-def listed(rows: Sequence[int]) -> Text:
-    """Returns rows for a message.
-
-    >>> listed([3]), listed([3, 4]), listed(list(range(2, 12)))
-    ('row 3', 'rows 3 and 4', 'rows 2, 3, 4, 5, 6 and 5 more')
-    """
-    if len(rows) == 1:
-        return Text("row {}", rows[0])
-    numbers = list(map(str, rows))
-    if len(rows) <= MOST_NAMED:
-        return Text("rows {} and {}", ", ".join(numbers[:-1]), numbers[-1])
-    first = ", ".join(numbers[:MOST_NAMED])
-    return Text("rows {} and {} more", first, len(rows) - MOST_NAMED)
-
-
 def said_of_empty(what: str, rows: Sequence[int], labels: int) -> Text:
     """Returns the one message of empty titles or prices.
 
     >>> said_of_empty("title", [3, 4], 3)
-    'rows 3 and 4 have no title (2 of 3 labels)'
+    'rows 3-4 have no title (2 of 3 labels)'
     """
-    named = listed(rows)
-    part = counted("{1} of {0} label", "{1} of {0} labels", labels, len(rows))
+    named = listed(rows), counted("{1} of {0} label", "{1} of {0} labels", labels, len(rows))
     if what == "title":
-        one = Text("{} has no title ({})", named, part)
-        return one if len(rows) == 1 else Text("{} have no title ({})", named, part)
-    one = Text("{} has no price ({})", named, part)
-    return one if len(rows) == 1 else Text("{} have no price ({})", named, part)
+        return counted("{1} has no title ({2})", "{1} have no title ({2})", len(rows), *named)
+    return counted("{1} has no price ({2})", "{1} have no price ({2})", len(rows), *named)

@@ -1,7 +1,7 @@
 """Why labels are left out, in a handful of messages."""
 
 from dataclasses import dataclass
-from itertools import groupby
+from itertools import groupby, islice
 from typing import Iterable, Iterator, Optional, Sequence
 
 from labeltools.common.text import NOTHING, Text, joined
@@ -9,6 +9,7 @@ from labeltools.common.messages import Place
 
 MOST_REASONS = 8  # that have a message of their own
 MOST_RANGES = 10  # of rows that a message names
+Ranges = Sequence[tuple[int, int]]  # the first and the last number of each
 
 
 @dataclass(frozen=True, slots=True)
@@ -45,26 +46,41 @@ def places_text(places: Iterable[Place], has_tables: bool) -> Text:
     """Returns places in words, such as `rows 2, 5-9`."""
     texts = []
     for (table, unit), group in groupby(sorted(set(places)), key=lambda place: place[:2]):
-        numbers = [place.number for place in group]
-        ranges = [range_text(first, last) for first, last in ranges_of(numbers)]
-        named = ", ".join(ranges[:MOST_RANGES])
-        if unit == "row":
-            text = Text("row {}", named) if len(numbers) == 1 else Text("rows {}", named)
-        else:
-            text = Text("line {}", named) if len(numbers) == 1 else Text("lines {}", named)
-        if len(ranges) > MOST_RANGES:
-            text = Text("{} .. ({} in all)", text, len(numbers))
+        text = ranges_text(ranges_of(place.number for place in group), unit)
         texts.append(Text("{}, {}", table, text) if has_tables and table else text)
     return joined("; ", texts) if texts else Text("some rows")
 
 
-def few(names: Sequence[str], count: int) -> Text:
-    """Returns names; where they are many, the first of them and the count of what all name."""
+def listed(rows: Iterable[int]) -> Text:
+    """Returns rows in words.
+
+    >>> listed([3]), listed([3, 5, 6, 7])
+    ('row 3', 'rows 3, 5-7')
+    """
+    return ranges_text(ranges_of(rows))
+
+
+def ranges_text(ranges: Ranges, unit: str = "row") -> Text:
+    """Returns ranges of rows or lines in words; where they are many, the first of them and how many
+    rows all have.
+    """
+    count = sum(last - first + 1 for first, last in ranges)
+    words = (f"{first}" if first == last else f"{first}-{last}" for first, last in ranges)
+    named = ", ".join(islice(words, MOST_RANGES))
+    if unit == "row":
+        text = Text("row {}", named) if count == 1 else Text("rows {}", named)
+    else:
+        text = Text("line {}", named) if count == 1 else Text("lines {}", named)
+    return Text("{} .. ({} in all)", text, count) if len(ranges) > MOST_RANGES else text
+
+
+def few(names: Sequence[str]) -> Text:
+    """Returns names; where they are many, the first of them and their count."""
     text = joined(", ", names[:MOST_RANGES])
-    return Text("{} .. ({} in all)", text, count) if len(names) > MOST_RANGES else text
+    return Text("{} .. ({} in all)", text, len(names)) if len(names) > MOST_RANGES else text
 
 
-def ranges_of(numbers: Iterable[int]) -> list[tuple[int, int]]:
+def ranges_of(numbers: Iterable[int]) -> Ranges:
     """Returns the first and last numbers of runs of numbers in order.
 
     >>> ranges_of([2, 5, 6, 7])
@@ -77,8 +93,3 @@ def ranges_of(numbers: Iterable[int]) -> list[tuple[int, int]]:
         else:
             found.append((number, number))
     return found
-
-
-def range_text(first: int, last: int) -> str:
-    """Returns a range in words."""
-    return f"{first}" if first == last else f"{first}-{last}"

@@ -3,6 +3,7 @@
 xgettext finds them: `--keyword=Text --keyword=counted:1,2`.
 """
 
+from dataclasses import dataclass
 from typing import Iterable
 
 from labeltools.common.words import ngettext, one_text
@@ -35,6 +36,7 @@ class Text(str):
 
 
 NOTHING = Text("")
+SIGNS = Text("1,000.5")  # a number, by which a translation shows its signs
 
 
 def counted(one: str, many: str, count: int, *fields: object) -> Text:
@@ -57,8 +59,21 @@ def joined(sign: str, parts: Iterable[object]) -> Text:
     return Text(sign.join(["{}"] * len(found)), *found)
 
 
+@dataclass(frozen=True)
+class Figure:
+    """A number as the user's language writes it."""
+
+    value: float
+
+    def __format__(self, form: str) -> str:
+        signs = one_text(SIGNS)
+        return format(self.value, form).translate({ord(","): signs[1], ord("."): signs[-2]})
+
+
 def translated(text: object) -> str:
-    """Returns a text in the language of the user; what is no `Text` stays as it is."""
+    """Returns a text in the language of the user; what is neither a `Text` nor a number stays as it
+    is.
+    """
     if not isinstance(text, Text):
         return str(text)
     if not text.fields:
@@ -68,5 +83,11 @@ def translated(text: object) -> str:
         template = ngettext(text.template, text.many, first)
     else:
         template = one_text(text.template)
-    fields = (translated(one) if isinstance(one, Text) else one for one in text.fields)
-    return template.format(*fields)
+    return template.format(*map(shown, text.fields))
+
+
+def shown(field: object) -> object:
+    """Returns what a text has in the place of a field."""
+    if isinstance(field, Text):
+        return translated(field)
+    return Figure(field) if isinstance(field, (int, float)) else field

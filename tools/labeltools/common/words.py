@@ -29,11 +29,6 @@ def language() -> str:
     return str(_translation.info().get("language", "C"))
 
 
-def is_translated() -> bool:
-    """Returns whether there are texts in the language of the user."""
-    return isinstance(_translation, gettext.GNUTranslations)
-
-
 def one_text(text: str) -> str:
     """Returns a text in the language of the user; gettext has its own head for the empty one."""
     return _(text) if text else ""

@@ -24,8 +24,7 @@ import cairo
 
 from labeltools.paper.area import Edges
 from labeltools.common.messages import BAD_ARGUMENTS, ToolError
-from labeltools.designs.drawing import HOLDERS, SvgPage, handle_of, named, read_page
-from labeltools.designs.drawing import rectangle, tag_of
+from labeltools.designs.drawing import HOLDERS, SvgPage, handle_of, read_page, rsvg, tag_of
 from labeltools.designs.places import Colour, PARTS, Place, key_of, part_of, place_of
 from labeltools.designs.places import title_of
 from labeltools.paper.stock import Size, size_text
@@ -92,8 +91,10 @@ class OwnDesign:
     def area(self, scale: float) -> Any:
         """Returns where its page is on a label, in so many units a millimetre."""
         size = self.page.size if self.page.is_real else self.label
-        left, top = ((one - other) / 2 for one, other in zip(self.label, size))
-        return rectangle(left, top, *size, scale)
+        corner = ((one - other) / 2 for one, other in zip(self.label, size))
+        area = rsvg().Rectangle()
+        area.x, area.y, area.width, area.height = (side * scale for side in (*corner, *size))
+        return area
 
     def draw(self, canvas: Any, scale: float, absent: frozenset[str] = frozenset()) -> None:
         """Draws what is alike on labels without some parts, in so many units a millimetre."""
@@ -134,7 +135,7 @@ def size_of_page(file: str) -> Size:
     """Returns the size of a page; raises `ToolError` if that is not in millimetres."""
     page = read_page(file)
     if not page.is_real:
-        hint = Text("name the paper by --paper, --stock or --cell")
+        hint = Text("name the paper with --paper, --stock or --cell")
         raise ToolError(Text("{} has no size in millimetres", file), hint, BAD_ARGUMENTS)
     return page.size
 
@@ -159,10 +160,9 @@ def read_design(file: str, cell: Size, white: Edges, turn: Optional[bool]) -> Ow
     )
     smaller = [title for title, by in lost if by > NEAR / 2 + TINY]
     design = replace(design, places=cut)
-    seen = design.seen(frozenset())
-    for drawing in (seen, design.seen(frozenset(groups))) if groups else (seen,):
-        check_white(design, drawing)
-    said = tuple(remarks_on(design, seen, smaller, edges))
+    for absent in {frozenset[str](), frozenset(groups)}:
+        check_white(design, design.seen(absent))
+    said = tuple(remarks_on(design, smaller, edges))
     colours = design.colours(frozenset())
     places = (replace(place, colour=colours.get(place, BLACK)) for place in cut)
     return replace(design, places=tuple(places), remarks=said)
@@ -264,19 +264,15 @@ def located_place(file: str, place: Place, whole: Any, upper: Any, left: Any) ->
         hint = Text("give it a width and a height, and show its layer, or remove its name")
         what = Text("{}: the place {} is hidden, or has no size", file, place.title)
         raise ToolError(what, hint)
-    is_across = upper.height < upper.width
-    is_slanted = (
-        max(upper.width, upper.height) < (whole.width if is_across else whole.height) - TINY
-    )
-    if min(upper.width, upper.height) > TINY or is_slanted:
-        hint = Text("turn it by a quarter, or not at all")
-        raise ToolError(Text("{}: the place {} is askew", file, place.title), hint)
     middle = whole.x + whole.width / 2
-    if is_across:  # one that is mirrored is upright
+    if max(upper.height, left.width) <= TINY:  # one that is mirrored is upright
         is_below = upper.y > whole.y + whole.height / 2
         quarters = 2 if is_below and left.x > middle else 0
-    else:
+    elif max(upper.width, left.height) <= TINY:
         quarters = 3 if upper.x < middle else 1
+    else:
+        hint = Text("turn it by a quarter, or not at all")
+        raise ToolError(Text("{}: the place {} is askew", file, place.title), hint)
     sides = {"left": whole.x, "top": whole.y, "width": whole.width, "height": whole.height}
     return replace(place, quarters=quarters, **sides)
 
@@ -330,11 +326,12 @@ def inside(file: str, place: Place, label: Size, edges: Edges) -> Place:
     return replace(place, left=left, top=top, width=wide, height=high)
 
 
-def remarks_on(design: OwnDesign, seen: Seen, smaller: list[str], edges: Edges) -> Iterator[Text]:
+def remarks_on(design: OwnDesign, smaller: list[str], edges: Edges) -> Iterator[Text]:
     """Yields what is said of a design and its drawing, of which some places are smaller than drawn,
     since an edge takes no ink.
     """
     file = design.page.file
+    seen = design.seen(frozenset())
     counts = Counter(place.key for place in design.places)
     if again := [key for key, count in counts.items() if count > 1]:
         what = Text("{}: several rectangles are named {}", file, ", ".join(again))
@@ -353,27 +350,21 @@ def remarks_on(design: OwnDesign, seen: Seen, smaller: list[str], edges: Edges) 
             yield Text("{}: {}", what, Text("move it in, or give another --edge or --shift"))
     if spotted := design.mixed(frozenset(), SPOTTED, UNREAD):
         yield mixed_text(file, ", ".join(place.title for place in spotted))
-    if names := design.page.unlike:
-        what = Text("{}: {} may be drawn otherwise, or not at all", file, named(names))
-        hint = Text("look at it by --to png, save it with texts as paths, or make it a picture")
-        yield Text("{}: {}", what, hint)
 
 
 def mixed_text(file: str, places: str) -> Text:
     """Returns that letters can hardly be read in some places."""
     what = Text("{}: the drawing is light and dark in the place {}", file, places)
-    return Text(
-        "{}: {}", what, Text("the drawing behind letters has to be light or dark: move the place")
-    )
+    hint = Text("the drawing behind letters has to be light or dark: move the place")
+    return Text("{}: {}", what, hint)
 
 
 def check_white(design: OwnDesign, seen: Seen) -> None:
     """Raises `ToolError` where a drawing is not white in the place of a symbol."""
     for place in design.places:
         if place.is_symbol and seen.behind(place, EDGE).translate(None, WHITEST):
-            what = Text(
-                "{}: the drawing is not white in the place {}", design.page.file, place.title
-            )
+            names = design.page.file, place.title
+            what = Text("{}: the drawing is not white in the place {}", *names)
             raise ToolError(what, Text("a symbol needs white there, up to the edge of its place"))
 
 

@@ -1,9 +1,8 @@
 """The drawing of a design: a page of SVG, as librsvg draws it.
 
 What a page may be made of is listed here. An element that is not in the list is refused, since
-librsvg would leave it out; attributes that it is known to leave out are named once. All else is as
-the preview shows it, alike on all labels. Nothing of a page is written anew: what is not to be seen
-is hidden by a style sheet.
+librsvg would leave it out. All else is as the preview shows it, alike on all labels. Nothing of a
+page is rewritten: what is not to be seen is hidden by a style sheet.
 """
 
 import os
@@ -15,12 +14,12 @@ from base64 import b64decode
 from dataclasses import dataclass
 from functools import cached_property, lru_cache
 from io import BytesIO
+from math import prod
 from pathlib import Path
-from typing import Any, Iterable
+from typing import Any
 from xml.etree import ElementTree
 from xml.etree.ElementTree import Element
 
-from labeltools.layout.letters import font_instead
 from labeltools.common.messages import ToolError
 from labeltools.layout.pango import library
 from labeltools.paper.stock import Size
@@ -29,14 +28,13 @@ from labeltools.common.text import Text
 SPACE = "{http://www.w3.org/2000/svg}"
 BEGIN = '<svg xmlns="http://www.w3.org/2000/svg"'
 LINKS = ("href", "{http://www.w3.org/1999/xlink}href")
-NO_STYLES = (*LINKS, "d", "points")  # long ones
 DPI = 96.0  # of CSS, in which lengths without a unit are; librsvg takes 90 where nothing is said
 PX = 25.4 / DPI  # millimetres
 MOST_BYTES = 8_000_000
 MOST_SECONDS = 5  # of a processor, in which a page has to be drawn
 MOST_MEMORY = 500_000_000  # bytes that this may take
 TRIAL = str(Path(__file__).with_name("trial.py"))
-MOST_PIXELS = 25_000_000  # of a picture: each takes 16 bytes when it is drawn
+MOST_PIXELS = 25  # millions, of its pictures: each takes 16 bytes when it is drawn
 LARGEST = 4000.0  # millimetres of a page
 PACKED = b"\x1f\x8b"  # what .svgz begins with
 WITHIN = re.compile("#|data:image/(?:png|jpeg);base64,")
@@ -53,19 +51,7 @@ ELEMENTS = frozenset(
 )
 # what stands in a rectangle of its own, or of others, and is no place
 HOLDERS = ("clipPath", "defs", "marker", "mask", "pattern", "symbol")
-# properties that librsvg leaves out, but for values that change nothing; what newer CSS computes
-UNDRAWN = re.compile(
-    r"(?<![\w-])(?:baseline-shift|dominant-baseline|font-variant|rotate|scale|textLength|translate"
-    r"|text-shadow|transform-origin|vector-effect|word-spacing|writing-mode):\s*(?!(?:0(?:px)?|auto"
-    r"|alphabetic|baseline|horizontal-tb|inherit|lr(?:-tb)?|none|normal)\s*(?:;|$))[^;{}]{1,20}"
-    r"|(?:calc|light-dark|var)\([^;{}]{0,20}|@(?:font-face|media|supports)"
-)
-SPREAD = re.compile(r"^d?[xy]:[-+.\de]+[\s,]+[-+.\de]+")  # letters that are placed one by one
-FAMILY = re.compile(r"(?<![\w-])font-family:([^;{}]+)")
-GENERAL = ("serif", "sans-serif", "sans", "monospace", "cursive", "fantasy", "system-ui", "inherit")
-MOST_NAMED = 9
 PLAIN = Text("export it as a picture, or with texts as paths")
-
 SMALLER = Text("make its pictures smaller")
 
 
@@ -90,22 +76,6 @@ class SvgPage:
     def has(self, *tags: str) -> bool:
         """Returns whether it has an element of one of some tags."""
         return any(tag_of(element) in tags for element in self.root.iter())
-
-    @property
-    def unlike(self) -> list[str]:
-        """What is known to be drawn otherwise, or not at all, and fonts that are not there."""
-        found = {"<svg transform>"} if "transform" in self.root.attrib else set()
-        fonts: set[str] = set()
-        for element in self.root.iter():
-            kinds = (UNDRAWN, SPREAD) if tag_of(element) in ("text", "tspan") else (UNDRAWN,)
-            for value in values_of(element):
-                found.update(one.strip() for kind in kinds for one in kind.findall(value))
-                fonts.update(FAMILY.findall(value))
-        for families in fonts if self.has("text") else ():
-            family, *_ = names = re.sub("[\"']", "", families).strip().split(",")
-            if family.lower() not in GENERAL and font_instead(",".join(names)):
-                found.add(f"font-family:{family}")
-        return sorted(found)
 
 
 def read_page(file: str) -> SvgPage:
@@ -181,12 +151,6 @@ def tag_of(element: Element) -> str:
     return str(element.tag).removeprefix(SPACE)
 
 
-def values_of(element: Element) -> list[str]:
-    """Returns the attributes of an element and what is in a style sheet, as CSS writes them."""
-    found = [f"{key}:{value}" for key, value in element.items() if key not in NO_STYLES]
-    return [*found, element.text or ""] if tag_of(element) == "style" else found
-
-
 def check_elements(file: str, root: Element) -> None:
     """Raises `ToolError` for what would not be drawn: elements that are not known, other files,
     pictures of other kinds.
@@ -194,49 +158,38 @@ def check_elements(file: str, root: Element) -> None:
     filled = (one for one in root.iter() if not is_empty_flow(one))
     tags = dict.fromkeys(map(tag_of, filled))
     if unknown := [tag for tag in tags if not tag.startswith("{") and tag not in ELEMENTS]:
-        raise ToolError(Text("{}: {} is not drawn", file, named(unknown)), PLAIN)
+        raise ToolError(Text("{}: {} is not drawn", file, ", ".join(unknown)), PLAIN)
+    pixels = 0
     for element in root.iter():
         links = [*filter(None, map(element.get, LINKS))]
-        if tag_of(element) == "a":  # of which Cairo makes no PDF
+        sheets = [element.text or ""] * (tag_of(element) == "style")
+        styles = [*sheets, *(value for key, value in element.items() if key not in LINKS)]
+        if tag_of(element) in ("a", "color-profile"):  # links in PDF fail, profiles are not used
             element.tag = f"{SPACE}g"
-        elif not all(map(WITHIN.match, links)) or any(map(OUTSIDE.search, values_of(element))):
+        elif not all(map(WITHIN.match, links)) or any(map(OUTSIDE.search, styles)):
             what = Text("{}: {} is of another file, or is not PNG or JPEG", file, tag_of(element))
             raise ToolError(what, Text("embed it, in Inkscape by Extensions, Images, Embed Images"))
         elif tag_of(element) == "image":
-            for link in links:
-                check_picture(file, link.partition(",")[2])
+            pixels += sum(pixels_of(file, link.partition(",")[2]) for link in links)
+    if pixels > MOST_PIXELS * 1_000_000:
+        what = Text("{}: pictures have more than {} million pixels", file, MOST_PIXELS)
+        raise ToolError(what, SMALLER)
 
 
-def check_picture(file: str, data: str) -> None:
-    """Raises `ToolError` for a picture that is broken, or too large; there may be no data."""
+def pixels_of(file: str, data: str) -> int:
+    """Returns how many pixels a picture has; raises `ToolError` for one that is broken."""
     from PIL import Image  # it takes 40 ms, also of built-in designs
 
     Image.MAX_IMAGE_PIXELS = None  # its own limit is a warning
     try:
-        size = Image.open(BytesIO(b64decode(data))).size if data else (0, 0)
+        return int(prod(Image.open(BytesIO(b64decode(data))).size)) if data else 0
     except (OSError, ValueError) as error:
         raise ToolError(Text("{}: a picture is broken", file), Text("embed it again")) from error
-    if size[0] * size[1] > MOST_PIXELS:
-        most = MOST_PIXELS // 1_000_000
-        raise ToolError(Text("{}: a picture has more than {} million pixels", file, most), SMALLER)
 
 
 def is_empty_flow(element: Element) -> bool:
     """Returns whether an element is of text that flows, as Inkscape leaves it behind, and empty."""
     return tag_of(element).startswith("flow") and not "".join(element.itertext()).strip()
-
-
-def named(names: Iterable[str]) -> str:
-    """Returns some names, the first of many."""
-    found = list(names)
-    return ", ".join([*found[:MOST_NAMED], *[".."] * (len(found) > MOST_NAMED)])
-
-
-def rectangle(left: float, top: float, width: float, height: float, scale: float) -> Any:
-    """Returns a rectangle of librsvg."""
-    area = rsvg().Rectangle()
-    area.x, area.y, area.width, area.height = (side * scale for side in (left, top, width, height))
-    return area
 
 
 def rsvg() -> Any:

@@ -15,7 +15,7 @@ from labeltools.layout.glyphs import LINE_END
 from labeltools.layout.frames import Box, HINTING, LEAST_TEXT, LINE, share
 from labeltools.common.kept import Found
 from labeltools.layout.letters import BLANK, Letters, Sign, extent_of
-from labeltools.common.messages import quoted
+from labeltools.common.messages import ToolError, quoted
 from labeltools.designs.places import Place
 from labeltools.common.text import Text
 
@@ -28,31 +28,20 @@ NUMBER = re.compile(r"\W*\d[\d\W]+")
 LOW = 0.5  # of the size of letters: signs with lower ink, as hyphens, are as beside a LETTER
 LETTER = "H"
 MOST_LINES = 20  # of a text in a place
-ENDS = re.compile(f"[\n{LINE_END}]")
 ENLARGE = Text("enlarge it")
 
 
-class NoRoom(Exception):
+class NoRoom(ToolError):
     """Why a price or a symbol has no room in its place."""
-
-    def __init__(self, reason: Text) -> None:
-        super().__init__(reason)
-        self.reason = reason
 
 
 class OwnText(NamedTuple):
-    """A text in a place, with the ends of its lines: its letters, its lines, how they are written,
-    and the room of the place as it is read.
-    """
+    """A text in the box of a place, with the ends of its lines, and how it is written."""
 
     place: Place
     text: str
     box: Box
-    size: int
-    lines: int
     style: Style
-    wide: int
-    high: int
 
 
 class Fit(NamedTuple):
@@ -75,24 +64,19 @@ class Room:
         self.box = box
         self.letters = letters
         self.dot = dot
-        self.wide, self.high = (box.width, box.height)[:: -1 if place.quarters % 2 else 1]
+        self.wide, self.high = place.as_read(box)
         self.sign = cache(self.new_sign)
-        self.style = cache(self.new_style)
         self.texts: Found[str, OwnText] = Found(self.new_text)
         signs = [self.sign(line) for line in {one for text in counts for one in text.split("\n")}]
         if max(sign.bottom - sign.top for sign in signs) < LOW:
             signs.append(self.sign(LETTER))
         self.top = min(sign.top for sign in signs)
         self.bottom = max(sign.bottom for sign in signs)
-        if self.bottom - self.top <= 0:
-            self.top, self.bottom = -1.0, 0.0
         least = math.ceil((place.least or LEAST_TEXT) / dot)
         self.least = max(1, min(least, self.largest(1)))
-        self.most_lines = 1
-        while self.most_lines < (place.lines or MOST_LINES):
-            if self.largest(self.most_lines + 1) < self.least:
-                break
-            self.most_lines += 1
+        counted = range(1, int(place.lines or MOST_LINES) + 1)
+        fitting = (one for one in counted if self.largest(one) >= self.least)
+        self.most_lines = max(fitting, default=1)  # a place may be lower than a dot
         self.fits = {text: self.fit_of(text) for text in counts}
         sizes: Counter[float] = Counter()
         for text, labels in counts.items():
@@ -121,7 +105,10 @@ class Room:
         """Returns the largest letters in which a text is whole, or else the least ones."""
         text = self.with_lines(text)
         sizes = sizes_between(self.least, self.largest(text.count("\n") + 1))
-        number = bisect_left(sizes, True, key=lambda size: self.lines_of(text, size) is not None)
+        whole = self.lines_of(text, sizes[0])  # most texts fit so
+        if whole is not None:
+            return Fit(sizes[0], whole)
+        number = bisect_left(sizes, True, 1, key=lambda size: self.lines_of(text, size) is not None)
         whole = self.lines_of(text, sizes[number]) if number < len(sizes) else None
         return Fit(self.least, text, True) if whole is None else Fit(sizes[number], whole)
 
@@ -168,7 +155,7 @@ class Room:
         fit = self.fits[text]
         if fit.is_cut and place.part in PRICES:
             what = Text("{} does not fit in the place {}", quoted(text), place.title)
-            raise NoRoom(Text("{}: {}", what, ENLARGE))
+            raise NoRoom(what, ENLARGE)
         size = min(fit.size, self.common)
         written = fit.text
         if size < fit.size and LINE_END in written:
@@ -179,9 +166,9 @@ class Room:
         tall = ((lines - 1) * LINE + self.bottom - self.top) * size
         base = round((self.high - tall) * place.down - self.top * size)
         struck = len(text.encode()) if place.part == "was" else 0
-        is_parted = lines > 1 or fit.is_cut or "\n" in written
-        style = self.style(size, lines * is_parted, struck, base)
-        return OwnText(place, written, self.box, size, lines, style, self.wide, self.high)
+        most = lines if lines > 1 or fit.is_cut else 0
+        how = (self.letters.family, place.is_bold, size, most, place.across, 0.0, struck, base)
+        return OwnText(place, written, self.box, Style(*how))
 
     def is_parted_number(self, word: str) -> bool:
         """Returns whether a word is a number that is wider than a line of the least letters: in two
@@ -190,15 +177,10 @@ class Room:
         room = self.wide / self.least / HINTING - SIDE
         return bool(NUMBER.fullmatch(word)) and self.sign(word).advance > room
 
-    def new_style(self, size: int, lines: int, struck: int, base: int) -> Style:
-        """Returns how texts are written."""
-        bold, across = self.place.is_bold, self.place.across
-        return Style(self.letters.family, bold, size, lines, across, 0.0, struck, base)
-
 
 def count_of(text: str) -> int:
     """Returns how many lines a text has."""
-    return len(ENDS.findall(text)) + 1
+    return text.count("\n") + text.count(LINE_END) + 1
 
 
 @cache

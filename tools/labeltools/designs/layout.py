@@ -5,18 +5,18 @@ module that their place takes. Lengths are in dots.
 import math
 from collections import Counter
 from dataclasses import dataclass, field
-from functools import cache
-from itertools import combinations, repeat
-from operator import itemgetter
-from typing import Iterable, Iterator, Mapping, NamedTuple, Sequence
+from functools import cache, lru_cache
+from itertools import combinations, compress, repeat
+from typing import Iterator, Mapping, NamedTuple, Sequence
 
 from labeltools.paper.area import Area, LARGEST_MODULE, TINY
 from labeltools.lines.engine import Modules, drawn
+from labeltools.common.kept import Found
 from labeltools.layout.frames import Box, DIGITS_ROOM, Frame, LOWEST
 from labeltools.layout.layout import ASKED, LaidOut, LaidOutFile, Layout, PrintLabel, short
 from labeltools.layout.letters import Letters
 from labeltools.lines.file import symbology_and_data
-from labeltools.common.messages import Talk, ToolError, quoted
+from labeltools.common.messages import Talk, ToolError, quoted, sentence
 from labeltools.designs.design import NEAR, OwnDesign, UNREAD, mixed_text
 from labeltools.designs.fit import ENLARGE, NoRoom, OwnText, Room
 from labeltools.designs.places import PARTS, Place, key_of
@@ -24,7 +24,8 @@ from labeltools.paper.stock import size_text
 from labeltools.lines.symbologies import SYMBOLOGIES, Symbology
 from labeltools.common.text import Text
 
-WHOLE = frozenset(("price", "unit", "was", "code", "note"))  # parts that are as long as they are
+FIELDS = ("title", "price", "unit", "was", "code")  # of each label
+KEPT = 16  # columns of labels
 CODE = Place("code")  # of a built-in design
 NO_FRAME = Frame("own", {}, {}, 0, 0, 0, 0, 0, 0, True, 0.0)
 
@@ -79,22 +80,40 @@ def values_of(label: PrintLabel, note: str, own: frozenset[str]) -> Values:
     others together as its text.
     """
     whole = label.record.label
-    texts = {"title": whole.title, "price": whole.price, "unit": whole.unit, "was": whole.was}
-    texts["code"] = label.record.data.decode("utf-8", "surrogateescape")
-    names = {key: key for key in texts}
-    columns = [*zip(whole.names or repeat(""), whole.text), *[("note", note)] * bool(note)]
+    keys, names = columns_of(whole.names or ("",) * len(whole.text), bool(note), own)
+    texts = {"title": short(whole.title), "price": whole.price, "unit": whole.unit}
+    texts |= {"was": whole.was, "code": label.record.data.decode("utf-8", "surrogateescape")}
     rest = []
-    for name, text in columns:
-        key = key_of(name)
-        if key in own and key not in texts and (key not in PARTS or text is note):
-            texts[key], names[key] = text, name
+    for key, text in zip(keys, (*whole.text, note)):
+        if key == "text":
+            rest.append(text)
         else:
-            rest.append((name, text))
+            texts[key] = text if key == "note" else short(text)
+    texts["text"] = short("\n".join(rest))
+    return Values({key: text for key, text in texts.items() if text}, names)
+
+
+@lru_cache(KEPT)
+def columns_of(
+    columns: tuple[str, ...], has_note: bool, own: frozenset[str]
+) -> tuple[Sequence[str], Mapping[str, str]]:
+    """Returns the keys of the texts of some columns, behind them that of a note, and the names of
+    all keys.
+    """
+    names = {key: key for key in FIELDS}
+    keys = []
+    rest = []
+    for name, is_note in (*zip(columns, repeat(False)), *[("note", True)] * has_note):
+        key = key_of(name)
+        if key in own and key not in names and (is_note or key not in PARTS):
+            names[key] = name
+        else:
+            key = "text"
+            rest.append(name or key)
+        keys.append(key)
     if rest:
-        texts["text"] = "\n".join(text for _, text in rest)
-        names["text"] = ", ".join(dict.fromkeys(name or "text" for name, _ in rest))
-    short_ones = {key: text if key in WHOLE else short(text) for key, text in texts.items()}
-    return Values({key: text for key, text in short_ones.items() if text}, names)
+        names["text"] = ", ".join(dict.fromkeys(rest))
+    return keys, names
 
 
 @dataclass
@@ -146,21 +165,18 @@ class OwnLayouts:
             try:
                 layout = self.layout(label, rows[number], absent, rooms, symbols)
             except NoRoom as problem:
-                self.left_out[label.record.number] = problem.reason
+                self.left_out[label.record.number] = sentence(problem.what, problem.hint)
             else:
                 placed.append(LaidOut(label, layout))
         said = ((labels[0].record.place, one) for one in self.said(labels, values, rows, rooms))
         return LaidOutFile(tuple(placed), self.area, self.left_out, tuple(said if labels else ()))
 
-    def texts_in_places(self, labels: Iterable[PrintLabel]) -> Mapping[int, Sequence[str]]:
+    def texts_in_places(self, labels: Sequence[PrintLabel]) -> Mapping[int, Sequence[str]]:
         """Returns the texts of labels in places of letters, by the numbers of their lines."""
-        found = [*labels]
-        rows = self.rows_of([values_of(label, self.note, self.known) for label in found])
-        wanted = [number for number, place in enumerate(self.places) if not place.is_symbol]
-        return {
-            label.record.number: [row[number] for number in wanted]
-            for label, row in zip(found, rows)
-        }
+        rows = self.rows_of([values_of(label, self.note, self.known) for label in labels])
+        are_texts = [not place.is_symbol for place in self.places]
+        every = zip(labels, rows)
+        return {label.record.number: [*compress(row, are_texts)] for label, row in every}
 
     def rows_of(self, values: Sequence[Values]) -> list[list[str]]:
         """Returns the texts of labels in all places: Line-2 is a column where any label has one of
@@ -173,26 +189,20 @@ class OwnLayouts:
     def rooms(self, rows: Sequence[Sequence[str]]) -> dict[Place, Room]:
         """Returns the rooms of texts."""
         rooms = {}
-        known = {"": self.letters}
-        for number, place in enumerate(self.places):
-            if place.is_symbol:
-                continue
-            if place.font not in known:
-                known[place.font] = Letters(place.font)
-            counts = Counter(map(itemgetter(number), rows))
-            del counts[""]
-            if counts:
-                how = (self.boxes[place], known[place.font], self.area.dot)
+        letters = Found(Letters)
+        letters[""] = self.letters
+        for place, texts in zip(self.places, zip(*rows)):
+            counts: Counter[str] = Counter(filter(None, texts))
+            if counts and not place.is_symbol:
+                how = (self.boxes[place], letters[place.font], self.area.dot)
                 rooms[place] = Room(place, *how, counts)
         return rooms
 
     def second_symbols(self, rows: Sequence[Sequence[str]], talk: Talk) -> Made:
         """Returns the symbols that are made of texts, or why they are refused."""
-        numbers = [number for number, place in enumerate(self.places) if place.symbology]
-        every = ((self.places[number], row[number]) for number in numbers for row in rows)
-        wanted = [*dict.fromkeys((place, text) for place, text in every if text)]
-        if not wanted:
-            return {}
+        columns = [one for one in zip(self.places, zip(*rows)) if one[0].symbology]
+        every = ((place, text) for place, texts in columns for text in texts if text)
+        wanted = [*dict.fromkeys(every)]
         lines = [line_of(place, text) for place, text in wanted]
         found: Made = {}
         for key, line, one in zip(wanted, lines, drawn(lines, True, talk)):
@@ -239,7 +249,7 @@ class OwnLayouts:
         """Returns the module and the boxes of symbols of a size in modules; raises `NoRoom`."""
         symbology = SYMBOLOGIES[name]
         box = self.boxes[place]
-        wide, high = (box.width, box.height)[:: -1 if place.quarters % 2 else 1]
+        wide, high = place.as_read(box)
         least, most = self.allowed(place, symbology)
         rows = height if height > 1 else 0  # else bars are as high as there is room
         below = DIGITS_ROOM if symbology.nominal else 0
@@ -248,7 +258,7 @@ class OwnLayouts:
         module = min(most, wide // width, down)
         tall = rows * module or high - below * module
         if module < least or tall < lowest:
-            raise NoRoom(self.no_room(place, symbology, (width * least, lowest + below * least)))
+            raise self.no_room(place, symbology, (width * least, lowest + below * least))
         tall -= tall % module
         left = (wide - width * module) * (place.across + 1) // 2
         top = int((high - tall - below * module) * place.down)
@@ -269,14 +279,12 @@ class OwnLayouts:
         most = int(LARGEST_MODULE / dot + TINY) if symbology.is_number else self.area.width
         return least, max(least, most)
 
-    def no_room(self, place: Place, symbology: Symbology, wanted: tuple[int, int]) -> Text:
+    def no_room(self, place: Place, symbology: Symbology, wanted: tuple[int, int]) -> NoRoom:
         """Returns why a symbol, which takes so many dots at least, has no room in its place: a dot
         more has as many whole ones wherever it is.
         """
         wide, high = (math.ceil((dots + 1) * self.area.dot * 10) / 10 for dots in wanted)
-        sides = (place.width, place.height)
-        if place.quarters % 2:
-            sides = sides[::-1]
+        across, down = (place.width, place.height)[:: -1 if place.quarters % 2 else 1]
         hint = ENLARGE if symbology.is_number else Text("enlarge it, or take shorter data")
         what = Text(
             "{} needs {}, and the place {} of {} has {}",
@@ -284,9 +292,9 @@ class OwnLayouts:
             size_text((wide, high)),
             place.title,
             self.design.page.file,
-            size_text(sides),
+            size_text((across, down)),
         )
-        return Text("{}: {}", what, hint)
+        return NoRoom(what, hint)
 
     def said(
         self,
@@ -307,10 +315,7 @@ class OwnLayouts:
                 titles = place.title, other.title
                 what = Text("{}: the places {} and {} overlap", file, *titles)
                 yield Text("{}: {}", what, Text("a label has a text for each: move them apart"))
-        names: dict[str, str] = {}
-        for value in values:
-            for key in value.texts:
-                names.setdefault(key, value.names[key])
+        names = {key: value.names[key] for value in values for key in value.texts}
         columns = {key_of(name) for label in labels for name in label.record.label.names}
         for key in sorted(self.design.shapes.keys() & columns.union(PARTS)):
             what = Text("{}: {} is not a rectangle ({})", file, key, self.design.shapes[key])
@@ -318,14 +323,12 @@ class OwnLayouts:
         if lost := [name for key, name in names.items() if key not in self.known]:
             yield Text("{} has no rectangle for {}: not on the labels", file, ", ".join(lost))
         known = {*names, *self.asked}
-        empty = [one.title for one in self.places if not known & {one.key, one.part}]
-        if empty:
+        if empty := [one.title for one in self.places if not known & {one.key, one.part}]:
             hint = Text(
-                "name a column so, with label-table --text {}, or remove the name",
+                "give such a column with label-table --text {}, or remove the name",
                 quoted(empty[0]),
             )
-            names_of = ", ".join(empty)
-            yield Text("{}: no label has anything for {}: {}", file, names_of, hint)
+            yield Text("{}: no label has anything for {}: {}", file, ", ".join(empty), hint)
 
 
 def line_of(place: Place, text: str) -> bytes:

@@ -15,6 +15,8 @@ from labeltools.common.names import name_of
 from labeltools.lines.symbologies import SYMBOLOGIES
 from labeltools.common.text import Text
 from labeltools.designs.drawing import SPACE
+from labeltools.layout.frames import Box
+from labeltools.paper.area import Dots
 
 # where programs write the name that was typed; ids have no spaces and commas in many of them
 WRITTEN = (
@@ -92,6 +94,10 @@ class Place:
         """The part or column that it is for, as names are compared, without a number behind it."""
         return part_of(self.title)
 
+    def as_read(self, box: Box) -> Dots:
+        """Returns how wide and high its box on a label is, as it is read."""
+        return box[:1:-1] if self.quarters % 2 else box[2:]
+
     def common(self, other: "Place") -> float:
         """Returns the lesser side of the room that it has in common with another one, in
         millimetres; 0 or less where there is none.
@@ -154,10 +160,8 @@ def place_of(file: str, element: Element) -> Place:
             hint = Text("make its label and its data-place alike, or remove one")
             raise ToolError(what, hint)
     title, *words = (" ".join(word.split()).strip(BLANKS) for word in written.split(","))
-    place = Place(title)
-    is_symbol = place.is_symbol or any(word.casefold() in SYMBOLOGIES for word in words)
-    if is_symbol:
-        place = replace(place, across=0)
+    is_symbol = Place(title).is_symbol or any(word.casefold() in SYMBOLOGIES for word in words)
+    place = Place(title, across=0 if is_symbol else -1)
     for word in filter(None, words):
         changes = changes_of(place, word, is_symbol)
         if not changes:

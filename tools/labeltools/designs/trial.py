@@ -2,14 +2,13 @@
 processor and bytes of memory. It ends with 0 if that is done, or if it reads something else.
 """
 
-import importlib
 import resource
 import sys
+from importlib import import_module
 
 import cairo
 import gi
 
-LIBRARIES = ("Rsvg", "Gio", "GLib")
 SIDE = 1000  # dots of what it is drawn on
 
 
@@ -20,7 +19,7 @@ def main() -> None:
     resource.setrlimit(resource.RLIMIT_CPU, (seconds, seconds))
     resource.setrlimit(resource.RLIMIT_DATA, (memory, memory))
     gi.require_version("Rsvg", "2.0")
-    rsvg, gio, glib = (importlib.import_module(f"gi.repository.{one}") for one in LIBRARIES)
+    rsvg, gio, glib = (import_module(f"gi.repository.{one}") for one in ("Rsvg", "Gio", "GLib"))
     stream = gio.MemoryInputStream.new_from_data(sys.stdin.buffer.read())
     try:
         handle = rsvg.Handle.new_from_stream_sync(stream, None, rsvg.HandleFlags.FLAGS_NONE, None)

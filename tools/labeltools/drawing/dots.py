@@ -2,48 +2,18 @@
 
 import struct
 import zlib
-from dataclasses import dataclass
-from functools import lru_cache
-from typing import Callable
 
 import cairo
 
 from labeltools.common.text import Text
 from labeltools.paper.area import Dots, MOST_DOTS
+from labeltools.paper.picture import Picture, rows_reader
 from labeltools.lines.engine import bytes_a_row
 from labeltools.common.messages import ToolError
 from labeltools.drawing.pen import Page, Pen, REVERSED
 
 LIGHT = bytes(range(255, -1, -1))  # of PNG, in which 1 is light
-KNOWN = 1024  # sizes of parts of pages that are kept
 MOST_OF_PAGE = 400_000_000  # dots: an A4 page of 1,800 dots an inch has fewer
-
-
-@dataclass(frozen=True, slots=True)
-class Picture:
-    """A page in dots: rows of whole bytes from the left, one behind another, in which 1 is dark."""
-
-    width: int
-    height: int
-    packed: bytes
-
-    @property
-    def stride(self) -> int:
-        """The bytes of a row."""
-        return bytes_a_row(self.width)
-
-    @property
-    def rows(self) -> tuple[bytes, ...]:
-        """The rows."""
-        return rows_reader(0, self.stride, 0, self.height)(self.packed)
-
-
-@lru_cache(KNOWN)
-def rows_reader(before: int, size: int, behind: int, high: int) -> Callable[..., tuple[bytes, ...]]:
-    """Returns what gives so many bytes of each of some rows, which have others before and behind:
-    a quarter of the time that slices take.
-    """
-    return struct.Struct(f"{before}x{size}s{behind}x" * high).unpack_from
 
 
 def drawn_page(size: Dots, pen: Pen, page: Page, turn: int = 0) -> Picture:
@@ -62,24 +32,19 @@ def drawn_page(size: Dots, pen: Pen, page: Page, turn: int = 0) -> Picture:
 
 def drawn_surface(size: Dots, pen: Pen, page: Page, turn: int = 0) -> cairo.ImageSurface:
     """Returns a page of labels as a surface with a bit for each dot; raises as `drawn_page`."""
-    surface = surface_of(size)
+    width, height = size
+    if max(size) > MOST_DOTS or width * height > MOST_OF_PAGE:
+        hint = Text("give a smaller page, or a lower --dpi")
+        raise ToolError(Text("{} by {} dots are too many for a page", width, height), hint)
+    try:
+        surface = cairo.ImageSurface(cairo.FORMAT_A1, width, height)
+    except (cairo.Error, MemoryError) as error:
+        raise ToolError(Text("{} by {} dots cannot be drawn: {}", width, height, error)) from error
     canvas = cairo.Context(surface)
     canvas.set_antialias(cairo.Antialias.NONE)
     pen.draw(canvas, page, turn)
     surface.flush()
     return surface
-
-
-def surface_of(size: Dots) -> cairo.ImageSurface:
-    """Returns a page without a dot; raises `ToolError` where it is too large."""
-    width, height = size
-    if max(size) > MOST_DOTS or width * height > MOST_OF_PAGE:
-        hint = Text("give a smaller page, or fewer dots an inch by --dpi")
-        raise ToolError(Text("{} by {} dots are too many for a page", width, height), hint)
-    try:
-        return cairo.ImageSurface(cairo.FORMAT_A1, width, height)
-    except (cairo.Error, MemoryError) as error:
-        raise ToolError(Text("{} by {} dots cannot be drawn: {}", width, height, error)) from error
 
 
 def pbm(picture: Picture) -> bytes:

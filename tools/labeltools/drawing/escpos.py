@@ -5,7 +5,7 @@ from itertools import groupby, repeat
 from operator import eq
 from typing import Iterator
 
-from labeltools.drawing.dots import Picture, rows_reader
+from labeltools.paper.picture import Picture, rows_reader
 
 START = b"\x1b@"  # of a job: resets the printer
 CUT = b"\x1bd\x03\x1dV\x42\x00"  # feeds three lines, and cuts

@@ -8,16 +8,16 @@ import cairo
 
 from labeltools.paper.area import Dots, MILLIMETRES
 from labeltools.layout.fitting import Style
-from labeltools.layout.frames import Box
 from labeltools.drawing.pdf import POINTS
 from labeltools.layout.layout import LaidOut
 from labeltools.layout.letters import Letters
 from labeltools.designs.design import BLACK, OwnDesign, lightness
 from labeltools.designs.layout import OwnLayout
-from labeltools.designs.places import Place
-from labeltools.drawing.pen import Codes, Medium, Page, Pen, Placed, white_of
+from labeltools.designs.places import Colour, Place
+from labeltools.drawing.pen import Medium, Page, Pen, Placed
 
 UPRIGHT = cairo.Matrix()
+LIGHTEST = 0.999  # a part of a colour that is white in 255 steps
 
 
 class OwnPen(Pen):
@@ -70,11 +70,11 @@ class OwnPen(Pen):
         has_ink = drawing.picture.getextrema()[0] == 0
         return drawing.surface(size or (wide, high)) if has_ink else None
 
-    def draw_below(self, canvas: Any, page: Page, is_turned: bool) -> None:
+    def draw_below(self, canvas: Any, page: Page) -> None:
         """Draws what is alike on the labels of a page."""
-        is_alone = [place for _, place in page] == [(0, 0)] and canvas.get_matrix() == UPRIGHT
         is_dots = self.medium.is_dots
-        if is_dots and is_alone:
+        is_first = is_dots and [place for _, place in page] == [(0, 0)]
+        if is_first and canvas.get_matrix() == UPRIGHT:
             self.begin(canvas.get_target(), own_layout(page[0][0]).absent)
             return
         for item, place in page:
@@ -99,34 +99,31 @@ class OwnPen(Pen):
             page.get_data()[:] = drawing.get_data()
             page.mark_dirty()
 
-    def draw_white(self, canvas: Any, codes: Codes, turn: int) -> None:
-        """Draws what is white below codes, in a PDF over a black dot: Cairo names a colour there if
-        it is another one than before, and letters may be white.
-        """
-        if self.medium.is_pdf:
-            symbol, place = codes[0]
-            box = white_of(symbol)[0]
-            dot = Box(box.left + box.width // 2, box.top + box.height // 2, 1, 1)
-            self.fill_white(canvas, [((dot,), place)], turn)
-        super().draw_white(canvas, codes, turn)
-
     def texts(self, item: LaidOut) -> Iterator[Placed]:
         """Yields the texts of a label, each of which is drawn before the next one is fitted."""
         layout = own_layout(item)
         colours = self.colours(layout.absent) if layout.absent else {}
-        for place, text, box, _, _, style, wide, high in layout.texts:
-            colour = colours.get(place, place.colour)
+        for place, text, box, style in layout.texts:
+            colour = colours.get(place, place.colour) or BLACK
             is_black = colour == BLACK
             is_edged = is_black and place in self.tinted
             fit = self.fitter.by_pango if is_edged else self.fitter.found
-            fitted = fit(text, style, wide, high)
-            shown = None if is_black else colour
+            fitted = fit(text, style, *place.as_read(box))
+            shown = None if is_black else off_white(colour)
             yield Placed(fitted, style, box, place.quarters, shown, is_edged)
 
     def lines_of(self, item: LaidOut) -> Iterator[tuple[str, Style, int, int]]:
         """Yields the texts of a label that may be cut, with their room."""
-        for _, text, _, _, _, style, wide, high in own_layout(item).texts:
-            yield text, style, wide, high
+        for place, text, box, style in own_layout(item).texts:
+            yield text, style, *place.as_read(box)
+
+
+def off_white(colour: Colour) -> Colour:
+    """Returns a colour of letters that is not all white: Cairo names the white below codes only
+    where it is another colour than before.
+    """
+    red, green, blue = (min(part, LIGHTEST) for part in colour)
+    return red, green, blue
 
 
 def ends_of(place: Place, scale: float) -> tuple[int, int, int, int]:

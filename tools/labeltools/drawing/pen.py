@@ -6,21 +6,14 @@ from collections import defaultdict
 from dataclasses import dataclass
 from functools import cache, lru_cache
 from itertools import accumulate, repeat
-from typing import (
-    Any,
-    Iterable,
-    Iterator,
-    NamedTuple,
-    Optional,
-    Sequence,
-)
+from typing import Any, Iterable, Iterator, NamedTuple, Optional, Sequence
 
 import cairo
 
 from labeltools.paper.area import Dots
 from labeltools.lines.engine import LABELS_FAILED, Modules, bytes_a_row
 from labeltools.layout.fitting import Fitted, Fitter, LEFT, MIDDLE, RIGHT, Style
-from labeltools.layout.frames import Box, Frame, LINE
+from labeltools.layout.frames import Box, LINE
 from labeltools.layout.layout import LaidOut, Layout, PrintLabel
 from labeltools.layout.letters import DIGITS_FONT, Letters
 from labeltools.designs.design import is_light
@@ -34,6 +27,7 @@ from labeltools.lines.symbologies import SYMBOLOGIES, Span, Symbology
 DARK = re.compile("1+")
 INSET = 0.01  # of a dot: what touches a dot paints it
 SHOWN = {code: 0x2400 + code for code in range(32)} | {127: 0x2421}  # control characters
+UPRIGHT = (1, 0, 0, 1)  # of a matrix that neither turns nor scales
 REVERSED = bytes(int(f"{byte:08b}"[::-1], 2) for byte in range(256))
 # modules: how much longer guards are, where digits begin below bars, their size
 GUARD = 5
@@ -67,15 +61,6 @@ class Placed(NamedTuple):
 # glyphs of many labels that are drawn together, by their faces and sizes: a call of Cairo takes as
 # long as a line of glyphs
 Runs = defaultdict[tuple[Any, int], list[tuple[int, float, float]]]
-
-
-class DigitPlace(NamedTuple):
-    """Digits of the data, their size and where they begin below the bars."""
-
-    first: int
-    last: int
-    size: int
-    left: int
 
 
 @dataclass(frozen=True)
@@ -128,7 +113,7 @@ class Pen:
         if turn:
             canvas.transform(upright_from(turn))
             page = [(item, (top, -left)) for item, (left, top) in page]
-        self.draw_below(canvas, page, bool(turn))
+        self.draw_below(canvas, page)
         runs: Runs = defaultdict(list)
         labels = [(item, place, symbols_of(item)) for item, place in page]
         codes = [(symbol, place) for _, place, symbols in labels for symbol in symbols]
@@ -155,7 +140,7 @@ class Pen:
                 canvas.set_matrix(turned)
         canvas.set_matrix(whole)
 
-    def draw_below(self, canvas: Any, page: Page, is_turned: bool) -> None:
+    def draw_below(self, canvas: Any, page: Page) -> None:
         """Draws what is below the symbols and texts of a page: nothing."""
 
     def texts(self, item: LaidOut) -> Iterator[Placed]:
@@ -167,7 +152,7 @@ class Pen:
             yield from self.head(label, layout)
         for kind in ("text", "price", "details"):
             if kind in boxes:
-                yield self.placed(*self.text_of(kind, label, layout), boxes[kind])
+                yield self.placed(kind, label, layout, boxes[kind])
 
     def head(self, label: PrintLabel, layout: Layout) -> Iterator[Placed]:
         """Yields a title, and the text below it where that has no place of its own."""
@@ -180,11 +165,9 @@ class Pen:
         used = 0
         title = None
         if label.title:
-            text, style = self.text_of("title", label, layout)
-            most = math.ceil(frame.lines * LINE * style.size)
-            fitted = self.fitter.fitted(text, style, box.width, min(most, room))
-            title = Placed(fitted, style, box)
-            used = min(fitted.height, room)
+            most = math.ceil(frame.lines * LINE * frame.sizes["title"])
+            title = self.placed("title", label, layout, box._replace(height=min(most, room)))
+            used = min(title.text.height, room)
         top = box.top
         if frame.kind == "beside" and "price" not in frame.boxes:
             top += (room - used) // 2
@@ -192,40 +175,42 @@ class Pen:
             yield title if top == box.top else title._replace(box=box._replace(top=top))
         if has_text:
             rest = box._replace(top=top + used, height=box.bottom - top - used)
-            yield self.placed(*self.text_of("text", label, layout), rest)
+            yield self.placed("text", label, layout, rest)
 
-    def placed(self, text: str, style: Style, box: Box) -> Placed:
-        """Returns a text as it fits a box; those of one line often come again."""
-        fit = self.fitter.fitted if style.lines else self.fitter.found
-        return Placed(fit(text, style, box.width, box.height), style, box)
+    def placed(self, kind: str, label: PrintLabel, layout: Layout, box: Box) -> Placed:
+        """Returns a text of a label as it fits a box."""
+        text, style = self.text_of(kind, label, layout)
+        return Placed(self.fitter.found(text, style, box.width, box.height), style, box)
 
     def text_of(self, kind: str, label: PrintLabel, layout: Layout) -> tuple[str, Style]:
         """Returns a text of a label and how it is written."""
         frame = layout.frame
-        size = frame.sizes[kind]
+        how = (kind, frame.kind, frame.sizes[kind])
+        whole = label.record.label
         if kind == "title":
-            title, lines = titled(label.title, frame)
-            return title, self.style(kind, frame.kind, size, lines)
-        style = self.style(kind, frame.kind, size, 1)
-        if kind == "details":
-            between = BETWEEN if frame.details_lines == 1 else "\n"
-            text = between.join(part for part in (label.was, label.unit) if part)
-            return text, style._replace(struck=len(label.was.encode()))
-        return (label.text if kind == "text" else label.price), style
+            lines = frame.lines - label.title.count("\n")
+            if lines > 0:
+                return label.title, self.style(*how, lines)
+            return label.title.replace("\n", " "), self.style(*how, max(1, frame.lines))
+        if kind == "text":
+            return label.text, self.style(*how, 1)
+        if kind == "price":
+            return whole.price, self.style(*how, 0)
+        between = BETWEEN if frame.details_lines == 1 else "\n"
+        text = between.join(part for part in (whole.was, whole.unit) if part)
+        return text, self.style(*how, 0)._replace(struck=len(whole.was.encode()))
 
     def new_style(self, kind: str, arrangement: str, size: int, lines: int) -> Style:
         """Returns how a part of a label is written; `lines` are those of each line of a title."""
-        words = MIDDLE if arrangement == "below" else LEFT
-        numbers = MIDDLE if arrangement == "below" else RIGHT
-        family = self.letters.family
-        if kind == "title":
-            return Style(family, True, size, lines, words, 0.0, 0)
-        if kind == "text":
-            across = RIGHT if arrangement == "foot" else words
-            return Style(family, False, size, 1, across, 0.0, 0)
-        if kind == "price":
-            return Style(family, True, size, 0, numbers, 0.5, 0)
-        return Style(family, False, size, 0, numbers, 1.0, 0)
+        words, numbers = (MIDDLE, MIDDLE) if arrangement == "below" else (LEFT, RIGHT)
+        across, down = {
+            "title": (words, 0.0),
+            "text": (RIGHT if arrangement == "foot" else words, 0.0),
+            "price": (numbers, 0.5),
+            "details": (numbers, 1.0),
+        }[kind]
+        is_bold = kind in ("title", "price")
+        return Style(self.letters.family, is_bold, size, lines, across, down, 0)
 
     def is_shortened(self, item: LaidOut) -> bool:
         """Returns whether a text of a label ends in an ellipsis."""
@@ -239,29 +224,24 @@ class Pen:
 
     def lines_of(self, item: LaidOut) -> Iterator[tuple[str, Style, int, int]]:
         """Yields the texts of a label that may be cut, with the room of their lines."""
-        label = item.label
-        layout = item.layout
-        if label.title:
-            width = layout.boxes["title"].width
-            yield *self.text_of("title", label, layout), width, WITHOUT_END
-        if label.text:
-            box = layout.boxes.get("text") or layout.boxes["title"]
-            yield *self.text_of("text", label, layout), box.width, WITHOUT_END
+        boxes = item.layout.boxes
+        for kind in ("title", "text"):
+            text, style = self.text_of(kind, item.label, item.layout)
+            if text:
+                yield text, style, (boxes.get(kind) or boxes["title"]).width, WITHOUT_END
 
     def draw_digits(self, canvas: Any, symbol: OwnSymbol, place: Dots, runs: Runs) -> None:
         """Draws what is below the bars of a symbol of a label whose area begins at a place; digits
         that are not turned are shown with those of other labels.
         """
         quarters = symbol.place.quarters
-        whole = canvas.get_matrix() if quarters else None
+        whole = canvas.get_matrix()
         corner = turn_to(canvas, symbol.box, quarters, place)
-        if whole is None:
-            self.draw_data(canvas, symbol, corner, runs)
-            return
-        own: Runs = defaultdict(list)
+        own: Runs = defaultdict(list) if quarters else runs
         self.draw_data(canvas, symbol, corner, own)
-        self.show_runs(canvas, own)
-        canvas.set_matrix(whole)
+        if quarters:
+            self.show_runs(canvas, own)
+            canvas.set_matrix(whole)
 
     def draw_white(self, canvas: Any, codes: Codes, turn: int) -> None:
         """Draws what is white below the codes of a page, so that nothing is over them, and makes
@@ -356,7 +336,7 @@ class Pen:
         box = Box(corner[0] + bars.left, corner[1] + bars.top, bars.width, bars.height)
         module = layout.module
         has_rows = len(modules.packed) > modules.row_size  # bars have one, whatever their height
-        if self.medium.is_dots and has_rows and is_upright(canvas):
+        if self.medium.is_dots and has_rows and tuple(canvas.get_matrix())[:4] == UPRIGHT:
             draw_dots(canvas, modules, box, module)
             return
         if self.medium.is_smooth or self.medium.is_dots:  # in dots that is quicker, too
@@ -383,7 +363,7 @@ class Pen:
         if not symbol.symbology.is_number:
             size = round(DIGITS_SIZE * module)
             style = Style(DIGITS_FONT, False, size, 0, MIDDLE, 0.3, 0)
-            text = self.fitter.fitted(data.translate(SHOWN), style, box.width, box.height)
+            text = self.fitter.found(data.translate(SHOWN), style, box.width, box.height)
             self.show(canvas, text, style, (left, top), runs)
             return
         base = top + round((DIGITS_TOP + DIGITS_SIZE * self.digit_height) * module)
@@ -399,16 +379,16 @@ class Pen:
         glyphs = {digit: font.text_to_glyphs(0, 0, digit, False)[0].index for digit in DIGITS}
         return glyphs, font.text_to_glyphs(0, 0, "00", False)[1].x
 
-    def new_digit_places(self, symbology: str, module: int) -> list[DigitPlace]:
-        """Returns which digits are where below the bars, and how large."""
+    def new_digit_places(self, symbology: str, module: int) -> list[tuple[int, int, int, int]]:
+        """Returns which digits are below the bars, from the first one on, how large they are, and
+        where they begin.
+        """
         places = []
-        for digits in SYMBOLOGIES[symbology].places:
-            left = digits.span.left
-            right = digits.span.right
-            width = (digits.last - digits.first) * self.digit_width
+        for first, last, left, right in SYMBOLOGIES[symbology].places:
+            width = (last - first) * self.digit_width
             size = round(min(DIGITS_SIZE, (right - left - 0.5) / width) * module)
             start = round((left + right) * module - width * size) // 2
-            places.append(DigitPlace(digits.first, digits.last, size, start))
+            places.append((first, last, size, start))
         return places
 
 
@@ -435,16 +415,6 @@ def options_of(medium: Medium) -> cairo.FontOptions:
     options.set_hint_style(cairo.HintStyle.FULL)
     options.set_antialias(cairo.Antialias.NONE)
     return options
-
-
-def titled(title: str, frame: Frame) -> tuple[str, int]:
-    """Returns a title and the lines that each line of it may take: line ends become spaces where a
-    frame has too few.
-    """
-    lines = frame.lines - title.count("\n")
-    if lines < 1:
-        return title.replace("\n", " "), max(1, frame.lines)
-    return title, lines
 
 
 def turn_to(canvas: Any, box: Box, quarters: int, place: Dots) -> Dots:
@@ -508,8 +478,7 @@ def bits_of(row: bytes) -> str:
 @cache
 def guard_bits(symbology: str, size: int, stride: int) -> int:
     """Returns the modules of guards as the number that a row of Cairo is."""
-    spans = SYMBOLOGIES[symbology].guards
-    places = {place for span in spans for place in range(span.left, span.right)}
+    places = (place for span in SYMBOLOGIES[symbology].guards for place in range(*span))
     bits = sum(1 << (8 * size - 1 - place) for place in places)
     return int.from_bytes(padded(bits.to_bytes(size, "big"), size, stride), "big")
 
@@ -532,11 +501,6 @@ def bars_mask(modules: Modules, symbology: Symbology, high: int) -> Any:
     mask = cairo.SurfacePattern(picture)
     mask.set_filter(cairo.Filter.NEAREST)
     return mask
-
-
-def is_upright(canvas: Any) -> bool:
-    """Returns whether a canvas, whose unit is a dot, is neither turned nor scaled."""
-    return tuple(canvas.get_matrix())[:4] == (1, 0, 0, 1)
 
 
 def draw_dots(canvas: Any, modules: Modules, box: Box, module: int) -> None:

@@ -7,7 +7,7 @@ from operator import ne, or_
 from typing import Iterator, NamedTuple
 
 from labeltools.common.kept import Kept
-from labeltools.drawing.dots import Picture, rows_reader
+from labeltools.paper.picture import Picture, rows_reader
 
 MOST_BYTES = 99_999  # of a graphic field
 # white that parts two fields: fewer rows or bytes of it take less than the head of a field
@@ -120,17 +120,13 @@ def new_run_lengths(block: tuple[bytes, int]) -> bytes:
     whole = "".join(texts)
     if sum(map(whole.count, RUNS)) * RARELY < len(whole):
         return whole.encode()
-    whole = "\n".join(map(without_rest, texts))  # no run goes on from a row to the next
+    # no run goes on from a row to the next, and a sign is the rest of a row where that is 0
+    whole = "\n".join([row.rstrip("0") + "," if row[-1] == "0" else row for row in texts])
     for often in OFTEN:
         pieces = often.split(whole)
         pieces[1::2] = map(run_length_of, pieces[1::2])
         whole = "".join(pieces)
     return whole.replace("\n", "").encode()
-
-
-def without_rest(row: str) -> str:
-    """Returns a row with a sign for its rest, where that is 0."""
-    return row.rstrip("0") + "," if row[-1] == "0" else row
 
 
 @cache

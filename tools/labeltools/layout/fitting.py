@@ -85,18 +85,12 @@ class Fitter:
         self.font = cache(self.new_font)
         self.kept: Kept[Hashable, Fitted] = Kept(KEPT)
 
-    def fitted(self, text: str, style: Style, width: int, height: int) -> Fitted:
-        """Returns a text as it fits a box: smaller where its ink would leave it."""
-        found = self.by_glyphs(text, style, width, height)
-        return found or self.by_pango(text, style, width, height)
-
     def found(self, text: str, style: Style, width: int, height: int) -> Fitted:
-        """Returns what fitted() does. A text of Pango that comes again is kept as it is fitted."""
-        found = self.by_glyphs(text, style, width, height)
-        if found:
-            return found
+        """Returns a text as it fits a box: smaller where its ink would leave it. A text that comes
+        again is kept as it is fitted.
+        """
         key = text, style, width, height
-        return self.kept.get(key, lambda _: self.by_pango(text, style, width, height), copied)
+        return self.kept.get(key, lambda _: self.by_glyphs(*key) or self.by_pango(*key), copied)
 
     def by_glyphs(self, text: str, style: Style, width: int, height: int) -> Optional[Fitted]:
         """Returns a text of plain letters; None where Pango has to say it, or another size."""
@@ -211,7 +205,7 @@ class Fitter:
 
 def copied(text: Fitted) -> Fitted:
     """Returns a text with a layout of its own, which no other text is laid out by."""
-    return text._replace(layout=text.layout.copy())
+    return text if text.layout is None else text._replace(layout=text.layout.copy())
 
 
 def corner_of(
@@ -231,18 +225,13 @@ def corner_of(
     return x, max(-ink.top, min(y, height - ink.height - ink.top))
 
 
-def line_step(size: int) -> int:
-    """Returns how far two base lines are from one another, in units of Pango."""
-    return round(LINE * size * UNIT)
-
-
 def attributes_of(style: Style, size: int) -> Any:
     """Returns the attributes of a style: lines of equal height, whatever fonts their letters are
     of; no hyphens; what is struck through.
     """
     attributes = Pango.AttrList()
     if style.lines or style.struck:
-        attributes.insert(Pango.attr_line_height_new_absolute(line_step(size)))
+        attributes.insert(Pango.attr_line_height_new_absolute(round(LINE * size * UNIT)))
     attributes.insert(Pango.attr_insert_hyphens_new(False))
     if style.struck:
         strike = Pango.attr_strikethrough_new(True)

@@ -19,7 +19,7 @@ import math
 from collections import Counter
 from dataclasses import dataclass, field
 from itertools import product
-from typing import Callable, Iterable, Mapping, NamedTuple, Optional
+from typing import Callable, Mapping, NamedTuple, Optional, Sequence
 
 from labeltools.paper.area import Area, LARGEST_QR, MODULE
 from labeltools.lines.symbologies import SYMBOLOGIES, Symbology
@@ -49,7 +49,7 @@ WRAPPED = 1.2  # by how much words leave lines of a title empty
 DIGITS_ROOM = 10  # modules: the room of digits below bars
 LOWEST_PART = 0.15  # of the width of a Code 128: its lowest height
 LOWEST = 5.0  # millimetres: the lowest bars
-FULL_BARS = 95  # modules of the bars of EAN-13: wider bars need not be higher
+FULL_BARS = 95  # modules of the bars of EAN-13 without quiet zones: wider ones need not be higher
 QR_SMALLEST = 0.25  # millimetres
 MOST_SIDE = 0.45  # of the width of a label: what QR takes beside words
 HINTING = 1.03  # by how much letters in dots may be larger than they are measured
@@ -76,6 +76,13 @@ class Box(NamedTuple):
     def bottom(self) -> int:
         """The row below it."""
         return self.top + self.height
+
+
+class Extent(NamedTuple):
+    """The width and height of the ink of a text, in sizes of its letters."""
+
+    width: float
+    height: float
 
 
 class Need(NamedTuple):
@@ -105,11 +112,6 @@ class Need(NamedTuple):
     def is_bars(self) -> bool:
         """Whether the code is bars."""
         return self.kind.nominal > 0
-
-    @property
-    def bars_width(self) -> int:
-        """The modules of its bars without quiet zones, up to those of an EAN-13."""
-        return min(self.width - sum(self.kind.quiet), FULL_BARS)
 
 
 class Level(NamedTuple):
@@ -162,8 +164,8 @@ def share(values: Mapping[float, int]) -> float:
     """Returns what nine of ten values keep to, or the largest one where that is not much more.
     Values are given with how often they come; 0 where there is none.
 
-    >>> share({1.0: 9, 1.2: 1}), share({1.0: 9, 3.0: 1})
-    (1.2, 1.0)
+    >>> share({1.0: 9, 1.2: 1}), share({1.0: 9, 3.0: 1}), share({1.0: 8, 3.0: 2})
+    (1.2, 1.0, 3.0)
     """
     if not values:
         return 0.0
@@ -183,6 +185,22 @@ def ninth_of_ten(values: Mapping[float, int]) -> float:
     return max(values)
 
 
+class Rooms(NamedTuple):
+    """The room of an attempt: the width of the code and what is beside it, the width of titles and
+    of prices, the least and the most height of the code with its digits, the most height of bars,
+    the height of digits.
+    """
+
+    code: int
+    beside: int
+    words: int
+    price: int
+    low: int
+    most: int
+    bars: int
+    digits: int
+
+
 @dataclass
 class JointNeeds:
     """What some labels need together; each need is given with how many labels have it."""
@@ -195,10 +213,11 @@ class JointNeeds:
         area = self.area
         codes = {need[:3]: need for need in self.needs}
         self.bars = [need for need in codes.values() if need.is_bars]
-        self.modules = [area.modules(need.kind) for need in self.bars]
+        self.modules = [area.modules[need.symbology] for need in self.bars]
         self.squares = count(self.needs, "width", lambda need: not need.is_bars)
         self.text_size = max(area.dots(LEAST_TEXT), round(area.size * TEXT_PART))
         self.gap = max(area.dots(LEAST_GAP), round(area.size * GAP_PART))
+        self.inset = self.gap // 2  # white at the sides of words
         self.titles: Counter[tuple[float, ...]] = Counter()
         for need, labels in self.needs.items():
             if need.title:
@@ -211,11 +230,6 @@ class JointNeeds:
             max(need.was for need in self.needs),
             max(need.unit for need in self.needs),
         )
-
-    @property
-    def title_parts(self) -> tuple[float, ...]:
-        """The sizes of titles that are tried."""
-        return TITLES_WITH_PRICE if self.price else TITLES_ALONE
 
     @property
     def has_words(self) -> bool:
@@ -241,9 +255,31 @@ class JointNeeds:
         whole = sum(labels for taken, labels in counts.items() if taken <= lines)
         return int(lines), whole / counts.total()
 
-    def lowest_bars(self, module: int, part: float) -> int:
-        """Returns the height of the lowest bars that are allowed, a part of their width."""
-        return max((self.least_height(need, module, part) for need in self.bars), default=0)
+    def rooms(self, level: Level, kind: str, module: int) -> Rooms:
+        """Returns the rooms for code and words."""
+        area = self.area
+        part = min(level.bars, area.wishes.design.bars)
+        heights = (self.least_height(need, module, part) for need in self.bars)
+        low = max(heights, default=0)
+        bars = self.highest_bars(module, low)
+        digits = DIGITS_ROOM * module if self.bars else 0
+        square = self.square(level.qr)
+        code = max(self.bars_room(module), square)
+        if kind in ("split", "beside") and not self.bars:
+            widest = min(area.height, self.largest_square(), int(MOST_SIDE * area.width))
+            code = max(square, widest)
+        beside = area.width - code - self.gap - self.inset
+        words = beside if kind == "beside" else area.width - 2 * self.inset
+        return Rooms(
+            code=code,
+            beside=beside,
+            words=words,
+            price=beside if kind in ("foot", "split") else words,
+            low=max(low + digits, square),
+            most=max(bars + digits if self.bars else 0, self.largest_square()),
+            bars=bars,
+            digits=digits,
+        )
 
     def least_height(self, need: Need, wish: int, part: float) -> int:
         """Returns the height of the lowest bars of a code, in whole modules."""
@@ -251,7 +287,7 @@ class JointNeeds:
         module = module_in(area, need, wish, area.width) or wish
         if need.height > 1:
             return need.height * module
-        modules = need.bars_width * part
+        modules = min(need.width - sum(need.kind.quiet), FULL_BARS) * part
         if not need.kind.is_number:
             modules = max(modules, LOWEST_PART * need.width)
         return math.ceil(max(modules, area.dots(LOWEST) / module)) * module
@@ -289,6 +325,21 @@ class JointNeeds:
         most = self.area.dots(self.area.wishes.module or LARGEST_QR)
         return int(max(self.squares, default=0) * most)
 
+    def price_in(self, wide: int, high: int) -> int:
+        """Returns the size of the letters of the price in a room; 0 if there is no price."""
+        if not self.price:
+            return 0
+        high = min(high, int(HIGHEST_PRICE * self.area.height))
+        return math.floor(min(wide / self.price, high / self.price_height) / HINTING)
+
+    def score(self, kind: str, title: int, price: int, code: int) -> float:
+        """Returns what an arrangement is worth by the letters of titles and of the price, and
+        without a price by the height of its code.
+        """
+        if self.price:
+            return min(price, PRICE_OF_TITLE * title) * math.sqrt(title)
+        return title + 0.1 * code + self.text_size * (kind == "below")
+
 
 def count(
     needs: Mapping[Need, int], name: str, is_counted: Callable[[Need], bool]
@@ -314,25 +365,21 @@ def module_in(area: Area, need: Need, wished: int, room: int) -> int:
     """Returns the module of bars in a room: as wished, or smaller where they are too wide; 0 where
     none fits.
     """
-    allowed = area.modules(need.kind)
+    allowed = area.modules[need.symbology]
     return max((one for one in allowed if one <= wished and one * need.width <= room), default=0)
 
 
 def frame_of(area: Area, needs: Mapping[Need, int]) -> Optional[Frame]:
     """Returns the frame of labels, or None where no one frame serves all of them."""
     demand = JointNeeds(area, needs)
-    narrowest = [min(allowed, default=0) for allowed in demand.modules]
-    if not all(narrowest) or min(area.width, area.height) < 1:
-        return None
-    rooms = (need.width * one for need, one in zip(demand.bars, narrowest))
-    if any(room > area.width for room in rooms):
+    fits = (module_in(area, need, area.width, area.width) for need in demand.bars)
+    if not all(fits) or min(area.width, area.height) < 1:
         return None
     cut = None
     for number, wishes in product(range(len(LEVELS)), rounds_of(demand)):
         if cut is not None and number >= WHOLE_TITLES:
             break
-        found = list(frames_of(demand, LEVELS[number], wishes))
-        best = max(found, key=lambda frame: frame.score, default=None)
+        best = best_frame(demand, LEVELS[number], wishes)
         if best is not None and best.is_whole:
             return best
         cut = cut or best
@@ -354,36 +401,30 @@ def rounds_of(demand: JointNeeds) -> list[list[int]]:
     return [[one] for one in wishes]
 
 
-def frames_of(demand: JointNeeds, level: Level, wishes: Iterable[int]) -> Iterable[Frame]:
-    """Yields the frames on a level: of each arrangement, size of titles and module."""
-    parts = demand.title_parts
-    sparing = (False, True) if demand.titles.total() in FEW else (False,)
-    for kind, part, module, is_sparing in product(ARRANGEMENTS, parts, wishes, sparing):
-        title = max(demand.area.dots(LEAST_TITLE), round(demand.text_size * part))
-        attempt = Attempt(demand, level, kind, title, part == parts[-1], is_sparing, module)
-        if frame := attempt.frame():
-            yield frame
-
-
-@dataclass(frozen=True)
-class Rooms:
-    """The room of an attempt: the width of the code and what is beside it, the width of titles and
-    of prices, the least and the most height of the code with its digits, the most height of bars,
-    the height of digits.
+def best_frame(demand: JointNeeds, level: Level, wishes: Sequence[int]) -> Optional[Frame]:
+    """Returns the best frame on a level, of all arrangements, sizes of titles and modules: those
+    that cannot be better than one that is found are not tried.
     """
+    best = None
+    area = demand.area
+    parts = TITLES_WITH_PRICE if demand.price else TITLES_ALONE
+    least = area.dots(LEAST_TITLE)
+    rooms = {at: demand.rooms(level, *at) for at in product(ARRANGEMENTS, wishes)}
+    titles = sorted({max(least, round(demand.text_size * part)) for part in parts}, reverse=True)
+    price = demand.price_in(area.width - 2 * demand.inset, area.height)
+    sparing = (False, True) if demand.titles.total() in FEW else (False,)
+    for kind, title, module, is_sparing in product(ARRANGEMENTS, titles, wishes, sparing):
+        if best and demand.score(kind, title, price, area.height) * module <= best.score:
+            continue
+        is_smallest = title == titles[-1]
+        attempt = Attempt(demand, level, kind, title, is_smallest, is_sparing, module)
+        frame = attempt.frame(rooms[kind, module])
+        if frame and (best is None or frame.score > best.score):
+            best = frame
+    return best
 
-    code: int
-    beside: int
-    words: int
-    price: int
-    low: int
-    most: int
-    bars: int
-    digits: int
 
-
-@dataclass(frozen=True)
-class Heading:
+class Heading(NamedTuple):
     """Title and text: the lines of titles, whether most are whole, the part that is; the letters
     and the height of texts, whether these are beside the code; the height above price and code.
     """
@@ -397,8 +438,7 @@ class Heading:
     height: int
 
 
-@dataclass(frozen=True)
-class Line:
+class Line(NamedTuple):
     """Letters of a part of a label: their size, their lines, the height of all."""
 
     size: int
@@ -406,8 +446,7 @@ class Line:
     height: int
 
 
-@dataclass(frozen=True)
-class Attempt:
+class Attempt(NamedTuple):
     """One arrangement of the parts of labels, with titles of one size and one module, on one level
     of demands; one long title may be cut where it is sparing.
     """
@@ -420,9 +459,8 @@ class Attempt:
     is_sparing: bool
     module: int
 
-    def frame(self) -> Optional[Frame]:
+    def frame(self, rooms: Rooms) -> Optional[Frame]:
         """Returns the frame, if all fits."""
-        rooms = self.rooms()
         if not self.is_possible(rooms):
             return None
         head = self.head(rooms)
@@ -443,37 +481,6 @@ class Attempt:
     def is_stacked(self) -> bool:
         """Whether the code is below the price."""
         return self.kind in ("foot", "below")
-
-    @property
-    def inset(self) -> int:
-        """White at the sides of words."""
-        return self.demand.gap // 2
-
-    def rooms(self) -> Rooms:
-        """Returns the rooms for code and words."""
-        demand = self.demand
-        area = demand.area
-        part = min(self.level.bars, area.wishes.design.bars)
-        low = demand.lowest_bars(self.module, part)
-        bars = demand.highest_bars(self.module, low)
-        digits = DIGITS_ROOM * self.module if demand.bars else 0
-        square = demand.square(self.level.qr)
-        code = max(demand.bars_room(self.module), square)
-        if self.kind in ("split", "beside") and not demand.bars:
-            widest = min(area.height, demand.largest_square(), int(MOST_SIDE * area.width))
-            code = max(square, widest)
-        beside = area.width - code - demand.gap - self.inset
-        words = beside if self.kind == "beside" else area.width - 2 * self.inset
-        return Rooms(
-            code=code,
-            beside=beside,
-            words=words,
-            price=beside if self.kind in ("foot", "split") else words,
-            low=max(low + digits, square),
-            most=max(bars + digits if demand.bars else 0, demand.largest_square()),
-            bars=bars,
-            digits=digits,
-        )
 
     def is_possible(self, rooms: Rooms) -> bool:
         """Returns whether the arrangement suits the label and its parts."""
@@ -536,8 +543,7 @@ class Attempt:
         if self.kind != "foot":
             high -= details.height
         wide = rooms.words if self.is_stacked else rooms.price
-        high = min(high, int(HIGHEST_PRICE * area.height))
-        size = math.floor(min(wide / demand.price, high / demand.price_height) / HINTING)
+        size = demand.price_in(wide, high)
         if size < max(self.level.price * self.title, area.dots(LEAST_PRICE)):
             return None
         return Line(size, 1, math.ceil(HINTING * size * demand.price_height))
@@ -548,10 +554,7 @@ class Attempt:
         """Returns the frame of boxes. A narrower module and cut titles have to be worth it."""
         demand = self.demand
         bars = min(rooms.bars, boxes["code"].height - rooms.digits) if demand.bars else 0
-        score = min(price.size, PRICE_OF_TITLE * self.title) * math.sqrt(self.title)
-        if not demand.price:
-            is_below = self.kind == "below"
-            score = self.title + 0.1 * boxes["code"].height + demand.text_size * is_below
+        score = demand.score(self.kind, self.title, price.size, boxes["code"].height)
         return Frame(
             kind=self.kind,
             boxes=boxes,
@@ -588,32 +591,21 @@ class Arrangement:
     price: Line
     low: int
 
-    @property
-    def demand(self) -> JointNeeds:
-        """What the labels need."""
-        return self.attempt.demand
-
-    def title(self, left: int, top: int) -> Box:
-        """Returns the place of title and text."""
-        return Box(left, top, self.rooms.words, self.head.height)
-
     def stacked(self) -> dict[str, Box]:
         """Returns places of head, price and code, one below another."""
-        inset = self.attempt.inset
-        rooms = self.rooms
-        area = self.demand.area
-        gap = self.demand.gap
+        demand, inset = self.attempt.demand, self.attempt.demand.inset
+        rooms, area, gap = self.rooms, demand.area, demand.gap
         is_foot = self.attempt.kind == "foot"
         details = self.details.height
         numbers = self.price.height + (0 if is_foot else details)
-        rest = rest_below(area, self.demand, self.head) - (numbers + gap if numbers else 0)
+        rest = rest_below(area, demand, self.head) - (numbers + gap if numbers else 0)
         code = min(max(rooms.most, self.low), rest)
         top, low = self.spread(rest - code, area.height - code, numbers > 0)
         start = top + self.head.height + (gap if self.head.height else 0)
         start += (low - gap - start - numbers) // 2
         boxes = {
             "code": Box(0, low, rooms.code if is_foot else area.width, code),
-            "title": self.title(inset, top),
+            "title": Box(inset, top, rooms.words, self.head.height),
         }
         if numbers:
             below = start + self.price.height
@@ -638,17 +630,16 @@ class Arrangement:
 
     def side_by_side(self) -> dict[str, Box]:
         """Returns places with the code at the left of the price, or of all words."""
-        rooms = self.rooms
-        area = self.demand.area
-        rest = rest_below(area, self.demand, self.head)
+        rooms, area = self.rooms, self.attempt.demand.area
+        rest = rest_below(area, self.attempt.demand, self.head)
         whole = area.height if self.attempt.kind == "beside" else rest
         code = min(whole, rooms.most)
         numbers = self.price.height + self.details.height
-        right = area.width - self.attempt.inset
+        right = area.width - self.attempt.demand.inset
         top = 0 if numbers else (area.height - self.head.height) // 2
         boxes = {
             "code": Box(0, area.height - whole + (whole - code) // 2, rooms.code, code),
-            "title": self.title(right - rooms.words, top),
+            "title": Box(right - rooms.words, top, rooms.words, self.head.height),
         }
         if numbers:
             start = area.height - rest + max(0, rest - numbers) // 2

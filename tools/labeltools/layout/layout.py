@@ -4,13 +4,16 @@ symbology, or for one label. Lengths are in dots.
 
 import math
 import re
+from bisect import bisect_left
 from collections import Counter, defaultdict
 from dataclasses import dataclass, replace
-from typing import Iterable, Mapping, NamedTuple, Optional, Protocol, Sequence
+from functools import cache
+from typing import Iterator, Mapping, Optional, Sequence
 
 from labeltools.paper.area import Area, PAD, size_of
 from labeltools.lines.engine import Modules
 from labeltools.layout.frames import Box, Frame, HINTING, Need, frame_of, module_in
+from labeltools.layout.letters import Letters
 from labeltools.lines.file import LineRecord
 from labeltools.common.messages import Place, Talk
 from labeltools.paper.stock import Size, size_text
@@ -30,20 +33,7 @@ ALMOST = 0.97  # bars are a whole number of modules high, so they may be a bit l
 MOST_HEIGHT = 150  # millimetres: the highest label that a message proposes
 ASKED = 256  # labels between two calls of `go_on`
 CODE = Need._fields[:3]  # what is of the code alone
-
-
-class Extent(NamedTuple):
-    """The width and height of the ink of a text, in sizes of its letters."""
-
-    width: float
-    height: float
-
-
-class Measure(Protocol):
-    """What measures texts, alike for all forms."""
-
-    def extent(self, text: str, is_bold: bool) -> Extent:
-        """Returns the extent of a line of text; zeros for an empty one."""
+NUMBERS = [name for name in Need._fields if name not in ("symbology", "title")]
 
 
 @dataclass(frozen=True, slots=True)
@@ -65,21 +55,6 @@ class PrintLabel:
         return len(self.title) < len(whole.title) or len(self.text) < lines
 
     @property
-    def price(self) -> str:
-        """Its price."""
-        return self.record.label.price
-
-    @property
-    def was(self) -> str:
-        """Its old price."""
-        return self.record.label.was
-
-    @property
-    def unit(self) -> str:
-        """Its unit price."""
-        return self.record.label.unit
-
-    @property
     def symbology(self) -> Symbology:
         """The symbology of its code."""
         return SYMBOLOGIES[self.record.symbology]
@@ -87,7 +62,8 @@ class PrintLabel:
     @property
     def texts(self) -> tuple[str, ...]:
         """Its texts."""
-        return self.title, self.text, self.price, self.was, self.unit
+        whole = self.record.label
+        return self.title, self.text, whole.price, whole.was, whole.unit
 
 
 @dataclass(frozen=True, slots=True)
@@ -154,7 +130,7 @@ def short(text: str) -> str:
     return "\n".join(line[:MOST_LETTERS] for line in text.split("\n"))
 
 
-def lay_out(labels: Sequence[PrintLabel], area: Area, measure: Measure, talk: Talk) -> LaidOutFile:
+def lay_out(labels: Sequence[PrintLabel], area: Area, letters: Letters, talk: Talk) -> LaidOutFile:
     """Returns labels with their layouts, turned to the right where that is wished, or where no wish
     is there and more of them fit so.
     """
@@ -163,7 +139,7 @@ def lay_out(labels: Sequence[PrintLabel], area: Area, measure: Measure, talk: Ta
     for done, label in enumerate(labels):
         if done % ASKED == 0:
             talk.go_on(done, 0)
-        need = need_of(label, measure)
+        need = need_of(label, letters)
         needs.append(known.setdefault(need, need))
     counted = Counter(needs)
     found = laid_out_needs(counted, area)
@@ -176,26 +152,24 @@ def lay_out(labels: Sequence[PrintLabel], area: Area, measure: Measure, talk: Ta
     return found.of_labels(labels, needs)
 
 
-def need_of(label: PrintLabel, measure: Measure) -> Need:
+def need_of(label: PrintLabel, letters: Letters) -> Need:
     """Returns what a label needs."""
-    title = label.title
-    lines = title.split("\n") if "\n" in title else (title,)
-    price = measure.extent(label.price, True)
-    text = label.text
-    widest = 0.0
-    if text:
-        widest = max(measure.extent(line, False).width for line in text.split("\n"))
+    whole = label.record.label
+    price = letters.extent(whole.price, True)
+    text = label.text.split("\n") if label.text else []
     return Need(
         label.record.symbology,
         label.modules.width,
         label.modules.height,
-        tuple(rounded(measure.extent(line, True).width) for line in lines if line),
-        text.count("\n") + 1 if text else 0,
-        rounded(widest),
+        tuple(
+            rounded(letters.extent(line, True).width) for line in label.title.split("\n") if line
+        ),
+        len(text),
+        rounded(max((letters.extent(line, False).width for line in text), default=0.0)),
         rounded(price.width, ROUNDED_PRICE),
         rounded(price.height, ROUNDED_PRICE),
-        rounded(measure.extent(label.was, False).width) if label.was else 0.0,
-        rounded(measure.extent(label.unit, False).width) if label.unit else 0.0,
+        rounded(letters.extent(whole.was, False).width),
+        rounded(letters.extent(whole.unit, False).width),
     )
 
 
@@ -234,56 +208,32 @@ class LaidOutNeeds:
 
 
 def laid_out_needs(counted: Mapping[Need, int], area: Area) -> LaidOutNeeds:
-    """Returns layouts in one frame; a code that it does not take has the frame of its symbology, or
-    one of its own.
+    """Returns layouts in one frame; a need that it does not take has the frame of its symbology, of
+    its code, or one of its own, which are found when they are asked for.
     """
     fitting = counted
     common = frame_of(area, fitting) if fitting else None
     if common is None:
         fitting = fitting_needs(area, counted)
         common = frame_of(area, fitting) if fitting else None
-    frames = Frames(area, fitting, common)
+
+    @cache
+    def shared(key: tuple[object, ...]) -> Optional[Frame]:
+        return frame_of(area, {one: n for one, n in fitting.items() if one[: len(key)] == key})
+
+    def frames(need: Need) -> Iterator[Optional[Frame]]:
+        yield common
+        yield shared(need[:1])
+        yield shared(need[: len(CODE)])
+        yield frame_of(area, {need: 1})
+
     layouts = {}
     known: dict[tuple[object, ...], Layout] = {}
     for need in fitting:
-        layout = frames.layout(need)
-        if layout is not None:
+        found = (layout_in(frame, need, area) for frame in frames(need) if frame)
+        if layout := next(filter(None, found), None):
             layouts[need] = known.setdefault(layout.key, layout)
     return LaidOutNeeds(area, layouts, tuple(need for need in counted if need not in layouts))
-
-
-class Frames:
-    """The frames of some needs: the common one, those of the symbologies and of one code, and those
-    of one need, which are found when they are asked for.
-    """
-
-    def __init__(self, area: Area, needs: Mapping[Need, int], common: Optional[Frame]) -> None:
-        self.area = area
-        self.needs = needs
-        self.common = common
-        self.shared: dict[tuple[object, ...], Optional[Frame]] = {}
-
-    def layout(self, need: Need) -> Optional[Layout]:
-        """Returns the layout of a need in the first frame that takes it."""
-        for frame in self.frames(need):
-            layout = layout_in(frame, need, self.area) if frame else None
-            if layout is not None:
-                return layout
-        return None
-
-    def frames(self, need: Need) -> Iterable[Optional[Frame]]:
-        """Yields the frames that a need may have."""
-        yield self.common
-        for fields in (1, len(CODE)):
-            yield self.shared_frame(need[:fields])
-        yield frame_of(self.area, {need: 1})
-
-    def shared_frame(self, key: tuple[object, ...]) -> Optional[Frame]:
-        """Returns the frame of the needs whose first fields are these."""
-        if key not in self.shared:
-            alike = {need: labels for need, labels in self.needs.items() if need[: len(key)] == key}
-            self.shared[key] = frame_of(self.area, alike)
-        return self.shared[key]
 
 
 def fitting_needs(area: Area, counted: Mapping[Need, int]) -> dict[Need, int]:
@@ -291,16 +241,11 @@ def fitting_needs(area: Area, counted: Mapping[Need, int]) -> dict[Need, int]:
     groups: dict[tuple[object, ...], list[Need]] = defaultdict(list)
     for need in counted:
         groups[need[: len(CODE)]].append(need)
-    found = {}
+    fits = cache(lambda need: frame_of(area, {need: 1}) is not None)
+    found: dict[Need, int] = {}
     for needs in groups.values():
-        is_all = frame_of(area, {alone(largest_of(needs)): 1}) is not None
-        known: dict[Need, bool] = {}
-        for need in needs:
-            key = alone(need)
-            if not is_all and key not in known:
-                known[key] = frame_of(area, {key: 1}) is not None
-            if is_all or known[key]:
-                found[need] = counted[need]
+        is_all = fits(alone(largest_of(needs)))
+        found.update((need, counted[need]) for need in needs if is_all or fits(alone(need)))
     return found
 
 
@@ -337,36 +282,30 @@ def layout_in(frame: Frame, need: Need, area: Area) -> Optional[Layout]:
 def code_boxes(frame: Frame, need: Need, area: Area) -> Optional[dict[str, Box]]:
     """Returns the places of a code and of what is below its bars; None where it does not fit."""
     code = frame.boxes["code"]
+    module = module_in(area, need, frame.module, code.width)
     if not need.is_bars:
         module = area.qr_module(need.kind, need.width, min(code.width, code.height))
-        side = need.width * module
-        top = code.top + (code.height - side) // 2
-        return {"bars": Box(left_of(frame, side), top, side, side)} if module else None
-    module = module_in(area, need, frame.module, code.width)
+    wide = need.width * module
+    left = code.left + ((code.width - wide) // 2 if frame.kind == "below" else 0)
+    if not need.is_bars:
+        top = code.top + (code.height - wide) // 2
+        return {"bars": Box(left, top, wide, wide)} if module else None
     high = need.height * module if need.height > 1 else frame.bars - frame.bars % max(1, module)
     if not module or not 0 < high <= code.height - frame.digits:
         return None
-    wide = need.width * module
     low = code.bottom - frame.digits
     if frame.kind != "foot":
         low -= (code.height - max(frame.bars, high) - frame.digits) // 2
-    left = left_of(frame, wide)
     return {"bars": Box(left, low - high, wide, high), "digits": Box(left, low, wide, frame.digits)}
-
-
-def left_of(frame: Frame, width: int) -> int:
-    """Returns where a code of a width begins."""
-    code = frame.boxes["code"]
-    return code.left + ((code.width - width) // 2 if frame.kind == "below" else 0)
 
 
 def reason(needs: Sequence[Need], area: Area) -> Text:
     """Returns why labels of a symbology do not fit, and a label on which all of them would."""
     symbology = needs[0].kind
-    modules = area.modules(symbology) if symbology.nominal else (area.dots(symbology.module),)
+    modules = area.modules[symbology.name] if symbology.nominal else (area.dots(symbology.module),)
     if not modules:
         return Text(
-            "{}: no whole number of dots is a module of {:g} mm or more",
+            "{}: --module and --dpi give no modules of {:g} mm or more",
             symbology.title,
             area.smallest(symbology),
         )
@@ -398,49 +337,21 @@ def reason(needs: Sequence[Need], area: Area) -> Text:
 
 def largest_of(needs: Sequence[Need]) -> Need:
     """Returns a need that fits only where each of these does."""
-    return needs[0]._replace(
-        width=max(need.width for need in needs),
-        height=max(need.height for need in needs),
-        title=max((need.title for need in needs), key=sum),
-        lines=max(need.lines for need in needs),
-        text=max(need.text for need in needs),
-        price=max(need.price for need in needs),
-        price_height=max(need.price_height for need in needs),
-        was=max(need.was for need in needs),
-        unit=max(need.unit for need in needs),
-    )
+    most = {name: max(getattr(need, name) for need in needs) for name in NUMBERS}
+    return needs[0]._replace(title=max((need.title for need in needs), key=sum), **most)
 
 
 def smallest_for(need: Need, area: Area, width: int) -> Optional[Size]:
-    """Returns the lowest cell of a width, or of a bit more, in which a label is laid out, in
+    """Returns the lowest cell of a width, or of a bit more, in which a label is laid out, in whole
     millimetres; None where there is none.
     """
     for wide in (width, width + width // 4):
-        cell = cell_of(area, wide)
-        high = lowest_for(need, cell, area)
-        if high is not None:
-            return cell, high
+        cell = math.ceil(wide * area.dot + 2 * PAD)
+        heights = range(int(2 * PAD) + 1, MOST_HEIGHT + 1)
+        if fits_cell(need, (cell, MOST_HEIGHT), area):
+            least = bisect_left(heights, True, key=lambda high: fits_cell(need, (cell, high), area))
+            return cell, heights[least]
     return None
-
-
-def cell_of(area: Area, dots: int) -> int:
-    """Returns the millimetres of a side of a cell whose area has at least so many dots."""
-    return math.ceil(dots * area.dot + 2 * PAD)
-
-
-def lowest_for(need: Need, wide: int, area: Area) -> Optional[int]:
-    """Returns the lowest cell of a width in which a label is laid out, in whole millimetres."""
-    most = MOST_HEIGHT
-    if not fits_cell(need, (wide, most), area):
-        return None
-    least = int(2 * PAD)
-    while most - least > 1:
-        middle = (least + most) // 2
-        if fits_cell(need, (wide, middle), area):
-            most = middle
-        else:
-            least = middle
-    return most
 
 
 def fits_cell(need: Need, cell: Size, area: Area) -> bool:

@@ -5,9 +5,11 @@ import unicodedata
 from functools import lru_cache, partial
 from typing import Any, Iterable, Mapping, NamedTuple, Optional, Sequence
 
+import cairo
+
 from labeltools.common.text import Text
 from labeltools.layout.glyphs import OTHERS
-from labeltools.layout.layout import Extent
+from labeltools.layout.frames import Extent
 from labeltools.common.messages import ToolError
 from labeltools.common.kept import Found
 from labeltools.layout.pango import MEASURED, Pango, PangoCairo, pango_context, plain_options
@@ -58,28 +60,10 @@ def extent_of(sign: Sign) -> Extent:
 
 def font_for(family: str) -> str:
     """Returns the font that is there for a wanted one: itself, or what is taken in its place."""
-    return str(described(family).get_family() or "")
-
-
-def described(families: str) -> Any:
-    """Returns how Pango describes the font that it takes for some."""
     context = pango_context(plain_options(), False)
-    wanted = Pango.FontDescription(f"{families}, 9")
+    wanted = Pango.FontDescription(f"{family}, 9")
     found = PangoCairo.FontMap.get_default().load_font(context, wanted)
-    return found.describe() if found else Pango.FontDescription()
-
-
-def font_instead(families: str) -> str:
-    """Returns the font that is taken in the place of the first one of some; nothing where that is
-    there, if only as a face of another one, as DejaVu Sans Condensed is.
-    """
-    family = families.split(",")[0].lower()
-    found = described(families)
-    there = str(found.get_family())
-    is_face = family.startswith(f"{there.lower()} ")
-    is_plain = found.get_weight() == Pango.Weight.NORMAL
-    is_plain = is_plain and found.get_stretch() == Pango.Stretch.NORMAL
-    return "" if family == there.lower() or is_face and not is_plain else there
+    return str(found.describe().get_family() or "") if found else ""
 
 
 def require_fonts(*families: str) -> None:
@@ -87,7 +71,7 @@ def require_fonts(*families: str) -> None:
     for family in families:
         if font_for(family).lower() != family.lower():
             hint = Text("fc-list : family lists what there is")
-            usual = Text("apt-get install fonts-dejavu-core has the usual ones")
+            usual = Text("apt-get install fonts-dejavu-core installs the usual ones")
             raise ToolError(Text("there is no font {}", family), Text("{}, {}", hint, usual))
 
 
@@ -98,9 +82,12 @@ class Letters:
         require_fonts(family, DIGITS_FONT)
         self.family = family
         self.extent = lru_cache(KEPT)(self.new_extent)
+        self.missing_letters = Found(self.is_missing)
         self.context = pango_context(plain_options(), False)
         self.layouts = [self.layout(family, is_bold) for is_bold in (False, True)]
-        self.signs = tuple(Found(partial(self.sign, is_bold)) for is_bold in (False, True))
+        self.signs = tuple(
+            Found(partial(self.whole_sign, is_bold=is_bold)) for is_bold in (False, True)
+        )
         self.words = tuple(Found(partial(self.word, is_bold)) for is_bold in (False, True))
         self.wrapped = self.layout(family, False)
         self.wrapped.set_width(1)  # so that each part of a line is a line
@@ -156,10 +143,6 @@ class Letters:
             return None
         return together([*map(self.signs[is_bold].__getitem__, word)]) if word else BLANK
 
-    def sign(self, is_bold: bool, letter: str) -> Sign:
-        """Measures a letter."""
-        return self.whole_sign(letter, is_bold)
-
     def whole(self, text: str, is_bold: bool) -> Extent:
         """Returns the extent of a line of text as Pango lays it out."""
         ink, _ = self.extents(text, is_bold)
@@ -172,7 +155,7 @@ class Letters:
         top = ink.y - self.layouts[is_bold].get_baseline() / (MEASURED * Pango.SCALE)
         return Sign(logical.width, ink.x, right, top, top + ink.height)
 
-    def extents(self, text: str, is_bold: bool) -> tuple["Rectangle", "Rectangle"]:
+    def extents(self, text: str, is_bold: bool) -> tuple[cairo.Rectangle, cairo.Rectangle]:
         """Returns the rectangles of the ink of a text and of its line."""
         layout = self.layouts[is_bold]
         layout.set_text(text, -1)
@@ -186,7 +169,7 @@ class Letters:
         used: set[str] = set()
         for several in texts.values():
             used.update(*several)
-        absent = sorted(letter for letter in used if self.is_missing(letter))
+        absent = sorted(filter(self.missing_letters.__getitem__, used))
         if not absent:
             return {}
         reasons = reasons_of(absent)
@@ -200,19 +183,11 @@ class Letters:
         return bool(layout.get_unknown_glyphs_count())
 
 
-class Rectangle(NamedTuple):
-    """A rectangle in sizes of letters."""
-
-    x: float
-    y: float
-    width: float
-    height: float
-
-
-def rectangle(found: Any) -> Rectangle:
+def rectangle(found: Any) -> cairo.Rectangle:
     """Returns a rectangle of Pango in sizes of the letters that are measured."""
     scale = MEASURED * Pango.SCALE
-    return Rectangle(found.x / scale, found.y / scale, found.width / scale, found.height / scale)
+    sides = (found.x / scale, found.y / scale, found.width / scale, found.height / scale)
+    return cairo.Rectangle(*sides)
 
 
 def reasons_of(letters: Iterable[str]) -> dict[str, Text]:

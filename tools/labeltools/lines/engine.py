@@ -1,6 +1,5 @@
 """Draws lines as labels(1) does, by the proved library liblabels in this process."""
 
-import argparse
 import os
 import shlex
 import sys
@@ -48,16 +47,12 @@ class Refused(Exception):
     """Why a line has no code."""
 
 
-class NotWords(ToolError, argparse.ArgumentTypeError):
-    """Why a text has no words; argparse says it with the name of its argument."""
-
-
 def option_words(argument: str) -> tuple[str, ...]:
-    """Returns options that are given as one text, as a shell reads them; raises `NotWords`."""
+    """Returns options that are given as one text, as a shell reads them; raises `ToolError`."""
     try:
         return tuple(shlex.split(argument))
     except ValueError as error:
-        raise NotWords(Text("{}: {}", repr(argument), error)) from error
+        raise ToolError(Text("{}: {}", repr(argument), error)) from error
 
 
 def bytes_a_row(width: int) -> int:

@@ -11,14 +11,13 @@ says that the part is whole, and each other one belongs to the next line. Lines 
 are a part too. LF ends a line, and nothing else does.
 """
 
-import itertools
 import json
 import re
 import sys
 from dataclasses import dataclass, field, replace
 from io import BytesIO
-from operator import methodcaller
-from typing import Any, Iterable, Iterator, NamedTuple, Optional, Sequence
+from itertools import count
+from typing import Any, Iterable, NamedTuple, Optional, Sequence
 
 from labeltools import VERSION
 from labeltools.common.text import NOTHING, Text
@@ -128,13 +127,6 @@ class LinesFile:
     empty: frozenset[str] = frozenset()
 
 
-def lines_of(data: bytes, numbers: Iterable[int] = ()) -> Iterator[tuple[int, bytes]]:
-    """Yields the lines of a file with their numbers, as labels(1) counts them or as given."""
-    return zip(
-        numbers or itertools.count(1), map(methodcaller("removesuffix", b"\n"), BytesIO(data))
-    )
-
-
 def first_remark(table: str) -> str:
     """Returns the first line of a file, with the name of its table, if there is one."""
     named = {"table": table.encode(errors="replace").decode()} if table else {}
@@ -150,12 +142,9 @@ def label_lines(label: Label, line: str, has_copies: bool) -> str:
         found.append(f'"text":{encode(dict(zip(label.names, label.text)))}')
     elif label.text:
         found.append(f'"text":[{",".join(map(encode, label.text))}]')
-    if label.price:
-        found.append(f'"price":{encode(label.price)}')
-    if label.unit:
-        found.append(f'"unit":{encode(label.unit)}')
-    if label.was:
-        found.append(f'"was":{encode(label.was)}')
+    for name in ONE_LINE:
+        if text := getattr(label, name):
+            found.append(f'"{name}":{encode(text)}')
     if has_copies:
         found.append(f'"copies":{label.copies}')
     return f"{','.join(found)}}}\n{line}\n"
@@ -184,17 +173,13 @@ def read_lines(
     """
     reader = _Reader(name, has_escapes)
     is_own = data.startswith(OBJECT)
-    for number, line in lines_of(data, numbers):
+    for number, ended in zip(numbers or count(1), BytesIO(data)):
+        line = ended.removesuffix(b"\n")
         if is_own and line.endswith(b"\r"):
-            hint = Text("take the file as label-table wrote it")
-            raise ToolError(
-                Text(
-                    "{}: line {} ends in CR LF: a program of Windows has changed the file",
-                    name,
-                    number,
-                ),
-                hint,
+            what = Text(
+                "{}: line {} ends in CR LF: a program of Windows has changed the file", name, number
             )
+            raise ToolError(what, Text("take the file as label-table wrote it"))
         if line.startswith(OBJECT):
             reader.take_object(number, line)
         elif line and not line.startswith(b"#"):
@@ -218,20 +203,15 @@ def drawn_lines(
 
 
 @dataclass
-class _Part:
-    """What is known of the part of a file that is read: a table, or lines of no table."""
-
-    table: str = ""
-    first: int = -1  # how many records were read before it; -1 for lines of no table
-
-
-@dataclass
 class _Reader:
-    """Reads a file line by line."""
+    """Reads a file line by line: the lines of a table, of which so many records were read before
+    its first one, or those of no table (-1).
+    """
 
     name: str
     has_escapes: bool
-    part: _Part = field(default_factory=_Part)
+    table: str = ""
+    first: int = -1
     waiting: dict[str, Any] = field(default_factory=dict)
     torn: Text = NOTHING
     records: list[LineRecord] = field(default_factory=list)
@@ -242,23 +222,19 @@ class _Reader:
     def take_object(self, number: int, line: bytes) -> None:
         """Takes a remark that is an object."""
         found = object_of(line, self.name, number)
-        is_open = self.part.first >= 0
-        count = len(self.records) - self.part.first if is_open else -1
-        is_early = "labels" in found and is_open
+        count = len(self.records) - self.first if self.first >= 0 else -1
+        is_early = "labels" in found and self.first >= 0
         is_short = "end" in found and found.get("lines", -2) != count
         if self.waiting or is_early or is_short:
             self.torn = self.torn or Text("before line {}", number)
+        self.waiting = {}
         if "labels" in found:
-            self.part = _Part(found.get("table", ""), len(self.records))
-            self.waiting = {}
+            self.table, self.first = found.get("table", ""), len(self.records)
         elif "end" in found:
-            self.left_out += [
-                Place(self.part.table, "row", row) for row in found.get("left_out", [])
-            ]
+            self.left_out += [Place(self.table, "row", row) for row in found.get("left_out", [])]
             self.left_out_count += found.get("left_out_count", 0)
             self.empty.update(found.get("empty", ()))
-            self.part = _Part()
-            self.waiting = {}
+            self.table, self.first = "", -1
         else:
             self.waiting = found
 
@@ -266,26 +242,24 @@ class _Reader:
         """Takes a line of labels(1), to which the object before it belongs."""
         label = label_of(self.waiting)
         symbology, data = symbology_and_data(line, self.has_escapes)
-        self.records.append(LineRecord(number, symbology, data, self.part.table, label, line))
+        self.records.append(LineRecord(number, symbology, data, self.table, label, line))
         self.waiting = {}
 
     def whole(self, is_cut: bool) -> LinesFile:
         """Returns what was read; raises `ToolError` where something is missing."""
         torn = self.torn
-        if self.waiting or self.part.first >= 0 or is_cut:
+        if self.waiting or self.first >= 0 or is_cut:
             torn = torn or Text("at its end")
         if torn:
+            what = Text(
+                "{} is not whole: something is missing {}. Nothing is printed", self.name, torn
+            )
             hint = Text(
                 "to print it all the same, take out its lines that begin with {} and {}",
                 FIRST,
                 LAST,
             )
-            raise ToolError(
-                Text(
-                    "{} is not whole: something is missing {}. Nothing is printed", self.name, torn
-                ),
-                hint,
-            )
+            raise ToolError(what, hint)
         found = tuple(self.records), tuple(self.left_out), self.left_out_count
         return LinesFile(*found, frozenset(self.empty))
 

@@ -13,8 +13,6 @@ REASONS = (
     Text("unknown symbology"),
     Text("no data"),
     Text("data is longer than 80 bytes"),
-)
-WITH_FIELDS = (
     Text("bad escape at byte {}", 0),
     Text("not a digit at byte {}", 0),
     Text("wrong number of digits: {}", 0),
@@ -33,9 +31,6 @@ def reason_of(message: str) -> Text:
     'check digit is {}, should be {}'
     """
     for reason in REASONS:
-        if message == reason:
-            return reason
-    for reason in WITH_FIELDS:
         pattern = re.escape(reason.template).replace(r"\{\}", "([0-9]+|[LMQH])")
         if found := re.fullmatch(pattern, message):
             return Text.made(message, reason.template, "", found.groups())

@@ -5,26 +5,25 @@ Modules are counted from the left edge of the picture that labels(1) draws, its 
 
 from dataclasses import dataclass
 from functools import cached_property
-from typing import Any
+from typing import Any, NamedTuple
 
 
-@dataclass(frozen=True)
-class Span:
+class Span(NamedTuple):
     """Modules of a picture, from `left` on and before `right`."""
 
     left: int
     right: int
 
 
-@dataclass(frozen=True)
-class Digits:
-    """Digits of the data, from `first` on and before `last`, in the middle of a span of modules
-    below the bars.
+class Digits(NamedTuple):
+    """Digits of the data, from `first` on and before `last`, in the middle of the modules from
+    `left` on and before `right` below the bars.
     """
 
     first: int
     last: int
-    span: Span
+    left: int
+    right: int
 
 
 @dataclass(frozen=True)
@@ -33,9 +32,8 @@ class Symbology:
 
     A symbology of numbers has `digits` digits with its check digit, or one fewer without it, which
     labels(1) adds. One of free data has 0. `module` is the smallest narrow bar that scanners have
-    to read; bars are as high as `nominal`, or at least `lowest`. `quiet` are the modules of the
-    quiet zone at the left and at the right. `settings` are the keys that labels(1) takes for it
-    behind the comma.
+    to read, `nominal` the height of bars. `quiet` are the modules of the quiet zone at the left and
+    at the right. `settings` are the keys that labels(1) takes for it behind the comma.
     """
 
     name: str
@@ -43,7 +41,6 @@ class Symbology:
     digits: int
     module: float
     nominal: float
-    lowest: float
     quiet: tuple[int, int]
     settings: tuple[str, ...]
 
@@ -55,13 +52,12 @@ class Symbology:
     @cached_property
     def guards(self) -> tuple[Span, ...]:
         """The modules whose bars are longer, as liblabels tells."""
-        return tuple(Span(left, right) for left, right in layout_of(self).guards)
+        return tuple(Span(*span) for span in layout_of(self).guards)
 
     @cached_property
     def places(self) -> tuple[Digits, ...]:
         """The digits below the bars, as liblabels tells."""
-        told = layout_of(self).digits
-        return tuple(Digits(first, last, Span(left, right)) for first, last, left, right in told)
+        return tuple(Digits(*digits) for digits in layout_of(self).digits)
 
 
 def layout_of(symbology: Symbology) -> Any:
@@ -71,57 +67,14 @@ def layout_of(symbology: Symbology) -> Any:
     return library().layout(symbology.name)
 
 
-# ISO/IEC 15420: the smallest module is 80 % of 0.33 mm; bars have their heights at 100 % and 80 %
-EAN13 = Symbology(
-    name="ean13",
-    title="EAN-13",
-    digits=13,
-    module=0.264,
-    nominal=22.85,
-    lowest=18.28,
-    quiet=(11, 7),
-    settings=("height",),
-)
-EAN8 = Symbology(
-    name="ean8",
-    title="EAN-8",
-    digits=8,
-    module=0.264,
-    nominal=18.23,
-    lowest=14.58,
-    quiet=(7, 7),
-    settings=("height",),
-)
-UPCA = Symbology(
-    name="upca",
-    title="UPC-A",
-    digits=12,
-    module=0.264,
-    nominal=22.85,
-    lowest=18.28,
-    quiet=(9, 9),
-    settings=("height",),
-)
-CODE128 = Symbology(
-    name="code128",
-    title="Code 128",
-    digits=0,
-    module=0.25,
-    nominal=15.0,
-    lowest=6.0,
-    quiet=(10, 10),
-    settings=("height",),
-)
-QR = Symbology(
-    name="qr",
-    title="QR Code",
-    digits=0,
-    module=0.25,
-    nominal=0.0,
-    lowest=0.0,
-    quiet=(4, 4),
-    settings=("level", "min-version", "mask"),
-)
+# ISO/IEC 15420: the smallest module is 80 % of 0.33 mm, the height that at 100 %
+HEIGHT = ("height",)
+QR_SETTINGS = ("level", "min-version", "mask")
+EAN13 = Symbology("ean13", "EAN-13", 13, 0.264, 22.85, (11, 7), HEIGHT)
+EAN8 = Symbology("ean8", "EAN-8", 8, 0.264, 18.23, (7, 7), HEIGHT)
+UPCA = Symbology("upca", "UPC-A", 12, 0.264, 22.85, (9, 9), HEIGHT)
+CODE128 = Symbology("code128", "Code 128", 0, 0.25, 15.0, (10, 10), HEIGHT)
+QR = Symbology("qr", "QR Code", 0, 0.25, 0.0, (4, 4), QR_SETTINGS)
 SYMBOLOGIES = {one.name: one for one in (EAN13, EAN8, UPCA, CODE128, QR)}
 NUMBERS = {one.digits: one for one in (EAN8, UPCA, EAN13)}  # by their digits with the check digit
 

@@ -1,1 +1,1 @@
-"""Sheets and rolls, and their cells in dots."""
+"""Sheets and rolls, their cells in dots, and pages in dots."""

@@ -88,16 +88,12 @@ class Area:
             return min(symbology.module, ROLL_SMALLEST)
         return symbology.module
 
-    def modules(self, symbology: Symbology) -> tuple[int, ...]:
-        """Returns the dots that a module of bars may have, those nearest to the wish first."""
-        return self.all_modules[symbology.name]
-
     @cached_property
-    def all_modules(self) -> dict[str, tuple[int, ...]]:
-        """The modules of each symbology."""
-        return {name: self.found_modules(one) for name, one in SYMBOLOGIES.items()}
+    def modules(self) -> dict[str, tuple[int, ...]]:
+        """The dots of a module of each symbology, those nearest to the wish first."""
+        return {name: self.modules_of(symbology) for name, symbology in SYMBOLOGIES.items()}
 
-    def found_modules(self, symbology: Symbology) -> tuple[int, ...]:
+    def modules_of(self, symbology: Symbology) -> tuple[int, ...]:
         """Returns the modules of a symbology."""
         wished = MODULE * min(2.0, max(1.0, self.size * self.dot / FULL_SIZE))
         counts = range(1, int(LARGEST_MODULE / self.dot + TINY) + 1)
@@ -137,7 +133,9 @@ class Plan:
 def plan_of(sheet: Sheet, dpi: int, edges: Edges, wishes: Wishes) -> Plan:
     """Returns the plan of a sheet for a printer; what is within `edges` of the page stays white."""
     dot = MILLIMETRES / dpi
-    spans = [(across(x, sheet, edges, dot), down(y, sheet, edges, dot)) for x, y in sheet.places]
+    spans = [
+        [span(side, place[side], sheet, edges, dot) for side in (0, 1)] for place in sheet.places
+    ]
     width = min(wide for (_, wide), _ in spans)
     height = min(high for _, (_, high) in spans)
     # cells at an edge have less room, and all labels are alike
@@ -170,22 +168,14 @@ def white_of(sheet: Sheet, edges: Edges) -> Edges:
     )
 
 
-def across(start: float, sheet: Sheet, edges: Edges, dot: float) -> Dots:
-    """Returns where a cell begins to take ink from left to right, and how much room it has."""
-    first = max(start + PAD, edges[0])
-    return span(first, min(start + sheet.cell[0] - PAD, sheet.page[0] - edges[2]), dot)
-
-
-def down(start: float, sheet: Sheet, edges: Edges, dot: float) -> Dots:
-    """Returns where a cell begins to take ink from top to bottom, and how much room it has."""
-    first = max(start + PAD, edges[1])
-    return span(first, min(start + sheet.cell[1] - PAD, sheet.page[1] - edges[3]), dot)
-
-
-def span(first: float, last: float, dot: float) -> Dots:
-    """Returns the whole dots between two places in millimetres: the first, and how many."""
-    start = math.ceil(first / dot - TINY)
-    return start, max(0, math.floor(last / dot + TINY) - start)
+def span(side: int, start: float, sheet: Sheet, edges: Edges, dot: float) -> Dots:
+    """Returns the whole dots that a cell takes ink in, from left to right (side 0) or from top to
+    bottom (1): the first, and how many.
+    """
+    first = max(start + PAD, edges[side])
+    last = min(start + sheet.cell[side] - PAD, sheet.page[side] - edges[side + 2])
+    begin = math.ceil(first / dot - TINY)
+    return begin, max(0, math.floor(last / dot + TINY) - begin)
 
 
 def size_of(area: Area) -> Size:

@@ -33,22 +33,17 @@ RESOLUTION = "Resolution"  # the option of drivers
 RAW = {"raw": "true"}
 NOTHING_CHOSEN: Mapping[str, str] = {}
 PAPER = ("PageSize", "PageRegion")  # options of drivers that the paper of the labels decides
-PACKAGE = Text("apt-get install python3-cups")
 NO_QUEUE = Text(
     "add it in the settings of printers; for one on USB give --print /dev/usb/lp0, for one in the "
     "network --print tcp://HOST"
 )
-# what IPP calls a reason not to print, without its end; CUPS has other ones in words of its own
-ENDING = re.compile("-(error|warning|report)$")
+# how the reasons of IPP not to print begin
 REASONS = {
     "paused": Text("it is paused"),
     "media-empty": Text("it has no paper"),
-    "media-needed": Text("it needs paper"),
     "media-jam": Text("the paper is jammed"),
     "cover-open": Text("a cover is open"),
-    "door-open": Text("a door is open"),
     "toner-empty": Text("it has no toner"),
-    "marker-supply-empty": Text("it has no ink or toner"),
     "offline": Text("it is off, or not connected"),
 }
 HELD, CANCELLED, ABORTED, COMPLETED = 4, 7, 8, 9  # states of a job in IPP
@@ -140,19 +135,11 @@ class SentJob:
             return JobState(Text("CUPS gave up job {}: {}", self.number, said), said, True)
         if state == COMPLETED:
             return JobState(NOTHING, said, True)
-        found = [REASONS[name] for name in map(name_of, reasons) if name in REASONS]
+        begins = ((reason, name) for reason in reasons for name in REASONS)
+        found = [REASONS[name] for reason, name in begins if reason.startswith(name)]
         if state == HELD:
             found.append(Text("job {} is held: {}", self.number, said))
         return JobState(Text("{}: {}", self.queue, found[0]) if found else NOTHING, said, False)
-
-
-def name_of(reason: str) -> str:
-    """Returns a reason of IPP without how bad it is.
-
-    >>> name_of("media-empty-error"), name_of("paused")
-    ('media-empty', 'paused')
-    """
-    return ENDING.sub("", reason)
 
 
 def queue_of(name: str, chosen: Mapping[str, str] = NOTHING_CHOSEN) -> Queue:
@@ -277,4 +264,5 @@ def library() -> Any:
     try:
         return import_module("cups")
     except ImportError as error:
-        raise ToolError(Text("python3-cups is not installed"), PACKAGE) from error
+        hint = Text("apt-get install python3-cups")
+        raise ToolError(Text("python3-cups is not installed"), hint) from error

@@ -1,7 +1,7 @@
 """What label-print is asked for, and how labels go out by that.
 
     options = PrintOptions(paper=(60.0, 40.0), dpi=203, to="zpl")
-    labels = labels_of(options, planned(options), "articles.lines", data, talk)
+    labels = labels_of(planned(options), "articles.lines", data, talk)
     Sender(StandardOutput(is_direct=True)).send_all(labels.press(talk), labels.prints)
 """
 
@@ -62,7 +62,7 @@ class PrintOptions:
     note: str = ""
     font: str = FONT
     first: int = 1
-    only: Optional[Selection] = None
+    only: Selection = Selection()
     after: int = 0
     is_unique: bool = False
     is_escaped: bool = False
@@ -95,34 +95,30 @@ class PrintOptions:
 
 @dataclass(frozen=True)
 class Job:
-    """How labels go out: on which sheet, in which form and font, from which cell of the first page
-    on, after how many of them; whether each is a file, ESC/POS cuts after each label, data have
-    escapes; a design of a file.
-    """
+    """How labels go out: what is asked for, on which sheet, in which form; a design of a file."""
 
+    options: PrintOptions
     plan: Plan
-    form: Form = PDF
-    font: str = FONT
-    first: int = 1
-    after: int = 0
-    is_each: bool = False
-    is_cut: bool = True
-    is_escaped: bool = False
+    form: Form
     design: Optional[OwnDesign] = None
+
+    @property
+    def is_each(self) -> bool:
+        """Whether each label is a file."""
+        return self.options.each is not None
 
     def pages_of(self, labels: int) -> int:
         """Returns how many pages so many labels take."""
-        return -(-(labels + self.first - 1) // len(self.plan.places))
+        return -(-(labels + self.options.first - 1) // len(self.plan.places))
 
 
 def planned(options: PrintOptions) -> Job:
     """Returns how labels go out; raises `ToolError` where options do not go together."""
     form = form_of(options)
     check_together(options, form)
-    check_texts(options)
     if is_file(options.design) and not (options.stock or options.paper or options.cell):
         options = replace(options, paper=size_of_page(options.design))
-    dpi = dpi_of(options, form)
+    dpi = options.dpi or DRAWING_DPI
     sheet = sheet_of(options, form)
     edges = options.edge
     if edges is None:
@@ -139,78 +135,55 @@ def planned(options: PrintOptions) -> Job:
     )
     plan = whole_plan_of(sheet, dpi, wishes) if own else plan_of(sheet, dpi, edges, wishes)
     dots = options.dots or RECEIPT_DOTS
-    if form == ESCPOS and plan.page[0] > dots:
-        what = Text("a label has {} dots, and the printer has {} (--dots)", plan.page[0], dots)
-        raise ToolError(what, status=BAD_ARGUMENTS)
-    how = (options.first, options.after, options.each is not None)
-    return Job(plan, form, options.font, *how, options.is_cut, options.is_escaped, own)
+    too_wide = Text("a label is {} dots wide, and the printer has {} (--dots)", plan.page[0], dots)
+    refuse(form == ESCPOS and plan.page[0] > dots, too_wide)
+    return Job(options, plan, form, own)
+
+
+def refuse(is_wrong: object, what: Text, hint: Text = NOTHING) -> None:
+    """Raises `ToolError` where options are wrong."""
+    if is_wrong:
+        raise ToolError(what, hint, BAD_ARGUMENTS)
 
 
 def check_together(options: PrintOptions, form: Form) -> None:
-    """Raises `ToolError` where options do not go together, in the order of these rows."""
+    """Raises `ToolError` where options do not go together, or a text has what cannot be printed."""
     printer = options.queue or ""
     is_queue = bool(printer) and not is_direct(printer)
     singly = "--journal" if options.journal else "--stream" if options.is_stream else ""
-    grid = options.given(OF_GRID)
-    has_paper = options.stock or options.paper or is_file(options.design)
-    receipt = options.given(OF_RECEIPT)
-    rules = (
-        (
-            grid and has_paper and not options.cell,
-            Text("{}: {}", grid, Text("only for a grid of --cell")),
-            Text("leave out {}", grid),
-        ),
-        (
-            receipt and form != ESCPOS,
-            Text("{}: {}", receipt, Text("only for --to escpos")),
-            Text("leave out {}", receipt),
-        ),
-        (
-            (singly or is_direct(printer)) and not form.is_roll,
-            Text("{} needs labels one by one", singly or printer),
-            Text("give --to zpl or escpos"),
-        ),
-        (
-            singly and options.each,
-            Text("{} and --each do not go together", singly),
-            NOTHING,
-        ),
-        (
-            singly and is_queue,
-            Text("{}: {} is a queue of CUPS", singly, printer),
-            Text(
-                "CUPS prints a broken run again from its beginning; give --print tcp://HOST or "
-                "/dev/usb/lp0"
-            ),
-        ),
-        (
-            is_queue and not (form == PDF or form.is_roll),
-            Text("--print: printers do not take {}", form.name),
-            Text("give --to pdf, zpl or escpos"),
-        ),
-        (
-            options.again and not (options.journal and options.only),
-            Text("--again needs --journal and rows or codes"),
-            Text("name what to print again with --only or --only-code"),
-        ),
-        (
-            options.is_stream and (options.only or options.after),
-            Text("--stream prints each line"),
-            Text("leave out --only and --after"),
-        ),
+    has_grid = options.cell or not (options.stock or options.paper or is_file(options.design))
+    for names, is_used, use in (
+        (OF_GRID, has_grid, Text("only for a grid of --cell")),
+        (OF_RECEIPT, form == ESCPOS, Text("only for --to escpos")),
+    ):
+        given = options.given(names)
+        refuse(given and not is_used, Text("{}: {}", given, use), Text("leave out {}", given))
+    one_by_one = Text("{} needs labels one by one", singly or printer)
+    is_single = singly or is_direct(printer)
+    refuse(is_single and not form.is_roll, one_by_one, Text("give --to zpl or escpos"))
+    refuse(singly and options.each, Text("{} and --each do not go together", singly))
+    broken = Text(
+        "CUPS prints an interrupted run again from its beginning; give --print "
+        "tcp://HOST or /dev/usb/lp0"
     )
-    for is_wrong, what, hint in rules:
-        if is_wrong:
-            raise ToolError(what, hint, BAD_ARGUMENTS)
-
-
-def check_texts(options: PrintOptions) -> None:
-    """Raises `ToolError` where a text of the options has what cannot be printed."""
+    refuse(singly and is_queue, Text("{}: {} is a queue of CUPS", singly, printer), broken)
+    is_taken = form == PDF or form.is_roll
+    not_taken = Text("--print: printers do not take {}", form.name)
+    refuse(is_queue and not is_taken, not_taken, Text("give --to pdf, zpl or escpos"))
+    named = Text("name what to print again with --only or --only-code")
+    is_named = options.journal and options.only
+    refuse(options.again and not is_named, Text("--again needs --journal and rows or codes"), named)
+    chosen = options.only or options.after
+    all_lines = Text("leave out --only and --after")
+    refuse(options.is_stream and chosen, Text("--stream prints each line"), all_lines)
+    hint = Text("the dots an inch of the printer, such as 203 or 300")
+    is_known = form.is_drawn or options.dpi
+    refuse(not is_known, Text("--to {} needs --dpi", form.name), hint)
+    dpi = options.dpi or 0
+    refuse(dpi > MOST_DPI, Text("--dpi {}: the maximum is {}", dpi, MOST_DPI))
     for name in ("note", "font", "stock"):
-        if UNPRINTABLE.search(getattr(options, name) or ""):
-            raise ToolError(
-                Text("--{} has characters that are not text", name), status=BAD_ARGUMENTS
-            )
+        text = getattr(options, name) or ""
+        refuse(UNPRINTABLE.search(text), Text("--{} has characters that are not text", name))
 
 
 def form_of(options: PrintOptions) -> Form:
@@ -221,17 +194,6 @@ def form_of(options: PrintOptions) -> Form:
     return next(named, PDF)
 
 
-def dpi_of(options: PrintOptions, form: Form) -> int:
-    """Returns the dots an inch; raises `ToolError` where they are not given, or too many."""
-    if not form.is_drawn and not options.dpi:
-        hint = Text("the dots an inch of the printer, such as 203 or 300")
-        raise ToolError(Text("--to {} needs --dpi", form.name), hint, BAD_ARGUMENTS)
-    dpi = options.dpi or DRAWING_DPI
-    if dpi > MOST_DPI:
-        raise ToolError(Text("--dpi {}: the maximum is {}", dpi, MOST_DPI), status=BAD_ARGUMENTS)
-    return dpi
-
-
 def sheet_of(options: PrintOptions, form: Form) -> Sheet:
     """Returns the sheet that the options name, or a page of one of its cells where each label is a
     page; raises `ToolError` where they do not agree.
@@ -239,9 +201,8 @@ def sheet_of(options: PrintOptions, form: Form) -> Sheet:
     sheet = named_sheet(options)
     is_page = options.each is not None or form.is_roll
     places = ((0.0, 0.0),) if is_page else sheet.places
-    if options.first > len(places):
-        has = counted("a page has {} label", "a page has {} labels", len(places))
-        raise ToolError(Text("--first {}: {}", options.first, has), status=BAD_ARGUMENTS)
+    has = counted("a page has {} label", "a page has {} labels", len(places))
+    refuse(options.first > len(places), Text("--first {}: {}", options.first, has))
     x, y = options.shift
     shifted = tuple((left + x, top + y) for left, top in places)
     return replace(sheet, page=sheet.cell if is_page else sheet.page, places=shifted)

@@ -4,33 +4,31 @@
     2026-11-27T09:30:00Z<TAB>sending<TAB>lane 1<TAB>tcp://till-3<TAB>row 5<TAB>qr T00005
     2026-11-27T09:30:00Z<TAB>taken<TAB>lane 1<TAB>tcp://till-3<TAB>row 5<TAB>qr T00005
 
-A code that is there goes out no more. So several lanes print one file by one journal: each takes
-the next label that none has. One that was `sending` when its lane ended may be on paper or not.
+A code that is there goes out no more. So several lanes print one file: each takes the next label
+that none has. One that was `sending` when its lane ended may be on paper or not.
 
-A lane locks a byte far behind the end of the file for as long as it runs, so that another one
-knows which of them have ended; and one more byte while it reads and writes. A lane that gives a
-label up leaves its number with it, and no lane takes a number that a label waits with.
+A lane locks a byte far behind the end of the file for as long as it runs, and one more while it
+reads and writes. A lane that gives a label up leaves its number with it.
 
 A last line that was cut off is taken out: the label of `sending` was not sent, that of `taken` is
 in doubt. Only a line of `sending` that has all its fields stays: an editor may have left out its
-end, and its label is in doubt. Ends of lines may be those of Windows.
+end, and its label is in doubt.
 """
 
+import errno
 import fcntl
 import os
 import re
 import stat
 import time
-from codecs import BOM_UTF8
 from contextlib import contextmanager, suppress
-from itertools import count
 from pathlib import Path
 from typing import Iterator, Mapping, NamedTuple, Optional
 
 from labeltools.lines.file import LineRecord
 from labeltools.common.messages import ToolError
 from labeltools.common.report import few
-from labeltools.common.text import NOTHING, Text
+from labeltools.common.text import Text
 
 HEAD = b"#labels journal 1\n"
 UPCA = b"upca "
@@ -38,27 +36,22 @@ SENDING = b"sending"
 TAKEN = b"taken"
 MOST_LANES = 64
 STUCK = 60.0  # seconds that a lane may wait for another one
-SHORT = 0.0005  # seconds between two looks, at first
-LONG = 0.02  # and later
+PAUSE = 0.001  # seconds between two looks whether it ends
 FAR = 1 << 62  # of a file: bytes that are locked and never written
 NO_JOURNAL = Text("give a file that label-print --journal has made, or a new name")
-CUT_OFF = Text("its last line was cut off, and was taken out")
-NO_END = Text("its last line had no end")
 NOT_WRITTEN = Text("make it writable")
 NO_LOCKS = Text("put the journal on a disk that locks files")
 STRANGE = re.compile(rb"[^ -\[\]-~]| (?= *\Z)")  # what is written as escapes: blanks at the end too
 ESCAPES = {bytes([byte]): b"\\x%02X" % byte for byte in range(256)} | {b"\\": b"\\\\"}
 LINE = re.compile(
     rb"\d{4}-\d\d-\d\dT[\d:]+Z\t(sending|taken)\tlane ([1-9][0-9]{0,8})\t([^\t]*)\t([^\t]*)\t"
-    rb"([a-z0-9]+ (?:[ -\[\]-~]|\\\\|\\x[0-9A-F]{2})*)"
+    rb"([a-z0-9]+ (?:[ -\[\]-~]|\\\\|\\x[0-9A-F]{2})*)(?<! )"
 )
-ENDS = b"\r "  # what an editor may put behind a line, and what no code ends in
 
 
 class Entry(NamedTuple):
-    """The last that is known of a code, and the number of its line."""
+    """The last that is known of a code."""
 
-    number: int
     event: bytes
     lane: int
     printer: str
@@ -79,7 +72,6 @@ class Journal:
         self.entries: dict[bytes, Entry] = {}  # of codes as they stand in the file
         self.end = 0
         self.lines = 0
-        self.mended = NOTHING  # what was wrong with its last line
         self.is_lost = False  # whether another program has written it
         self.lane = 0
         with self.locked():
@@ -97,8 +89,8 @@ class Journal:
             self.read()
             found = self.entries.get(code)
             if found is not None:
-                is_old = self.before.get(code) == found
-                if found.printer != again or not is_old or self.is_alive(found):
+                is_new = self.before.get(code) is not found
+                if found.printer != again or is_new or self.is_alive(found):
                     return False
             self.write(SENDING, record)
         try:
@@ -155,13 +147,9 @@ class Journal:
     def free_lane(self) -> int:
         """Takes the first number that no other lane has, and no label waits with; returns it."""
         left = {entry.lane for entry in self.entries.values() if entry.event == SENDING}
-        lanes = 0
-        for number in count(1):
+        for number in range(1, 1 + MOST_LANES + len(left)):
             if number not in left and self.is_free(FAR + number):
                 return number
-            lanes += number not in left
-            if lanes == MOST_LANES:
-                break
         raise ToolError(Text("{}: {} runs print with it already", self.path, MOST_LANES))
 
     def is_free(self, byte: int) -> bool:
@@ -177,78 +165,65 @@ class Journal:
         """Waits until no other lane reads or writes, and keeps them from it; raises `ToolError` in
         place of `OSError`.
         """
-        self.wait()
         try:
+            self.wait()
             yield
         except OSError as error:
             raise self.not_written(error) from error
         finally:
-            fcntl.lockf(self.file, fcntl.LOCK_UN, 1, FAR)
+            with suppress(OSError):  # of a disk without locks
+                fcntl.lockf(self.file, fcntl.LOCK_UN, 1, FAR)
 
     def wait(self) -> None:
-        """Waits until no other lane reads or writes; raises `ToolError` where one does not end, or
-        the file cannot be locked.
+        """Waits until no other lane reads or writes; raises `ToolError` where one does not end, and
+        `OSError`.
         """
         end = time.monotonic() + STUCK
-        pause = SHORT
-        try:
-            while not self.is_free(FAR):
-                if time.monotonic() > end:
-                    what = Text("{}: another run has held it for {:.0f} seconds", self.path, STUCK)
-                    raise ToolError(what, Text("is that process stopped? continue it or end it"))
-                time.sleep(pause)
-                pause = min(2 * pause, LONG)
-        except OSError as error:
-            raise ToolError(Text("{}: {}", self.path, error.strerror), NO_LOCKS) from error
+        while not self.is_free(FAR):
+            if time.monotonic() > end:
+                what = Text("{}: another run has held it for {:.0f} seconds", self.path, STUCK)
+                raise ToolError(what, Text("is that process stopped? continue it or end it"))
+            time.sleep(PAUSE)
 
     def not_written(self, error: OSError) -> ToolError:
-        """Returns what is wrong where the system does not read or write it."""
-        return ToolError(Text("{}: {}", self.path, error.strerror), NOT_WRITTEN)
+        """Returns what is wrong where the system does not read, write or lock it."""
+        hint = NO_LOCKS if error.errno == errno.ENOLCK else NOT_WRITTEN
+        return ToolError(Text("{}: {}", self.path, error.strerror), hint)
 
     def read(self) -> None:
         """Reads what was written since the last time, and mends a last line that was cut off."""
         size = os.fstat(self.file).st_size
-        if size < self.end or not self.is_in_place():
+        if size < self.end or not is_in_place(self.path, self.file):
             self.is_lost = True
             what = Text("{}: another program has changed it", self.path)
             raise ToolError(what, self.advice())
         data = os.pread(self.file, size - self.end, self.end)
-        if not self.end and not is_journal(data):
+        if not self.end and not data.startswith(HEAD):
             if not HEAD.startswith(data):
                 raise ToolError(Text("{} is not a journal", self.path), NO_JOURNAL)
             os.ftruncate(self.file, 0)
             self.append(HEAD)
             sync_folder(self.path)
-            self.lines = 1
             return
         *whole, last = data.split(b"\n")
         for line in whole:
-            self.lines += 1
-            self.learn(line.rstrip(ENDS))
+            self.learn(line)
         self.end += len(data) - len(last)
         if last:
-            self.mend(last.rstrip(ENDS))
+            self.mend(last)
 
     def mend(self, line: bytes) -> None:
         """Ends a last line without its end if all fields are there and its label was sent, which is
         in doubt then. Any other one is taken out: that of a label that was not sent yet, and the
         mark of one that waits for it in a line before, since its code may be cut.
         """
-        found = entry_in(line, self.lines + 1)
+        found = entry_in(line)
         if found is None or found[1].event == TAKEN:
-            self.mended = CUT_OFF
             os.ftruncate(self.file, self.end)
             return
-        self.mended = NO_END
-        self.append_entry(line.partition(b"\t")[0], *found)
-        os.ftruncate(self.file, self.end)  # it was longer where it had blanks at its end
-
-    def is_in_place(self) -> bool:
-        """Returns whether the file has its name still: an editor may write a new one."""
-        try:
-            return os.path.samestat(os.stat(self.path), os.fstat(self.file))
-        except FileNotFoundError:
-            return False
+        os.pwrite(self.file, b"\n", self.end + len(line))  # which takes nothing out where it fails
+        self.end += len(line) + 1
+        self.learn(line)
 
     def advice(self) -> Text:
         """Returns what to do where another program has taken its place: what the new file has not
@@ -257,11 +232,11 @@ class Journal:
         found: set[bytes] = set()
         with suppress(FileNotFoundError):
             lines = Path(self.path).read_bytes().split(b"\n")
-            found = {read[0] for line in lines if (read := entry_in(line.rstrip(ENDS), 0))}
+            found = {read[0] for read in map(entry_in, lines) if read}
         lost = [entry.place for code, entry in self.entries.items() if code not in found]
         if not lost:
             return Text("nothing more is printed: give the same command again")
-        named = few(lost, len(lost))
+        named = few(lost)
         return Text("it lacks {}, which the same command would print again", named)
 
     def printers(self) -> set[str]:
@@ -270,9 +245,10 @@ class Journal:
 
     def learn(self, line: bytes) -> None:
         """Takes a line."""
-        if line.removeprefix(BOM_UTF8).startswith(b"#") or not line:
+        self.lines += 1
+        if line.startswith(b"#") or not line:
             return
-        found = entry_in(line, self.lines)
+        found = entry_in(line)
         if found is None:
             self.is_lost = True
             what = Text("{}: line {} is not a line of a journal", self.path, self.lines)
@@ -284,13 +260,10 @@ class Journal:
     def write(self, event: bytes, record: LineRecord) -> None:
         """Writes a line."""
         now = time.strftime("%Y-%m-%dT%H:%M:%SZ", time.gmtime()).encode()
-        entry = Entry(self.lines + 1, event, self.lane, self.printer, str(record.place))
-        self.append_entry(now, code_of(record), entry)
-
-    def append_entry(self, now: bytes, code: bytes, entry: Entry) -> None:
-        """Writes what is known of a code since a time."""
-        self.append(now + b"\t" + fields_of(code, entry) + b"\n")
-        self.lines += 1
+        code = code_of(record)
+        entry = Entry(event, self.lane, self.printer, str(record.place))
+        texts = f"lane {entry.lane}\t{entry.printer}\t{entry.place}".encode("utf-8", "replace")
+        self.append(b"\t".join((now, event, texts, code)) + b"\n")
         self.entries[code] = entry
 
     def append(self, line: bytes) -> None:
@@ -303,6 +276,15 @@ class Journal:
             os.ftruncate(self.file, self.end)
             raise
         self.end += len(line)
+        self.lines += 1
+
+
+def is_in_place(path: str, file: int) -> bool:
+    """Returns whether an open file has its name still: an editor may write a new one."""
+    try:
+        return os.path.samestat(os.stat(path), os.fstat(file))
+    except FileNotFoundError:
+        return False
 
 
 def sync_folder(path: str) -> None:
@@ -317,15 +299,9 @@ def sync_folder(path: str) -> None:
             os.close(folder)
 
 
-def is_journal(data: bytes) -> bool:
-    """Returns whether a file begins as a journal does; an editor may have changed its line ends."""
-    head = data[: len(BOM_UTF8 + HEAD) + len(ENDS)].partition(b"\n")[0]
-    return b"\n" in data and head.removeprefix(BOM_UTF8).rstrip(ENDS) == HEAD.rstrip()
-
-
-def entry_in(line: bytes, number: int) -> Optional[tuple[bytes, Entry]]:
-    """Returns the code of a line of a journal, which has this number, and what it says of it; None
-    where it is no such line.
+def entry_in(line: bytes) -> Optional[tuple[bytes, Entry]]:
+    """Returns the code of a line of a journal, and what it says of it; None where it is no such
+    line.
     """
     found = LINE.fullmatch(line)
     if found is None:
@@ -334,13 +310,7 @@ def entry_in(line: bytes, number: int) -> Optional[tuple[bytes, Entry]]:
     if code.startswith(UPCA):  # as version 1.1.0 wrote it: see `LineRecord.key`
         code = b"ean13 0" + code.removeprefix(UPCA)
     texts = (text.decode("utf-8", "replace") for text in (printer, place))
-    return code, Entry(number, event, int(lane), *texts)
-
-
-def fields_of(code: bytes, entry: Entry) -> bytes:
-    """Returns the line of a code without its time and its end."""
-    texts = f"lane {entry.lane}\t{entry.printer}\t{entry.place}".encode("utf-8", "replace")
-    return b"\t".join((entry.event, texts, code))
+    return code, Entry(event, int(lane), *texts)
 
 
 def code_of(record: LineRecord) -> bytes:

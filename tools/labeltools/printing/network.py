@@ -16,12 +16,11 @@ from contextlib import suppress
 
 from labeltools.common.messages import BAD_ARGUMENTS, ToolError
 from labeltools.common.text import Text
-from labeltools.printing.outlets import Broken, Outlet, Unreachable
+from labeltools.printing.outlets import Broken, Outlet, Unreachable, events_of
 
 SCHEME = "tcp://"
 NAME = re.compile(r"tcp://(\[[0-9A-Fa-f:.%]+\]|[^\s/:\[\]]+)(?::([0-9]{1,5}))?/?", re.ASCII)
 PORT = 9100
-PORTS = range(1, 65536)
 CONNECT = 10.0  # seconds
 STUCK = 60.0  # seconds in which a printer takes nothing
 FAREWELL = 2.0  # seconds that a printer may take to end the connection after the last label
@@ -42,7 +41,7 @@ def address_of(name: str) -> tuple[str, int]:
     host = found[1].strip("[]") if found else ""
     with suppress(UnicodeError):
         host.encode("idna")  # as the system asks for it
-        if port in PORTS:
+        if 0 < port < 65536:
             return host, port
     what = Text("{}: write it as tcp://HOST or tcp://HOST:9100", name)
     raise ToolError(what, status=BAD_ARGUMENTS)
@@ -99,7 +98,8 @@ class NetworkPrinter(Outlet):
         pause = SHORT
         end = 0.0
         while True:
-            hear(line)
+            with suppress(BlockingIOError):
+                line.recv(HEARD)
             require_whole(line)
             with suppress(BlockingIOError):
                 rest = rest[line.send(rest) :] if rest else rest
@@ -112,7 +112,7 @@ class NetworkPrinter(Outlet):
                 raise TimeoutError
             before = left
             if rest:
-                wait_for(line, select.POLLOUT, pause)
+                events_of(line.fileno(), select.POLLOUT, pause)
             else:
                 time.sleep(pause)
             pause = min(2 * pause, LONG)
@@ -127,8 +127,8 @@ class NetworkPrinter(Outlet):
             return
         end = time.monotonic() + FAREWELL
         try:
-            if wait_for(self.line, select.POLLRDHUP, FIRST):
-                wait_for(self.line, BREAK, REGRET)
+            if events_of(self.line.fileno(), select.POLLRDHUP, FIRST):
+                events_of(self.line.fileno(), BREAK, REGRET)
                 require_whole(self.line)  # once we have ended it too, the system does not say so
             self.line.shutdown(socket.SHUT_WR)
             while (left := end - time.monotonic()) > 0:
@@ -149,28 +149,11 @@ class NetworkPrinter(Outlet):
             self.line = None
 
 
-def hear(line: socket.socket) -> None:
-    """Reads what a printer says, and forgets it; raises `OSError` where it has broken off."""
-    with suppress(BlockingIOError):
-        line.recv(HEARD)
-
-
 def has_ended(line: socket.socket) -> bool:
     """Returns whether the other side has ended a connection, as printers do that wait in vain; one
     that it has broken off is left to `send`, which says so.
     """
-    look = select.poll()
-    look.register(line, select.POLLRDHUP)
-    return look.poll(0) == [(line.fileno(), select.POLLRDHUP)]  # with no error beside it
-
-
-def wait_for(line: socket.socket, event: int, seconds: float) -> bool:
-    """Waits for an event of a connection, or its break, for some seconds at most; returns whether
-    there is one.
-    """
-    look = select.poll()  # it takes any number of open files, unlike select
-    look.register(line, event)
-    return bool(look.poll(seconds * 1000))
+    return events_of(line.fileno(), select.POLLRDHUP) == select.POLLRDHUP
 
 
 def require_whole(line: socket.socket) -> None:

@@ -8,6 +8,7 @@ import select
 import stat
 import tempfile
 from collections.abc import Callable, Sequence
+from contextlib import nullcontext
 from io import BytesIO
 from pathlib import Path
 from typing import IO, Any, Optional
@@ -48,11 +49,11 @@ class Outlet:
     is_direct = False
     is_kept = False
 
-    def open(self) -> object:
+    def open(self) -> Any:
         """Returns the way out, which is another one once it was made again after a good end; raises
         `ToolError` if nothing can be sent.
         """
-        raise NotImplementedError
+        return self
 
     def send(self, data: bytes) -> None:
         """Sends what is whole by itself; raises `Untaken` if nothing of it is there, and `Broken`
@@ -73,25 +74,22 @@ class OpenFile(Outlet):
     is_direct = True
     is_synced = True
 
-    def open(self) -> int:
-        """Returns its number."""
-        raise NotImplementedError
-
     def send(self, data: bytes) -> None:
-        """Writes a whole label; raises `Broken`, and what `open` does."""
+        """Writes what is whole, for which a signal waits; raises `Broken`, of standard output
+        `Untaken` if nothing of it is there, and what `open` does.
+        """
         file = self.open()
         try:
-            self.is_kept = stat.S_ISREG(os.fstat(file).st_mode)
-            send(data, file)
-            if self.is_synced and self.is_kept:
-                os.fdatasync(file)
+            with hold_signals() if self.name == OUTPUT else nullcontext():  # not in a window
+                self.is_kept = stat.S_ISREG(os.fstat(file).st_mode)
+                send(data, file)
+                if self.is_synced and self.is_kept:
+                    os.fdatasync(file)
         except OSError as error:
             self.drop()
-            raise self.broken(error) from error
-
-    def broken(self, error: OSError) -> ToolError:
-        """Returns what an error of the system means."""
-        return Broken(Text("{}: {}", self.name, error.strerror))
+            is_back = isinstance(error, Unwritten) and self.name == OUTPUT
+            kind = Untaken if is_back else Broken  # a device may have a part of it
+            raise kind(Text("{}: {}", self.name, error.strerror)) from error
 
 
 class StandardOutput(OpenFile):
@@ -106,16 +104,6 @@ class StandardOutput(OpenFile):
     def open(self) -> int:
         """Returns its number; raises `ToolError` if it is closed."""
         return standard_output().fileno()
-
-    def send(self, data: bytes) -> None:
-        """Writes what is whole, for which a signal waits; raises `Untaken` and `Broken`."""
-        with hold_signals():
-            super().send(data)
-
-    def broken(self, error: OSError) -> ToolError:
-        """Returns what an error means: of a file all is taken back that is not whole."""
-        kind = Untaken if isinstance(error, Unwritten) else Broken
-        return kind(Text("{}: {}", OUTPUT, error.strerror))
 
 
 class Device(OpenFile):
@@ -143,7 +131,7 @@ class Device(OpenFile):
         try:
             self.drop()
         except OSError as error:
-            raise self.broken(error) from error
+            raise Broken(Text("{}: {}", self.name, error.strerror)) from error
 
     def drop(self) -> None:
         """Closes it at once."""
@@ -154,19 +142,15 @@ class Device(OpenFile):
 
 class Files(Outlet):
     """A file for each label, whose data are given in the order of the labels; `name` has %d for the
-    number of one, or %s for its data.
+    number of one, from `first` on, or %s for its data.
     """
 
-    def __init__(self, name: str, data: Sequence[bytes]) -> None:
+    def __init__(self, name: str, data: Sequence[bytes], first: int) -> None:
         """Makes their folder, if it is not there; raises `ToolError` if it is not empty, or if two
         files have one name.
         """
         self.name = name
-        self.paths = enumerate(paths_of(name, data), 1)
-
-    def open(self) -> object:
-        """Returns the folder."""
-        return Path(self.name).parent
+        self.paths = enumerate(paths_of(name, data, first), first)
 
     def send(self, data: bytes) -> None:
         """Writes the file of the next label, for which a signal waits; raises `OSError`."""
@@ -188,10 +172,6 @@ class Collected(Outlet):
         with temporary():
             self.file = tempfile.TemporaryFile()
 
-    def open(self) -> object:
-        """Returns the file."""
-        return self.file
-
     def send(self, data: bytes) -> None:
         """Collects what is whole; raises `ToolError`."""
         with temporary():
@@ -209,13 +189,20 @@ class Collected(Outlet):
         self.file.close()
 
 
+def events_of(file: int, wanted: int, seconds: float = 0.0) -> int:
+    """Returns which of some events an open file has, or its break or end, in some seconds at most;
+    0 for none.
+    """
+    look = select.poll()  # it takes any number of open files, unlike select
+    look.register(file, wanted)
+    return sum(event for _, event in look.poll(seconds * 1000))
+
+
 def has_reader(file: int) -> bool:
     """Returns whether what is written may be read: False if the other end of a pipe, of a
     connection or of a terminal has gone.
     """
-    look = select.poll()
-    look.register(file, 0)  # errors and ends are always looked for
-    return not look.poll(0)
+    return not events_of(file, 0)
 
 
 def is_direct(printer: str) -> bool:
@@ -225,15 +212,15 @@ def is_direct(printer: str) -> bool:
     return "/" in printer
 
 
-def paths_of(name: str, data: Sequence[bytes]) -> list[Path]:
-    """Returns the file of each label, in a folder that is new or empty; raises `ToolError` if two
-    would be one.
+def paths_of(name: str, data: Sequence[bytes], first: int) -> list[Path]:
+    """Returns the file of each label, by its number from `first` on, in a folder that is new or
+    empty; raises `ToolError` if two would be one.
     """
     folder = Path(name).parent
     if folder == Path() or "%" in str(folder):
         raise ToolError(Text("--each"), Text("name a folder for the files, as in labels/%s.png"))
     paths: dict[str, Path] = {}
-    for number, one in enumerate(data, 1):
+    for number, one in enumerate(data, first):
         path = Path(file_name(name, number, one))
         if paths.setdefault(path.name.lower(), path) is not path:
             raise ToolError(

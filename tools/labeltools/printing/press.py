@@ -1,6 +1,7 @@
 """Makes labels of lines: lays them out, draws pages, and writes these in the form of a job."""
 
 from dataclasses import dataclass, replace
+from functools import partial
 from itertools import groupby
 from operator import attrgetter
 from typing import Any, Iterable, Iterator, Mapping, Optional, Sequence
@@ -11,7 +12,7 @@ from labeltools.common.messages import Talk, ToolError
 from labeltools.common.report import LeftOut, places_text
 from labeltools.common.text import Text
 from labeltools.designs.layout import OwnLayouts
-from labeltools.drawing.dots import Picture, drawn_page, pbm, png
+from labeltools.drawing.dots import drawn_page, pbm, png
 from labeltools.drawing.escpos import escpos
 from labeltools.drawing.forms import ESCPOS, PBM, PDF, PNG, SVG, ZPL
 from labeltools.drawing.own_pen import OwnPen
@@ -21,8 +22,9 @@ from labeltools.drawing.zpl import zpl
 from labeltools.layout.layout import LaidOut, LaidOutFile, PrintLabel, lay_out, print_label
 from labeltools.layout.letters import DIGITS_FONT, Letters
 from labeltools.lines.file import LineRecord, LinesFile, drawn_lines
-from labeltools.printing.job import Job, PrintOptions
-from labeltools.printing.remarks import Remark, remarks_on
+from labeltools.paper.picture import Picture
+from labeltools.printing.job import Job
+from labeltools.printing.remarks import remarks_on
 from labeltools.printing.selection import Selection
 
 MOST_LABELS = 1_000_000  # of one run, with copies
@@ -45,7 +47,7 @@ class Prepared:
     laid_out: LaidOutFile
     prints: Sequence[LaidOut]
     left_out: tuple[LeftOut, ...]
-    remarks: tuple[Remark, ...]
+    remarks: tuple[LeftOut, ...]
     tables: frozenset[str]
     pens: Sequence[Pen]
     records: tuple[LineRecord, ...]
@@ -60,7 +62,7 @@ class Prepared:
         return Press(self.job, self.laid_out, self.pens, talk)
 
 
-def labels_of(options: PrintOptions, job: Job, name: str, data: bytes, talk: Talk) -> Prepared:
+def labels_of(job: Job, name: str, data: bytes, talk: Talk) -> Prepared:
     """Returns the labels of a file of lines, laid out alike whether all or some of them are
     printed.
 
@@ -69,7 +71,7 @@ def labels_of(options: PrintOptions, job: Job, name: str, data: bytes, talk: Tal
     """
     if data.startswith(WORKBOOK):
         raise ToolError(Text("{} is a workbook", name), TABLE_FIRST)
-    lines = drawn_lines(data, name, options.is_escaped, talk)
+    lines = drawn_lines(data, name, job.options.is_escaped, talk)
     *others, last = lines.records or (None,)
     if last is not None and not data.endswith(b"\n"):
         last = last._replace(modules=None, refused=CUT_OFF)
@@ -78,11 +80,10 @@ def labels_of(options: PrintOptions, job: Job, name: str, data: bytes, talk: Tal
         raise ToolError(
             Text("{}: no line begins with a symbology, such as ean13", name), TABLE_FIRST
         )
-    return prepared(options, job, lines, talk)
+    return prepared(job, lines, talk)
 
 
 def prepared(
-    options: PrintOptions,
     job: Job,
     lines: LinesFile,
     talk: Talk,
@@ -92,7 +93,8 @@ def prepared(
     """Returns the labels of lines that are drawn, laid out; `pens` may be those of an earlier call.
     Nobody hears of texts that are shortened, and the like, unless `is_remarked`.
     """
-    pens = pens or pens_of(job, Letters(job.font))
+    options = job.options
+    pens = pens or pens_of(job, Letters(options.font))
     letters = pens[0].letters
     labels = [
         print_label(record, record.modules, options.note)
@@ -100,37 +102,28 @@ def prepared(
         if record.modules is not None and record.label.copies
     ]
     reasons = {record.number: record.refused for record in lines.records if record.refused}
-    own = own_layouts(options, job, lines.empty, letters)
+    area = job.plan.area
+    own = None
+    if job.design:
+        own_area = area.turned() if job.design.is_turned else area
+        own = OwnLayouts(job.design, own_area, letters, options.note, lines.empty)
     reasons.update(without_letters(labels, own, letters))
     if options.is_each_once:
         reasons.update(doubles(lines, reasons))
     if reasons:
         labels = [label for label in labels if label.record.number not in reasons]
-    area = job.plan.area
     laid_out = own.lay_out(labels, talk) if own else lay_out(labels, area, letters, talk)
     reasons.update(laid_out.left_out)
     only = options.only
-    wanted = [item for item in laid_out.labels if is_wanted(item.label.record, only)]
+    wanted = [item for item in laid_out.labels if only.has(item.label.record)]
     left_out = (*without_line(lines, only), *refused_labels(lines, reasons, only))
     tables = frozenset(record.table for record in lines.records if record.table)
-    remarks: Iterable[Remark] = ()
+    remarks: Iterable[LeftOut] = ()
     if is_remarked:
         remarks = remarks_on(wanted, laid_out, only, len(tables) > 1, pens[0])
     found = replace(laid_out, labels=tuple(wanted))
     prints = repeated(wanted, job)
     return Prepared(job, found, prints, left_out, tuple(remarks), tables, pens, lines.records)
-
-
-def own_layouts(
-    options: PrintOptions, job: Job, empty: frozenset[str], letters: Letters
-) -> Optional[OwnLayouts]:
-    """Returns what lays labels out by the design of a file, if that is wished; the columns of texts
-    are given that are empty.
-    """
-    if job.design is None:
-        return None
-    area = job.plan.area.turned() if job.design.is_turned else job.plan.area
-    return OwnLayouts(job.design, area, letters, options.note, empty)
 
 
 def without_letters(
@@ -160,16 +153,13 @@ def doubles(lines: LinesFile, refused: Mapping[int, Text]) -> Mapping[int, Text]
     return found
 
 
-def without_line(lines: LinesFile, only: Optional[Selection]) -> Iterable[LeftOut]:
+def without_line(lines: LinesFile, only: Selection) -> Iterable[LeftOut]:
     """Yields what is not printed without a line of its own: what is asked for and not there, and
     the rows that label-table left out.
     """
-    named = list(lines.left_out)
-    count = lines.left_out_count
-    if only is not None:
-        yield from only.missing(lines.records, named)
-        named = [place for place in named if only.has_row(place)]
-        count = len(named)
+    yield from only.missing(lines.records, lines.left_out)
+    named = [place for place in lines.left_out if only.has_row(place)]
+    count = len(named) if only else lines.left_out_count
     reason = Text("skipped by label-table")
     if count > len(named):
         reason = Text("{}, and {} rows more", reason, count - len(named))
@@ -179,18 +169,13 @@ def without_line(lines: LinesFile, only: Optional[Selection]) -> Iterable[LeftOu
         yield LeftOut(None, "", Text("{}: {}", Text("some rows"), reason))
 
 
-def is_wanted(record: LineRecord, only: Optional[Selection]) -> bool:
-    """Returns whether the label of a line is printed."""
-    return only is None or only.has(record)
-
-
 def refused_labels(
-    lines: LinesFile, reasons: Mapping[int, Text], only: Optional[Selection]
+    lines: LinesFile, reasons: Mapping[int, Text], only: Selection
 ) -> Iterable[LeftOut]:
     """Yields the lines that are not printed, with their reasons."""
     for record in lines.records:
         reason = reasons.get(record.number)
-        if reason is not None and is_wanted(record, only):
+        if reason is not None and only.has(record):
             data = record.data.decode("utf-8", "backslashreplace")
             yield LeftOut(record.place, data, reason)
 
@@ -203,9 +188,9 @@ def repeated(items: Sequence[LaidOut], job: Job) -> Sequence[LaidOut]:
     count = sum(copies)
     if count > MOST_LABELS:
         what = Text("{:,} labels with their copies: the maximum is {:,}", count, MOST_LABELS)
-        raise ToolError(what, Text("print a part of them by --only"))
+        raise ToolError(what, Text("print some of them with --only"))
     every = [item for item, often in zip(items, copies) for _ in range(often)]
-    return every[job.after :]
+    return every[job.options.after :]
 
 
 def check_count(job: Job, prints: Sequence[LaidOut]) -> None:
@@ -213,8 +198,8 @@ def check_count(job: Job, prints: Sequence[LaidOut]) -> None:
     if not prints:
         raise ToolError(Text("there is no label to print"))
     if job.form.is_one_page and not job.is_each and job.pages_of(len(prints)) > 1:
-        hint = Text("print fewer labels by --only, or a file of each by --each")
-        raise ToolError(Text("--to {} has one page", job.form.name), hint)
+        hint = Text("print fewer labels with --only, or a file of each with --each")
+        raise ToolError(Text("--to {} writes only one page", job.form.name), hint)
 
 
 @dataclass(frozen=True, slots=True)
@@ -227,19 +212,9 @@ class Part:
     items: Sequence[LaidOut]
 
     @property
-    def labels(self) -> Sequence[LaidOut]:
-        """Its labels, once each."""
-        return [*{id(item): item for item in self.items}.values()]
-
-    @property
     def count(self) -> int:
         """How many labels it has."""
         return len(self.items)
-
-    @property
-    def copies(self) -> int:
-        """How often its pages are printed."""
-        return self.count // sum(map(len, self.pages))
 
 
 class Press:
@@ -255,7 +230,7 @@ class Press:
         self.talk = talk
         area = laid_out.area
         self.turn = area.height if area.is_turned else 0
-        how = (job.plan, job.form.name, job.is_escaped, area.is_turned)
+        how = (job.plan, job.form.name, job.options.is_escaped, area.is_turned)
         self.comparison = Comparison(*how, talk)
 
     @property
@@ -266,7 +241,7 @@ class Press:
     def page(self, number: int, prints: Sequence[LaidOut]) -> Page:
         """Returns a page by its number, from 0."""
         places = self.job.plan.places
-        start = number * len(places) - (self.job.first - 1)
+        start = number * len(places) - (self.job.options.first - 1)
         first = max(0, start)
         return list(zip(prints[first : start + len(places)], places[first - start :]))
 
@@ -275,15 +250,15 @@ class Press:
         self.pen.draw(canvas, page, self.turn)
 
     def parts(self, prints: Sequence[LaidOut]) -> Iterator[Part]:
-        """Yields what goes out as a whole: a label with how many follow one another that have the
-        same dots, or each page of another form, or all pages of a PDF.
+        """Yields what goes out as a whole: a label of ZPL with how many follow one another that
+        have the same dots, a label of ESC/POS, each page of another form, or all pages of a PDF.
         """
-        if self.job.form.is_roll and not self.job.is_each:
-            for _, same in groupby(prints, DOTS_OF):
-                yield self.part([*same])
+        form = self.job.form
+        if form == ZPL and not self.job.is_each:
+            yield from (self.part([*same]) for _, same in groupby(prints, DOTS_OF))
             return
         pages = [self.page(number, prints) for number in range(self.job.pages_of(len(prints)))]
-        if self.job.form == PDF and not self.job.is_each:
+        if form == PDF and not self.job.is_each:
             yield Part(pages, prints)
         else:
             yield from (Part([page], [item for item, _ in page]) for page in pages)
@@ -292,27 +267,23 @@ class Press:
         """Returns labels of a roll that have the same dots."""
         return Part([[(items[0], self.job.plan.places[0])]], items)
 
-    def documents(self, part: Part, is_first: bool = True) -> Iterator[bytes]:
-        """Yields files that are whole by themselves: one for a part, or for each copy of ESC/POS;
-        `is_first` is whether it begins a job. Raises `ToolError` if one has not the codes of its
-        labels.
+    def document(self, part: Part, is_first: bool = True) -> bytes:
+        """Returns a part in the form of the job, which is whole by itself; `is_first` is whether it
+        begins a job. Raises `ToolError` if it has not the codes of its labels.
         """
-        for number in range(1 if self.job.form == ZPL else part.copies):
-            document = self.document(part, is_first and number == 0)
-            self.comparison.check(document)
-            yield document.data
-
-    def document(self, part: Part, is_first: bool) -> Document:
-        """Returns what a part is in the form of the job, or a copy of it."""
-        if not self.job.form.is_drawn:
-            copies = part.copies if self.job.form == ZPL else 1
+        form = self.job.form
+        if form.is_drawn:
+            paper = Paper(self.job.plan.sheet.page, self.job.plan.dpi, self.turn)
+            pages = partial(self.told, part)
+            with temporary(), drawing(paper, self.pens, pages, form == SVG) as file:
+                document = Document(file.read(), part.pages)
+        else:
             picture = drawn_page(self.job.plan.page, self.pen, part.pages[0], self.turn)
-            data = self.form_of(picture, is_first, copies)
-            return Document(data, part.pages, copies, picture.packed)
-        paper = Paper(self.job.plan.sheet.page, self.job.plan.dpi, self.turn)
-        is_svg = self.job.form == SVG
-        with temporary(), drawing(paper, self.pens, lambda: self.told(part), is_svg) as file:
-            return Document(file.read(), part.pages)
+            copies = part.count if form == ZPL else 1
+            data = self.written(picture, is_first, copies)
+            document = Document(data, part.pages, copies, picture)
+        self.comparison.check(document)
+        return document.data
 
     def told(self, part: Part) -> Iterator[Page]:
         """Yields pages, and says before each one how many labels are drawn."""
@@ -322,13 +293,13 @@ class Press:
             yield page
             done += len(page)
 
-    def form_of(self, picture: Picture, is_first: bool, copies: int) -> bytes:
+    def written(self, picture: Picture, is_first: bool, copies: int) -> bytes:
         """Returns dots in the form of the job."""
         form = self.job.form
         if form == ZPL:
             return zpl(picture, copies)
         if form == ESCPOS:
-            return escpos(picture, is_first, self.job.is_cut)
+            return escpos(picture, is_first, self.job.options.is_cut)
         if form == PNG:
             return png(picture, self.job.plan.dot)
         assert form == PBM
@@ -339,13 +310,14 @@ def pens_of(job: Job, letters: Letters) -> list[Pen]:
     """Returns what draws a form: for PDF also pens that draw letters as shapes, for fonts that
     Cairo cannot embed.
     """
-    dpi = job.plan.dpi
-    if not job.form.is_drawn:
-        return [pen_of(job, Medium(dpi, True), letters)]
-    outlines = (frozenset[str](), frozenset({DIGITS_FONT}), frozenset({DIGITS_FONT, job.font}))
-    is_smooth = job.form == SVG
-    wanted = outlines[:1] if is_smooth else outlines
-    return [pen_of(job, Medium(dpi, False, is_smooth, shapes), letters) for shapes in wanted]
+    medium = Medium(job.plan.dpi, not job.form.is_drawn, job.form == SVG)
+    outlines = (
+        frozenset[str](),
+        frozenset({DIGITS_FONT}),
+        frozenset({DIGITS_FONT, job.options.font}),
+    )
+    wanted = outlines if job.form == PDF else outlines[:1]
+    return [pen_of(job, replace(medium, outlines=shapes), letters) for shapes in wanted]
 
 
 def pen_of(job: Job, medium: Medium, letters: Letters) -> Pen:

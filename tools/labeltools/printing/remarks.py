@@ -1,12 +1,10 @@
 """What is reported of labels that are printed, each once for a file."""
 
 from collections import Counter
-from dataclasses import dataclass
-from typing import Iterable, Iterator, Optional, Sequence
+from typing import Iterator, Sequence
 
-from labeltools.common.messages import Place, quoted
-from labeltools.common.names import listed
-from labeltools.common.report import places_text
+from labeltools.common.messages import quoted
+from labeltools.common.report import LeftOut, listed, places_text
 from labeltools.common.text import Text
 from labeltools.drawing.pen import Pen
 from labeltools.layout.layout import LaidOut, LaidOutFile
@@ -17,44 +15,36 @@ DENSE = 0.33  # millimetres: modules of QR below it are reported
 SHORTENED = Text("shortened to fit, with an ellipsis")
 
 
-@dataclass(frozen=True)
-class Remark:
-    """What is reported of labels that are printed, and the place of the first of them."""
-
-    first: Place
-    text: Text
-
-
 def remarks_on(
     items: Sequence[LaidOut],
     laid_out: LaidOutFile,
-    only: Optional[Selection],
+    only: Selection,
     has_tables: bool,
     pen: Pen,
-) -> Iterator[Remark]:
-    """Yields what is reported of labels that are printed, some of which may be asked for."""
-    places = [item.label.record.place for item in items]
-    yield from several(places, only)
+) -> Iterator[LeftOut]:
+    """Yields what is reported of labels that are printed, with the place of the first of them; some
+    of the file may be asked for.
+    """
+    if only.rows:
+        yield from several(items, only)
     for place, said in laid_out.said:
-        yield Remark(place, said)
+        yield LeftOut(place, "", said)
     for some, what in found_on(items, laid_out.area, pen):
         if some:
             places = [item.label.record.place for item in some]
-            yield Remark(places[0], Text("{}: {}", places_text(places, has_tables), what))
+            text = Text("{}: {}", places_text(places, has_tables), what)
+            yield LeftOut(places[0], "", text)
 
 
-def several(places: Iterable[Place], only: Optional[Selection]) -> Iterator[Remark]:
+def several(items: Sequence[LaidOut], only: Selection) -> Iterator[LeftOut]:
     """Yields that rows that are asked for are in several tables of the file."""
-    first: dict[int, Place] = {}
-    counts: Counter[int] = Counter()
-    for place in places:
-        if only is not None and only.has_row(place):
-            first.setdefault(place.number, place)
-            counts[place.number] += 1
+    places = [item.label.record.place for item in items]
+    counts = Counter(place.number for place in places if only.has_row(place))
     rows = sorted(number for number, count in counts.items() if count > 1)
     if rows:
-        text = Text("{}: in several tables, and printed of each", listed(rows))
-        yield Remark(first[rows[0]], text)
+        first = next(place for place in places if place.number == rows[0])
+        reason = Text("{}: in several tables, and printed of each", listed(rows))
+        yield LeftOut(first, "", reason)
 
 
 def found_on(

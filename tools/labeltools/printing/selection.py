@@ -2,35 +2,38 @@
 
 import re
 import sys
-from bisect import bisect_left, bisect_right
 from codecs import BOM_UTF8
 from dataclasses import dataclass
+from itertools import filterfalse
 from pathlib import Path
-from typing import Iterable, Iterator, Optional, Sequence
+from typing import Iterable, Iterator
 
 from labeltools.printing.journal import code_of
 from labeltools.lines.file import LineRecord
 from labeltools.common.messages import Place, ToolError
-from labeltools.common.report import LeftOut, few, range_text
+from labeltools.common.report import LeftOut, few, ranges_of, ranges_text
 from labeltools.common.text import Text
 
-Ranges = tuple[tuple[int, int], ...]  # the first and the last number of each, in order, apart
+Ranges = tuple[tuple[int, int], ...]  # the first and the last number of each, in order
 ENDLESS = sys.maxsize  # the last number of a range without an end
-ROWS = re.compile(r"(?:\d{1,7}(?:-\d{1,7})?,)*\d{1,7}(?:-(?:\d{1,7})?)?", re.ASCII)
+RANGE = re.compile(r"(\d{1,7})(-(\d{1,7})?)?", re.ASCII)
 FILE = "@"  # before the name of a file of codes
 
 
 @dataclass(frozen=True)
 class Selection:
-    """Rows of the table, or lines where no rows are known; codes."""
+    """Rows of the table, or lines where no rows are known; codes; without both, all labels."""
 
     rows: Ranges = ()
     codes: frozenset[bytes] = frozenset()
 
+    def __bool__(self) -> bool:
+        """Whether labels are chosen."""
+        return bool(self.rows or self.codes)
+
     def has_row(self, place: Place) -> bool:
         """Returns whether a row is asked for by its number."""
-        at = bisect_right(self.rows, (place.number, ENDLESS))
-        return at > 0 and place.number <= self.rows[at - 1][1]
+        return not self or any(first <= place.number <= last for first, last in self.rows)
 
     def has(self, record: LineRecord) -> bool:
         """Returns whether the label of a line is asked for."""
@@ -46,12 +49,28 @@ class Selection:
             rows.add(record.place.number)
             if self.codes:
                 codes.update(names_of(record))
-        if lacking := without(self.rows, sorted(rows)):
+        if lacking := ranges_of(self.lacking(rows)):
             reason = Text("named by --only, but not in the input")
-            yield LeftOut(None, "", Text("{}: {}", rows_text(lacking), reason))
-        if named := [code.decode("utf-8", "backslashreplace") for code in self.codes - codes]:
-            text = few(sorted(named), len(named))
+            yield LeftOut(None, "", Text("{}: {}", ranges_text(lacking), reason))
+        if unknown := [code.decode("utf-8", "backslashreplace") for code in self.codes - codes]:
+            text = few(sorted(unknown))
             yield LeftOut(None, "", Text("{}: named by --only-code, but not in the input", text))
+
+    def lacking(self, rows: set[int]) -> Iterator[int]:
+        """Yields the rows that are asked for and not among some, each once; of a range without an
+        end that is its first one, where it has none of them.
+
+        >>> [*Selection(((2, 5), (4, 9), (20, ENDLESS))).lacking({1, 3, 8})]
+        [2, 4, 5, 6, 7, 9, 20]
+        >>> [*Selection(((2, ENDLESS),)).lacking({7})]
+        []
+        """
+        done = 0
+        for first, last in self.rows:
+            if last == ENDLESS:
+                last = first if max(rows, default=0) < first else 0
+            yield from filterfalse(rows.__contains__, range(max(first, done + 1), last + 1))
+            done = max(done, last)
 
 
 def names_of(record: LineRecord) -> set[bytes]:
@@ -69,66 +88,32 @@ def names_of(record: LineRecord) -> set[bytes]:
     return {whole, *names, *(kind + b" " + name for name in names)}
 
 
-def selection_of(rows: Ranges, codes: Iterable[str]) -> Optional[Selection]:
-    """Returns what is asked for: rows, and codes or files of them; None if nothing is. Raises
-    `ToolError` and `OSError`.
+def selection_of(rows: Ranges, codes: Iterable[str]) -> Selection:
+    """Returns what is asked for: rows, and codes or files of them; raises `ToolError` and
+    `OSError`.
     """
-    wanted = frozenset(code for argument in codes for code in codes_of(argument))
-    return Selection(rows, wanted) if rows or wanted else None
+    return Selection(rows, frozenset(code for argument in codes for code in codes_of(argument)))
 
 
 def ranges_in(rows: str) -> Ranges:
     """Returns the ranges that an argument such as 2,7-9 or 7- names; none if it names no rows.
 
-    >>> ranges_in("7-9,2,8-12"), ranges_in("2-40,30-") == ((2, ENDLESS),)
-    (((2, 2), (7, 12)), True)
-    >>> ranges_in("9-7"), ranges_in("0"), ranges_in("2;3")
-    ((), (), ())
+    >>> ranges_in("7-9,2,8-12"), ranges_in("30-") == ((30, ENDLESS),)
+    (((2, 2), (7, 9), (8, 12)), True)
+    >>> ranges_in("9-7"), ranges_in("0"), ranges_in("2;3"), ranges_in("")
+    ((), (), (), ())
     """
-    if not ROWS.fullmatch(rows):
-        return ()
     found: list[tuple[int, int]] = []
     for part in rows.split(","):
-        first, dash, last = part.partition("-")
-        found.append((int(first), ENDLESS if dash and not last else int(last or first)))
-    if any(not 0 < start <= end for start, end in found):
-        return ()
-    apart: list[tuple[int, int]] = []
-    for start, end in sorted(found):
-        if apart and start <= apart[-1][1]:
-            start, before = apart.pop()
-            end = max(before, end)
-        apart.append((start, end))
-    return tuple(apart)
-
-
-def without(ranges: Ranges, numbers: Sequence[int]) -> Ranges:
-    """Returns what is left of ranges without some numbers, which are in order; of a range without
-    an end that is its first number, where it has none of them.
-
-    >>> without(((2, 5), (8, 9), (20, ENDLESS)), [1, 3, 8])
-    ((2, 2), (4, 5), (9, 9), (20, 20))
-    >>> without(((2, ENDLESS),), [7])
-    ()
-    """
-    left: list[tuple[int, int]] = []
-    for start, end in ranges:
-        inside = numbers[bisect_left(numbers, start) : bisect_right(numbers, end)]
-        if end == ENDLESS:
-            left += [] if inside else [(start, start)]
-            continue
-        for number in (*inside, end + 1):
-            if start < number:
-                left.append((start, number - 1))
-            start = number + 1
-    return tuple(left)
-
-
-def rows_text(ranges: Ranges) -> Text:
-    """Returns rows in words."""
-    count = sum(last - first + 1 for first, last in ranges)
-    named = few([range_text(first, last) for first, last in ranges], count)
-    return Text("row {}", named) if count == 1 else Text("rows {}", named)
+        read = RANGE.fullmatch(part)
+        if read is None:
+            return ()
+        first = int(read[1])
+        last = int(read[3] or ENDLESS) if read[2] else first
+        if not 0 < first <= last:
+            return ()
+        found.append((first, last))
+    return tuple(sorted(found))
 
 
 def codes_of(argument: str) -> set[bytes]:

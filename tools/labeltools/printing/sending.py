@@ -1,11 +1,10 @@
 """Sends labels: one loop for every way out, with a journal or without one."""
 
 import shlex
-from collections import Counter
-from contextlib import contextmanager, suppress
+from contextlib import suppress
 from functools import partial
 from pathlib import Path
-from typing import Any, Iterable, Iterator, Mapping, Optional, Sequence, Sized
+from typing import Any, Callable, Iterable, Iterator, Mapping, Optional, Sequence, Sized
 
 from labeltools.common.command_line import standard_output
 from labeltools.common.files import save
@@ -41,7 +40,6 @@ class Sender:
         self.again = again
         self.records = records
         self.has_tables = len({record.table for record in records}) > 1
-        self.sent: list[LaidOut] = []
         self.on_way: list[LaidOut] = []  # since the way out was made: they may be thrown away
         self.way: object = None
         self.done = 0  # labels of the input, with those that are on paper or in the journal
@@ -55,33 +53,29 @@ class Sender:
         """
         press = found.press(talk)
         prints = found.prints
-        self.done = found.job.after
+        self.done = found.job.options.after
         for part in press.parts(prints):
             try:
                 if came:
-                    self.end()
+                    self.before(self.outlet.close)
                     raise ToolError(Text("{}: {}", self.outlet.name, self.so_far()))
-                self.send(press, part, not self.sent)
+                self.send(press, part, not self.taken)
             except ToolError as error:
                 if not self.outlet.is_direct:
                     raise
-                told = self.told(error, self.named(part.labels))
-                self.end()
+                told = self.told(error, self.named(part.items))
+                self.before(self.outlet.close)
                 raise told from error
             self.done += part.count
-            talk.go_on(self.done - found.job.after, len(prints))
-        self.end()
+            talk.go_on(self.done - found.job.options.after, len(prints))
+        self.before(self.outlet.close)
 
-    def end(self) -> None:
-        """Ends the way out after what was sent; raises `ToolError` if it broke off before."""
-        with self.nothing_begun():
-            self.outlet.close()
-
-    @contextmanager
-    def nothing_begun(self) -> Iterator[None]:
-        """Raises `ToolError` in place of `Broken`: what broke off are the labels before."""
+    def before(self, act: Callable[[], Any]) -> Any:
+        """Returns what is done before a label, or after the last one; raises `ToolError` in place
+        of `Broken`, since what broke off are the labels that were sent.
+        """
         try:
-            yield
+            return act()
         except Broken as error:
             what = Text("{}: {}", error.what, self.so_far())
             raise ToolError(what, self.may_be_missing()) from error
@@ -95,34 +89,28 @@ class Sender:
         if journal is not None and self.again is None and journal.entry(record) is not None:
             self.known.add(code_of(record))  # as it was when the journal was last read
             return 0
-        documents = list(press.documents(part, is_first))
-        with self.nothing_begun():
-            way = self.outlet.open()
-        if way is not self.way:
+        document = press.document(part, is_first)
+        way = self.before(self.outlet.open)
+        if way != self.way:
             self.way = way
             self.on_way.clear()
         if journal is not None and not journal.claim(record, self.again):
             self.known.add(code_of(record))
             return 0
-        self.give(record, documents, is_last)
+        self.give(record, document, is_last)
         self.taken += part.count
-        self.sent += part.labels
         if not self.outlet.is_kept:
-            self.on_way += part.labels
+            self.on_way += part.items
         if is_last:
-            self.sent.clear()
             self.on_way.clear()
-        return sum(map(len, documents))
+        return len(document)
 
-    def give(self, record: LineRecord, documents: Iterable[bytes], is_last: bool) -> None:
-        """Gives a label to the printer, and writes that it was taken. Raises `Broken`, and leaves
-        it in doubt in the journal, too; or what the printer does if nothing of it is there.
+    def give(self, record: LineRecord, document: bytes, is_last: bool) -> None:
+        """Gives a label to the printer, and writes that it was taken. Raises what the printer does;
+        with a journal `Broken`, since the label is in doubt there, too.
         """
-        is_begun = self.journal is not None
         try:
-            for document in documents:
-                self.outlet.send(document)
-                is_begun = True
+            self.outlet.send(document)
             if is_last:
                 self.outlet.close()
             if self.journal is not None:
@@ -130,12 +118,11 @@ class Sender:
         except ToolError as error:
             is_of_outlet = isinstance(error, (Broken, Untaken))
             self.is_at_end = is_of_outlet and self.outlet.name == OUTPUT
-            if self.journal is not None:
-                with suppress(ToolError):  # something else is reported
-                    self.journal.give_up()
-            if is_begun:
-                raise Broken(error.what, error.hint) from error
-            raise
+            if self.journal is None:
+                raise
+            with suppress(ToolError):  # something else is reported
+                self.journal.give_up()
+            raise Broken(error.what, error.hint) from error
 
     def so_far(self) -> Text:
         """Returns how many labels went out whole."""
@@ -151,44 +138,38 @@ class Sender:
         return self.journal is not None and self.journal.is_lost
 
     @property
-    def is_journal_enough(self) -> bool:
-        """Whether the same command prints what is missing; it would print again what `again` has
-        printed once more.
-        """
-        return self.journal is not None and self.again is None
+    def is_clear(self) -> bool:
+        """Whether a number is that of one line: several tables have rows of the same numbers."""
+        return len({record.place.number for record in self.records}) == len(self.records)
 
     def told(self, error: ToolError, place: Text) -> ToolError:
         """Returns an error at a label with what to do."""
         what = error.what
         if isinstance(error, (Broken, Untaken)):
             what = Text("{}: {}", what, self.so_far())
-        if isinstance(error, Broken):
-            return ToolError(what, self.advice(error, place))
-        is_output = self.outlet.name == OUTPUT
-        way_on = missing = NOTHING
-        if is_output and self.sent and not has_reader(standard_output().fileno()):
-            missing = self.may_be_missing()  # it was in the pipe
-        if self.sent or not error.hint:
-            way_on = Text("with --after {} the same command goes on there", self.done)
-            if self.is_journal_enough:
-                way_on = Text("the same command prints the rest")
-            elif is_output and self.outlet.is_kept:
-                way_on = Text("with --after {} and >> the same command goes on there", self.done)
-        hint = joined("; ", filter(None, (error.hint, missing, way_on)))
-        what = Text("{}: {} and what follows it were not sent", what, place)
-        return ToolError(what, hint, error.status)
+        if not isinstance(error, Broken):
+            what = Text("{}: {} and what follows it were not sent", what, place)
+            hints = [error.hint]
+            if self.outlet.name == OUTPUT and not has_reader(standard_output().fileno()):
+                hints.append(self.may_be_missing())  # it was in the pipe
+            if self.taken or not error.hint:
+                hints.append(self.way_on())
+        elif self.is_lost:
+            hints = [Text("{} may be on paper", place), error.hint]
+        else:
+            look = Text("{} may be on paper: look there", place)
+            hints = [error.hint or self.may_be_missing(), look, self.way_on()]
+        return ToolError(what, joined("; ", filter(None, hints)), error.status)
 
-    def advice(self, error: ToolError, place: Text) -> Text:
-        """Returns what to do if a label went out in part."""
-        if self.is_lost:
-            return Text("{} may be on paper; {}", place, error.hint)
-        way_on = Text("{} may be on paper: look there, then give the same command again", place)
-        if not self.is_journal_enough:
-            way_on = Text(
-                "{} may be on paper: look there; with --after {} the same command goes on at it",
-                *(place, self.done),
-            )
-        return joined("; ", filter(None, (error.hint or self.may_be_missing(), way_on)))
+    def way_on(self) -> Text:
+        """Returns how the rest is printed: the same command would print again what `again` has
+        printed once more.
+        """
+        if self.journal is not None and self.again is None:
+            return Text("the same command prints the rest")
+        if self.outlet.name == OUTPUT and self.outlet.is_kept:
+            return Text("with --after {} and >> the same command begins with it", self.done)
+        return Text("with --after {} the same command begins with it", self.done)
 
     def may_be_missing(self) -> Text:
         """Returns what to do about labels that a printer took, and may have thrown away when it
@@ -203,9 +184,7 @@ class Sender:
                 "--after N",
                 labels,
             )
-        numbers = {record.place.number for record in self.records}
-        is_clear = len(numbers) == len(self.records)
-        words = "--only ROWS" if is_clear else f"--only-code {FILE}FILE"
+        words = "--only ROWS" if self.is_clear else f"--only-code {FILE}FILE"
         again = f"{words} --again {shlex.quote(self.outlet.name)}"
         return Text(
             "{} may be missing: look there, and print what is missing with {}", labels, again
@@ -234,6 +213,31 @@ class Sender:
         """Returns the codes of labels of which it is not known whether they are on paper."""
         return self.journal.doubtful() if self.journal else {}
 
+    def doubts(self, doubtful: Mapping[bytes, Entry]) -> Iterator[Text]:
+        """Yields messages that name all labels in doubt, those of a printer together."""
+        printers: dict[str, list[bytes]] = {}
+        for code, entry in doubtful.items():
+            printers.setdefault(entry.printer, []).append(code)
+        records = reversed(self.records if printers else ())
+        places = {code_of(record): record.place for record in records}
+        for printer, codes in printers.items():
+            there = sorted((places[code], code) for code in codes if code in places)
+            for some in parts_of(there, MOST_RANGES if self.is_clear else 1):
+                words = f"--only {some[0][0].number}" if self.is_clear else by_code(some[0][1])
+                words = "--only ROW" if len(some) > 1 else words
+                named = places_text([place for place, _ in some], self.has_tables)
+                yield Text("{}: {}", named, may_be_on_paper(printer, words))
+            others = [code.decode() for code in codes if code not in places]
+            for some in parts_of(others, MOST_RANGES):
+                yield Text(
+                    "{}: may be on paper, from {}, and not in the input: look for it; if it is "
+                    "there, change sending to taken in its line of the journal; if not, print it "
+                    "with --again from an input that has it, or delete that line if nobody wants "
+                    "it",
+                    joined("; ", some),
+                    printer,
+                )
+
 
 def direct_outlet(printer: str) -> Outlet:
     """Returns the way to a printer in the network, or to one that is a file."""
@@ -242,10 +246,12 @@ def direct_outlet(printer: str) -> Outlet:
     return Device(printer)
 
 
-def send_to(found: Prepared, printer: str, talk: Talk) -> Text:
-    """Sends labels one by one to a printer, and returns what it took; raises `ToolError`."""
+def send_to(found: Prepared, printer: str, talk: Talk, came: Sized = ()) -> Text:
+    """Sends labels one by one to a printer until something came, and returns what it took; raises
+    `ToolError`.
+    """
     sender = Sender(direct_outlet(printer))
-    sender.send_all(found, talk)
+    sender.send_all(found, talk, came)
     return Text("{} taken by {}", labels_text(sender.taken), printer)
 
 
@@ -276,41 +282,9 @@ def labels_text(count: int) -> Text:
     return counted("{} label", "{} labels", count)
 
 
-def doubts(
-    doubtful: Mapping[bytes, Entry], records: Sequence[LineRecord], has_tables: bool
-) -> Iterator[Text]:
-    """Yields messages that name all labels in doubt: those of a file of lines by their places, and
-    by their codes too if other codes have these numbers, as the rows of several tables have.
-    """
-    printers: dict[str, list[bytes]] = {}
-    for code, entry in doubtful.items():
-        printers.setdefault(entry.printer, []).append(code)
-    found = [(code_of(record), record.place) for record in reversed(records)] if printers else []
-    places = dict(found)
-    numbers = Counter(number for _, number in {(code, place.number) for code, place in found})
-    for printer, codes in printers.items():
-        there = [code for code in codes if code in places]
-        alone = sorted(places[code] for code in there if numbers[places[code].number] == 1)
-        for some in parts_of(alone):
-            words = "--only ROW" if len(some) > 1 else f"--only {some[0].number}"
-            yield Text("{}: {}", places_text(some, has_tables), may_be_on_paper(printer, words))
-        for code in there:
-            if numbers[places[code].number] > 1:
-                place = places_text([places[code]], has_tables)
-                yield Text("{}: {}", place, may_be_on_paper(printer, by_code(code)))
-        for others in parts_of([code.decode() for code in codes if code not in places]):
-            yield Text(
-                "{}: may be on paper, from {}, and not in the input: look for it; if it is "
-                "there, change sending to taken in its line of the journal; if not, print it "
-                "with --again from an input that has it, or delete that line if nobody wants it",
-                joined("; ", others),
-                printer,
-            )
-
-
-def parts_of(found: Sequence[Any]) -> Iterator[Sequence[Any]]:
+def parts_of(found: Sequence[Any], size: int) -> Iterator[Sequence[Any]]:
     """Yields what was found, as much of it as a message names."""
-    return (found[start : start + MOST_RANGES] for start in range(0, len(found), MOST_RANGES))
+    return (found[start : start + size] for start in range(0, len(found), size))
 
 
 def may_be_on_paper(printer: str, words: str) -> Text:

@@ -8,9 +8,9 @@ order: a word, the number of the line, and more.
     unsent 5 tcp://till-3: Connection refused   nothing went out: send it again
     doubtful 6 tcp://till-3: ..                 a part went out: look before you send it again
 
-A line that begins with `label-print:` is a message: what is said of a design, once, and of texts
-that are shortened. A label is laid out by itself, as in a run for its line alone. An object before
-a line belongs to it, as in the file of label-table; its first and last remarks are skipped.
+A line that begins with `label-print:` is a message: what is reported of a design, once, and of
+texts that are shortened. A label is laid out by itself, as in a run for its line alone. An object
+before a line belongs to it, as in the file of label-table; its first and last remarks are skipped.
 """
 
 import errno
@@ -22,52 +22,35 @@ import sys
 from io import BufferedReader, RawIOBase
 from queue import Queue
 from threading import Thread
-from typing import Any, BinaryIO, Iterator, NamedTuple, Optional, Sequence
+from typing import Any, BinaryIO, Iterator, Optional, Sequence
 
 from labeltools.common.command_line import ENDING, hold_signals, standard_output
 from labeltools.lines.engine import Engine, LABELS_FAILED
 from labeltools.layout.letters import Letters
 from labeltools.lines.file import LineRecord, OBJECT, drawn_lines
 from labeltools.common.messages import Silence, ToolError, sentence, visible, write_message
-from labeltools.printing.job import Job, PrintOptions
+from labeltools.common.report import places_text
+from labeltools.printing.job import Job
+from labeltools.printing.journal import is_in_place
 from labeltools.printing.outlets import Broken, OUTPUT, has_reader
 from labeltools.printing.press import Prepared, Press, pens_of, prepared
 from labeltools.printing.remarks import SHORTENED
-from labeltools.common.report import places_text
 from labeltools.printing.sending import Sender
 from labeltools.common.text import NOTHING, Text, translated
 
 SKIPPED = (b'#{"labels"', b'#{"end"')
-LONGEST = 65_536  # bytes of a line
 MOST_AHEAD = 1000  # lines of a FIFO that wait to be printed
 LOOK = 5.0  # seconds between two looks whether a FIFO has its name still
 CUT_OFF = Text("cut off before its line end")
-TOO_LONG = Text("longer than {} bytes", LONGEST)
-TWO_OBJECTS = Text("there are two remarks before it")
-LONG_OBJECT = Text("the remark before it is longer than {} bytes", LONGEST)
-NO_FIFO = Text("make the FIFO again with mkfifo, then give the same command again")
 TOOL = "label-print"  # begins what is a message and no answer
-TAKEN = "taken"
-REFUSED = "refused"
-KNOWN = "known"
-UNSENT = "unsent"
-DOUBTFUL = "doubtful"
+NO_FIFO = Text("make the FIFO again with mkfifo, then give the same command again")
 
 
-class Refused(Exception):
+class Refused(ToolError):
     """Why a line has no label."""
 
-    def __init__(self, reason: Text) -> None:
-        super().__init__(reason)
-        self.reason = reason
 
-
-class InputLine(NamedTuple):
-    """A line, or the object before it, with its number, and why it is refused where it is."""
-
-    number: int
-    line: bytes
-    fault: Text = NOTHING
+InputLine = tuple[int, bytes]  # its number, from 1, and the line with its end
 
 
 class Fifo(RawIOBase):
@@ -105,21 +88,12 @@ class Fifo(RawIOBase):
         """
         has_writer = False
         while not has_writer:
-            try:
-                self.require_name()
-                writer = os.open(self.path, os.O_WRONLY)
-            except FileNotFoundError as error:
-                raise ToolError(Text("{}: {}", self.path, error.strerror), NO_FIFO) from error
+            if not is_in_place(self.path, self.source):
+                raise ToolError(Text("{}: another program has changed it", self.path), NO_FIFO)
+            writer = os.open(self.path, os.O_WRONLY)
             has_bytes = bool(self.poll.poll(LOOK * 1000))
             os.close(writer)
             has_writer = has_bytes or not self.poll.poll(0)  # it is not at its end
-
-    def require_name(self) -> None:
-        """Raises `ToolError` where another file has its name, and `OSError` where none has: nobody
-        can open it any more.
-        """
-        if not os.path.samestat(os.stat(self.path), os.fstat(self.source)):
-            raise ToolError(Text("{}: another program has changed it", self.path), NO_FIFO)
 
 
 class Ahead:
@@ -140,14 +114,12 @@ class Ahead:
         signal.pthread_sigmask(signal.SIG_BLOCK, ENDING)
         try:
             while True:
-                self.found.put(self.fifo.readline(LONGEST))
+                self.found.put(self.fifo.readline())
         except Exception as error:
             self.found.put(error)
 
-    def readline(self, _: int) -> bytes:
-        """Returns a line, or as much of it as a line may have; nothing at the end of a writer.
-        Raises `ToolError` and `OSError`.
-        """
+    def readline(self) -> bytes:
+        """Returns a line; nothing at the end of a writer. Raises `ToolError` and `OSError`."""
         found = self.found.get()
         if isinstance(found, Exception):
             raise found
@@ -169,29 +141,16 @@ def source_of(path: Optional[str]) -> tuple[str, Source]:
 
 
 def next_line(source: Source) -> bytes:
-    """Returns a line, or as much of it as a line may have; nothing at the end. Raises `ToolError`
-    where it cannot be read.
-    """
+    """Returns a line; nothing at the end. Raises `ToolError` where it cannot be read."""
     try:
-        return source.readline(LONGEST)
+        return source.readline()
     except OSError as error:
         raise ToolError(Text("the lines cannot be read: {}", error.strerror)) from error
 
 
-def fault_of(line: bytes, source: Source) -> Text:
-    """Returns what is wrong with a line that is not whole; the rest of a long one is read."""
-    if line.endswith(b"\n"):
-        return NOTHING
-    if len(line) < LONGEST:
-        return CUT_OFF
-    while len(rest := next_line(source)) == LONGEST and rest[-1:] != b"\n":
-        pass
-    return TOO_LONG
-
-
 def jobs(source: Source) -> Iterator[Sequence[InputLine]]:
-    """Yields each line with data as soon as it is there, behind the object before it where there is
-    one; of a FIFO, for ever.
+    """Yields each line with data as soon as it is there, behind the objects before it where there
+    are any; of a FIFO, for ever.
     """
     before: list[InputLine] = []
     number = 0
@@ -200,49 +159,45 @@ def jobs(source: Source) -> Iterator[Sequence[InputLine]]:
             before = []
             continue
         number += 1
-        fault = fault_of(line, source)
-        data = line.removesuffix(b"\n")
-        if data.startswith(OBJECT) and fault is not CUT_OFF:
-            wrong = LONG_OBJECT if fault else TWO_OBJECTS if before else NOTHING
-            before = [] if data.startswith(SKIPPED) else [InputLine(number, data, wrong)]
-        elif data and (fault is CUT_OFF or not data.startswith(b"#")):
-            yield [*before, InputLine(number, data, fault)]
+        is_whole = line.endswith(b"\n")
+        if is_whole and line.startswith(OBJECT):
+            before = [] if line.startswith(SKIPPED) else [*before, (number, line)]
+        elif not is_whole or not line.startswith((b"#", b"\n")):
+            yield [*before, (number, line)]
             before = []
 
 
 class Stream:
     """Prints lines one by one."""
 
-    def __init__(self, name: str, options: PrintOptions, job: Job, sender: Sender) -> None:
+    def __init__(self, name: str, job: Job, sender: Sender) -> None:
         """Takes what lines come from, and how they are printed; raises `ToolError` where none can
         be.
         """
-        Engine(options.is_escaped)
+        self.options = job.options
+        Engine(self.options.is_escaped)
         self.name = name
-        self.options = options
         self.job = job
         self.sender = sender
-        self.pens = pens_of(job, Letters(job.font))
+        self.pens = pens_of(job, Letters(job.options.font))
         self.presses: dict[bool, Press] = {}
         self.seen: set[tuple[str, bytes]] = set()
-        self.said: set[str] = set()
-        self.latest: Optional[Prepared] = None
+        self.said: set[str] = set()  # of the design
+        self.notes: list[Text] = []  # of the label that went out last
         self.status = 0
 
     def answer(self, parts: Sequence[InputLine]) -> tuple[str, Text]:
         """Prints a line, and returns the word and the text of its answer."""
-        text = parts[-1].line.decode("utf-8", "backslashreplace")
+        self.notes = []
+        text = parts[-1][1].removesuffix(b"\n").decode("utf-8", "backslashreplace")
         try:
             size = self.print(parts)
-            return (TAKEN, Text("{} {}", size, text)) if size else (KNOWN, Text("{}", text))
-        except Refused as refused:
-            return REFUSED, refused.reason
-        except Broken as error:
-            return DOUBTFUL, sentence(error.what, error.hint)
+            return ("taken", Text("{} {}", size, text)) if size else ("known", Text("{}", text))
         except ToolError as error:
             if error.status == LABELS_FAILED:
                 self.status = error.status
-            return UNSENT, sentence(error.what, error.hint)
+            word = {Refused: "refused", Broken: "doubtful"}.get(type(error), "unsent")
+            return word, sentence(error.what, error.hint)
         finally:
             self.sender.outlet.drop()  # it is left to others if nothing went out by it
 
@@ -258,35 +213,39 @@ class Stream:
         `Refused`, `ToolError` where nothing went out, and `Broken`.
         """
         self.require_reader()
-        for part in parts:
-            if part.fault:
-                raise Refused(part.fault)
+        if not parts[-1][1].endswith(b"\n"):
+            raise Refused(CUT_OFF)
         record, found = self.laid_out(parts)
         if self.options.is_each_once and record.key in self.seen:
             return 0
-        press = self.press(found)
-        (label,) = press.parts(found.prints)
-        size = self.sender.send(press, label, True, True)
+        is_turned = found.laid_out.area.is_turned
+        if is_turned not in self.presses:
+            self.presses[is_turned] = found.press(Silence())
+        press = self.presses[is_turned]  # with its fonts
+        size = 0
+        copies = [*press.parts(found.prints)]  # those of ESC/POS go out one by one
+        for copy in copies:
+            try:
+                size += self.sender.send(press, copy, copy is copies[0], copy is copies[-1])
+            except ToolError as error:
+                raise Broken(error.what, error.hint) if size else error
         if reason := NOTHING if size else self.sender.doubt(record):
             raise Broken(reason)
         if self.options.is_each_once and self.sender.journal is None:
             self.seen.add(record.key)
-        self.latest = found if size else None
+        if size:
+            self.notes = [*self.notes_on(found, press)]
         return size
 
-    def notes(self) -> Iterator[Text]:
-        """Yields what is said of the label that went out last: that a text is shortened, and what
-        has not been said of its design before.
+    def notes_on(self, found: Prepared, press: Press) -> Iterator[Text]:
+        """Yields what is reported of a label: that a text is shortened, and what has not been
+        reported of its design before.
         """
-        found, self.latest = self.latest, None
-        if found is None:
-            return
         for _, text in found.laid_out.said:
             if str(text) not in self.said:
                 self.said.add(str(text))
                 yield text
-        pen = self.press(found).pen
-        if any(map(pen.is_shortened, found.labels)):
+        if any(map(press.pen.is_shortened, found.labels)):
             place = found.records[0].place
             yield Text("{}: {}", places_text([place], False), SHORTENED)
 
@@ -298,30 +257,24 @@ class Stream:
 
     def laid_out(self, parts: Sequence[InputLine]) -> tuple[LineRecord, Prepared]:
         """Returns a line with its label; raises `Refused`."""
-        data = b"".join(part.line + b"\n" for part in parts)
-        numbers = [part.number for part in parts]
+        numbers, lines_read = zip(*parts)
         try:
-            lines = drawn_lines(data, self.name, self.options.is_escaped, Silence(), numbers)
-            done = prepared(self.options, self.job, lines, Silence(), self.pens, False)
+            lines = drawn_lines(
+                b"".join(lines_read), self.name, self.options.is_escaped, Silence(), numbers
+            )
+            done = prepared(self.job, lines, Silence(), self.pens, False)
         except ToolError as error:
             if error.status == LABELS_FAILED:
                 raise
-            raise Refused(sentence(error.what, error.hint)) from error
+            raise Refused(error.what, error.hint) from error
         if done.left_out:
             raise Refused(done.left_out[0].reason)
         if not done.labels:
             raise Refused(Text("none is printed: it has 0 copies"))
         return lines.records[0], done
 
-    def press(self, found: Prepared) -> Press:
-        """Returns what draws labels of an area; it is kept, with its fonts."""
-        is_turned = found.laid_out.area.is_turned
-        if is_turned not in self.presses:
-            self.presses[is_turned] = found.press(Silence())
-        return self.presses[is_turned]
 
-
-def run(options: PrintOptions, job: Job, sender: Sender) -> int:
+def run(job: Job, sender: Sender) -> int:
     """Prints the lines that come in and answers each; returns 1 where one is not printed. It ends
     where nobody takes its labels, or reads its answers, any more: a line without an answer would be
     sent again, and its label be there twice. So a signal, too, waits for the answer, and it is
@@ -330,19 +283,19 @@ def run(options: PrintOptions, job: Job, sender: Sender) -> int:
     if sys.__stderr__ is None:
         return 1
     status = 0
-    name, source = source_of(options.lines)
-    stream = Stream(name, options, job, sender)
+    name, source = source_of(job.options.lines)
+    stream = Stream(name, job, sender)
     for parts in jobs(source):
         if not has_reader(sys.stderr.fileno()):
             return 1
         with hold_signals():
             word, text = stream.answer(parts)
-            status = status if word == TAKEN else 1
+            status = status if word == "taken" else 1
             said = visible(translated(text))
             try:
-                for note in stream.notes():
+                for note in stream.notes:
                     write_message(TOOL, note)
-                print(word, parts[-1].number, said, file=sys.stderr, flush=True)
+                print(word, parts[-1][0], said, file=sys.stderr, flush=True)
             except OSError:
                 return 1
         if stream.is_at_end:

@@ -50,7 +50,7 @@ RAISED = Text("is a number that is raised or lowered")
 CONDITION = Text(
     "a condition of the spreadsheet strikes letters out or hides them, and is not read"
 )
-CONDITION_HINT = Text("choose rows by --where")
+CONDITION_HINT = Text("choose rows with --where")
 
 
 class Kind(Enum):

@@ -186,22 +186,15 @@ def delimiter_of(text: str, begin: int, given: str | None, options: CsvOptions) 
         return given
     if not is_cut and (later := delimiter_of_names(text, begin, options)):
         return later
-    if is_cut and is_sure(text, begin, best, options):
+    is_quoted = text[begin : begin + 100].lstrip("\r\n").startswith('"')
+    may_be_data = options.is_free and best != "\t" and set(options.asked) == {"1"}
+    if is_cut and (is_quoted or not may_be_data):
         return best
     first = LINE.match(text, begin)
     rare = [mark for mark in RARE if first and mark in first[0]]
     if is_cut or rare or options.is_free:
         refuse_delimiter(text, begin, [best] if is_cut else rare or marks)
     return ONE_COLUMN
-
-
-def is_sure(text: str, begin: int, mark: str, options: CsvOptions) -> bool:
-    """Returns whether a mark that row 1 has is a delimiter, and not a part of the data of its only
-    column.
-    """
-    if not options.is_free or mark == "\t" or set(options.asked) != {"1"}:
-        return True
-    return text[begin : begin + 100].lstrip("\r\n").startswith('"')
 
 
 def refuse_delimiter(text: str, begin: int, marks: Sequence[str]) -> None:

@@ -5,7 +5,7 @@ how they read a word.
 import codecs
 import re
 import unicodedata
-from collections.abc import Iterable, Mapping, Sequence
+from collections.abc import Iterable, Sequence
 from contextlib import suppress
 from itertools import islice
 
@@ -102,9 +102,8 @@ def wrong_encoding(data: bytes, name: str, codec: str, start: int) -> ToolError:
     found = readings(data, codec)
     if not found:
         return ToolError(what, Text("save it as UTF-8"))
-    hint = Text(
-        "save it as UTF-8, or give the right one of these by --encoding: {}", readings_text(found)
-    )
+    shown = joined(", ", (Text("{} reads {}", one, quoted(word)) for one, word in found.items()))
+    hint = Text("save it as UTF-8, or give the right one of these with --encoding: {}", shown)
     offers = [(word, ["--encoding", other]) for other, word in found.items()]
     return ToolError(what, hint, offers=offers)
 
@@ -184,8 +183,3 @@ def is_odd(word: str) -> bool:
         if not sign.isalpha() and (is_between or sign not in SIGNS):
             return True
     return False
-
-
-def readings_text(readings: Mapping[str, str]) -> Text:
-    """Returns how encodings read a word."""
-    return joined(", ", (Text("{} reads {}", one, quoted(word)) for one, word in readings.items()))

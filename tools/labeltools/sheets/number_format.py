@@ -18,10 +18,10 @@ from typing import NamedTuple, Sequence
 from labeltools.common.lists import lists_of
 from labeltools.common.text import Text
 from labeltools.common.messages import RowError, quoted
+from labeltools.sheets.cells import AS_TEXT
 
 LONGEST_FORMAT = 255  # letters, as spreadsheets have it
-TYPED = Text("enter it again as text")
-DATE_HINT = Text("give --date-as dd.mm.yyyy, or another pattern")
+DATE_HINT = Text("give --date-as dd.mm.yyyy, or another format")
 # formats that a file names by their number alone, in so far as they do not depend on the language
 BUILT_IN = {
     "0": "General",
@@ -132,14 +132,16 @@ class Formatter:
         if self.date_as and is_date_format(number_format):
             return date_text(date_section(self.date_as), value, is_from_1904)
         value = SIGNIFICANT.plus(value)
-        sections = number_sections(number_format)
-        place = section_for(value, len(sections))
-        section = sections[place]
+        section, is_signed = section_for(number_format, value)
         if section.moment:
             return date_text(section, value, is_from_1904)
-        text = self.number_text(section, value, number_format)
-        is_below = value < 0 and place == 0 and re.search("[1-9]", text)
-        return f"-{text}" if is_below else text
+        if not section.pattern and value:
+            raise not_understood(number_format)
+        size = abs(value).scaleb(2 if section.is_percentage else 0)
+        signs = signs_of(section.language) or self.signs
+        number = by_pattern(size, section.pattern, signs) if section.pattern else ""
+        text = f"{section.before}{number}{section.behind}".strip()
+        return f"-{text}" if is_signed and re.search("[1-9]", text) else text
 
     def keep(self, number_format: str, text: str) -> None:
         """Keeps a text that was shown, where the file does not say its signs, or the order of its
@@ -152,37 +154,16 @@ class Formatter:
             has_sign = self.signs.decimal in text or self.signs.thousands in text
             self.first_number = text if has_sign else ""
 
-    def number_text(self, section: Section, value: Decimal, number_format: str) -> str:
-        """Returns a number without its sign as a section shows it."""
-        if not section.pattern and value:
-            raise not_understood(number_format)
-        size = abs(value).scaleb(2 if section.is_percentage else 0)
-        signs = signs_of(section.language) or self.signs
-        number = by_pattern(size, section.pattern, signs) if section.pattern else ""
-        return f"{section.before}{number}{section.behind}".strip()
-
 
 def not_understood(number_format: str, is_code: bool = False) -> RowError:
     """Returns the error of a format; a date, which is no code, may be written anew."""
     if number_format == LANGUAGE:
         what = Text("has a number format that depends on the language of the spreadsheet")
-        return RowError(what, TYPED)
+        return RowError(what, AS_TEXT)
     what = Text("has the number format {}, which is not understood", quoted(number_format))
     if is_date_format(number_format) and not is_code:
         return RowError(what, DATE_HINT)
-    return RowError(what, TYPED)
-
-
-@lru_cache(maxsize=256)
-def number_sections(number_format: str) -> tuple[Section, ...]:
-    """Returns the sections of a format that show numbers: a last one with `@` shows texts alone.
-
-    >>> [section.pattern for form in ("0;@", "@") for section in number_sections(form)]
-    ['0', '@']
-    """
-    sections = sections_of(number_format)
-    is_for_texts = len(sections) > 1 and sections[-1].pattern == "@"
-    return sections[:-1] if is_for_texts else sections
+    return RowError(what, AS_TEXT)
 
 
 def is_of_time(number_format: str, value: Decimal) -> bool:
@@ -194,17 +175,20 @@ def is_of_time(number_format: str, value: Decimal) -> bool:
     if number_format == DATE_OF_LANGUAGE:
         return True
     try:
-        sections = number_sections(number_format)
+        return bool(section_for(number_format, value)[0].moment)
     except RowError:
         return is_date_format(number_format)
-    return bool(sections[section_for(value, len(sections))].moment)
 
 
-def section_for(value: Decimal, count: int) -> int:
-    """Returns the place of the section that shows a number, of `count` sections."""
+def section_for(number_format: str, value: Decimal) -> tuple[Section, bool]:
+    """Returns the section of a format that shows a number, and whether the number has a sign
+    there; a last section with `@` shows texts alone.
+    """
+    sections = sections_of(number_format)
+    count = len(sections) - (len(sections) > 1 and sections[-1].pattern == "@")
     if count > 2 and value == 0:
-        return 2
-    return 1 if count > 1 and value < 0 else 0
+        return sections[2], False
+    return (sections[1], False) if count > 1 and value < 0 else (sections[0], value < 0)
 
 
 @lru_cache(maxsize=256)
@@ -332,30 +316,20 @@ def date_text(section: Section, value: Decimal, is_from_1904: bool = False) -> s
     """Returns the day and time of a number; raises `RowError` where spreadsheets show different
     ones.
     """
-    letters = {part[0] for part in section.moment if part != "am/pm"}
-    is_timed, is_dated = bool(letters & set("hns")), bool(letters & set("dmy"))
-    moment = moment_of(value, is_from_1904, is_timed, is_dated)
+    is_dated = any(part[0] in "dmy" for part in section.moment)
+    moment = moment_of(value, is_from_1904, is_dated)
     is_noon = "am/pm" in section.moment
     return "".join(date_part(part, moment, is_noon) for part in section.moment).strip()
 
 
-def moment_of(value: Decimal, is_from_1904: bool, is_timed: bool, is_dated: bool) -> datetime:
-    """Returns the moment of a number of days, to the second; a format shows its time, its date or
-    both.
-    """
-    exact = value * SECONDS
-    seconds = int(exact.to_integral_value(ROUND_HALF_UP))
-    if seconds - exact > SAME_SECOND:
-        if is_timed:
-            what = Text("has a time between two seconds, which programs show differently")
-            raise RowError(what, TYPED)
-        seconds -= 1
-    day, second = divmod(seconds, SECONDS)
+def moment_of(value: Decimal, is_from_1904: bool, is_dated: bool) -> datetime:
+    """Returns the moment of a number of days, to the second; a format may show only its time."""
+    day, second = divmod(int(value * SECONDS + SAME_SECOND), SECONDS)
     day += LATER_IN_1904 if is_from_1904 else 0
     if not is_dated and 0 <= day < FIRST_DAY:  # a time alone
         day = FIRST_DAY
     if not FIRST_DAY <= day <= LAST_DAY:
-        raise RowError(Text("is a date before March 1900 or after 9999"), TYPED)
+        raise RowError(Text("is a date before March 1900 or after 9999"), AS_TEXT)
     start = datetime.combine(DAY_ZERO, datetime.min.time())
     return start + timedelta(days=day, seconds=second)
 
@@ -444,7 +418,7 @@ def general(value: Decimal, signs: Signs) -> str:
     is_long = "." in text and len(text.strip("0.").replace(".", "")) > 9
     if value >= 10**15 or is_long:
         raise RowError(
-            Text("is the number {} without a number of decimals", text),
+            Text("is the number {} in a format without fixed decimals", text),
             Text("give it a format such as 0.00"),
         )
     return text.replace(".", signs.decimal)
@@ -464,14 +438,14 @@ def digits_of(number_format: str, value: Decimal, is_data: bool = False) -> str:
         raise not_understood(number_format, is_code=True)
     if value != value.to_integral_value() or abs(value) >= 10**15:
         raise RowError(
-            Text("is the number {}, which is not whole or has too many digits", value), TYPED
+            Text("is the number {}, which is not whole or has too many digits", value), AS_TEXT
         )
     pattern = section.pattern
     is_general = pattern[0] in "Gg@"
     if is_data and not is_general and re.search(r"[.Ee]|,\Z", pattern):
         form = quoted(number_format)
         what = Text("has the number format {}, and would be drawn as {:.0f}", form, value)
-        raise RowError(what, TYPED)
+        raise RowError(what, AS_TEXT)
     zeros = 0 if is_general else least_digits(re.split("[.Ee]", pattern)[0])
     return f"{value:.0f}".zfill(zeros)
 

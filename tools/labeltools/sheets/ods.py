@@ -5,7 +5,6 @@ from collections.abc import Iterator, Mapping
 from dataclasses import dataclass, field
 from datetime import date, datetime
 from decimal import Decimal
-from functools import lru_cache
 from itertools import groupby
 from typing import NamedTuple
 from zipfile import ZipFile
@@ -13,11 +12,11 @@ from zipfile import ZipFile
 from labeltools.common.text import Text
 from labeltools.common.messages import RowError, Talk, ToolError, quoted
 from labeltools.sheets.number_format import DAY_ZERO, Formatter, date_section, date_text, digits_of
-from labeltools.sheets.cells import Cell, Fault, Form, Kind, Mark, RAISED, Special, Truth
+from labeltools.sheets.cells import AS_TEXT, Cell, Fault, Form, Kind, Mark, RAISED, Special, Truth
 from labeltools.sheets.cells import CONDITION, CONDITION_HINT, NO_LETTERS, no_value, text_of_runs
 from labeltools.sheets.rows import Merge, Row
 from labeltools.sheets.workbook import Attributes, LARGEST_ROW, MOST_COLUMNS, NOT_SAVED
-from labeltools.sheets.workbook import NOT_SAVED_HINT, Reader, SAVE_AGAIN, Sheet, TOO_LARGE, TYPED
+from labeltools.sheets.workbook import NOT_SAVED_HINT, Reader, SAVE_AGAIN, Sheet, TOO_LARGE
 from labeltools.sheets.workbook import chosen, elements, exact_of, filled, local
 from labeltools.sheets.workbook import merges_at, repeats, rows_from, whole
 
@@ -38,13 +37,6 @@ SIGNS = {"s": "\0", "tab": "\1", "line-break": "\2"}
 UNSIGNED = {0: " ", 1: "\t", 2: "\n"}
 SPACE = re.compile("[ \t\r\n]+")
 PLAINLY_SHOWN = re.compile(r"[0-9.,'’\s]+(?:E[+][0-9]+)?")
-DIGITS = re.compile(r"[0-9][0-9.,'’\u00a0\u202f ]*")
-# exponents and fractions are not compared with the value
-UNREAD = re.compile(r"[Ee][-+−]?[0-9]|[0-9] ?/ ?[0-9]|[^\x00-\x7f\W\d_]*[^\x00-\x7f\D]")
-WHOLE = re.compile("[0-9]+")
-DAY = re.compile("([0-9]{4})-([0-9]{2})-([0-9]{2})")
-LAST_SIGN = re.compile(r"[.,]([0-9]+)[^0-9]*\Z")
-ROUNDING = Decimal("0.5000001")  # of the last digit that is shown
 
 
 @dataclass(slots=True)
@@ -66,18 +58,12 @@ class Number(Special):
         return self.exact
 
     def agree(self) -> None:
-        """Raises `RowError` where the text has a number or a date that is not the value."""
+        """Raises `RowError` where the text has a number without a value, or is cut off."""
         if self.exact is None and self.kind is Kind.NUMBER and self.text:
             what = Text("has a number without its value, and the text {}", quoted(self.text))
             raise RowError(what, SAVE_AGAIN)
-        value = self.moment if self.exact is None else self.value
-        if self.exact is None:
-            is_right = not value or is_date_of(self.text, value)
-        else:
-            is_right = self.text == value or is_text_of(self.text, value)
-        is_narrow = self.text != "" and not self.text.strip("#")  # the column of the cell
-        if is_narrow or not is_right:
-            what = Text("has the value {} and the text {}", value, quoted(self.text))
+        if self.text and not self.text.strip("#"):  # the column of the cell is narrow
+            what = Text("has the value {} and the text {}", self.value, quoted(self.text))
             raise RowError(what, SAVE_AGAIN)
 
     def shown(self) -> str:
@@ -93,12 +79,14 @@ class Number(Special):
         self.agree()
         if self.exact is None or not PLAINLY_SHOWN.fullmatch(self.text):
             what = Text("is shown as {}, which is not a whole number", quoted(self.text))
-            raise RowError(what, TYPED)
+            raise RowError(what, AS_TEXT)
+        is_whole = self.text.isdecimal()
         digits = digits_of("0", self.exact)  # none where the number has more than a file keeps
-        if is_data and not self.text.isdecimal():
+        digits = digits.zfill(len(self.text)) if is_whole else digits
+        if (is_data or is_whole) and digits != self.text:
             what = Text("is shown as {}, and would be drawn as {}", quoted(self.text), digits)
-            raise RowError(what, TYPED)
-        return self.text if self.text.isdecimal() else digits
+            raise RowError(what, AS_TEXT)
+        return digits
 
 
 @dataclass
@@ -144,12 +132,16 @@ class Styles:
         """Returns whether a condition takes letters away."""
         return any(self.form(one).mark in NO_LETTERS for one in self.of_conditions)
 
-    def form(self, cell: str, span: str = "") -> Form:
-        """Returns the form of the letters of a cell by its style, and by that of letters in it."""
-        key = cell, span
+    def form(self, cell: str, spans: str = "") -> Form:
+        """Returns the form of the letters of a cell by its style, and by those of letters in it,
+        with spaces between, the innermost last.
+        """
+        key = cell, spans
         if key not in self.forms:
-            own = self.said(SPAN, span) if span else {}
-            self.forms[key] = form_of({**self.said(CELL, cell), **own})
+            said = self.said(CELL, cell)
+            for span in spans.split():
+                said |= self.said(SPAN, span)
+            self.forms[key] = form_of(said)
         return self.forms[key]
 
 
@@ -316,8 +308,9 @@ class RowReader(Reader[tuple[Head, Row]]):
     def begin_letters(self, name: str, attributes: Attributes) -> None:
         """Takes what begins in a line: letters with a style, an address, or white space."""
         self.line.append((self.text, self.spans[-1]))
-        is_span = name == "span" and "style-name" in attributes
-        self.spans.append(attributes["style-name"] if is_span else self.spans[-1])
+        own = attributes.get("style-name", "") if name == "span" else ""
+        is_known = (SPAN, own) in self.styles.own
+        self.spans.append(f"{self.spans[-1]} {own}" if is_known else self.spans[-1])
         if name == "a":
             self.addresses.add(attributes.get("href", ""))
         elif name in SIGNS:
@@ -353,20 +346,15 @@ class RowReader(Reader[tuple[Head, Row]]):
         if len(self.addresses) == 1:
             self.links[place] = self.addresses.pop()
         own = attributes.get("style-name", "") or self.row.get("default-cell-style-name", "")
-        columns = self.columns[place : place + repeat] or [""]
-        if own or repeat == 1:  # most cells
-            self.add_cell(own or columns[0], place, repeat)
-            return
-        for style, same in groupby(columns + [""] * (repeat - len(columns))):
-            count = len(list(same))
-            self.add_cell(style, place, count)
-            place += count
-
-    def add_cell(self, style: str, place: int, count: int) -> None:
-        """Adds the cell that is read by a style, so many times."""
-        if cell := self.cell_by(style):
-            self.add_letters(count * (len(cell) if isinstance(cell, str) else 1))
-            filled(self.cells, place).extend([cell] * count)
+        columns = self.columns[place : place + repeat]
+        made: dict[str, Cell] = {}
+        for at in range(repeat):
+            style = own or (columns[at] if at < len(columns) else "")
+            if style not in made:
+                made[style] = self.cell_by(style)
+            if cell := made[style]:
+                self.add_letters(len(cell) if isinstance(cell, str) else 1)
+                filled(self.cells, place + at).append(cell)
 
     def end_row(self) -> None:
         """Finds the row that is read, as often as it is repeated, but none that is empty and not
@@ -408,7 +396,7 @@ class RowReader(Reader[tuple[Head, Row]]):
         if kind in NUMBERS:
             value, moment = self.cell.get("value", ""), self.cell.get("date-value", "")
             if form.mark.moves:
-                return Fault(RAISED, TYPED, value or text)
+                return Fault(RAISED, AS_TEXT, value or text)
             exact = exact_of(value) if value else None
             own = Kind.MOMENT if kind in ("date", "time") else Kind.NUMBER
             return Number(value or text, text, exact, moment, self.formatter, own)
@@ -421,51 +409,6 @@ class RowReader(Reader[tuple[Head, Row]]):
         return text
 
 
-@lru_cache(maxsize=4096)
-def is_text_of(text: str, value: str) -> bool:
-    """Returns whether one of the numbers in a text is a value that is rounded to as many digits; a
-    text without digits, and one with signs of other forms, may be anything.
-
-    >>> [is_text_of("2,99 €", one) for one in ("2.99", "2.9912", "3.99", "299")]
-    [True, True, False, False]
-    """
-    if not DIGITS.search(text) or UNREAD.search(text):
-        return True
-    size = abs(exact_of(value)).scaleb(2 if "%" in text else 0)
-    for found in (text, *DIGITS.findall(text)):  # 1234-567 is one number
-        digits = Decimal(re.sub("[^0-9]", "", found))
-        for decimals in decimals_of(found):
-            if abs(size - digits.scaleb(-decimals)) <= ROUNDING.scaleb(-decimals):
-                return True
-    return False
-
-
-def is_date_of(text: str, moment: str) -> bool:
-    """Returns whether three numbers in a text are those of a date; a text with fewer or more may
-    show anything.
-
-    >>> is_date_of("4.5.26", "2026-05-04"), is_date_of("4.6.26", "2026-05-04")
-    (True, False)
-    """
-    numbers = sorted(map(int, WHOLE.findall(text)))
-    found = DAY.match(moment)
-    if len(numbers) != 3 or found is None:
-        return True
-    year, month, day = map(int, found.groups())
-    return numbers in (sorted((year, month, day)), sorted((year % 100, month, day)))
-
-
-def decimals_of(number: str) -> tuple[int, ...]:
-    """Returns how many decimals a number may have: a sign before three digits may be of thousands.
-
-    >>> decimals_of("1.234,50"), decimals_of("1.234"), decimals_of("1234")
-    ((2,), (3, 0), (0,))
-    """
-    found = LAST_SIGN.search(number)
-    count = len(found[1]) if found else 0
-    return (3, 0) if count == 3 else (count,)
-
-
 def days_of(moment: str) -> Decimal:
     """Returns a date of the file as spreadsheets count days; raises `RowError`.
 
@@ -475,6 +418,6 @@ def days_of(moment: str) -> Decimal:
     try:
         found = datetime.fromisoformat(moment)
     except ValueError:
-        raise RowError(Text("has {}, which is not a valid date", quoted(moment)), TYPED) from None
+        raise RowError(Text("has {}, which is not a valid date", quoted(moment)), AS_TEXT) from None
     past = found - datetime.combine(date.fromordinal(DAY_ZERO.toordinal()), datetime.min.time())
     return Decimal(past.days) + Decimal(past.seconds) / 86400

@@ -12,7 +12,7 @@ from contextlib import contextmanager
 from decimal import Decimal
 from functools import lru_cache, partial, reduce
 from io import BytesIO
-from itertools import chain, pairwise
+from itertools import chain
 from typing import Generic, NamedTuple, TypeVar
 from xml.parsers.expat import ExpatError, ParserCreate
 from zipfile import ZIP_DEFLATED, ZIP_STORED, BadZipFile, ZipFile
@@ -29,6 +29,7 @@ LARGEST_PART = 1 << 28  # bytes
 LARGEST_ROW = 1 << 20  # bytes, or letters
 LARGEST_TEXTS = 1 << 27  # letters of all shared strings
 PIECE = 1 << 16
+LONGEST_KIND = 100  # bytes of the kind of a workbook
 DEEPEST = 100
 MOST_PARTS = 1 << 14  # of the zip
 MOST_OTHERS = 1 << 21  # elements that are no part of a row
@@ -53,7 +54,6 @@ TOO_LARGE = Text("has a row or another element of more than 1 MB, or elements {}
 TRUE = ("1", "true")
 NOT_SAVED = Text("has a formula without a saved value")
 NOT_SAVED_HINT = Text("open the table in the spreadsheet and save it")
-TYPED = Text("enter it again as text")
 F = TypeVar("F")  # what a reader finds
 Attributes = Mapping[str, str]
 Element = tuple[str, Attributes]  # its path below the outermost one
@@ -76,14 +76,12 @@ def named_errors(name: str) -> Iterator[None]:
         what = Text("{} {}", name, error.what)
         raise ToolError(what, error.hint, error.status, error.offers) from None
     except DAMAGE as error:
-        what = Text("{} is damaged, or neither .xlsx nor .ods ({})", name, reason(error))
+        text = str(error.args[0]) if error.args and isinstance(error.args[0], str) else ""
+        reason = text.split("\n")[0][:80] or type(error).__name__
+        what = Text(
+            "{} is damaged, has a password, or is neither .xlsx nor .ods ({})", name, reason
+        )
         raise ToolError(what, SAVE_AGAIN) from None
-
-
-def reason(error: Exception) -> str:
-    """Returns what an error of Python's library says, in short."""
-    text = str(error.args[0]) if error.args and isinstance(error.args[0], str) else ""
-    return text.split("\n")[0][:80] or type(error).__name__
 
 
 def opened(data: bytes) -> ZipFile:
@@ -93,25 +91,21 @@ def opened(data: bytes) -> ZipFile:
     if len(names) > MOST_PARTS or len(set(names)) < len(names):
         raise ValueError("one part twice, or too many parts")
     for part in archive.infolist():
+        if part.compress_type not in (ZIP_STORED, ZIP_DEFLATED):
+            raise ValueError("packed as no spreadsheet is")
         if part.file_size > LARGEST_PART:
             raise ToolError(
                 Text("has a part of more than 256 MB, {}", quoted(part.filename)), SAVE_AGAIN
-            )
-        is_manifest = part.filename == "META-INF/manifest.xml"
-        is_locked = part.flag_bits & 1 or part.compress_type not in (ZIP_STORED, ZIP_DEFLATED)
-        if is_locked or is_manifest and has_word(archive, part.filename, b"encryption-data"):
-            raise ToolError(
-                Text("has a password, or is packed as no spreadsheet is"),
-                Text("save it again without one"),
             )
     return archive
 
 
 def is_ods(archive: ZipFile) -> bool:
     """Returns whether a workbook is .ods, as its first part says."""
-    return "mimetype" in archive.namelist() and has_word(
-        archive, "mimetype", b"opendocument.spreadsheet"
-    )
+    if "mimetype" not in archive.namelist():
+        return False
+    with archive.open("mimetype") as stream:
+        return b"opendocument.spreadsheet" in stream.read(LONGEST_KIND)
 
 
 def chosen(sheets: Iterable[Sheet], wanted: str | None) -> Iterator[Row]:
@@ -147,16 +141,6 @@ def pieces(archive: ZipFile, part: str) -> Iterator[bytes]:
     """Yields a part, piece by piece."""
     with archive.open(part) as stream:
         yield from iter(partial(stream.read, PIECE), b"")
-
-
-def has_word(archive: ZipFile, part: str, word: bytes) -> bool:
-    """Returns whether a part has a word, which may be cut in two between pieces, and have zero
-    bytes (UTF-16).
-    """
-    for before, piece in pairwise(chain([b""], pieces(archive, part))):
-        if word in (before[-40:] + piece).replace(b"\0", b""):
-            return True
-    return False
 
 
 class LocalNames(dict[str, str]):

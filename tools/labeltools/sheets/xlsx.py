@@ -33,13 +33,7 @@ STALE = Text("the file asks to calculate its formulas again; their saved values 
 STALE_HINT = Text("if they may be old, open the table in the spreadsheet and save it")
 
 
-class Target(NamedTuple):
-    """What a part refers to: the kind, and the path of another part or an address outside."""
-
-    kind: str
-    path: str
-
-
+Target = tuple[str, str]  # what a part refers to: its kind, and a part or an address outside
 Runs = Sequence[tuple[str, Form | None]]  # letters; those without a form have that of their cell
 
 
@@ -287,7 +281,7 @@ def relations(archive: ZipFile, path: str) -> dict[str, Target]:
             target = found["Target"]
             if found.get("TargetMode") != "External":
                 target = posixpath.normpath(posixpath.join("/", folder, target))[1:]
-            targets[found["Id"]] = Target(posixpath.basename(found["Type"]), target)
+            targets[found["Id"]] = posixpath.basename(found["Type"]), target
     return targets
 
 
@@ -314,7 +308,7 @@ def beside_of(archive: ZipFile, path: str, of_conditions: Sequence[Form]) -> Bes
             targets = targets or relations(archive, path)
             row, place = corners_of(found["ref"])[0]
             place_in_page = f"#{found['location']}" if found.get("location") else ""
-            address = targets[found["id"]].path + place_in_page
+            address = targets[found["id"]][1] + place_in_page
             beside.links.setdefault(row, {})[place] = address
         elif name == "conditionalFormatting/cfRule" and "dxfId" in found:
             form = of_conditions[whole(found["dxfId"])]

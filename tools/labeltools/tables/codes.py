@@ -34,26 +34,10 @@ ISBN_10 = re.compile("(?:[0-9][- ]?){8,9}[0-9Xx]")
 LOOKS_ROUNDED = re.compile("[0-9]*0{6}[0-9]|(?=.{11})0*[0-9]{1,6}0+")
 IS_ROUNDED = re.compile("[0-9]+(?:[.,][0-9]+)?[Ee][+]?[0-9]+")
 KEYS = sorted({key for one in SYMBOLOGIES.values() for key in one.settings})
-SETTING = re.compile(rf"(?s)(?:{'|'.join(KEYS)})=\S*(?: .*)?")
 # what would be drawn though nobody means it
-DRAWN = (
-    (
-        SETTING,
-        Text("a setting in front"),
-        Text("remove it; settings of all lines are given by --settings"),
-    ),
-    (re.compile(r"(?s)\s.*|.*\s"), Text("a space before or after the data"), Text("remove it")),
-    (
-        re.compile("(?s)\".*\"|'.*'|[“„].*[“”]|«.*»|».*«"),
-        Text("quotes round the data"),
-        Text("remove them"),
-    ),
-    (re.compile(r"(?s)\*.+\*"), Text("the asterisks of a font"), Text("remove them")),
-    (
-        re.compile("(?s)'.*"),
-        Text("an apostrophe in front, a spreadsheet's sign of text"),
-        Text("remove it"),
-    ),
+AROUND = re.compile(
+    rf"(?:{'|'.join(KEYS)})=\S*(?: .*)?|\s.*|.*\s|\".*\"|'.*|[“„].*[“”]|«.*»|».*«|\*.+\*",
+    re.DOTALL,
 )
 # what GS1's texts in brackets begin with: an SSCC, or a GTIN
 IN_BRACKETS = re.compile(r"\((?:00\)(?=[0-9]{18})|0[12]\)(?=[0-9]{14}))([0-9]+).*", re.DOTALL)
@@ -138,9 +122,12 @@ def check_data(cell: str) -> None:
         raise RowError(Text("{}: {}", quoted(cell), ROUNDED), ROUNDED_HINT)
     if cell.strip().casefold() in NO_VALUES or PROGRAM_ERROR.fullmatch(cell.strip()):
         raise RowError(Text("{} is what a program writes if it has no value", quoted(cell)))
-    for pattern, what, hint in DRAWN:
-        if pattern.fullmatch(cell):
-            raise RowError(Text("{} has {}, which would be drawn", quoted(cell), what), hint)
+    if AROUND.fullmatch(cell):
+        what = Text(
+            "{} has a setting, space, quote or asterisk around the data, which would be drawn",
+            quoted(cell),
+        )
+        raise RowError(what, Text("remove it; settings are given with --settings"))
 
 
 def is_in_brackets(data: str) -> bool:

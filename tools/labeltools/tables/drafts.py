@@ -5,14 +5,13 @@ from dataclasses import dataclass, replace
 from decimal import Decimal
 from typing import Iterator, NamedTuple, Sequence
 
-from labeltools.common.text import Text, counted
-from labeltools.sheets.cells import Cell
+from labeltools.common.text import Text
 from labeltools.tables.codes import Code, CodeRules, code_of, is_in_brackets
 from labeltools.tables.columns import Column, symbology_in
 from labeltools.tables.twice import twice_encoded
 from labeltools.common.messages import RowError, quoted
 from labeltools.tables.money import MOST_DECIMALS, Money, NotMoney, currency_of, parse
-from labeltools.tables.money import parse_unit_price, plain, text_price
+from labeltools.tables.money import parse_unit_price, plain
 from labeltools.tables.prices import ARITHMETIC, MOST_LOST, nearest
 from labeltools.common.names import is_repeated, name_of
 from labeltools.tables.once import Once
@@ -22,7 +21,7 @@ from labeltools.tables.options import Columns, TableOptions
 
 HTML = re.compile("</?[a-z][^<>]*>|&(?:[a-z]{2,8}|#[0-9]{1,6});", re.IGNORECASE)
 OWN_TABLE = Text("make it a table of its own")
-ZERO_HINT = Text("it is a zero, which its number format shows so")
+ZERO_HINT = Text("it is a zero, which its number format shows like this")
 HALF = Decimal("0.5")
 KIND_OF_CODES = re.compile(
     r"(?:EAN|GTIN|UPC|ISBN|JAN)(?:[- ]?(?:[0-9]{1,2}|code|A|E))?", re.IGNORECASE
@@ -73,6 +72,7 @@ class RowReader:
     columns: Columns[Column]
     names: tuple[str, ...]
     once: Once
+    right_codes: int = 0
     other_names: int = 0  # the row that names other columns, or the same in other places
 
     def __post_init__(self) -> None:
@@ -88,10 +88,11 @@ class RowReader:
         typed = cell if isinstance(cell, str) else cell.value
         if not typed.isdigit() or typed == self.code_name or self.other_names:  # but most rows
             self.refuse_names(row)
-        if not self.is_marked(row):
+        if not all(column.has(row, value) for column, value in self.columns.where):
             return None
         columns = self.columns
         code = self.code(row)
+        self.right_codes += 1
         title = "\n".join(self.texts(columns.title, row, code).values())
         texts = self.texts(columns.text, row, code)
         text = tuple(texts.values())
@@ -109,7 +110,7 @@ class RowReader:
         if self.other_names:
             what = Text("the row is below row {}, which names other columns", self.other_names)
             raise RowError(what, OWN_TABLE)
-        if self.is_names(row):
+        if is_repeated(bare_texts(row), self.names):
             raise RowError(Text("the row has the names of the columns again"))
         if self.names_others(row):
             self.other_names = row.number
@@ -134,20 +135,6 @@ class RowReader:
             if text != name and (text or name in texts):
                 return True
         return False
-
-    def is_names(self, row: Row) -> bool:
-        """Returns whether a row is the row of names again; its code is the name of the column
-        then.
-        """
-        place = self.columns.code.place
-        cell = row.cells[place] if place < len(row.cells) else None
-        if not isinstance(cell, str) or not self.names or name_of(cell) != self.code_name:
-            return False
-        return is_repeated(bare_texts(row), self.names)
-
-    def is_marked(self, row: Row) -> bool:
-        """Returns whether a row has the values that were asked for; raises `RowError`."""
-        return all(column.has(row, value) for column, value in self.columns.where)
 
     def code(self, row: Row) -> Code:
         """Returns the code of a row; raises `RowError`."""
@@ -232,17 +219,8 @@ class RowReader:
                 RowError(what, Text("give it a number format of two decimals"))
             )
         if money.decimals < 2:
-            self.once.see(
-                ("rounded", price.column),
-                lambda rows: counted(
-                    "row {1} shows the price {2}, and its value is {3} ({0} price)",
-                    "row {1} shows the price {2}, and its value is {3} ({0} prices)",
-                    rows,
-                    row,
-                    price.text,
-                    value,
-                ),
-            )
+            said = Text("row {} shows the price {}, and its value is {}", row, price.text, value)
+            self.once.see(("rounded", price.column), said)
 
     def currency(self, row: Row) -> str | None:
         """Returns the currency of a row, None where the table has no column of them; raises
@@ -257,7 +235,7 @@ class RowReader:
         is_known = currency_of(plain(found), self.options.prices.currency_name) is not None
         if found and not is_known:
             said = Text("row {} has the currency {}, which is not known", row.number, quoted(found))
-            self.once.see("currency", said, Text("if it is right, give it by --currency-name"))
+            self.once.see("currency", said, Text("if it is right, give it with --currency-name"))
         return found
 
     def price(self, column: Column | None, row: Row, currency: str | None) -> Price | None:
@@ -267,14 +245,15 @@ class RowReader:
         text = column.price(row)
         if not text:
             return None
+        cell = row.cells[column.place]
         try:
             is_unit = column is self.columns.unit_price
             money = self.money(text, is_unit, currency or self.options.prices.currency_name)
         except NotMoney as problem:
             what = Text("has {}, which is not a price: it {}", quoted(text), problem.what)
-            hint = ZERO_HINT if is_zero(row.cell(column.place)) else problem.hint
+            is_zero = not isinstance(cell, str) and cell.value and not cell.value.strip("0.")
+            hint = ZERO_HINT if is_zero else problem.hint
             raise column.error(RowError(what, hint)) from None
-        cell = row.cells[column.place]
         number = None if isinstance(cell, str) else cell.number()
         if money is None or number is None:
             return Price(column, text, money, currency)
@@ -286,15 +265,11 @@ class RowReader:
         """Returns the price of a text, None for free text; raises `NotMoney`."""
         rules = self.options.prices
         if rules.is_text:
-            text_price(text)
+            if not any(map(str.isalnum, text)):
+                raise NotMoney(Text("has neither a letter nor a digit"))
             return None
         most = PROGRAM_DECIMALS if rules.pattern else MOST_DECIMALS
         return parse_unit_price(text, currency, most) if is_unit else parse(text, currency, most)
-
-
-def is_zero(cell: Cell) -> bool:
-    """Returns whether a cell is a zero, which its number format may show as a dash."""
-    return not isinstance(cell, str) and cell.value != "" and not cell.value.strip("0.")
 
 
 def bare_texts(row: Row) -> Iterator[str]:

@@ -11,15 +11,18 @@ import unicodedata
 from collections.abc import Callable, Mapping, Sequence
 from contextlib import suppress
 from dataclasses import dataclass, field, replace
-from functools import cached_property
-from itertools import islice, zip_longest
+from functools import cached_property, partial
+from itertools import islice, takewhile, zip_longest
 from pathlib import Path
+from typing import NamedTuple
 from labeltools.common.lists import lists_of
 from labeltools.tables.codes import AUTO, CodeRules, code_of, has_length
 from labeltools.tables.columns import names_of, texts_of
 from labeltools.common.messages import RowError, Talk
+from labeltools.common.text import NOTHING, Text
 from labeltools.tables.money import parse
 from labeltools.lines.symbologies import CODE128, QR
+from labeltools.sheets.rows import Row
 from labeltools.tables.table import head_of
 from labeltools.tables.options import TableOptions
 
@@ -36,11 +39,18 @@ ARTICLE = re.compile(
 AMOUNT = re.compile("[0-9]{1,6}(?:[.,][0-9]+)?")
 COUNT = re.compile("[0-9]{1,3}")
 DIGITS = re.compile("[0-9]+")
-LETTERS = re.compile(r"(?:[^\W\d][\W\d]*){6}")  # those that a title has
+FIGURES = re.compile(r"[\W_]*[0-9][\W\d_]*")  # a date or an amount, which is no name
+LETTERS = re.compile(r"(?:[^\W\d][\W\d]*){3}")  # those that a title has
 NO_BARS = re.compile(".*://.*|.{31,}")
 FOLDED = str.maketrans("łøđðı", "loddi")  # letters that Unicode does not take apart
 SAMPLE = 300  # rows that are looked at
 LEAST = 0.5  # the part of the cells of a column that are of its kind
+# how numbers that are no EAN or UPC as they are may be meant
+OTHER_WAYS = (
+    CodeRules(fill_zeros=True),
+    CodeRules(without_check_digit=True),
+    CodeRules(CODE128.name),
+)
 
 
 @dataclass(frozen=True)
@@ -104,23 +114,36 @@ class Column:
 
 
 @dataclass(frozen=True)
+class Ways:
+    """How the codes of a column may be read, of which each way reads most of them; `problem` is why
+    most are no EAN or UPC, if they may be meant as one.
+    """
+
+    rules: Sequence[CodeRules] = (CodeRules(),)
+    problem: Text = NOTHING
+
+
+@dataclass(frozen=True)
 class Guess:
-    """The names of the columns; their places, from 0, by the options of label-table; the symbology
-    of each column that may have the codes; the row of the names, 0 where there is none; a text of
-    each column; the columns of which only the keeper knows the right one, by the same options.
+    """The names of the columns; their places, from 0, by the options of label-table; how each
+    column may be read that may have the codes; the row of the names, 0 where there is none; a text
+    of each column; the columns of which only the keeper knows the right one, by the same options.
     """
 
     names: Sequence[str]
     columns: Mapping[str, int]
-    symbologies: Mapping[int, str]
+    codes: Mapping[int, Ways]
     header: int
     examples: Sequence[str] = ()
     doubts: Mapping[str, Sequence[int]] = field(default_factory=dict)
 
     @property
     def symbology(self) -> str:
-        """The symbology of the codes, or of the first column that may have them."""
-        return next(iter(self.symbologies.values()), AUTO)
+        """The symbology of the codes, or of the first column that may have them, as far as it is
+        sure.
+        """
+        ways = next(iter(self.codes.values()), Ways())
+        return AUTO if ways.problem else ways.rules[0].symbology
 
     def is_named_as_code(self, at: int) -> bool:
         """Returns whether the name of a column is of the form of its codes: it is one of them.
@@ -138,60 +161,60 @@ def guess_of(data: bytes, name: str, options: TableOptions, talk: Talk) -> Guess
     file, head = options.file, start.head.row
     below = list(islice(start.rows, SAMPLE))
     if file.has_header is None and file.header_row is None:
-        # the names have more than half as many cells as any row; what is above is a title
-        rows = [head, *below]
-        counts = [sum(map(bool, names_of(row))) for row in rows]
-        top = next(row for row, count in zip(rows, counts) if 2 * count > max(counts))
+        top = row_of_names([head, *below])
         named = replace(file, has_header=True, header_row=top.number)
         found = guess_of(data, name, replace(options, file=named), talk)
         is_article = share([one for one in names_of(top) if one], is_code) > 0
-        if not is_article and not any(map(found.is_named_as_code, found.symbologies)):
+        if not is_article and not any(map(found.is_named_as_code, found.codes)):
             return found
         file = replace(file, has_header=False)
         return guess_of(data, name, replace(options, file=file), talk)
-    cells = [texts_of(row) for row in below if not (row.problem or row.is_blank())]
+    shown = (row for row in below if options.file.hidden or not row.is_hidden)
+    right = (row for row in shown if not (row.problem or row.is_blank()))
+    cells = [texts_of(row) for row in right if names_of(row) != start.head.names]
     columns = list(zip_longest(start.head.names, *cells, fillvalue=""))
     return guess(columns, 0 if file.has_header is False else head.number)
+
+
+def row_of_names(rows: Sequence[Row]) -> Row:
+    """Returns the row of the names: it has more than half as many cells as any row, and no date or
+    amount, if there is such a row above the articles; what is above it is a title.
+    """
+    cells = [[name for name in names_of(row) if name] for row in rows]
+    most = max(map(len, cells))
+    wide = [both for both in zip(rows, cells) if 2 * len(both[1]) > most]
+    above = takewhile(lambda both: not any(map(ARTICLE.fullmatch, both[1])), wide)
+    names = (row for row, texts in above if not any(map(FIGURES.fullmatch, texts)))
+    return next(names, wide[0][0])
 
 
 def guess(columns: Sequence[Sequence[str]], header: int) -> Guess:
     """Returns a guess from columns, each with its name in front, which may be empty."""
     names = [name for name, *_ in columns]
-    filled = [column_of(name, cells) for name, *cells in columns]
+    filled = []
+    for name, *cells in columns:
+        texts = [one.strip() for one in cells if one.strip()]
+        filled.append(Column(name, texts, len(texts) / max(1, len(cells))))
     codes = codes_of(filled)
     prices = prices_of({at: one for at, one in enumerate(filled) if at not in codes.may_be})
     used = {*codes.may_be, *prices.may_be}
     others = {at: one for at, one in enumerate(filled) if at not in used}
     titles = titles_of(others)
-    copies = Places([at for at, one in others.items() if is_copies(one)])
+    of_copies = [at for at, one in others.items() if is_copies(one)]
+    copies = Places(of_copies, of_copies[0] if len(of_copies) == 1 else None)
     kinds = {"code": codes, "title": titles, "price": prices, "copies": copies}
     found = {kind: one.surely for kind, one in kinds.items() if one.surely is not None}
     doubts = {kind: one.may_be for kind, one in kinds.items() if one.may_be and kind not in found}
-    symbologies = {at: symbology_of(filled[at]) for at in codes.may_be}
+    ways = {at: ways_of(filled[at]) for at in codes.may_be}
     examples = [column.texts[0] if column.texts else "" for column in filled]
-    return Guess(names, found, symbologies, header, examples, doubts)
+    return Guess(names, found, ways, header, examples, doubts)
 
 
-def column_of(name: str, cells: Sequence[str]) -> Column:
-    """Returns a column of cells."""
-    texts = [one.strip() for one in cells if one.strip()]
-    return Column(name, texts, len(texts) / max(1, len(cells)))
-
-
-@dataclass(frozen=True)
-class Places:
+class Places(NamedTuple):
     """The places of the columns that may be meant, and that of the one that surely is."""
 
     may_be: Sequence[int]
-    is_sure: bool = True
-    best: int | None = None
-
-    @property
-    def surely(self) -> int | None:
-        """The place of the column that surely is meant."""
-        if self.best is None and self.is_sure and len(self.may_be) == 1:
-            return self.may_be[0]
-        return self.best
+    surely: int | None = None
 
 
 def codes_of(columns: Sequence[Column]) -> Places:
@@ -203,12 +226,18 @@ def codes_of(columns: Sequence[Column]) -> Places:
         if one.has(is_code) and not one.is_constant:
             sure.setdefault(bare(one.texts), at)  # a UPC-A may be there as an EAN-13, too
     named = [at for at, one in enumerate(columns) if one.texts and WORDS["codes"] & one.words]
-    numbers = [at for at, one in enumerate(columns) if one.differs and one.has(ARTICLE.fullmatch)]
+    numbers = [
+        at
+        for at, one in enumerate(columns)
+        if one.has(ARTICLE.fullmatch)
+        and replace(one, texts=[*filter(ARTICLE.fullmatch, one.texts)]).differs
+    ]
     short = [at for at, one in enumerate(columns) if one.differs and one.is_numbered]
     may_be = [*sure.values()] or named or numbers or short
     first = columns[may_be[0]] if may_be else None
     is_known = first is not None and (first.is_numbered or not first.words)
-    return Places(may_be, bool(sure or named) or is_known)
+    is_sure = len(may_be) == 1 and (sure or named or is_known)
+    return Places(may_be, may_be[0] if is_sure else None)
 
 
 def prices_of(columns: Mapping[int, Column]) -> Places:
@@ -219,23 +248,23 @@ def prices_of(columns: Mapping[int, Column]) -> Places:
     may_be = [at for at, one in columns.items() if one.has(is_money) or WORDS["prices"] & one.words]
     left = [at for at in may_be if not columns[at].is_unpaid]
     if len(left) != 1:
-        return Places(may_be, False)
+        return Places(may_be)
     one = columns[left[0]]
     is_sure = one.words <= PAID and one.filled >= LEAST and one.has(is_amount)
-    return Places(may_be, False, left[0] if is_sure else None)
+    return Places(may_be, left[0] if is_sure else None)
 
 
 def titles_of(columns: Mapping[int, Column]) -> Places:
-    """Returns the columns that may have the title: those that are named so, else those with another
-    text in each row. Of a short and a long text the short one is sure.
+    """Returns the columns that may have the title: those that are named so, and those with another
+    text in most rows. Of a short and a long text the short one is sure.
     """
     texts = {at: one for at, one in columns.items() if one.has(has_letters)}
     named = [at for at, one in texts.items() if WORDS["titles"] & one.words and not one.is_numbered]
     others = [at for at, one in texts.items() if one.has(LETTERS.search) and one.differs_mostly]
-    may_be = named or others
+    may_be = sorted({*named, *others})
     short = [at for at, one in texts.items() if one.begins("short-begins")]
     short = short or [at for at in may_be if not texts[at].begins("long-begins")] or may_be
-    return Places(may_be, False, short[0] if len(short) == 1 else None)
+    return Places(may_be, short[0] if len(short) == 1 else None)
 
 
 def is_copies(column: Column) -> bool:
@@ -254,11 +283,24 @@ def has_letters(text: str) -> bool:
     return True
 
 
-def symbology_of(column: Column) -> str:
-    """Returns the symbology of a column of codes."""
-    if column.has(is_code) or column.has(has_length) or WORDS["codes"] & column.words:
-        return AUTO  # those without their zeros or their check digits, too
-    return QR.name if column.has(NO_BARS.fullmatch) else CODE128.name
+def ways_of(column: Column) -> Ways:
+    """Returns how the codes of a column may be read."""
+    if column.has(is_code):
+        return Ways()
+    if column.has(has_length) or WORDS["codes"] & column.words:
+        rules = [one for one in OTHER_WAYS if column.has(partial(code_of, rules=one))]
+        return Ways(rules or [CodeRules()], problem_of(column.texts))
+    return Ways([CodeRules(QR.name if column.has(NO_BARS.fullmatch) else CODE128.name)])
+
+
+def problem_of(texts: Sequence[str]) -> Text:
+    """Returns why the first text that is no EAN or UPC is none."""
+    for text in texts:
+        try:
+            code_of(text, CodeRules())
+        except RowError as problem:
+            return problem.what
+    return NOTHING
 
 
 def bare(texts: Sequence[str]) -> tuple[str, ...]:

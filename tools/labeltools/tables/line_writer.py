@@ -5,14 +5,14 @@ was asked for.
 from dataclasses import dataclass, field
 from typing import Mapping, NamedTuple
 
-from labeltools.common.text import Text, counted
+from labeltools.common.text import Text
 from labeltools.tables.drafts import Draft, HAS_DIGIT, Price
 from labeltools.lines.file import Label, LinesFile, first_remark, label_lines, last_remark
 from labeltools.common.messages import Place, RowError, Talk, ToolError, quoted
 from labeltools.tables.money import NotMoney
 from labeltools.tables.once import Once
 from labeltools.tables.prices import PriceColumn, settled, with_currency
-from labeltools.tables.summary import Totals, rows_text
+from labeltools.tables.summary import Totals
 from labeltools.tables.options import TableOptions
 
 LARGEST_OUTPUT = 1 << 27  # bytes
@@ -67,9 +67,10 @@ class LineWriter:
         self.taken += 1
         for price, column in zip(draft.prices, self.columns):
             if price and price.money:
-                column.add(draft.row, price.money, price.currency or "")
+                column.add(price.money, price.currency or "")
                 if not price.money.value:
-                    self.see_zero(draft.row, price)
+                    said = Text("row {} has the price {}", draft.row, price.text)
+                    self.once.see(("zero", price.column), said)
         if self.options.prices.pattern:
             self.waiting.append(draft)
         else:
@@ -91,7 +92,8 @@ class LineWriter:
         try:
             prices = [self.written(draft.row, *both) for both in zip(draft.prices, self.columns)]
         except RowError as problem:
-            self.leave_out(draft.row, text_at(draft, problem.place), problem)
+            texts = (one.text for one in draft.prices if one and one.column.place == problem.place)
+            self.leave_out(draft.row, next(texts, ""), problem)
             return
         content = Content(draft.title, draft.text, *prices)
         self.compare(draft, content)
@@ -116,37 +118,17 @@ class LineWriter:
         try:
             if pattern is None:
                 return with_currency(price.money, price.text, price.currency)
-            money = settled(price.money, column, pattern)
+            money = settled(price.money, column)
             text = pattern.write(money, price.currency or "")
             if pattern.changes(money.value):
-                self.see_rounded(row, price.text, text)
+                said = Text("row {} has {}, which is rounded to {}", row, price.text, text)
+                self.once.see("written", said)
             return text
         except NotMoney as problem:
             what = Text(
                 "has {}, which cannot be printed like that: it {}", quoted(price.text), problem.what
             )
             raise price.column.error(RowError(what, problem.hint)) from None
-
-    def see_zero(self, row: int, price: Price) -> None:
-        """Sees a price that is zero."""
-        self.once.see(
-            ("zero", price.column),
-            lambda rows: Text("row {} has the price {} ({})", row, price.text, rows_text(rows)),
-        )
-
-    def see_rounded(self, row: int, price: str, written: str) -> None:
-        """Sees a price that is rounded."""
-        self.once.see(
-            "written",
-            lambda rows: counted(
-                "row {1} has {2}, which is rounded to {3} ({0} price)",
-                "row {1} has {2}, which is rounded to {3} ({0} prices)",
-                rows,
-                row,
-                price,
-                written,
-            ),
-        )
 
     def compare(self, draft: Draft, content: Content) -> None:
         """Says once of each article that it is there twice with other texts or prices."""
@@ -186,12 +168,6 @@ class LineWriter:
             self.empty["title"].append(draft.row)
         if not content.price:
             self.empty["price"].append(draft.row)
-
-
-def text_at(draft: Draft, place: int | None) -> str:
-    """Returns the text of the price at a place."""
-    texts = (price.text for price in draft.prices if price and price.column.place == place)
-    return next(texts, "")
 
 
 def contents_of(lines: LinesFile) -> Older:

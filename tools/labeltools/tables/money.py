@@ -110,7 +110,7 @@ class Money:
 
     `value` has the separators as they are read, cents as hundredths; `currency` is its code, or its
     sign where several have it; `unit` is as `/kg`; `words` are those around it. `is_open` is
-    whether one separator has three digits behind it, as 1.234: thousands or decimals. `basis` and
+    whether one separator has three digits after it, as 1.234: thousands or decimals. `basis` and
     `end` are what a unit price has around it, as `1 kg = `.
     """
 
@@ -137,14 +137,6 @@ class Amount:
     group: str
     is_open: bool
     is_bare: bool  # it has no sign but digits
-
-
-@dataclass(frozen=True)
-class Around:
-    """What a price has around its number."""
-
-    currencies: frozenset[str]
-    words: tuple[str, ...]
 
 
 def plain(text: str) -> str:
@@ -237,17 +229,6 @@ def parse_unit_price(text: str, own: str = "", most_decimals: int = MOST_DECIMAL
     return replace(price, text=text.strip(), basis=found["basis"], end=found["end"])
 
 
-def text_price(text: str) -> str:
-    """Returns the text of a price in a column of free text; raises `NotMoney` for a sign alone.
-
-    >>> text_price("auf Anfrage"), text_price("3 zum Preis von 2")
-    ('auf Anfrage', '3 zum Preis von 2')
-    """
-    if not any(sign.isalnum() for sign in plain(text)):
-        raise NotMoney(Text("has neither a letter nor a digit"))
-    return text.strip()
-
-
 def plain_price(text: str) -> str:
     """Returns a cell made plain; raises `NotMoney` where it has no number, or is a percentage or
     long.
@@ -312,20 +293,16 @@ def number_in(bare: str, own: str, most_decimals: int) -> Money:
     amount = amount_of(found)
     check_letters(before, amount, own)
     is_below, before, behind = without_sign(before.strip(), behind, bool(found["none"]))
-    around = around_of(before, behind, own)
+    currencies, words = around_of(before, behind, own)
     is_plain_number = amount.is_bare and not found["none"]
-    if (
-        around.words
-        and not around.currencies
-        and (is_plain_number or amount.group and not amount.point)
-    ):
+    if words and not currencies and (is_plain_number or amount.group and not amount.point):
         raise NotMoney(OTHER_WORDS, OTHER_WORDS_HINT)  # ab 5
-    check_amount(amount, bool(around.currencies), is_plain_number, most_decimals)
+    check_amount(amount, bool(currencies), is_plain_number, most_decimals)
     if behind.startswith("+"):
         raise NotMoney(OTHER_WORDS, OTHER_WORDS_HINT)  # 1.9+
     if is_below:
         raise NotMoney(Text("is below zero"))
-    return money_of(amount, around)
+    return money_of(amount, currencies, " ".join(words))
 
 
 def begin_of(bare: str) -> int:
@@ -363,7 +340,7 @@ def check_letters(before: str, amount: Amount, own: str) -> None:
     if not re.search(r"[A-Za-z]\Z", before) or name == own:
         return
     if amount.is_bare and name.isalpha() or currency_of(name) is None:
-        hint = Text("if this is a currency, give it by --currency-name")
+        hint = Text("if this is a currency, give it with --currency-name")
         raise NotMoney(Text("has letters before its digits, as a code has"), hint)
 
 
@@ -382,38 +359,25 @@ def without_sign(before: str, behind: str, has_dash: bool) -> tuple[bool, str, s
     return sign == "-", before, behind.strip()
 
 
-def around_of(before: str, behind: str, own: str) -> Around:
-    """Returns the currencies and words around a number."""
+def around_of(before: str, behind: str, own: str) -> tuple[set[str], list[str]]:
+    """Returns the currencies and the words around a number."""
     is_bottle = behind in ONLY_IN_FRONT - {own}
     if is_bottle or currency_of(before) == "cent":
         raise NotMoney(OTHER_WORDS, OTHER_WORDS_HINT)  # 5 L, p0
     currencies: set[str] = set()
     words: list[str] = []
     for side, known in ((before, FRONT), (behind, BEHIND)):
-        if side:
-            take_apart(side, known, own, currencies, words)
-    return Around(frozenset(currencies), tuple(words))
-
-
-def take_apart(
-    side: str, known: frozenset[str], own: str, currencies: set[str], words: list[str]
-) -> None:
-    """Takes the currency and the words from what is on one side of a number."""
-    found = currency_of(side, own)
-    if found is not None:
-        is_other = any(not is_same(found, one) for one in currencies)
-        if is_other and found != "cent" and found not in currencies:
-            raise NotMoney(Text("has two currencies"))
-        currencies.add(found)
-        return
-    for word in side.split(" "):
-        code = currency_in(word, own)
-        if code is not None and not any(one != code for one in currencies):
-            currencies.add(code)
-        elif word.casefold() in known or not word:
-            words.append(word)
-        else:
-            raise NotMoney(OTHER_WORDS, OTHER_WORDS_HINT)
+        for word in [side] if currency_of(side, own) else side.split(" "):
+            code = currency_in(word, own)
+            if code is None and word.casefold() not in known and word:
+                raise NotMoney(OTHER_WORDS, OTHER_WORDS_HINT)
+            if code is None:
+                words += [word] if word else []
+            elif code == "cent" or all(is_same(code, one) for one in currencies):
+                currencies.add(code)
+            else:
+                raise NotMoney(Text("has two currencies"))
+    return currencies, words
 
 
 def currency_in(word: str, own: str) -> str | None:
@@ -461,14 +425,14 @@ def check_amount(amount: Amount, has_currency: bool, is_plain: bool, most_decima
         raise NotMoney(Text("has too many digits"), Text("give --price-as"))
 
 
-def money_of(amount: Amount, around: Around) -> Money:
+def money_of(amount: Amount, currencies: set[str], words: str) -> Money:
     """Returns a price by its number and what is around it."""
     value = Decimal(f"{amount.whole}.{amount.decimals}" if amount.decimals else amount.whole)
-    names = around.currencies - {"cent"}
+    names = currencies - {"cent"}
     currency = ""
     if names:
         currency = min(names, key=lambda name: (len(name) != 3, name))
-    elif around.currencies:
+    elif currencies:
         currency = "cent"
         value = value / 100
     return Money(
@@ -478,6 +442,6 @@ def money_of(amount: Amount, around: Around) -> Money:
         group=amount.group,
         decimals=len(amount.decimals),
         currency=currency,
-        words=" ".join(around.words),
+        words=words,
         is_open=amount.is_open and currency not in WITHOUT_DECIMALS,
     )

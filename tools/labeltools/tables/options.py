@@ -45,21 +45,12 @@ class Columns(Generic[C]):
         return Columns(**found)
 
     @property
-    def prices(self) -> tuple[C, ...]:
-        """The columns of prices of all kinds."""
-        kinds = (self.price, self.unit_price, self.old_price)
-        return tuple(one for one in kinds if one is not None)
-
-    @property
-    def shown(self) -> tuple[C, ...]:
-        """The columns whose cells are seen on a label."""
-        return (self.code, *self.title, *self.text, *self.prices)
-
-    @property
     def asked(self) -> tuple[C, ...]:
         """All of them."""
-        others = (one for one in (self.currency, self.copies, self.symbology) if one is not None)
-        return (*self.shown, *others, *(column for column, _ in self.where))
+        prices = (self.price, self.unit_price, self.old_price)
+        others = (*prices, self.currency, self.copies, self.symbology)
+        given = (one for one in others if one is not None)
+        return (self.code, *self.title, *self.text, *given, *(column for column, _ in self.where))
 
 
 ColumnOptions = Columns[str]

@@ -4,7 +4,6 @@ import re
 from collections import Counter
 from dataclasses import dataclass, field, replace
 from decimal import ROUND_HALF_UP, Decimal
-from typing import Iterator
 
 from labeltools.common.text import NOTHING, Text
 from labeltools.tables.money import LOOKS, Money, NotMoney, PER_UNIT, SPACES, WITH_THREE_DECIMALS
@@ -37,27 +36,20 @@ PATTERN = re.compile(
 class PriceColumn:
     """What the cells of a price column say together.
 
-    `decimal` is the decimal sign if it is known before, `points` are those that were seen. `open`
-    are the prices that may have thousands or decimals, by their sign: the first row and its text,
-    and how many they are.
+    `decimal` is the decimal sign if it is known before, `points` are those that were seen.
     """
 
     decimal: str | None = None
     points: set[str] = field(default_factory=set)
-    open: dict[str, tuple[int, str]] = field(default_factory=dict)
-    count: Counter[str] = field(default_factory=Counter)
     groups: set[str] = field(default_factory=set)
     lengths: Counter[int] = field(default_factory=Counter)
     currencies: set[str] = field(default_factory=set)
     has_thousands: bool = False
     has_cents: bool = False
 
-    def add(self, row: int, price: Money, currency: str = "") -> None:
+    def add(self, price: Money, currency: str = "") -> None:
         """Takes the price of a row; the currency may be in a column of its own."""
-        if price.is_open:
-            self.open.setdefault(price.group, (row, price.text))
-            self.count[price.group] += 1
-        else:
+        if not price.is_open:
             self.lengths[price.decimals] += 1
             if price.point in (".", ",") and not price.unit:
                 self.points.add(price.point)
@@ -91,16 +83,6 @@ class PriceColumn:
         """Whether its cells have whole numbers alone, without a currency or a sign of cents."""
         return set(self.lengths) == {0} and not self.currencies and not self.has_cents
 
-    def unsure(self) -> Iterator[Text]:
-        """Yields the prices, by their sign, that may have thousands or decimals."""
-        for sign, (row, text) in self.open.items():
-            more = self.count[sign] - 1
-            where = Text("{} in row {}", text, row)
-            if more:
-                where = Text("{} in row {} and {} more", text, row, more)
-            if not self.point or self.point == sign and not self.has_three_decimals:
-                yield Text("{} {}", where, THOUSANDS_OR_DECIMALS)
-
 
 def measure_of(name: str) -> Text:
     """Returns what the name of a column says that its prices are of, if it is not one article in
@@ -109,40 +91,37 @@ def measure_of(name: str) -> Text:
     >>> [measure_of(name) for name in ("price_cents", "PriceCents", "Preis (ct)", "Center", "CT1")]
     ['cents', 'cents', 'cents', '', '']
     >>> [measure_of(name) for name in ("Preis/100", "Preis (TEUR)", "Preis / 100 g", "VK 2026")]
-    ['prices of 100 or 1000', 'prices of 100 or 1000', '', '']
+    ['prices per 100 or 1000', 'prices per 100 or 1000', '', '']
     """
     words = re.sub(r"(?<=[a-z])(?=[A-Z])|[^\w]|_", " ", name).casefold().split()
     if WORDS["of-cents"].intersection(words):
         return CENTS
-    return Text("prices of 100 or 1000") if OF_MANY.search(name) else NOTHING
+    return Text("prices per 100 or 1000") if OF_MANY.search(name) else NOTHING
 
 
-def settled(price: Money, column: PriceColumn, pattern: "PricePattern | None" = None) -> Money:
-    """Returns an open price as its column reads it, or else as a pattern does that has the three
-    decimals of its currency; raises `NotMoney` where neither says it.
+def settled(price: Money, column: PriceColumn) -> Money:
+    """Returns an open price as its column reads it; raises `NotMoney` where that does not say it.
 
     >>> from labeltools.tables.money import parse
     >>> settled(parse("1.234"), PriceColumn(",")).value
     Decimal('1234')
     >>> settled(parse("1.005"), PriceColumn("."))  # doctest: +ELLIPSIS
     Traceback (most recent call last):
-    labeltools.tables.money.NotMoney: has three digits behind ., which is the decimal ...
+    labeltools.tables.money.NotMoney: has three digits after ., which is the decimal ...
     >>> settled(parse("1.005"), PriceColumn(".", has_thousands=True)).value
     Decimal('1.005')
-    >>> settled(parse("KD 1.250"), PriceColumn(), PricePattern.of("KD 0.000")).value
+    >>> settled(parse("KD 1.250"), PriceColumn(".")).value
     Decimal('1.25')
     """
     if not price.is_open:
         return price
-    if not column.point and pattern and pattern.has_decimals_of(price):
-        return with_three_decimals(price)
     if not column.point:
         raise NotMoney(THOUSANDS_OR_DECIMALS, DECIMAL_HINT)
     if column.point != price.group:
         return replace(price, is_open=False)
     if not column.has_three_decimals and price.currency not in WITH_THREE_DECIMALS:
         raise NotMoney(
-            Text("has three digits behind {}, which is the decimal sign of its column", price.group)
+            Text("has three digits after {}, which is the decimal sign of its column", price.group)
         )
     return with_three_decimals(price)
 
@@ -213,13 +192,6 @@ class PricePattern:
         """The currency of the pattern as it is written, which may be ¤ or empty."""
         return self.front.strip() + self.end.strip()
 
-    def has_decimals_of(self, price: Money) -> bool:
-        """Returns whether the sign of an open price is the decimal one of this pattern, and its
-        currency has three decimals, as the dinar.
-        """
-        has_three = price.currency in WITH_THREE_DECIMALS
-        return has_three and self.decimals == 3 and self.point == price.group
-
     def write(self, price: Money, currency: str = "") -> str:
         """Returns a price as it is printed; raises `NotMoney` where it would be another price.
 
@@ -237,19 +209,17 @@ class PricePattern:
         '8,33 €'
         >>> write(parse("$3"))
         Traceback (most recent call last):
-        labeltools.tables.money.NotMoney: has $, and the pattern of prices has EUR
+        labeltools.tables.money.NotMoney: has $, and the format of prices has EUR
         >>> PricePattern.of("0 €").write(parse("4,99"))
         Traceback (most recent call last):
-        labeltools.tables.money.NotMoney: has decimals, and the pattern of prices has none
+        labeltools.tables.money.NotMoney: has decimals, and the format of prices has none
         """
-        if price.is_open:
-            raise NotMoney(THOUSANDS_OR_DECIMALS, DECIMAL_HINT)
         if price.words:
-            raise NotMoney(Text("has words, which the pattern of prices would lose"))
+            raise NotMoney(Text("has words, which the format of prices would lose"))
         self.check_currency(price, currency)
         shown = self.rounded(price.value)
         if self.decimals < 2 and shown != price.value:
-            raise NotMoney(Text("has decimals, and the pattern of prices has none"))
+            raise NotMoney(Text("has decimals, and the format of prices has none"))
         if not shown and price.value:
             raise NotMoney(Text("would be printed as zero"))
         if abs(shown - price.value) > price.value * MOST_LOST:
@@ -288,11 +258,11 @@ class PricePattern:
         wanted = currency_of(plain(own)) if own not in ("", "¤") else ""
         has_one = found not in ("", "cent")
         if has_one and wanted and not is_same(found, wanted):
-            raise NotMoney(Text("has {}, and the pattern of prices has {}", found, wanted))
+            raise NotMoney(Text("has {}, and the format of prices has {}", found, wanted))
         if "¤" in own and not has_one:
-            raise NotMoney(Text("has no currency, and the pattern of prices wants one"))
+            raise NotMoney(Text("has no currency, and the format of prices wants one"))
         if not own and found:
-            raise NotMoney(Text("has {}, and the pattern of prices has no currency", found))
+            raise NotMoney(Text("has {}, and the format of prices has no currency", found))
 
 
 def currency_of_row(price: Money, currency: str) -> str:

@@ -15,7 +15,8 @@ from labeltools.tables.drafts import RowReader
 from labeltools.tables.line_writer import LineWriter, contents_of
 from labeltools.common.messages import BAD_ARGUMENTS, RowError, Talk, ToolError, quoted
 from labeltools.tables.prices import CENTS, measure_of
-from labeltools.common.names import listed, said_of_empty
+from labeltools.common.names import said_of_empty
+from labeltools.common.report import listed
 from labeltools.sheets.number_format import Formatter, local_date, local_signs
 from labeltools.sheets.ods import rows_of_ods
 from labeltools.tables.once import Once
@@ -29,7 +30,9 @@ from labeltools.sheets.xlsx import rows_of_xlsx
 
 ZIP = (b"PK\x03\x04", b"PK\x05\x06")
 NO_TABLE = re.compile(rb"(?i)\xd0\xcf\x11\xe0|\s*<(?:\?xml|!doctype|html|table)")
-PICTURE = re.compile(rb"\x89PNG|\xff\xd8\xff|GIF8|BM.{4}\0\0\0\0|II\*\0|MM\0\*|RIFF.{4}WEBP", re.S)
+PICTURE = re.compile(
+    rb"%PDF|\x89PNG|\xff\xd8\xff|GIF8|BM.{4}\0\0\0\0|II\*\0|MM\0\*|RIFF.{4}WEBP", re.S
+)
 # options that only CSV has, or only workbooks
 OF_CSV = ("delimiter", "encoding")
 OF_WORKBOOKS = ("sheet", "hidden", "date_as", "links")
@@ -116,10 +119,8 @@ def rows_of(
     if NO_TABLE.match(data):
         what = Text("{} is an old .xls, XML, HTML, or has a password", name)
         raise ToolError(what, Text("save it as .xlsx, without a password"))
-    if data.startswith(b"%PDF") or PICTURE.match(data):
-        what = Text("{} is a picture", name)
-        if data.startswith(b"%PDF"):
-            what = Text("{} is a PDF", name)
+    if PICTURE.match(data):
+        what = Text("{} is a picture or a PDF", name)
         raise ToolError(what, Text("give the table itself: .xlsx, .ods or CSV"))
     is_csv = not data.startswith(ZIP)
     for option in OF_WORKBOOKS if is_csv else OF_CSV:
@@ -223,7 +224,7 @@ class TableRun:
             what = Text("{}: no row has an EAN or UPC in {}", name, title)
             raise ToolError(what, OTHER_CODES, offers=offers)
         self.leave_out_held()
-        if self.wrong_digits > max(1, self.writer.taken):
+        if self.wrong_digits > max(1, self.reader.right_codes):
             what = Text("{}: most codes in {} have a wrong check digit", name, title)
             hint = Text(
                 "if they have none, give --symbology code128, or --without-check-digit if they "
@@ -253,25 +254,21 @@ class TableRun:
         self.say_of_numbers()
 
     def say_of_prices(self) -> None:
-        """Says what the prices of a column say together, and which are not printed as they are."""
-        is_rewritten = self.options.prices.pattern is not None
-        for column in self.writer.columns:
-            for prices in () if is_rewritten else column.unsure():
-                self.talk.say(prices, Text("it is printed as it is"))
-            if len(column.currencies) > 1:
-                listed = ", ".join(sorted(column.currencies))
-                self.talk.say(Text("the prices have several currencies: {}", listed))
-        self.say_of_units()
-
-    def say_of_units(self) -> None:
-        """Says which columns have cents, or prices of many articles, by their names."""
+        """Says which columns have several currencies, cents, or prices of many articles; the last
+        two are known by their names.
+        """
         columns = (self.columns.price, self.columns.unit_price, self.columns.old_price)
         for column, prices in zip(columns, self.writer.columns):
+            if len(prices.currencies) > 1:
+                listed = ", ".join(sorted(prices.currencies))
+                self.talk.say(Text("the prices have several currencies: {}", listed))
             measure = measure_of(column.name) if column else NOTHING
             is_meant = prices.are_bare if measure is CENTS else column is not columns[1]
             if column and measure and is_meant:
                 text = Text(
-                    "the name of {} says {}, but it is printed as it is", column.title, measure
+                    "the name of {} says {}, but its prices are printed as they are",
+                    column.title,
+                    measure,
                 )
                 self.talk.say(
                     text, Text("make a column with the price of one article, such as 1.20")
@@ -289,8 +286,8 @@ class TableRun:
         words = self.writer.words
         if words and 4 * len(words) <= self.writer.count:
             rows, first = listed(list(words)), quoted(next(iter(words.values())))
-            text = Text("the code of {} has no digit, {}, and others have", rows, first)
-            self.talk.say(text, Text("is it one?"))
+            text = Text("the code of {}, {}, has no digit, and others have", rows, first)
+            self.talk.say(text, Text("is it a code?"))
 
     def say_of_numbers(self) -> None:
         """Shows how numbers and dates of .xlsx are printed, where the file does not say it."""
@@ -307,7 +304,7 @@ class TableRun:
             self.talk.say(
                 Text(
                     "dates are printed as {}: is that right? else give --date-as dd.mm.yyyy,"
-                    " or another pattern",
+                    " or another format",
                     quoted(formatter.first_date),
                 )
             )

@@ -1,7 +1,7 @@
 """The program label-window: one for a desktop, with a window for each table."""
 
 import sys
-from collections.abc import Callable, Sequence
+from collections.abc import Sequence
 from pathlib import Path
 from typing import Any
 
@@ -9,7 +9,7 @@ from labeltools.common.command_line import Parser
 from labeltools.common.messages import ToolError
 from labeltools.common.text import Text
 from labeltools.common.words import language
-from labeltools.window.gtk import GLib, Gio, Gtk
+from labeltools.window.gtk import GLib, Gio, Gtk, add_actions
 from labeltools.window.window import Window
 
 ID = "org.labels.Window"
@@ -34,31 +34,20 @@ class Application(Gtk.Application):
     def do_startup(self) -> None:
         """Adds what the keys do."""
         Gtk.Application.do_startup(self)
-        self.add("help", self.help)
-        self.add("quit", self.end)
+        add_actions(self, {"help": self.help, "quit": self.end})
         for action, keys in KEYS.items():
             self.set_accels_for_action(action, [keys])
 
-    def add(self, name: str, called: Callable[[], object]) -> None:
-        """Adds an action."""
-        action = Gio.SimpleAction.new(name, None)
-        action.connect("activate", lambda _action, _parameter: called())
-        self.add_action(action)
-
-    def do_activate(self) -> None:
-        """Shows a window without a table."""
-        self.new_window()
+    def do_activate(self) -> Any:
+        """Returns a new window without a table, which is shown."""
+        window = Window(application=self)
+        window.present()
+        return window
 
     def do_open(self, files: Sequence[Any], *_hint: Any) -> None:
         """Opens each table in a window."""
         for file in files:
-            self.new_window().open(Path(file.get_path() or file.get_uri()))
-
-    def new_window(self) -> Any:
-        """Returns a new window, which is shown."""
-        window = Window(application=self)
-        window.present()
-        return window
+            self.do_activate().open(Path(file.get_path() or file.get_uri()))
 
     def help(self) -> None:
         """Opens the help in the language of the window, with the browser of the desktop."""

@@ -2,7 +2,7 @@
 that label-print writes, whose labels were compared.
 """
 
-from collections.abc import Callable
+from collections.abc import Callable, Mapping
 from typing import Any
 
 import cairo
@@ -14,13 +14,14 @@ from labeltools.paper.stock import Size
 from labeltools.printing.cups import media_of
 from labeltools.window.gtk import Gtk
 
+Chosen = Mapping[str, str]  # options of CUPS that are chosen for a job
 OF_CUPS = "cups-"  # what the dialog puts before the names of options of CUPS
 # the options of CUPS for its own names, and values that need not be said
 OPTIONS = {"n-copies": "copies", "page-set": "page-set", "reverse": "outputorder"}
 USUAL = (None, "1", "all", "false")
 
 
-def ask_printer(window: Any, page: Size, then: Callable[[str, dict[str, str]], object]) -> None:
+def ask_printer(window: Any, page: Size, then: Callable[[str, Chosen], object]) -> None:
     """Asks for a printer, and calls `then` with its name and the options that were chosen for it;
     `page` is in millimetres.
     """
@@ -28,7 +29,7 @@ def ask_printer(window: Any, page: Size, then: Callable[[str, dict[str, str]], o
     setup = Gtk.PageSetup()
     setup.set_paper_size(Gtk.PaperSize.new_from_ppd(media_of(page), _("Labels"), *points))
     operation = Gtk.PrintOperation(default_page_setup=setup, use_full_page=True, allow_async=True)
-
+    Gtk.Settings.get_default().set_property("gtk-print-backends", "cups")  # and no file
     previews: list[Any] = []
 
     def answered(_operation: Any, _context: Any) -> None:
@@ -48,7 +49,7 @@ def ask_printer(window: Any, page: Size, then: Callable[[str, dict[str, str]], o
     operation.run(Gtk.PrintOperationAction.PRINT_DIALOG, window)
 
 
-def options_of(settings: Any) -> dict[str, str]:
+def options_of(settings: Any) -> Chosen:
     """Returns what was chosen in the dialog, as options of CUPS."""
     found: dict[str, str] = {}
     settings.foreach(lambda name, value: found.setdefault(name, value))

@@ -21,6 +21,20 @@ CONTROLS = {
     "stock": "sheet",
     "paper": "roll",
 }
+# what the window says in place of what a command says
+INSTEAD: Mapping[str, Text] = {
+    "--list-stock WORD lists the sheets": Text(
+        "type a part of its name, and choose it from the list"
+    ),
+    "give --sheet with one of {}": Text("choose the right one below"),
+    "save it as UTF-8, or give the right one of these with --encoding: {}": Text(
+        "choose below what reads well"
+    ),
+    "leave out --dpi, or give one of these": Text("choose one of these"),
+    "with --after {} the same command begins with it": Text(
+        "print again with --after {} to go on there"
+    ),
+}
 
 
 class Hints:
@@ -42,10 +56,19 @@ class Hints:
             typed.append(f"{found[0]} {after}" if is_value(after) else found[0])
             return found[0]
 
-        lines = [OPTION.sub(named, translated(text)) for text in (what, hint) if text]
+        lines = [OPTION.sub(named, translated(text)) for text in map(said, (what, hint)) if text]
         if typed:
             lines.append(f"{_('Further options')}: {', '.join(dict.fromkeys(typed))}")
         return "\n".join(lines)
+
+
+def said(text: Text) -> Text:
+    """Returns a text with what the window says in it."""
+    fields = [said(one) if isinstance(one, Text) else one for one in text.fields]
+    if text.many or text.template not in INSTEAD and fields == [*text.fields]:
+        return text
+    template = INSTEAD.get(text.template, text.template)
+    return Text.made(template.format(*fields) if fields else template, template, "", tuple(fields))
 
 
 def is_value(after: str | None) -> bool:

@@ -28,22 +28,16 @@ class Memory:
         return {}
 
     def keep(self, name: str, value: Any) -> None:
-        """Keeps a value, in place of an older one of its name."""
-        self.write({**self.without(name), name: value})
-
-    def forget(self, name: str) -> None:
-        """Forgets a value."""
-        self.write(self.without(name))
-
-    def without(self, name: str) -> dict[str, Any]:
-        """Returns all values but one."""
-        return {other: value for other, value in self.all().items() if other != name}
-
-    def write(self, values: dict[str, Any]) -> None:
-        """Writes all values; a folder that takes no file is no reason to stop."""
+        """Keeps a value, in place of an older one of its name; or forgets that, if it is None. A
+        folder that takes no file is no reason to stop.
+        """
+        values = self.all()
+        values.pop(name, None)
+        if value is not None:
+            values[name] = value
+        kept = dict(list(values.items())[-MOST:])
         with suppress(OSError):
             FOLDER.mkdir(parents=True, exist_ok=True)
-            kept = dict(list(values.items())[-MOST:])
             (FOLDER / self.file).write_text(json.dumps(kept, indent=1), encoding="utf-8")
 
 

@@ -6,7 +6,7 @@ from typing import Any
 
 import cairo
 
-from labeltools.drawing.forms import Form
+from labeltools.drawing.forms import PBM, SVG
 from labeltools.drawing.dots import drawn_surface
 from labeltools.layout.letters import Letters
 from labeltools.common.messages import Silence
@@ -18,23 +18,27 @@ EDGE = (0.80, 0.83, 0.87)
 
 
 class Preview:
-    """Draws pages in a form, or each label alone as it is in the first cell of a page. It belongs
-    to the thread that made it.
+    """Draws pages, or each label as it is in the first cell of a page. It belongs to the thread
+    that made it.
     """
 
-    def __init__(self, labels: Prepared, form: Form, is_single: bool = False) -> None:
-        job = replace(labels.job, form=form)
+    def __init__(self, labels: Prepared, is_single: bool = False) -> None:
+        job = replace(labels.job, form=SVG if labels.job.form.is_drawn else PBM)
         self.prints = labels.prints
         self.sheet = job.plan.sheet
         self.size = self.sheet.page
         self.corner = (0.0, 0.0)
         if is_single:
-            job = replace(job, plan=replace(job.plan, places=job.plan.places[:1]), first=1)
+            job = replace(
+                job,
+                plan=replace(job.plan, places=job.plan.places[:1]),
+                options=replace(job.options, first=1),
+            )
             self.prints = labels.labels
             self.size = self.sheet.cell
             self.corner = self.sheet.places[0]
         self.count = max(1, job.pages_of(len(self.prints)))  # of pages
-        self.press = Press(job, labels.laid_out, pens_of(job, Letters(job.font)), Silence())
+        self.press = Press(job, labels.laid_out, pens_of(job, Letters(job.options.font)), Silence())
 
     def cell_at(self, x: float, y: float) -> int:
         """Returns the number of the cell at a place of a page, from 1; 0 for none."""
@@ -60,7 +64,7 @@ class Preview:
         canvas.set_line_width(canvas.device_to_user_distance(1, 1)[0])
         for cell, place in enumerate(self.sheet.places, 1):
             canvas.rectangle(*place, *self.sheet.cell)
-            if number == 1 and cell < job.first:
+            if number == 1 and cell < job.options.first:
                 canvas.set_source_rgb(*USED)
                 canvas.fill_preserve()
             canvas.set_source_rgb(*EDGE)

@@ -5,8 +5,9 @@ of them, and what was chosen the last time.
 import hashlib
 import shlex
 import time
-from collections.abc import Iterator, Mapping, Sequence, Set
+from collections.abc import Iterator, Mapping, Sequence
 from contextlib import suppress
+from dataclasses import dataclass
 from pathlib import Path
 from typing import Any
 
@@ -19,6 +20,7 @@ from labeltools.lines.file import LineRecord, first_remark, label_lines, last_re
 from labeltools.common.messages import Cancelled, Place, ToolError, quoted
 from labeltools.printing.job import planned
 from labeltools.printing.press import Prepared, labels_of
+from labeltools.printing.sending import labels_text
 from labeltools.common.report import LeftOut
 from labeltools.tables.money import NotMoney, parse
 from labeltools.tables.prices import PricePattern
@@ -39,16 +41,22 @@ Choices = Mapping[str, Any]  # by the names of the options
 
 
 class Talk:
-    """The talk of work beside the window: what it is told is kept, and it ends where nobody wants
-    it any more.
+    """The talk of work beside the window: what it is told is kept. Work that is stopped ends the
+    next time that it talks; a printer that takes labels one by one gets no more of them.
     """
 
-    def __init__(self, doing: str = "") -> None:
+    def __init__(self, doing: str = "", is_sending: bool = False) -> None:
         self.doing = doing  # what is shown while it is not known how much there is to do
+        self.is_sending = is_sending  # labels, whose end is always shown
+        self.is_direct = False  # whether a printer takes them one by one, until `stops` has one
         self.notes: list[LeftOut] = []
         self.done = 0  # of the work
         self.total = 0  # of it, where that is known
-        self.is_stopped = False
+        self.stops: list[None] = []  # has one once somebody stopped it
+
+    def stop(self) -> None:
+        """Stops the work."""
+        self.stops.append(None)
 
     def note(self, place: Place | None, cell: str, reason: Text, hint: Text) -> None:
         """Keeps why a row is left out."""
@@ -60,24 +68,39 @@ class Talk:
 
     def go_on(self, done: int, total: int) -> None:
         """Keeps how far the work is; raises `Cancelled` where it is stopped."""
-        if self.is_stopped:
+        if self.stops and not self.is_direct:
             raise Cancelled(Text("stopped"))
         self.done = done
         self.total = total
 
 
-class Table:
-    """A table that is open, and what was made of it last: its lines, by the words of label-table;
-    the line that prints it in a shell, what there is to say, and how many rows are left out.
+@dataclass(frozen=True)
+class Made:
+    """What was made of a table: its lines, the labels that can be printed, what there is to say
+    about them, how many rows are left out, and the line that prints them in a shell.
     """
 
-    words: Sequence[str] = ()
     lines: Lines
-    rows: Set[int]  # of the labels that can be printed
-    said: Sequence[LeftOut]
-    command: str
+    labels: Prepared
     notes: Sequence[LeftOut]
     left_out: int
+    command: str
+
+    @property
+    def summary(self) -> Text:
+        """What label-table counts, and how many labels of it can be printed if not all."""
+        if len(self.labels.labels) == self.lines.count:
+            return self.lines.summary
+        can = labels_text(len(self.labels.prints))
+        return Text("{}; can be printed: {}", self.lines.summary, can)
+
+
+class Table:
+    """A table that is open."""
+
+    lines: Lines  # those that were made last, by the words of label-table
+    said: Sequence[LeftOut]  # about them
+    words: Sequence[str] = ()
 
     def __init__(self, path: Path, text: str | None, header: int | None, talk: Talk) -> None:
         """Reads a table by further words of label-table, None for those that are kept; its names
@@ -111,8 +134,8 @@ class Table:
         self.key = "\n".join(self.guess.names) if any(self.guess.names) else ""
         self.kept = TABLES.all().get(self.key, {}) if self.key else {}
 
-    def labels(self, choices: Choices, talk: Talk) -> Prepared:
-        """Returns the labels that are chosen; raises `ToolError` and `OSError`."""
+    def made(self, choices: Choices, talk: Talk) -> Made:
+        """Returns what is made by choices; raises `ToolError` and `OSError`."""
         for kind, places in self.guess.doubts.items():
             if choices[kind] is None:
                 named = ", ".join(quoted(self.guess.names[at] or str(at + 1)) for at in places)
@@ -123,25 +146,19 @@ class Table:
         job = planned(options)
         since = {"new-since": str(self.printed) if choices["new-only"] else ""}
         words = [*words_of(since), *table_words(choices)]
+        to_read = [*words, "--", str(self.path)]
         if words != self.words:  # other paper needs no other lines
-            self.lines = self.lines_by(words, talk)
+            rules = table_command.options_of(table_command.understood(to_read))
+            self.lines = lines_of_table(self.data, self.path.name, rules, talk)
             self.said = tuple(talk.notes)
             self.words = words
-        found = labels_of(options, job, self.path.name, self.lines.output, talk)
+        found = labels_of(job, self.path.name, self.lines.output, talk)
         rows = set(self.lines.left_out)
         more = [one for one in found.left_out if one.place and one.place.number not in rows]
-        remarks = [LeftOut(remark.first, "", remark.text) for remark in found.remarks]
-        self.notes = [*self.said, *more, *remarks]
-        self.left_out = len(rows) + len(more)
-        self.rows = {item.label.record.label.row for item in found.labels}
-        commands = ["label-table", *words, "--", str(self.path)], ["label-print", *to_print]
-        self.command = " | ".join(map(shlex.join, commands)) + f" > labels.{job.form.name}"
-        return found
-
-    def lines_by(self, words: Sequence[str], talk: Talk) -> Lines:
-        """Returns the lines of the table by the words of label-table."""
-        rules = table_command.options_of(table_command.understood([*words, "--", str(self.path)]))
-        return lines_of_table(self.data, self.path.name, rules, talk)
+        commands = ["label-table", *to_read], ["label-print", *to_print]
+        command = " | ".join(map(shlex.join, commands)) + f" > labels.{job.form.name}"
+        notes = sorted((*self.said, *more, *found.remarks), key=place_of)
+        return Made(self.lines, found, notes, len(rows) + len(more), command)
 
     @property
     def printed(self) -> Path:
@@ -155,14 +172,15 @@ class Table:
             return time.strftime("%x", time.localtime(self.printed.stat().st_mtime))
         return ""
 
-    def keep_printed(self) -> None:
+    def keep_printed(self, made: Made) -> None:
         """Keeps the lines of the labels that went out, for the next `--new-since`, and those that
         went out before, but for the same codes.
         """
         if not self.key:
             return
-        new = read_lines(self.lines.output, self.path.name).records
-        new = tuple(record for record in new if record.label.row in self.rows)
+        rows = {item.label.record.label.row for item in made.labels.labels}
+        records = read_lines(made.lines.output, self.path.name).records
+        new = tuple(record for record in records if record.label.row in rows)
         codes = {(record.symbology, record.data) for record in new}
         before = self.printed_records()
         old = (record for record in before if (record.symbology, record.data) not in codes)
@@ -182,10 +200,12 @@ class Table:
         are kept for its name, too: without its sheet or encoding it would not open.
         """
         TABLES.keep(self.key, choices)
-        if words := choices["for-table"]:
-            FILES.keep(self.path.name, words)
-        else:
-            FILES.forget(self.path.name)
+        FILES.keep(self.path.name, choices["for-table"] or None)
+
+
+def place_of(note: LeftOut) -> int:
+    """Returns the number of the row that something is said of; 0 for the whole table."""
+    return note.place.number if note.place else 0
 
 
 def price_patterns(example: str) -> Iterator[tuple[str, str]]:

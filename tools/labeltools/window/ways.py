@@ -1,0 +1,172 @@
+"""The ways out of the window: a file, a queue of CUPS, a printer that takes labels one by one. Each
+label is compared before, as label-print does.
+"""
+
+from collections.abc import Callable
+from concurrent.futures import Future
+from contextlib import suppress
+from functools import partial
+from pathlib import Path
+from typing import Any, Optional
+
+from labeltools.common.messages import ToolError
+from labeltools.common.text import Text, translated
+from labeltools.common.words import _
+from labeltools.printing.cups import NOTHING_CHOSEN, JobState, Queue, SentJob, queue_of, queues
+from labeltools.printing.network import SCHEME, address_of
+from labeltools.printing.outlets import is_direct
+from labeltools.printing.press import Prepared
+from labeltools.printing.sending import labels_text, print_on, save_to, send_to
+from labeltools.window.dialog import Chosen, ask_printer
+from labeltools.window.gtk import GLib, Gdk, Gtk
+from labeltools.window.shop import Made, Table, Talk
+
+USB = Path("/dev/usb")  # has the printers on USB
+MANY = 1000  # labels above it are asked for before they are printed
+WATCH = 2000  # milliseconds between two looks at a job of CUPS
+Sent = tuple[Optional[SentJob], Text]  # a job of CUPS, and what is reported of the labels
+
+
+class Ways:
+    """The ways out of a window."""
+
+    def __init__(self, window: Any) -> None:
+        self.window = window
+
+    def send(self, way: Callable[[Prepared, Talk], Sent]) -> None:
+        """Sends labels by a way, and keeps what is chosen for the next table like this."""
+        table, made = self.window.table, self.window.made
+        table.keep(self.window.choices())
+        then = partial(self.on_sent, table, made)
+        self.window.work.start(partial(way, made.labels), then, is_sending=True)
+
+    def on_sent(self, table: Table, made: Made, sent: Sent) -> None:
+        """Keeps which labels went out, says so, and from then on what becomes of a job of CUPS."""
+        job, text = sent
+        table.keep_printed(made)
+        self.window.tell(translated(text))
+        if job is not None:
+            self.watch(job, translated(text), "")
+
+    def watch(self, job: SentJob, sent: str, before: str) -> None:
+        """Looks at a job, and shows what CUPS reports of it if that is other than before."""
+        future = self.window.work.thread.submit(job.state)
+        future.add_done_callback(partial(GLib.idle_add, self.show_state, job, sent, before))
+
+    def show_state(self, job: SentJob, sent: str, before: str, future: "Future[JobState]") -> None:
+        """Shows what CUPS reports of a job, and looks again until it is over."""
+        if future.exception() is not None or not self.window.get_visible():
+            return
+        state = future.result()
+        text = translated(state.trouble) or state.said
+        if text != before:
+            self.window.tell("\n".join(filter(None, (sent, text))))
+        if not state.is_over:
+            GLib.timeout_add(WATCH, self.watch, job, sent, text)
+
+    def is_meant(self) -> bool:
+        """Returns whether labels are meant, which is asked for where they are many."""
+        return len(self.window.made.labels.prints) <= MANY or confirmed(self.window.many)
+
+    def ask_file(self) -> None:
+        """Asks for a file, and writes it."""
+        chooser = self.window.saver
+        path = self.window.table.path
+        chooser.set_current_folder(str(path.absolute().parent))
+        chooser.set_current_name(f"{path.stem}-labels.{self.window.made.labels.job.form.name}")
+        if self.is_meant() and chooser.run() == Gtk.ResponseType.ACCEPT:
+            self.save(Path(chooser.get_filename()))
+
+    def save(self, path: Path) -> None:
+        """Writes what label-print writes."""
+
+        def way(labels: Prepared, talk: Talk) -> Sent:
+            save_to(labels, path, talk)
+            return None, Text("{} saved as {}", labels_text(len(labels.prints)), path.name)
+
+        self.send(way)
+
+    def ask_printer(self) -> None:
+        """Asks for a printer, and prints."""
+        if self.is_meant():
+            is_roll = self.window.made.labels.job.form.is_roll
+            then = self.ask_way if is_roll else self.ask_queue
+            self.window.work.start(partial(printers, is_roll), then)
+
+    def ask_queue(self, _names: Any) -> None:
+        """Asks for a queue, and its options, by the dialog of the desktop."""
+        ask_printer(self.window, self.window.made.labels.job.plan.sheet.page, self.find_queue)
+
+    def find_queue(self, name: str, chosen: Chosen = NOTHING_CHOSEN) -> None:
+        """Prints on a queue, once it is known what it prints with the options that are chosen."""
+        then = partial(self.print_on, chosen)
+        self.window.work.start(lambda _talk: queue_of(name, chosen), then)
+
+    def print_on(self, chosen: Chosen, queue: Queue) -> None:
+        """Prints what label-print prints. If the printer has another resolution, the labels are
+        made for that, to be looked at.
+        """
+        job = self.window.made.labels.job
+        dpi = queue.dpi_for(not job.plan.sheet.is_single) or job.plan.dpi
+        if job.form.is_drawn and dpi % job.plan.dpi:
+            what = Text("{} prints at {} dpi: the labels are drawn for it now", queue.name, dpi)
+            self.window.take({"dpi": str(dpi)})
+            self.window.make(problem=ToolError(what, Text("check them, and print again")))
+        else:
+            self.send(lambda labels, talk: print_on(labels, queue, talk, chosen))
+
+    def ask_way(self, names: list[str]) -> None:
+        """Asks for a printer for the file of a printer's own language."""
+        menu = Gtk.Menu()
+        ways = [(name, partial(self.send_to, name)) for name in names]
+        for shown, way in (*ways, (_("A printer in the network…"), self.ask_address)):
+            item = Gtk.MenuItem(label=shown, visible=True)
+            item.connect("activate", lambda _item, way=way: way())
+            menu.append(item)
+        south = Gdk.Gravity.SOUTH_WEST
+        menu.popup_at_widget(self.window.print_button, south, Gdk.Gravity.NORTH_WEST, None)
+
+    def send_to(self, printer: str) -> None:
+        """Sends what label-print sends to a printer."""
+
+        def way(labels: Prepared, talk: Talk) -> Sent:
+            talk.is_direct = True
+            return None, send_to(labels, printer, talk, talk.stops)
+
+        if is_direct(printer):
+            self.send(way)
+        else:
+            self.find_queue(printer)
+
+    def ask_address(self) -> None:
+        """Asks where a printer is in the network, and sends to it."""
+        if confirmed(self.window.network):
+            name = SCHEME + self.window.address.get_text().strip().removeprefix(SCHEME)
+            try:
+                address_of(name)
+            except ToolError as error:
+                self.window.show_problem(error)
+            else:
+                self.send_to(name)
+
+
+def confirmed(dialog: Any) -> bool:
+    """Shows a dialog; returns whether it is confirmed."""
+    answer = dialog.run()
+    dialog.hide()
+    return bool(answer == Gtk.ResponseType.OK)
+
+
+def printers(is_roll: bool, _talk: Talk) -> list[str]:
+    """Returns the printers that the system knows: for a printer's own language also those on USB.
+    Raises `ToolError` if there is none, but that one may be in the network.
+    """
+    if not is_roll:
+        if names := queues():
+            return names
+        hint = Text("add it in the settings of the desktop, under printers")
+        raise ToolError(Text("there is no printer"), hint)
+    found = sorted(map(str, USB.glob("lp*")))
+    with suppress(ToolError):  # CUPS is not there
+        return [*queues(), *found]
+    return found

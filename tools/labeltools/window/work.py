@@ -1,0 +1,101 @@
+"""Work beside the window, in a thread of its own, since pens belong to one: how far it is, and what
+came of it.
+"""
+
+from collections.abc import Callable
+from concurrent.futures import Future, ThreadPoolExecutor
+from contextlib import suppress
+from functools import partial
+from typing import Any
+
+from labeltools.common.messages import Cancelled, ToolError, of_system
+from labeltools.common.words import _
+from labeltools.window.gtk import GLib
+from labeltools.window.shop import Talk
+
+PATIENCE = 500  # milliseconds after which work is shown, and how far it is from then on
+
+
+class Work:
+    """The work of a window. New work ends the old one, whose result is dropped; but of labels that
+    are sent it is always shown what came of them.
+    """
+
+    def __init__(self, window: Any) -> None:
+        self.window = window
+        self.thread = ThreadPoolExecutor(1)
+        self.talk = Talk()
+
+    def start(
+        self,
+        work: Callable[[Talk], Any],
+        then: Callable[[Any], object],
+        doing: str = "",
+        is_sending: bool = False,
+    ) -> None:
+        """Does work, and then something with what came of it; nothing goes out until then."""
+        self.talk.stop()
+        self.talk = Talk(doing, is_sending)
+        self.window.info.hide()
+        self.window.done.hide()
+        self.window.working.hide()
+        self.window.let_out(False)
+        future = self.thread.submit(work, self.talk)
+        future.add_done_callback(partial(GLib.idle_add, self.end, self.talk, then))
+        GLib.timeout_add(PATIENCE, self.show_progress, self.talk)
+
+    def end(self, talk: Talk, then: Callable[[Any], object], future: "Future[Any]") -> None:
+        """Shows what came of work, but of what nobody wants any more."""
+        is_wanted = talk.is_sending or not talk.stops
+        if not (is_wanted and self.window.get_visible()):
+            return
+        if talk is self.talk:
+            self.leave()
+        try:
+            with suppress(SystemExit):  # --help was typed
+                then(future.result())
+        except Cancelled:
+            self.window.tell(_("Stopped: nothing was printed"))
+        except (ToolError, OSError) as error:
+            problem = of_system(error) if isinstance(error, OSError) else error
+            self.window.show_problem(problem)
+
+    def leave(self) -> None:
+        """Lets labels go out again where there are some: there is no work that anyone waits for."""
+        self.talk = Talk()
+        self.window.working.hide()
+        self.window.let_out(self.window.has_labels)
+
+    def stop(self) -> bool:
+        """Ends work at the next label; returns whether that is its end, which is not so of labels
+        that are sent.
+        """
+        self.talk.stop()
+        if not self.talk.is_sending:
+            self.leave()
+        return not self.talk.is_sending
+
+    def close(self) -> None:
+        """Ends work, of which nobody is told."""
+        self.talk.stop()
+        self.talk = Talk()
+
+    def show_progress(self, talk: Talk) -> bool:
+        """Shows how far work is; returns whether it goes on."""
+        if talk is not self.talk:
+            return False
+        self.window.working.show()
+        if talk.total:
+            self.window.progress.set_fraction(talk.done / talk.total)
+        else:
+            self.window.progress.pulse()
+        self.window.progress.set_text(progress_text(talk))
+        return True
+
+
+def progress_text(talk: Talk) -> str:
+    """Returns how much of the work is done, or else what is done, with a count if there is one."""
+    if not talk.total:
+        return f"{talk.doing} {talk.done:n}" if talk.done else talk.doing
+    done, total = (f"{number:n}" for number in (talk.done, talk.total))
+    return _("{done} of {all}").format(done=done, all=total)
