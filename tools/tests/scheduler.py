@@ -10,7 +10,7 @@ import subprocess
 import tempfile
 import time
 from pathlib import Path
-from typing import Any, List, Tuple
+from typing import Any, List, Tuple, Union
 
 import cups
 import numpy
@@ -119,7 +119,7 @@ class Scheduler:
         self.before = os.environ.get("CUPS_SERVER")
         os.environ["CUPS_SERVER"] = self.name
         cups.setServer(self.name)  # which GTK would not look up again
-        self.wait(lambda: not subprocess.run(["lpstat", "-r"], capture_output=True).returncode)
+        self.wait(lambda: is_open(self.name))  # lpstat -r gives status 0 before, too
 
     def start(self, *words: str, **variables: str) -> Any:
         """Starts a program that ends with this one."""
@@ -168,7 +168,7 @@ class Scheduler:
                 free.bind(("localhost", 0))
                 port = free.getsockname()[1]
             printer = self.start(*words, str(port), **address)
-            self.wait(lambda: printer.poll() is not None or is_open(port))
+            self.wait(lambda: printer.poll() is not None or is_open(("localhost", port)))
             if printer.poll() is None:
                 break
         device = f"ipp://localhost:{port}/ipp/print"
@@ -195,10 +195,11 @@ class Scheduler:
         cups.setServer(self.before or "")
 
 
-def is_open(port: int) -> bool:
-    """Whether a program listens at a port."""
-    with socket.socket() as line:
-        return line.connect_ex(("localhost", port)) == 0
+def is_open(address: Union[str, Tuple[str, int]]) -> bool:
+    """Whether a program listens at a socket's file, or at a port of a host."""
+    kind = socket.AF_UNIX if isinstance(address, str) else socket.AF_INET
+    with socket.socket(kind) as line:
+        return line.connect_ex(address) == 0
 
 
 def raster_of(job: bytes) -> Tuple[Tuple[int, int], Dots]:
