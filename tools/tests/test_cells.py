@@ -545,7 +545,7 @@ class Codes(CellTest):
         words = "--code EAN --title Name".split()
         self.check(data, words, [f"upca {SOAP}", f"ean13 0{SOAP}"], [said])
         problem = f"row 2: 00{SMALL} may be an EAN-8 with zeros in front: "
-        problem += "write its 8 digits, or give --symbology"
+        problem += "write its 8 digits, or give --symbology ean13"
         self.check(f"EAN\n00{SMALL}\n", "--code EAN --fill-zeros".split(), [], [problem], 1)
 
 

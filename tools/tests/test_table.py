@@ -670,7 +670,7 @@ SAID = {
     "rounded": "the spreadsheet has rounded the number; format the column as text, enter it again",
     "looks": "looks rounded by the spreadsheet: enter it again as text, or give --allow-zeros",
     "upce": "may be a UPC-E, which labels does not draw: for an EAN-8 give --symbology ean8",
-    "zeros": "may be an EAN-8 with zeros in front: write its 8 digits, or give --symbology",
+    "zeros": "may be an EAN-8 with zeros in front: write its 8 digits",
     "either": "may have its check digit: if not, give --symbology",
     "whole": "give --without-check-digit only if no number has one",
     "signs": "has other characters than digits: character",
@@ -707,8 +707,10 @@ NUMBERS = """\
 01234565 -> ! {} {upce}
 0306406152 | 0-306-40615-2 | 0 306 40615 2 -> ! {} {isbn} 9780306406157
 080442957X | 0-8044-2957-x -> ! {} {isbn} 9780804429573
-0000073513537 | 000073513537 -> ! {} {zeros}
-00000073513537 -> ! 0000073513537 {zeros}
+000073513537 -> ! {} {zeros}, or give --symbology upca
+0000073513537 -> ! {} {zeros}, or give --symbology ean13
+00000073513537 -> ! 0000073513537 {zeros}, or give --symbology ean13
+073513537 -> ! {} {zeros}
 2024-05-17 -> ! "{}" {signs} 5 is "-"; {other}
 40063-81333931 -> ! "{}" {signs} 6 is "-"; {other}
 4006381  333931 -> ! "{}" {signs} 8 is a space; {other}
@@ -722,11 +724,12 @@ NUMBERS = """\
 036000291452 -> ! {} has 12 digits, ean13 has 13: give --symbology auto, or --fill-zeros {lost}
 73513537 -> ! {} has 8 digits, ean13 has 13: give --symbology auto, or --fill-zeros {lost}
 --symbology upca
-036000291452 -> upca {}
+036000291452 | 000073513537 -> upca {}
 00036000291452 -> upca 036000291452
 4006381333931 -> ! {} has 13 digits, upca has 12: give --symbology auto
 --symbology ean8
 01234565 -> ean8 {}
+0000073513537 -> ! {} has 13 digits, ean8 has 8: write its 8 digits
 --fill-zeros
 36000291452 | 036000291452 -> ean13 0036000291452
 4006381333931 -> ean13 {}

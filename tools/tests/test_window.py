@@ -118,9 +118,9 @@ def inside(widget: Any) -> Any:
             yield from inside(one)
 
 
-def answer_dialog(printer: str, response: Any = None) -> Any:
-    """Chooses a printer in the dialog of the desktop once that has it, and presses a button, Print
-    by itself; returns whether to look again.
+def answer_dialog(printer: str, response: Any = None, pages: str = "", sheets: int = 0) -> Any:
+    """Chooses a printer in the dialog of the desktop once that has it, types pages, chooses all (0),
+    even or odd sheets, and presses a button, Print by itself; returns whether to look again.
     """
     for dialog in Gtk.Window.list_toplevels():
         if type(dialog).__name__ != "GtkPrintUnixDialog":
@@ -130,6 +130,12 @@ def answer_dialog(printer: str, response: Any = None) -> Any:
         for row in printers.get_model():
             if row[1] == printer:
                 printers.get_selection().select_iter(row.iter)
+        if pages:
+            kinds = (Gtk.RadioButton, Gtk.Entry, Gtk.ComboBoxText)
+            some, typed, which = (next(one for one in found if type(one) is k) for k in kinds)
+            some.set_active(True)
+            typed.set_text(pages)
+            which.set_active(sheets)
         button = dialog.get_widget_for_response(response or Gtk.ResponseType.OK)
         if button.get_sensitive() and printers.get_selection().get_selected()[1]:
             button.clicked()
@@ -247,9 +253,9 @@ class Keeper(unittest.TestCase):
         self.assertEqual(self.problem(), "")
         return path.read_bytes()
 
-    def answered(self, printer: str) -> Any:
+    def answered(self, printer: str, *pages: Any) -> Any:
         """What the window says once it has printed on a printer that is chosen in the dialog."""
-        GLib.timeout_add(BEAT, answer_dialog, printer)
+        GLib.timeout_add(BEAT, answer_dialog, printer, None, *pages)
         return self.said_after(self.window.print_button.clicked)
 
     def by_commands(self, *words: Any) -> Any:
@@ -281,6 +287,17 @@ class WindowTest(Keeper):
         page = ("--stock", "Avery L7160", "--dpi", "600")
         self.assertEqual(scheduler.printed("pdf"), self.by_commands(*page))
         self.assertEqual(len(self.printed()), 3)
+
+    @mock.patch("labeltools.window.ways.Ways.watch", mock.Mock())
+    def test_chosen_pages_do_not_count_as_printed(self) -> None:
+        """They may be a trial. Of the labels only those on these pages are reported."""
+        self.open()
+        self.change(first=20)  # two labels on the first page, four on the second
+        for pages, sheets, labels in (("2-", 0, 4), ("1-2", 2, 2)):
+            scheduler.add(f"trial-{labels}", "both")
+            said = self.answered(f"trial-{labels}", pages, sheets)
+            self.assertRegex(said, f"^{labels} labels sent .*: job [0-9]+; pages were chosen, so ")
+        self.assertEqual(self.printed(), [])
 
     def test_nothing_is_printed_by_a_preview(self) -> None:
         scheduler.add("seen", "pdf")

@@ -33,6 +33,7 @@ RESOLUTION = "Resolution"  # the option of drivers
 RAW = {"raw": "true"}
 NOTHING_CHOSEN: Mapping[str, str] = {}
 PAPER = ("PageSize", "PageRegion")  # options of drivers that the paper of the labels decides
+PAGES = frozenset({"page-ranges", "page-set"})  # options that choose pages
 NO_QUEUE = Text(
     "add it in the settings of printers; for one on USB give --print /dev/usb/lp0, for one in the "
     "network --print tcp://HOST"

@@ -14,12 +14,13 @@ from labeltools.common.text import NOTHING, Text, counted, joined
 from labeltools.layout.layout import LaidOut
 from labeltools.lines.file import LineRecord
 from labeltools.printing.cups import NOTHING_CHOSEN, Queue, SentJob, print_by
+from labeltools.printing.job import Job
 from labeltools.printing.journal import Entry, Journal, SENDING, code_of
 from labeltools.printing.network import NetworkPrinter, SCHEME
 from labeltools.printing.outlets import Broken, Collected, Device, OUTPUT, Outlet, Untaken
 from labeltools.printing.outlets import has_reader
 from labeltools.printing.press import Part, Prepared, Press
-from labeltools.printing.selection import FILE
+from labeltools.printing.selection import FILE, ranges_in
 
 
 class Sender:
@@ -272,9 +273,21 @@ def print_on(
     sender = Sender(outlet)
     sender.send_all(found, talk)
     sent: SentJob = outlet.given
+    labels = labels_text(labels_on_pages(found.job, sender.taken, chosen))
     how = (queue.name, found.job.plan.dpi, sent.number)
-    text = Text("{} sent to {}, at {} dpi: job {}", labels_text(sender.taken), *how)
+    text = Text("{} sent to {}, at {} dpi: job {}", labels, *how)
     return sent, joined("; ", filter(None, (text, queue.doubt(found.job))))
+
+
+def labels_on_pages(job: Job, count: int, chosen: Mapping[str, str]) -> int:
+    """Returns how many labels of a job are on the pages that are chosen for it."""
+    ranges = ranges_in(chosen.get("page-ranges", "1-"))
+    others = {"even": 1, "odd": 0}.get(chosen.get("page-set", ""))  # page % 2 of those left out
+    pages = (job.pages_of(number) for number in range(1, count + 1))
+    return sum(
+        page % 2 != others and any(first <= page <= last for first, last in ranges)
+        for page in pages
+    )
 
 
 def labels_text(count: int) -> Text:

@@ -12,6 +12,7 @@ from labeltools.tables.money import NO_VALUES
 from labeltools.lines.symbologies import (
     CODE128,
     EAN13,
+    EAN8,
     NUMBERS,
     QR,
     SYMBOLOGIES,
@@ -196,12 +197,14 @@ def symbology_of(digits: str, rules: CodeRules) -> str:
     if missing and count in NUMBERS and is_right(digits):
         hint = Text("if not, give --symbology {}", NUMBERS[count].name)
         raise RowError(Text("{} may have its check digit", digits), hint)
-    if count > 8 and digits[0] == "0" and len(digits.lstrip("0")) + missing <= 8:
-        hint = Text("write its 8 digits, or give --symbology")
-        raise RowError(Text("{} may be an EAN-8 with zeros in front", digits), hint)
+    name = NUMBERS[count].name if count in NUMBERS else ""
     if rules.fill_zeros and EAN13.digits - MOST_ZEROS <= count <= EAN13.digits:
-        return EAN13.name
-    return NUMBERS[count].name if count in NUMBERS else ""
+        name = EAN13.name
+    if len(digits.lstrip("0")) + missing <= 8 < count:
+        hint = Text("write its {} digits", 8 - missing)
+        hint = Text("{}, or give --symbology {}", hint, name) if name else hint
+        raise RowError(Text("{} may be an EAN-8 with zeros in front", digits), hint)
+    return name
 
 
 def filled_up(digits: str, symbology: str, rules: CodeRules) -> str:
@@ -225,7 +228,10 @@ def wrong_length(digits: str, asked: Sequence[str], rules: CodeRules) -> RowErro
     what = counted("{1} has {0} digit, {2}", "{1} has {0} digits, {2}", count, digits[:20], lengths)
     is_auto = rules.symbology == AUTO
     may_miss = count + 1 in NUMBERS and not missing
+    eight = EAN8.digits - missing
+    has_zeros = asked == [EAN8.name] and len(digits.lstrip("0")) <= eight < count
     hints = (
+        (has_zeros, Text("write its {} digits", eight)),
         (count == 14, Text("a GTIN-14 is drawn as ITF-14, which labels does not draw")),
         (count == EAN13.digits and not missing, Text("give --symbology auto")),
         (not NOT_SHORT <= count <= EAN13.digits, OTHER_CODES),

@@ -62,6 +62,6 @@ def options_of(settings: Any) -> Chosen:
         if found.get(name) not in USUAL:
             chosen[option] = "reverse" if option == "outputorder" else found[name]
     if found.get("print-pages") == "ranges":
-        ranges = settings.get_page_ranges()  # from 0
-        chosen["page-ranges"] = ",".join(f"{one.start + 1}-{one.end + 1}" for one in ranges)
+        ranges = settings.get_page_ranges()  # from 0; the end of 2- is -1
+        chosen["page-ranges"] = ",".join(f"{one.start + 1}-{one.end + 1 or ''}" for one in ranges)
     return chosen

@@ -12,7 +12,8 @@ from typing import Any, Optional
 from labeltools.common.messages import ToolError
 from labeltools.common.text import Text, translated
 from labeltools.common.words import _
-from labeltools.printing.cups import NOTHING_CHOSEN, JobState, Queue, SentJob, queue_of, queues
+from labeltools.printing.cups import NOTHING_CHOSEN, PAGES, JobState, Queue, SentJob
+from labeltools.printing.cups import queue_of, queues
 from labeltools.printing.network import SCHEME, address_of
 from labeltools.printing.outlets import is_direct
 from labeltools.printing.press import Prepared
@@ -33,17 +34,24 @@ class Ways:
     def __init__(self, window: Any) -> None:
         self.window = window
 
-    def send(self, way: Callable[[Prepared, Talk], Sent]) -> None:
-        """Sends labels by a way, and keeps what is chosen for the next table like this."""
+    def send(self, way: Callable[[Prepared, Talk], Sent], is_all: bool = True) -> None:
+        """Sends labels by a way, all or those of chosen pages, and keeps what is chosen for the
+        next table like this.
+        """
         table, made = self.window.table, self.window.made
         table.keep(self.window.choices())
-        then = partial(self.on_sent, table, made)
+        then = partial(self.on_sent, table, made, is_all)
         self.window.work.start(partial(way, made.labels), then, is_sending=True)
 
-    def on_sent(self, table: Table, made: Made, sent: Sent) -> None:
-        """Keeps which labels went out, says so, and from then on what becomes of a job of CUPS."""
+    def on_sent(self, table: Table, made: Made, is_all: bool, sent: Sent) -> None:
+        """Says which labels went out, and from then on what becomes of a job of CUPS. Keeps them,
+        unless pages were chosen: these may be a trial.
+        """
         job, text = sent
-        table.keep_printed(made)
+        if is_all:
+            table.keep_printed(made)
+        else:
+            text = Text("{}; pages were chosen, so these labels do not count as printed", text)
         self.window.tell(translated(text))
         if job is not None:
             self.watch(job, translated(text), "")
@@ -113,7 +121,8 @@ class Ways:
             self.window.take({"dpi": str(dpi)})
             self.window.make(problem=ToolError(what, Text("check them, and print again")))
         else:
-            self.send(lambda labels, talk: print_on(labels, queue, talk, chosen))
+            is_all = PAGES.isdisjoint(chosen)
+            self.send(lambda labels, talk: print_on(labels, queue, talk, chosen), is_all)
 
     def ask_way(self, names: list[str]) -> None:
         """Asks for a printer for the file of a printer's own language."""
