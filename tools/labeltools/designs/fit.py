@@ -66,6 +66,8 @@ class Room:
         self.dot = dot
         self.wide, self.high = place.as_read(box)
         self.sign = cache(self.new_sign)
+        self.parts = cache(self.new_parts)
+        self.style = cache(self.new_style)
         self.texts: Found[str, OwnText] = Found(self.new_text)
         signs = [self.sign(line) for line in {one for text in counts for one in text.split("\n")}]
         if max(sign.bottom - sign.top for sign in signs) < LOW:
@@ -105,18 +107,28 @@ class Room:
         """Returns the largest letters in which a text is whole, or else the least ones."""
         text = self.with_lines(text)
         sizes = sizes_between(self.least, self.largest(text.count("\n") + 1))
-        whole = self.lines_of(text, sizes[0])  # most texts fit so
+        width = math.inf if "\n" in text else extent_of(self.sign(text)).width
+        if width <= self.room(sizes[0]):  # most texts fit so
+            return Fit(sizes[0], text)
+        whole = self.lines_of(text, sizes[0]) if self.most_lines > 1 else None
         if whole is not None:
             return Fit(sizes[0], whole)
-        number = bisect_left(sizes, True, 1, key=lambda size: self.lines_of(text, size) is not None)
+        number = bisect_left(sizes, True, 1, key=lambda size: width <= self.room(size))
+        if self.lines_of(text, sizes[number - 1]) is not None:  # in more lines, and larger
+            fits = lambda size: self.lines_of(text, size) is not None
+            number = bisect_left(sizes, True, 0, number - 1, key=fits)
         whole = self.lines_of(text, sizes[number]) if number < len(sizes) else None
         return Fit(self.least, text, True) if whole is None else Fit(sizes[number], whole)
+
+    def room(self, size: int) -> float:
+        """Returns how wide a line is, in letters of a size."""
+        return self.wide / size / HINTING
 
     def lines_of(self, text: str, size: int) -> Optional[str]:
         """Returns a text with the ends of its lines in letters of a size; None where it does not
         fit.
         """
-        room = self.wide / size / HINTING
+        room = self.room(size)
         if "\n" not in text and extent_of(self.sign(text)).width <= room:
             return text
         found = []
@@ -131,23 +143,30 @@ class Room:
         return whole if is_fitting else None
 
     def wrapped(self, paragraph: str, room: float) -> list[str]:
-        """Returns the lines of a paragraph; none where a part of it is too wide. A price is one
-        part.
-        """
-        is_price = self.place.part in PRICES
+        """Returns the lines of a paragraph; none where a part of it is too wide."""
         lines = [""]
         used = 0.0
-        for part in [paragraph] if is_price else self.letters.parts(paragraph):
-            bare = part.rstrip(" ")
-            wide = self.sign(bare).advance
+        for part, wide, spaces in self.parts(paragraph):
             if wide > room:
                 return []
             if used and used + wide > room:
                 lines.append("")
                 used = 0.0
             lines[-1] += part
-            used += wide + self.letters.spaces[self.place.is_bold] * (len(part) - len(bare))
+            used += wide + spaces
         return [line.rstrip(" ") for line in lines]
+
+    def new_parts(self, paragraph: str) -> list[tuple[str, float, float]]:
+        """Returns the parts of a paragraph, with how wide each of them is, and the spaces behind
+        it. A price is one part.
+        """
+        found = []
+        is_price = self.place.part in PRICES
+        for part in [paragraph] if is_price else self.letters.parts(paragraph):
+            bare = part.rstrip(" ")
+            spaces = self.letters.spaces[self.place.is_bold] * (len(part) - len(bare))
+            found.append((part, self.sign(bare).advance, spaces))
+        return found
 
     def new_text(self, text: str) -> OwnText:
         """Returns where a text is; raises `NoRoom` for a price that would be cut."""
@@ -163,18 +182,23 @@ class Room:
         lines = self.most_lines if fit.is_cut else count_of(written)
         if fit.is_cut and any(map(self.is_parted_number, text.split())):
             lines = 1
+        struck = len(text.encode()) if place.part == "was" else 0
+        return OwnText(place, written, self.box, self.style(size, lines, fit.is_cut, struck))
+
+    def new_style(self, size: int, lines: int, is_cut: bool, struck: int) -> Style:
+        """Returns how a text of so many lines is written."""
+        place = self.place
         tall = ((lines - 1) * LINE + self.bottom - self.top) * size
         base = round((self.high - tall) * place.down - self.top * size)
-        struck = len(text.encode()) if place.part == "was" else 0
-        most = lines if lines > 1 or fit.is_cut else 0
+        most = lines if lines > 1 or is_cut else 0
         how = (self.letters.family, place.is_bold, size, most, place.across, 0.0, struck, base)
-        return OwnText(place, written, self.box, Style(*how))
+        return Style(*how)
 
     def is_parted_number(self, word: str) -> bool:
         """Returns whether a word is a number that is wider than a line of the least letters: in two
         lines it would be two numbers.
         """
-        room = self.wide / self.least / HINTING - SIDE
+        room = self.room(self.least) - SIDE
         return bool(NUMBER.fullmatch(word)) and self.sign(word).advance > room
 
 

@@ -5,7 +5,7 @@ where Pango has it, in a tenth of the time. Lengths are in dots.
 
 import re
 from itertools import accumulate, repeat, zip_longest
-from math import ceil, floor
+from math import ceil, floor, inf
 from typing import Any, Iterator, NamedTuple
 
 import cairo
@@ -22,6 +22,18 @@ PARTED = re.compile(r"[^\w., ]|  |^ | $")  # what may be parted elsewhere than a
 LINE_END = "\u2028"  # of a line that is not the last one of its paragraph
 UNCLEAR = -1.0  # the step of letters that Pango may draw otherwise
 NEAR = 0.01  # of the size of letters: glyphs with ink as near are the same ones
+
+
+class Ends(NamedTuple):
+    """Where a glyph has ink from its place on its base line."""
+
+    left: float
+    top: float
+    right: float
+    bottom: float
+
+
+NO_INK = Ends(inf, inf, -inf, -inf)
 
 
 class Row(NamedTuple):
@@ -49,6 +61,11 @@ class Glyphs:
         self.high: float = layout.get_size()[1] / UNIT
         self.numbers: Found[str, int] = Found(self.number)
         self.steps: Found[tuple[str, str], float] = Found(self.step)
+        # where each glyph has ink, and how far the ink of any is before its own place, and behind
+        # that of the next one
+        self.inks: dict[int, Ends] = {}
+        self.before = 0.0
+        self.behind = 0.0
 
     def rows(self, text: str, room: float) -> list[Row]:
         """Returns the rows of a line of text as Pango parts it in a room; none where Pango has to
@@ -76,7 +93,10 @@ class Glyphs:
         """Returns how far a letter is from the next one, or from the end of its line."""
         if not all(map(self.numbers.__getitem__, filter(None, pair))):
             return UNCLEAR
-        return self.place("".join(pair), len(pair[0].encode()))
+        step = self.place("".join(pair), len(pair[0].encode()))
+        if pair[1] and step != UNCLEAR:
+            self.behind = max(self.behind, self.inks[self.numbers[pair[0]]].right - step)
+        return step
 
     def place(self, letters: str, at: int) -> float:
         """Lays letters out, and returns where a byte of them is, if each of them has a glyph of the
@@ -97,8 +117,13 @@ class Glyphs:
         found = (ink.x / UNIT, ink.y / UNIT - self.base, ink.width / UNIT, ink.height / UNIT)
         glyph: Any = self.font.text_to_glyphs(0, 0, letter, False)[0]
         near = max(1.0, NEAR * self.high)
-        is_same = all(abs(one - other) < near for one, other in zip(found, self.ink([glyph])))
-        return int(glyph.index) if is_same else 0
+        left, top, width, height = self.ink([glyph])
+        if any(abs(one - other) >= near for one, other in zip(found, (left, top, width, height))):
+            return 0
+        number = int(glyph.index)
+        self.inks[number] = Ends(left, top, left + width, top + height) if width else NO_INK
+        self.before = min(self.before, left)
+        return number
 
     def ink(self, glyphs: Any) -> list[float]:
         """Returns where glyphs have ink, as Pango rounds it: its left and upper end, its width and
@@ -108,9 +133,16 @@ class Glyphs:
 
     def ink_of(self, row: Row) -> Box:
         """Returns where a row has ink, in whole dots from the upper left corner of its text."""
-        left, top, width, height = self.ink([*row.glyphs(0.0, 0.0)])
+        first, last = self.inks[row.numbers[0]], self.inks[row.numbers[-1]]
+        if first.left <= row.steps[0] + self.before and last.right >= self.behind:
+            left, right = first.left, row.width - row.steps[-1] + last.right
+            _, tops, _, bottoms = zip(*map(self.inks.__getitem__, row.numbers))
+            top, bottom = min(tops), max(bottoms)
+        else:  # those of other letters than the first and the last one may be farther out
+            left, top, width, height = self.ink([*row.glyphs(0.0, 0.0)])
+            right, bottom = left + width, top + height
         x, y = floor(left), floor(self.base + top)
-        return Box(x, y, ceil(left + width) - x, ceil(self.base + top + height) - y)
+        return Box(x, y, ceil(right) - x, ceil(self.base + bottom) - y)
 
 
 def ends_of(text: str, places: list[float], room: float) -> Iterator[tuple[int, int]]:
