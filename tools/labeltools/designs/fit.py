@@ -16,6 +16,7 @@ from labeltools.layout.frames import Box, HINTING, LEAST_TEXT, LINE, share
 from labeltools.common.kept import Found
 from labeltools.layout.letters import BLANK, Letters, Sign, extent_of
 from labeltools.common.messages import ToolError, quoted
+from labeltools.paper.area import Dots
 from labeltools.designs.places import Place
 from labeltools.common.text import Text
 
@@ -36,12 +37,15 @@ class NoRoom(ToolError):
 
 
 class OwnText(NamedTuple):
-    """A text in the box of a place, with the ends of its lines, and how it is written."""
+    """A text in the box of a place, with the ends of its lines, how it is written, and how wide and
+    high the box is as it is read.
+    """
 
     place: Place
     text: str
     box: Box
     style: Style
+    room: Dots
 
 
 class Fit(NamedTuple):
@@ -64,10 +68,12 @@ class Room:
         self.box = box
         self.letters = letters
         self.dot = dot
-        self.wide, self.high = place.as_read(box)
+        self.whole = place.as_read(box)
+        self.wide, self.high = self.whole
         self.sign = cache(self.new_sign)
         self.parts = cache(self.new_parts)
         self.style = cache(self.new_style)
+        self.largest = cache(self.new_largest)
         self.texts: Found[str, OwnText] = Found(self.new_text)
         signs = [self.sign(line) for line in {one for text in counts for one in text.split("\n")}]
         if max(sign.bottom - sign.top for sign in signs) < LOW:
@@ -86,7 +92,7 @@ class Room:
         most = OUTLYING * median_high(sizes.elements())
         self.common = round(1 / share({one: sizes[one] for one in sizes if one <= most}))
 
-    def largest(self, lines: int) -> int:
+    def new_largest(self, lines: int) -> int:
         """Returns the largest letters of a number of lines."""
         size = int(self.high / ((lines - 1) * LINE + self.bottom - self.top))
         wished = int(self.place.size / self.dot)
@@ -113,12 +119,14 @@ class Room:
         whole = self.lines_of(text, sizes[0]) if self.most_lines > 1 else None
         if whole is not None:
             return Fit(sizes[0], whole)
-        number = bisect_left(sizes, True, 1, key=lambda size: width <= self.room(size))
-        if self.lines_of(text, sizes[number - 1]) is not None:  # in more lines, and larger
-            fits = lambda size: self.lines_of(text, size) is not None
-            number = bisect_left(sizes, True, 0, number - 1, key=fits)
-        whole = self.lines_of(text, sizes[number]) if number < len(sizes) else None
-        return Fit(self.least, text, True) if whole is None else Fit(sizes[number], whole)
+        end = bisect_left(sizes, True, 1, key=lambda size: width <= self.room(size))
+        if self.lines_of(text, sizes[end - 1]) is not None:  # in more lines, and larger
+            end -= 1
+            end = bisect_left(
+                sizes, True, 0, end, key=lambda size: self.lines_of(text, size) is not None
+            )
+        whole = self.lines_of(text, sizes[end]) if end < len(sizes) else None
+        return Fit(self.least, text, True) if whole is None else Fit(sizes[end], whole)
 
     def room(self, size: int) -> float:
         """Returns how wide a line is, in letters of a size."""
@@ -183,7 +191,8 @@ class Room:
         if fit.is_cut and any(map(self.is_parted_number, text.split())):
             lines = 1
         struck = len(text.encode()) if place.part == "was" else 0
-        return OwnText(place, written, self.box, self.style(size, lines, fit.is_cut, struck))
+        style = self.style(size, lines, fit.is_cut, struck)
+        return OwnText(place, written, self.box, style, self.whole)
 
     def new_style(self, size: int, lines: int, is_cut: bool, struck: int) -> Style:
         """Returns how a text of so many lines is written."""

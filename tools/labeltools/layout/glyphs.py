@@ -20,20 +20,9 @@ SIMPLE = ((0x20, 0x2FF), (0x370, 0x482), (0x48A, 0x52F), (0x2010, 0x2027), (0x20
 OTHERS = re.compile("[^" + "".join(f"{chr(one)}-{chr(other)}" for one, other in SIMPLE) + "]")
 PARTED = re.compile(r"[^\w., ]|  |^ | $")  # what may be parted elsewhere than at its spaces
 LINE_END = "\u2028"  # of a line that is not the last one of its paragraph
+NO_INK = (inf, -inf)  # the left and right end of what has none
 UNCLEAR = -1.0  # the step of letters that Pango may draw otherwise
 NEAR = 0.01  # of the size of letters: glyphs with ink as near are the same ones
-
-
-class Ends(NamedTuple):
-    """Where a glyph has ink from its place on its base line."""
-
-    left: float
-    top: float
-    right: float
-    bottom: float
-
-
-NO_INK = Ends(inf, inf, -inf, -inf)
 
 
 class Row(NamedTuple):
@@ -61,9 +50,11 @@ class Glyphs:
         self.high: float = layout.get_size()[1] / UNIT
         self.numbers: Found[str, int] = Found(self.number)
         self.steps: Found[tuple[str, str], float] = Found(self.step)
-        # where each glyph has ink, and how far the ink of any is before its own place, and behind
-        # that of the next one
-        self.inks: dict[int, Ends] = {}
+        # where glyphs have ink, from their places on the base line, and how far the ink of any is
+        # before its own place, and behind that of the next one
+        self.sides: dict[int, tuple[float, float]] = {}
+        self.tops: dict[int, float] = {}
+        self.bottoms: dict[int, float] = {}
         self.before = 0.0
         self.behind = 0.0
 
@@ -95,7 +86,7 @@ class Glyphs:
             return UNCLEAR
         step = self.place("".join(pair), len(pair[0].encode()))
         if pair[1] and step != UNCLEAR:
-            self.behind = max(self.behind, self.inks[self.numbers[pair[0]]].right - step)
+            self.behind = max(self.behind, self.sides[self.numbers[pair[0]]][1] - step)
         return step
 
     def place(self, letters: str, at: int) -> float:
@@ -121,7 +112,9 @@ class Glyphs:
         if any(abs(one - other) >= near for one, other in zip(found, (left, top, width, height))):
             return 0
         number = int(glyph.index)
-        self.inks[number] = Ends(left, top, left + width, top + height) if width else NO_INK
+        self.sides[number] = (left, left + width) if width else NO_INK
+        self.tops[number] = top if width else inf
+        self.bottoms[number] = top + height if width else -inf
         self.before = min(self.before, left)
         return number
 
@@ -133,11 +126,12 @@ class Glyphs:
 
     def ink_of(self, row: Row) -> Box:
         """Returns where a row has ink, in whole dots from the upper left corner of its text."""
-        first, last = self.inks[row.numbers[0]], self.inks[row.numbers[-1]]
-        if first.left <= row.steps[0] + self.before and last.right >= self.behind:
-            left, right = first.left, row.width - row.steps[-1] + last.right
-            _, tops, _, bottoms = zip(*map(self.inks.__getitem__, row.numbers))
-            top, bottom = min(tops), max(bottoms)
+        numbers, steps, width = row
+        left, right = self.sides[numbers[0]][0], self.sides[numbers[-1]][1]
+        if left <= steps[0] + self.before and right >= self.behind:
+            right += width - steps[-1]
+            top = min(map(self.tops.__getitem__, numbers))
+            bottom = max(map(self.bottoms.__getitem__, numbers))
         else:  # those of other letters than the first and the last one may be farther out
             left, top, width, height = self.ink([*row.glyphs(0.0, 0.0)])
             right, bottom = left + width, top + height
