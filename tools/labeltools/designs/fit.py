@@ -16,7 +16,6 @@ from labeltools.layout.frames import Box, HINTING, LEAST_TEXT, LINE, share
 from labeltools.common.kept import Found
 from labeltools.layout.letters import BLANK, Letters, Sign, extent_of
 from labeltools.common.messages import ToolError, quoted
-from labeltools.paper.area import Dots
 from labeltools.designs.places import Place
 from labeltools.common.text import Text
 
@@ -37,15 +36,12 @@ class NoRoom(ToolError):
 
 
 class OwnText(NamedTuple):
-    """A text in the box of a place, with the ends of its lines, how it is written, and how wide and
-    high the box is as it is read.
-    """
+    """A text in the box of a place, with the ends of its lines, and how it is written."""
 
     place: Place
     text: str
     box: Box
     style: Style
-    room: Dots
 
 
 class Fit(NamedTuple):
@@ -68,11 +64,8 @@ class Room:
         self.box = box
         self.letters = letters
         self.dot = dot
-        self.whole = place.as_read(box)
-        self.wide, self.high = self.whole
+        self.wide, self.high = place.as_read(box)
         self.sign = cache(self.new_sign)
-        self.parts = cache(self.new_parts)
-        self.style = cache(self.new_style)
         self.largest = cache(self.new_largest)
         self.texts: Found[str, OwnText] = Found(self.new_text)
         signs = [self.sign(line) for line in {one for text in counts for one in text.split("\n")}]
@@ -121,9 +114,8 @@ class Room:
             return Fit(sizes[0], whole)
         end = bisect_left(sizes, True, 1, key=lambda size: width <= self.room(size))
         if self.lines_of(text, sizes[end - 1]) is not None:  # in more lines, and larger
-            end -= 1
             end = bisect_left(
-                sizes, True, 0, end, key=lambda size: self.lines_of(text, size) is not None
+                sizes, True, 0, end - 1, key=lambda size: self.lines_of(text, size) is not None
             )
         whole = self.lines_of(text, sizes[end]) if end < len(sizes) else None
         return Fit(self.least, text, True) if whole is None else Fit(sizes[end], whole)
@@ -151,30 +143,23 @@ class Room:
         return whole if is_fitting else None
 
     def wrapped(self, paragraph: str, room: float) -> list[str]:
-        """Returns the lines of a paragraph; none where a part of it is too wide."""
+        """Returns the lines of a paragraph; none where a part of it is too wide. A price is one
+        part.
+        """
+        is_price = self.place.part in PRICES
         lines = [""]
         used = 0.0
-        for part, wide, spaces in self.parts(paragraph):
+        for part in [paragraph] if is_price else self.letters.parts(paragraph):
+            bare = part.rstrip(" ")
+            wide = self.sign(bare).advance
             if wide > room:
                 return []
             if used and used + wide > room:
                 lines.append("")
                 used = 0.0
             lines[-1] += part
-            used += wide + spaces
+            used += wide + self.letters.spaces[self.place.is_bold] * (len(part) - len(bare))
         return [line.rstrip(" ") for line in lines]
-
-    def new_parts(self, paragraph: str) -> list[tuple[str, float, float]]:
-        """Returns the parts of a paragraph, with how wide each of them is, and the spaces behind
-        it. A price is one part.
-        """
-        found = []
-        is_price = self.place.part in PRICES
-        for part in [paragraph] if is_price else self.letters.parts(paragraph):
-            bare = part.rstrip(" ")
-            spaces = self.letters.spaces[self.place.is_bold] * (len(part) - len(bare))
-            found.append((part, self.sign(bare).advance, spaces))
-        return found
 
     def new_text(self, text: str) -> OwnText:
         """Returns where a text is; raises `NoRoom` for a price that would be cut."""
@@ -190,18 +175,12 @@ class Room:
         lines = self.most_lines if fit.is_cut else count_of(written)
         if fit.is_cut and any(map(self.is_parted_number, text.split())):
             lines = 1
-        struck = len(text.encode()) if place.part == "was" else 0
-        style = self.style(size, lines, fit.is_cut, struck)
-        return OwnText(place, written, self.box, style, self.whole)
-
-    def new_style(self, size: int, lines: int, is_cut: bool, struck: int) -> Style:
-        """Returns how a text of so many lines is written."""
-        place = self.place
         tall = ((lines - 1) * LINE + self.bottom - self.top) * size
         base = round((self.high - tall) * place.down - self.top * size)
-        most = lines if lines > 1 or is_cut else 0
+        struck = len(text.encode()) if place.part == "was" else 0
+        most = lines if lines > 1 or fit.is_cut else 0
         how = (self.letters.family, place.is_bold, size, most, place.across, 0.0, struck, base)
-        return Style(*how)
+        return OwnText(place, written, self.box, Style(*how))
 
     def is_parted_number(self, word: str) -> bool:
         """Returns whether a word is a number that is wider than a line of the least letters: in two

@@ -241,9 +241,7 @@ class OwnLayouts:
             module, boxes = self.boxes_of(place, symbology.name, modules.width, modules.height)
             how = (data, modules, symbology, module, boxes)
             symbols.append(OwnSymbol(place, self.boxes[place], *how))
-        finest = symbols[0]
-        if len(symbols) > 1:
-            finest = min(symbols, key=lambda one: (one.symbology.nominal > 0, one.module))
+        finest = min(symbols, key=lambda one: (one.symbology.nominal > 0, one.module))
         found = (finest.symbology, finest.module, finest.boxes, False)
         return OwnLayout(NO_FRAME, *found, tuple(texts), tuple(symbols), absent)
 

@@ -103,19 +103,19 @@ class OwnPen(Pen):
         """Yields the texts of a label, each of which is drawn before the next one is fitted."""
         layout = own_layout(item)
         colours = self.colours(layout.absent) if layout.absent else {}
-        for place, text, box, style, room in layout.texts:
+        for place, text, box, style in layout.texts:
             colour = colours.get(place, place.colour) or BLACK
             is_black = colour == BLACK
             is_edged = is_black and place in self.tinted
             fit = self.fitter.by_pango if is_edged else self.fitter.found
-            fitted = fit(text, style, *room)
+            fitted = fit(text, style, *place.as_read(box))
             shown = None if is_black else off_white(colour)
             yield Placed(fitted, style, box, place.quarters, shown, is_edged)
 
     def lines_of(self, item: LaidOut) -> Iterator[tuple[str, Style, int, int]]:
         """Yields the texts of a label that may be cut, with their room."""
-        for _, text, _, style, room in own_layout(item).texts:
-            yield text, style, *room
+        for place, text, box, style in own_layout(item).texts:
+            yield text, style, *place.as_read(box)
 
 
 def off_white(colour: Colour) -> Colour:

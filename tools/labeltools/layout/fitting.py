@@ -151,10 +151,8 @@ class Fitter:
 
     def is_cut(self, text: str, style: Style, width: int, height: int) -> bool:
         """Returns whether a text ends in an ellipsis as it fits a box."""
-        if not style.lines:
-            return False
-        glyphs = self.glyphs(style)
-        if glyphs and self.rows(glyphs, text, style, width):
+        glyphs = self.glyphs(style) if style.lines else None
+        if not style.lines or glyphs and self.rows(glyphs, text, style, width):
             return False
         return bool(self.by_pango(text, style, width, height).layout.is_ellipsized())
 
