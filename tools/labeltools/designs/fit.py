@@ -106,29 +106,23 @@ class Room:
         """Returns the largest letters in which a text is whole, or else the least ones."""
         text = self.with_lines(text)
         sizes = sizes_between(self.least, self.largest(text.count("\n") + 1))
-        width = math.inf if "\n" in text else extent_of(self.sign(text)).width
-        if width <= self.room(sizes[0]):  # most texts fit so
-            return Fit(sizes[0], text)
-        whole = self.lines_of(text, sizes[0]) if self.most_lines > 1 else None
+        whole = self.lines_of(text, sizes[0])  # most texts fit so
         if whole is not None:
             return Fit(sizes[0], whole)
-        end = bisect_left(sizes, True, 1, key=lambda size: width <= self.room(size))
+        width = math.inf if "\n" in text else extent_of(self.sign(text)).width
+        end = bisect_left(sizes, True, 1, key=lambda size: width <= self.wide / size / HINTING)
         if self.lines_of(text, sizes[end - 1]) is not None:  # in more lines, and larger
             end = bisect_left(
-                sizes, True, 0, end - 1, key=lambda size: self.lines_of(text, size) is not None
+                sizes, True, 1, end - 1, key=lambda size: self.lines_of(text, size) is not None
             )
         whole = self.lines_of(text, sizes[end]) if end < len(sizes) else None
         return Fit(self.least, text, True) if whole is None else Fit(sizes[end], whole)
-
-    def room(self, size: int) -> float:
-        """Returns how wide a line is, in letters of a size."""
-        return self.wide / size / HINTING
 
     def lines_of(self, text: str, size: int) -> Optional[str]:
         """Returns a text with the ends of its lines in letters of a size; None where it does not
         fit.
         """
-        room = self.room(size)
+        room = self.wide / size / HINTING
         if "\n" not in text and extent_of(self.sign(text)).width <= room:
             return text
         found = []
@@ -186,7 +180,7 @@ class Room:
         """Returns whether a word is a number that is wider than a line of the least letters: in two
         lines it would be two numbers.
         """
-        room = self.room(self.least) - SIDE
+        room = self.wide / self.least / HINTING - SIDE
         return bool(NUMBER.fullmatch(word)) and self.sign(word).advance > room
 
 
@@ -198,5 +192,4 @@ def count_of(text: str) -> int:
 @cache
 def sizes_between(least: int, most: int) -> list[int]:
     """Returns sizes of letters from the largest to the least one."""
-    sizes = {max(least, int(most * STEP**step)) for step in range(STEPS)}
-    return sorted(sizes, reverse=True)
+    return sorted({max(least, int(most * STEP**step)) for step in range(STEPS)}, reverse=True)

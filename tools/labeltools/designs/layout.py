@@ -89,8 +89,7 @@ def values_of(label: PrintLabel, note: str, own: frozenset[str]) -> Values:
             rest.append(text)
         else:
             texts[key] = text if key == "note" else short(text)
-    if rest:
-        texts["text"] = short("\n".join(rest))
+    texts["text"] = short("\n".join(rest))
     return Values({key: text for key, text in texts.items() if text}, names)
 
 
