@@ -106,14 +106,16 @@ class Room:
         """Returns the largest letters in which a text is whole, or else the least ones."""
         text = self.with_lines(text)
         sizes = sizes_between(self.least, self.largest(text.count("\n") + 1))
-        whole = self.lines_of(text, sizes[0])  # most texts fit so
+        width = math.inf if "\n" in text else extent_of(self.sign(text)).width
+        if width <= self.wide / sizes[0] / HINTING:  # most texts fit so
+            return Fit(sizes[0], text)
+        whole = self.lines_of(text, sizes[0]) if self.most_lines > 1 else None
         if whole is not None:
             return Fit(sizes[0], whole)
-        width = math.inf if "\n" in text else extent_of(self.sign(text)).width
         end = bisect_left(sizes, True, 1, key=lambda size: width <= self.wide / size / HINTING)
         if self.lines_of(text, sizes[end - 1]) is not None:  # in more lines, and larger
             end = bisect_left(
-                sizes, True, 1, end - 1, key=lambda size: self.lines_of(text, size) is not None
+                sizes, True, 0, end - 1, key=lambda size: self.lines_of(text, size) is not None
             )
         whole = self.lines_of(text, sizes[end]) if end < len(sizes) else None
         return Fit(self.least, text, True) if whole is None else Fit(sizes[end], whole)
