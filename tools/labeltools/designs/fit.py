@@ -66,6 +66,7 @@ class Room:
         self.dot = dot
         self.wide, self.high = place.as_read(box)
         self.sign = cache(self.new_sign)
+        self.largest = cache(self.new_largest)
         self.texts: Found[str, OwnText] = Found(self.new_text)
         signs = [self.sign(line) for line in {one for text in counts for one in text.split("\n")}]
         if max(sign.bottom - sign.top for sign in signs) < LOW:
@@ -84,7 +85,7 @@ class Room:
         most = OUTLYING * median_high(sizes.elements())
         self.common = round(1 / share({one: sizes[one] for one in sizes if one <= most}))
 
-    def largest(self, lines: int) -> int:
+    def new_largest(self, lines: int) -> int:
         """Returns the largest letters of a number of lines."""
         size = int(self.high / ((lines - 1) * LINE + self.bottom - self.top))
         wished = int(self.place.size / self.dot)
@@ -105,12 +106,19 @@ class Room:
         """Returns the largest letters in which a text is whole, or else the least ones."""
         text = self.with_lines(text)
         sizes = sizes_between(self.least, self.largest(text.count("\n") + 1))
-        whole = self.lines_of(text, sizes[0])  # most texts fit so
+        width = math.inf if "\n" in text else extent_of(self.sign(text)).width
+        if width <= self.wide / sizes[0] / HINTING:  # most texts fit so
+            return Fit(sizes[0], text)
+        whole = self.lines_of(text, sizes[0]) if self.most_lines > 1 else None
         if whole is not None:
             return Fit(sizes[0], whole)
-        number = bisect_left(sizes, True, 1, key=lambda size: self.lines_of(text, size) is not None)
-        whole = self.lines_of(text, sizes[number]) if number < len(sizes) else None
-        return Fit(self.least, text, True) if whole is None else Fit(sizes[number], whole)
+        end = bisect_left(sizes, True, 1, key=lambda size: width <= self.wide / size / HINTING)
+        if self.lines_of(text, sizes[end - 1]) is not None:  # in more lines, and larger
+            end = bisect_left(
+                sizes, True, 0, end - 1, key=lambda size: self.lines_of(text, size) is not None
+            )
+        whole = self.lines_of(text, sizes[end]) if end < len(sizes) else None
+        return Fit(self.least, text, True) if whole is None else Fit(sizes[end], whole)
 
     def lines_of(self, text: str, size: int) -> Optional[str]:
         """Returns a text with the ends of its lines in letters of a size; None where it does not
@@ -186,5 +194,4 @@ def count_of(text: str) -> int:
 @cache
 def sizes_between(least: int, most: int) -> list[int]:
     """Returns sizes of letters from the largest to the least one."""
-    sizes = {max(least, int(most * STEP**step)) for step in range(STEPS)}
-    return sorted(sizes, reverse=True)
+    return sorted({max(least, int(most * STEP**step)) for step in range(STEPS)}, reverse=True)

@@ -81,8 +81,8 @@ def values_of(label: PrintLabel, note: str, own: frozenset[str]) -> Values:
     """
     whole = label.record.label
     keys, names = columns_of(whole.names or ("",) * len(whole.text), bool(note), own)
-    texts = {"title": short(whole.title), "price": whole.price, "unit": whole.unit}
-    texts |= {"was": whole.was, "code": label.record.data.decode("utf-8", "surrogateescape")}
+    code = label.record.data.decode("utf-8", "surrogateescape")
+    texts = dict(zip(FIELDS, (label.title, whole.price, whole.unit, whole.was, code)))
     rest = []
     for key, text in zip(keys, (*whole.text, note)):
         if key == "text":
@@ -178,13 +178,14 @@ class OwnLayouts:
         every = zip(labels, rows)
         return {label.record.number: [*compress(row, are_texts)] for label, row in every}
 
-    def rows_of(self, values: Sequence[Values]) -> list[list[str]]:
+    def rows_of(self, values: Sequence[Values]) -> list[tuple[str, ...]]:
         """Returns the texts of labels in all places: Line-2 is a column where any label has one of
         that name, or else the second place of Line, on all labels alike.
         """
-        known = frozenset(key for value in values for key in value.names)
+        known = frozenset[str]().union(*(value.names for value in values))
         keys = [one.key if one.key in known else one.part for one in self.places]
-        return [[value.texts.get(key, "") for key in keys] for value in values]
+        texts = [value.texts for value in values]
+        return [*zip(*([found.get(key, "") for found in texts] for key in keys))]
 
     def rooms(self, rows: Sequence[Sequence[str]]) -> dict[Place, Room]:
         """Returns the rooms of texts."""

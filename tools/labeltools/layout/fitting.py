@@ -151,7 +151,7 @@ class Fitter:
 
     def is_cut(self, text: str, style: Style, width: int, height: int) -> bool:
         """Returns whether a text ends in an ellipsis as it fits a box."""
-        glyphs = self.glyphs(style)
+        glyphs = self.glyphs(style) if style.lines else None
         if not style.lines or glyphs and self.rows(glyphs, text, style, width):
             return False
         return bool(self.by_pango(text, style, width, height).layout.is_ellipsized())
@@ -215,14 +215,15 @@ def corner_of(
     first base line are given.
     """
     across, high, base = extents
+    left, top, ink_width, ink_height = ink
     if style.base is not None:
-        x = (width - ink.width) * (style.across + 1) // 2 - ink.left
+        x = (width - ink_width) * (style.across + 1) // 2 - left
         y = style.base - base
     else:
         x = style.size // SIDE if style.lines else (width - across) * (style.across + 1) // 2
         y = int((height - high) * style.down)
-    x = max(-ink.left, min(x, width - ink.width - ink.left))
-    return x, max(-ink.top, min(y, height - ink.height - ink.top))
+    x = max(-left, min(x, width - ink_width - left))
+    return x, max(-top, min(y, height - ink_height - top))
 
 
 def attributes_of(style: Style, size: int) -> Any:
