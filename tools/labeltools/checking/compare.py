@@ -8,8 +8,8 @@ user's own may have several.
 """
 
 from functools import cache, lru_cache
-from itertools import islice, tee
-from operator import mul
+from itertools import groupby, islice, tee
+from operator import itemgetter, mul
 from typing import Any, Iterator, NamedTuple, Optional, Sequence
 
 from labeltools.paper.area import Plan
@@ -38,6 +38,7 @@ GUARDS = {
 }
 KNOWN = 4096  # places of symbols that are kept: most pages share them
 DIGITS = bytes.maketrans(b"\0\1", b"01")
+MOST_BITS = 5  # of a digit that `int` reads
 
 
 class Different(NotDecoded):
@@ -243,16 +244,26 @@ def check_dots(wanted: Wanted, page: Picture, dot: float) -> None:
     if box.left < 0 or box.right > page.width or not 0 <= box.top <= box.bottom <= page.height:
         raise Different(Text("its code extends beyond the page"), wanted.record)
     first, last = box.left // 8, bytes_a_row(box.right)
-    behind = 8 * last - box.right
-    start, stride = box.top * page.stride, page.stride
-    for dark, looked, high in rows_of(wanted):
-        band = page.packed[start : start + high * stride]
-        is_one = band == band[:stride] * high  # as of bars with nothing beside them
-        read = rows_reader(first, last - first, stride - last, 1 if is_one else high)
-        for row in {*read(band)}:
-            if ((int.from_bytes(row, "big") >> behind) ^ dark) & looked:
+    size, behind = last - first, 8 * last - box.right
+    start = box.top * page.stride
+    for looked, rows in groupby(rows_of(wanted), itemgetter(1)):
+        dark = b"".join([(row << behind).to_bytes(size, "big") * high for row, _, high in rows])
+        high = len(dark) // size
+        found = dots_in(page, start, first, size, high)
+        if found != dark:
+            both = int.from_bytes(found, "big") ^ int.from_bytes(dark, "big")
+            if both & int.from_bytes((looked << behind).to_bytes(size, "big") * high, "big"):
                 raise wrong(wanted, dot)
-        start += len(band)
+        start += high * page.stride
+
+
+def dots_in(page: Picture, start: int, first: int, size: int, high: int) -> bytes:
+    """Returns some bytes of each of some rows of a page, which begin at a byte of it."""
+    band = page.packed[start : start + high * page.stride]
+    row = band[: page.stride]
+    if band == row * high:  # as of bars with nothing beside them
+        return row[first : first + size] * high
+    return b"".join(rows_reader(first, size, page.stride - first - size, high)(band))
 
 
 def rows_of(wanted: Wanted) -> Iterator[tuple[int, int, int]]:
@@ -312,7 +323,9 @@ def number_of(row: str, wides: Sequence[int], scale: int) -> int:
     """Returns a row of modules, each of which is so many wide, as the number that its dots are."""
     if max(wides) > 1:
         row = "".join(map(mul, row, wides))
-    return int(row.replace("0", "0" * scale).replace("1", "1" * scale), 2)
+    if scale > MOST_BITS:
+        row, scale = "".join([digit * scale for digit in row]), 1
+    return int(row, 1 << scale) * ((1 << scale) - 1)
 
 
 def check_codes(symbols: Sequence[Wanted], page: DrawnPage, dot: float) -> None:

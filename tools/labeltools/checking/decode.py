@@ -13,20 +13,19 @@ from labeltools.common.text import Text
 from labeltools.paper.picture import Picture, rows_reader
 
 ZPL_HEAD = re.compile(rb"\^XA\^PON\^LH0,0\^LS0\^PW([0-9]+)\^LL([0-9]+)\n")
-ZPL_FIELD = re.compile(
-    rb"\^FO([0-9]+),([0-9]+)\^GFA,([0-9]+),([0-9]+),([1-9][0-9]*),([0-9A-Yg-z,:]*)\^FS\n"
-)
+ZPL_FIELD = re.compile(rb"\^FO([0-9]+),([0-9]+)\^GFA,([0-9]+),([0-9]+),([1-9][0-9]*),")
+FIELD_END = b"^FS\n"
 ZPL_END = re.compile(rb"(?:\^PQ([0-9]+)\n)?\^XZ\n")
 DIGITS = b"0123456789ABCDEF"
 COUNTS = bytes([*range(ord("G"), ord("Y") + 1), *range(ord("g"), ord("z") + 1)])
 WITHOUT_COUNTS = bytes.maketrans(COUNTS, b" " * len(COUNTS))
 COUNTS_ALONE = bytes(byte if byte in COUNTS else ord(" ") for byte in range(256))
+AGAIN_ALONE = bytes(byte if byte == ord(":") else ord(" ") for byte in range(256))
 # a sign that fills the rest of a row does what tabs do with spaces; that of a row that comes again
 # is a line end meanwhile, behind which a row begins
 TABS = bytes.maketrans(b",:", b"\t\r")
 ZEROS = bytes([*range(128), *range(128)]).translate(bytes.maketrans(b" \r", b"0:"))
 GOES_ON = 128  # marks the digits of a run but for the last one, which a row may end in
-AGAIN = re.compile(rb":(:*)")
 RASTER = b"\x1dv0\0"
 SIZE = struct.Struct("<HH")  # of a raster image: its bytes across and its rows
 LINES_AND_CUT = b"\x1bd\x03\x1dV\x42\x00"
@@ -119,9 +118,9 @@ def dots_of_zpl(data: bytes, _: int) -> Printed:
     fields: list[tuple[int, int, int, int]] = []  # the left, top, right and bottom of each
     at = head.end()
     while field := ZPL_FIELD.match(data, at):
-        *numbers, text = field.groups()
-        left, top, length, again, size = map(int, numbers)
-        dots = FIELDS.get((text, size), rows_of_field)
+        left, top, length, again, size = map(int, field.groups())
+        end = data.index(FIELD_END, field.end())
+        dots = FIELDS.get((data[field.end() : end], size), rows_of_field)
         left, rest = divmod(left, 8)
         right, bottom = left + size, top + length // size
         if rest or right > stride or bottom > height:
@@ -133,11 +132,11 @@ def dots_of_zpl(data: bytes, _: int) -> Printed:
             raise NotDecoded(Text("ZPL with a field over another one"))
         put(page, slice(stride * top + left, stride * bottom, stride), dots, size, bool(beside))
         fields.append((left, top, right, bottom))
-        at = field.end()
-    end = ZPL_END.fullmatch(data, at)
-    if not end:
+        at = end + len(FIELD_END)
+    count = ZPL_END.fullmatch(data, at)
+    if not count:
         raise NotDecoded(Text("ZPL without an end"))
-    return Picture(width, height, bytes(page)), int(end[1] or 1)
+    return Picture(width, height, bytes(page)), int(count[1] or 1)
 
 
 def put(page: bytearray, place: slice, dots: bytes, size: int, is_beside: bool) -> None:
@@ -162,9 +161,11 @@ def rows_of_field(field: tuple[bytes, int]) -> bytes:
     'f0000000 f0000000 12345678 99999990'
     """
     text, size = field
-    parts = AGAIN.split(text)
-    rest = b":".join(parts[::2])
-    if rest.translate(None, DIGITS + b":"):
+    signs = text.translate(None, DIGITS + b":")
+    if signs.translate(None, COUNTS + b",") or text.startswith(b":"):
+        raise NotDecoded(Text("no zpl of label-print"))
+    rest = b":".join(text.replace(b":", b" ").split())
+    if signs:
         marked = expanded(rest).translate(TABS).expandtabs(2 * size)
         if not marked.translate(None, b"\r")[2 * size - 1 :: 2 * size].isascii():
             raise NotDecoded(Text("a row of the ZPL has the wrong length"))
@@ -172,8 +173,8 @@ def rows_of_field(field: tuple[bytes, int]) -> bytes:
     rows = [*map(unhexlify, rest.split(b":"))]
     if any([len(some) % size for some in rows]):
         raise NotDecoded(Text("a row of the ZPL has the wrong length"))
-    for number, again in enumerate(parts[1::2]):
-        rows[number] += rows[number][-size:] * (1 + len(again))
+    for number, again in enumerate(text.translate(AGAIN_ALONE).split()):
+        rows[number] += rows[number][-size:] * len(again)
     return b"".join(rows)
 
 
