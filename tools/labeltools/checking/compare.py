@@ -38,7 +38,6 @@ GUARDS = {
 }
 KNOWN = 4096  # places of symbols that are kept: most pages share them
 DIGITS = bytes.maketrans(b"\0\1", b"01")
-MOST_BITS = 5  # of a digit that `int` reads
 
 
 class Different(NotDecoded):
@@ -287,9 +286,9 @@ def rows_of(wanted: Wanted) -> Iterator[tuple[int, int, int]]:
     for _ in range(where.quarters):
         rows = ["".join(column) for column in zip(*rows[::-1])]
         highs, wides = wides, highs[::-1]
-    dots = {row: number_of(row, wides, where.scale) for row in {*rows}}
-    for row, look, high in zip(rows, looks_of(where, symbology, left), highs):
-        yield dots[row], look, high * where.scale
+    looks = looks_of(where, symbology, left)
+    for row, look, high in zip(numbers_of(rows, wides, where.scale), looks, highs):
+        yield row, look, high * where.scale
 
 
 @lru_cache(KNOWN)
@@ -307,7 +306,7 @@ def looks_of(where: Where, symbology: str, left: int) -> Sequence[int]:
     for _ in range(where.quarters):
         looks = ["".join(column) for column in zip(*looks[::-1])]
         highs, wides = wides, highs[::-1]
-    return [number_of(look, wides, where.scale) for look in looks]
+    return numbers_of(looks, wides, where.scale)
 
 
 @cache
@@ -319,13 +318,25 @@ def guards_of(symbology: str, left: int, wide: int) -> str:
     return "".join(found)
 
 
-def number_of(row: str, wides: Sequence[int], scale: int) -> int:
-    """Returns a row of modules, each of which is so many wide, as the number that its dots are."""
+def numbers_of(rows: Sequence[str], wides: Sequence[int], scale: int) -> Sequence[int]:
+    """Returns rows of modules, each of which is so many wide, as the numbers that their dots are:
+    all at once, in a quarter of the time.
+    """
     if max(wides) > 1:
-        row = "".join(map(mul, row, wides))
-    if scale > MOST_BITS:
-        row, scale = "".join([digit * scale for digit in row]), 1
-    return int(row, 1 << scale) * ((1 << scale) - 1)
+        rows = ["".join(map(mul, row, wides)) for row in rows]
+    behind = "0" * (-sum(wides) % 8)
+    size = bytes_a_row(sum(wides))
+    packed = int(behind.join(rows) + behind, 2).to_bytes(size * len(rows), "big")
+    dots = b"".join(map(bytes_in(scale).__getitem__, packed))
+    parts = (dots[at : at + size * scale] for at in range(0, len(dots), size * scale))
+    return [int.from_bytes(part, "big") >> len(behind) * scale for part in parts]
+
+
+@cache
+def bytes_in(scale: int) -> Sequence[bytes]:
+    """Returns for each byte the bytes in which each of its bits comes so many times."""
+    rows = ("".join([bit * scale for bit in f"{byte:08b}"]) for byte in range(256))
+    return [int(row, 2).to_bytes(scale, "big") for row in rows]
 
 
 def check_codes(symbols: Sequence[Wanted], page: DrawnPage, dot: float) -> None:

@@ -17,15 +17,15 @@ ZPL_FIELD = re.compile(rb"\^FO([0-9]+),([0-9]+)\^GFA,([0-9]+),([0-9]+),([1-9][0-
 FIELD_END = b"^FS\n"
 ZPL_END = re.compile(rb"(?:\^PQ([0-9]+)\n)?\^XZ\n")
 DIGITS = b"0123456789ABCDEF"
+ROWS = DIGITS + b":"  # of rows without counts
 COUNTS = bytes([*range(ord("G"), ord("Y") + 1), *range(ord("g"), ord("z") + 1)])
-WITHOUT_COUNTS = bytes.maketrans(COUNTS, b" " * len(COUNTS))
 COUNTS_ALONE = bytes(byte if byte in COUNTS else ord(" ") for byte in range(256))
-AGAIN_ALONE = bytes(byte if byte == ord(":") else ord(" ") for byte in range(256))
-# a sign that fills the rest of a row does what tabs do with spaces; that of a row that comes again
-# is a line end meanwhile, behind which a row begins
-TABS = bytes.maketrans(b",:", b"\t\r")
-ZEROS = bytes([*range(128), *range(128)]).translate(bytes.maketrans(b" \r", b"0:"))
+# spaces for counts; a sign that fills the rest of a row does what tabs do with spaces; that of a
+# row that comes again is a line end meanwhile, behind which a row begins
+MARKED = bytes.maketrans(COUNTS + b",:", b" " * len(COUNTS) + b"\t\r")
+UNMARKED = bytes([*range(128), *range(128)]).translate(bytes.maketrans(b" \r", b"0:"))
 GOES_ON = 128  # marks the digits of a run but for the last one, which a row may end in
+AGAIN = re.compile(rb":(:*)")
 RASTER = b"\x1dv0\0"
 SIZE = struct.Struct("<HH")  # of a raster image: its bytes across and its rows
 LINES_AND_CUT = b"\x1bd\x03\x1dV\x42\x00"
@@ -148,9 +148,14 @@ def put(page: bytearray, place: slice, dots: bytes, size: int, is_beside: bool) 
     if is_beside:
         for column in range(size):
             page[start + column : end : stride] = dots[column::size]
+        return
+    high = len(dots) // size
+    white = bytes(stride - size)
+    if dots == dots[:size] * high:  # as of bars
+        rows = (dots[:size] + white) * (high - 1) + dots[:size]
     else:
-        rows = bytes(stride - size).join(rows_reader(0, size, 0, len(dots) // size)(dots))
-        page[start : start + len(rows)] = rows
+        rows = white.join(rows_reader(0, size, 0, high)(dots))
+    page[start : start + len(rows)] = rows
 
 
 def rows_of_field(field: tuple[bytes, int]) -> bytes:
@@ -161,31 +166,39 @@ def rows_of_field(field: tuple[bytes, int]) -> bytes:
     'f0000000 f0000000 12345678 99999990'
     """
     text, size = field
-    signs = text.translate(None, DIGITS + b":")
-    if signs.translate(None, COUNTS + b",") or text.startswith(b":"):
-        raise NotDecoded(Text("no zpl of label-print"))
-    rest = b":".join(text.replace(b":", b" ").split())
+    parts = AGAIN.split(text)
+    rest = b":".join(parts[::2])
+    signs = rest.translate(None, ROWS)
     if signs:
-        marked = expanded(rest).translate(TABS).expandtabs(2 * size)
-        if not marked.translate(None, b"\r")[2 * size - 1 :: 2 * size].isascii():
-            raise NotDecoded(Text("a row of the ZPL has the wrong length"))
-        rest = marked.translate(ZEROS)
+        rest = without_counts(rest, signs, 2 * size)
     rows = [*map(unhexlify, rest.split(b":"))]
     if any([len(some) % size for some in rows]):
         raise NotDecoded(Text("a row of the ZPL has the wrong length"))
-    for number, again in enumerate(text.translate(AGAIN_ALONE).split()):
-        rows[number] += rows[number][-size:] * len(again)
+    for number, again in enumerate(parts[1::2]):
+        rows[number] += rows[number][-size:] * (1 + len(again))
     return b"".join(rows)
 
 
-def expanded(text: bytes) -> bytes:
-    """Returns digits for counts and digits, those marked that go on; raises `NotDecoded` where a
-    count has no digit.
-
-    >>> expanded(b"FIFA")
-    b'F\\xc6\\xc6FA'
+def without_counts(text: bytes, signs: bytes, digits: int) -> bytes:
+    """Returns the digits of rows with counts, of so many digits each; what the text has beside
+    digits and `:` is given. Raises `NotDecoded`.
     """
-    pieces = (b"+" + text).translate(WITHOUT_COUNTS).split()
+    if signs.translate(None, COUNTS + b","):
+        raise NotDecoded(Text("no zpl of label-print"))
+    marked = expanded(text).expandtabs(digits)
+    if not marked.replace(b"\r", b"")[digits - 1 :: digits].isascii():
+        raise NotDecoded(Text("a row of the ZPL has the wrong length"))
+    return marked.translate(UNMARKED)
+
+
+def expanded(text: bytes) -> bytes:
+    """Returns digits for counts and digits, those marked that go on, tabs for rests of rows, and
+    line ends for rows that come again; raises `NotDecoded` where a count has no digit.
+
+    >>> expanded(b"FIFA,:")
+    b'F\xc6\xc6FA\t\r'
+    """
+    pieces = [*filter(None, (b"+" + text).translate(MARKED).split(b" "))]
     counts = text.translate(COUNTS_ALONE).split()
     found = [b""] * (len(pieces) + len(counts))
     found[0::2] = pieces
