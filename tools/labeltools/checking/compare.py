@@ -8,8 +8,8 @@ user's own may have several.
 """
 
 from functools import cache, lru_cache
-from itertools import islice, tee
-from operator import mul
+from itertools import groupby, islice, tee
+from operator import itemgetter, mul
 from typing import Any, Iterator, NamedTuple, Optional, Sequence
 
 from labeltools.paper.area import Plan
@@ -243,16 +243,26 @@ def check_dots(wanted: Wanted, page: Picture, dot: float) -> None:
     if box.left < 0 or box.right > page.width or not 0 <= box.top <= box.bottom <= page.height:
         raise Different(Text("its code extends beyond the page"), wanted.record)
     first, last = box.left // 8, bytes_a_row(box.right)
-    behind = 8 * last - box.right
-    start, stride = box.top * page.stride, page.stride
-    for dark, looked, high in rows_of(wanted):
-        band = page.packed[start : start + high * stride]
-        is_one = band == band[:stride] * high  # as of bars with nothing beside them
-        read = rows_reader(first, last - first, stride - last, 1 if is_one else high)
-        for row in {*read(band)}:
-            if ((int.from_bytes(row, "big") >> behind) ^ dark) & looked:
+    size, behind = last - first, 8 * last - box.right
+    start = box.top * page.stride
+    for looked, rows in groupby(rows_of(wanted), itemgetter(1)):
+        dark = b"".join([(row << behind).to_bytes(size, "big") * high for row, _, high in rows])
+        high = len(dark) // size
+        found = dots_in(page, start, first, size, high)
+        if found != dark:
+            both = int.from_bytes(found, "big") ^ int.from_bytes(dark, "big")
+            if both & int.from_bytes((looked << behind).to_bytes(size, "big") * high, "big"):
                 raise wrong(wanted, dot)
-        start += len(band)
+        start += high * page.stride
+
+
+def dots_in(page: Picture, start: int, first: int, size: int, high: int) -> bytes:
+    """Returns some bytes of each of some rows of a page, which begin at a byte of it."""
+    band = page.packed[start : start + high * page.stride]
+    row = band[: page.stride]
+    if band == row * high:  # as of bars with nothing beside them
+        return row[first : first + size] * high
+    return b"".join(rows_reader(first, size, page.stride - first - size, high)(band))
 
 
 def rows_of(wanted: Wanted) -> Iterator[tuple[int, int, int]]:
@@ -276,9 +286,9 @@ def rows_of(wanted: Wanted) -> Iterator[tuple[int, int, int]]:
     for _ in range(where.quarters):
         rows = ["".join(column) for column in zip(*rows[::-1])]
         highs, wides = wides, highs[::-1]
-    dots = {row: number_of(row, wides, where.scale) for row in {*rows}}
-    for row, look, high in zip(rows, looks_of(where, symbology, left), highs):
-        yield dots[row], look, high * where.scale
+    looks = looks_of(where, symbology, left)
+    for row, look, high in zip(numbers_of(rows, wides, where.scale), looks, highs):
+        yield row, look, high * where.scale
 
 
 @lru_cache(KNOWN)
@@ -296,7 +306,7 @@ def looks_of(where: Where, symbology: str, left: int) -> Sequence[int]:
     for _ in range(where.quarters):
         looks = ["".join(column) for column in zip(*looks[::-1])]
         highs, wides = wides, highs[::-1]
-    return [number_of(look, wides, where.scale) for look in looks]
+    return numbers_of(looks, wides, where.scale)
 
 
 @cache
@@ -308,11 +318,25 @@ def guards_of(symbology: str, left: int, wide: int) -> str:
     return "".join(found)
 
 
-def number_of(row: str, wides: Sequence[int], scale: int) -> int:
-    """Returns a row of modules, each of which is so many wide, as the number that its dots are."""
+def numbers_of(rows: Sequence[str], wides: Sequence[int], scale: int) -> Sequence[int]:
+    """Returns rows of modules, each of which is so many wide, as the numbers that their dots are:
+    all at once, in a quarter of the time.
+    """
     if max(wides) > 1:
-        row = "".join(map(mul, row, wides))
-    return int(row.replace("0", "0" * scale).replace("1", "1" * scale), 2)
+        rows = ["".join(map(mul, row, wides)) for row in rows]
+    behind = "0" * (-sum(wides) % 8)
+    size = bytes_a_row(sum(wides))
+    packed = int(behind.join(rows) + behind, 2).to_bytes(size * len(rows), "big")
+    dots = b"".join(map(bytes_in(scale).__getitem__, packed))
+    parts = (dots[at : at + size * scale] for at in range(0, len(dots), size * scale))
+    return [int.from_bytes(part, "big") >> len(behind) * scale for part in parts]
+
+
+@cache
+def bytes_in(scale: int) -> Sequence[bytes]:
+    """Returns for each byte the bytes in which each of its bits comes so many times."""
+    rows = ("".join([bit * scale for bit in f"{byte:08b}"]) for byte in range(256))
+    return [int(row, 2).to_bytes(scale, "big") for row in rows]
 
 
 def check_codes(symbols: Sequence[Wanted], page: DrawnPage, dot: float) -> None:

@@ -13,18 +13,17 @@ from labeltools.common.text import Text
 from labeltools.paper.picture import Picture, rows_reader
 
 ZPL_HEAD = re.compile(rb"\^XA\^PON\^LH0,0\^LS0\^PW([0-9]+)\^LL([0-9]+)\n")
-ZPL_FIELD = re.compile(
-    rb"\^FO([0-9]+),([0-9]+)\^GFA,([0-9]+),([0-9]+),([1-9][0-9]*),([0-9A-Yg-z,:]*)\^FS\n"
-)
+ZPL_FIELD = re.compile(rb"\^FO([0-9]+),([0-9]+)\^GFA,([0-9]+),([0-9]+),([1-9][0-9]*),")
+FIELD_END = b"^FS\n"
 ZPL_END = re.compile(rb"(?:\^PQ([0-9]+)\n)?\^XZ\n")
 DIGITS = b"0123456789ABCDEF"
+ROWS = DIGITS + b":"  # of rows without counts
 COUNTS = bytes([*range(ord("G"), ord("Y") + 1), *range(ord("g"), ord("z") + 1)])
-WITHOUT_COUNTS = bytes.maketrans(COUNTS, b" " * len(COUNTS))
 COUNTS_ALONE = bytes(byte if byte in COUNTS else ord(" ") for byte in range(256))
-# a sign that fills the rest of a row does what tabs do with spaces; that of a row that comes again
-# is a line end meanwhile, behind which a row begins
-TABS = bytes.maketrans(b",:", b"\t\r")
-ZEROS = bytes([*range(128), *range(128)]).translate(bytes.maketrans(b" \r", b"0:"))
+# spaces for counts; a sign that fills the rest of a row does what tabs do with spaces; that of a
+# row that comes again is a line end meanwhile, behind which a row begins
+MARKED = bytes.maketrans(COUNTS + b",:", b" " * len(COUNTS) + b"\t\r")
+UNMARKED = bytes([*range(128), *range(128)]).translate(bytes.maketrans(b" \r", b"0:"))
 GOES_ON = 128  # marks the digits of a run but for the last one, which a row may end in
 AGAIN = re.compile(rb":(:*)")
 RASTER = b"\x1dv0\0"
@@ -119,9 +118,9 @@ def dots_of_zpl(data: bytes, _: int) -> Printed:
     fields: list[tuple[int, int, int, int]] = []  # the left, top, right and bottom of each
     at = head.end()
     while field := ZPL_FIELD.match(data, at):
-        *numbers, text = field.groups()
-        left, top, length, again, size = map(int, numbers)
-        dots = FIELDS.get((text, size), rows_of_field)
+        left, top, length, again, size = map(int, field.groups())
+        end = data.index(FIELD_END, field.end())
+        dots = FIELDS.get((data[field.end() : end], size), rows_of_field)
         left, rest = divmod(left, 8)
         right, bottom = left + size, top + length // size
         if rest or right > stride or bottom > height:
@@ -133,11 +132,11 @@ def dots_of_zpl(data: bytes, _: int) -> Printed:
             raise NotDecoded(Text("ZPL with a field over another one"))
         put(page, slice(stride * top + left, stride * bottom, stride), dots, size, bool(beside))
         fields.append((left, top, right, bottom))
-        at = field.end()
-    end = ZPL_END.fullmatch(data, at)
-    if not end:
+        at = end + len(FIELD_END)
+    count = ZPL_END.fullmatch(data, at)
+    if not count:
         raise NotDecoded(Text("ZPL without an end"))
-    return Picture(width, height, bytes(page)), int(end[1] or 1)
+    return Picture(width, height, bytes(page)), int(count[1] or 1)
 
 
 def put(page: bytearray, place: slice, dots: bytes, size: int, is_beside: bool) -> None:
@@ -149,9 +148,14 @@ def put(page: bytearray, place: slice, dots: bytes, size: int, is_beside: bool) 
     if is_beside:
         for column in range(size):
             page[start + column : end : stride] = dots[column::size]
+        return
+    high = len(dots) // size
+    white = bytes(stride - size)
+    if dots == dots[:size] * high:  # as of bars
+        rows = (dots[:size] + white) * (high - 1) + dots[:size]
     else:
-        rows = bytes(stride - size).join(rows_reader(0, size, 0, len(dots) // size)(dots))
-        page[start : start + len(rows)] = rows
+        rows = white.join(rows_reader(0, size, 0, high)(dots))
+    page[start : start + len(rows)] = rows
 
 
 def rows_of_field(field: tuple[bytes, int]) -> bytes:
@@ -164,11 +168,9 @@ def rows_of_field(field: tuple[bytes, int]) -> bytes:
     text, size = field
     parts = AGAIN.split(text)
     rest = b":".join(parts[::2])
-    if rest.translate(None, DIGITS + b":"):
-        marked = expanded(rest).translate(TABS).expandtabs(2 * size)
-        if not marked.translate(None, b"\r")[2 * size - 1 :: 2 * size].isascii():
-            raise NotDecoded(Text("a row of the ZPL has the wrong length"))
-        rest = marked.translate(ZEROS)
+    signs = rest.translate(None, ROWS)
+    if signs:
+        rest = without_counts(rest, signs, 2 * size)
     rows = [*map(unhexlify, rest.split(b":"))]
     if any([len(some) % size for some in rows]):
         raise NotDecoded(Text("a row of the ZPL has the wrong length"))
@@ -177,14 +179,26 @@ def rows_of_field(field: tuple[bytes, int]) -> bytes:
     return b"".join(rows)
 
 
-def expanded(text: bytes) -> bytes:
-    """Returns digits for counts and digits, those marked that go on; raises `NotDecoded` where a
-    count has no digit.
-
-    >>> expanded(b"FIFA")
-    b'F\\xc6\\xc6FA'
+def without_counts(text: bytes, signs: bytes, digits: int) -> bytes:
+    """Returns the digits of rows with counts, of so many digits each; what the text has beside
+    digits and `:` is given. Raises `NotDecoded`.
     """
-    pieces = (b"+" + text).translate(WITHOUT_COUNTS).split()
+    if signs.translate(None, COUNTS + b","):
+        raise NotDecoded(Text("no zpl of label-print"))
+    marked = expanded(text).expandtabs(digits)
+    if not marked.replace(b"\r", b"")[digits - 1 :: digits].isascii():
+        raise NotDecoded(Text("a row of the ZPL has the wrong length"))
+    return marked.translate(UNMARKED)
+
+
+def expanded(text: bytes) -> bytes:
+    """Returns digits for counts and digits, those marked that go on, tabs for rests of rows, and
+    line ends for rows that come again; raises `NotDecoded` where a count has no digit.
+
+    >>> expanded(b"FIFA,:")
+    b'F\xc6\xc6FA\t\r'
+    """
+    pieces = [*filter(None, (b"+" + text).translate(MARKED).split(b" "))]
     counts = text.translate(COUNTS_ALONE).split()
     found = [b""] * (len(pieces) + len(counts))
     found[0::2] = pieces
