@@ -196,7 +196,7 @@ def expanded(text: bytes) -> bytes:
     line ends for rows that come again; raises `NotDecoded` where a count has no digit.
 
     >>> expanded(b"FIFA,:")
-    b'F\xc6\xc6FA\t\r'
+    b'F\\xc6\\xc6FA\\t\\r'
     """
     pieces = [*filter(None, (b"+" + text).translate(MARKED).split(b" "))]
     counts = text.translate(COUNTS_ALONE).split()
