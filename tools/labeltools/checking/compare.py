@@ -320,7 +320,7 @@ def guards_of(symbology: str, left: int, wide: int) -> str:
 
 def numbers_of(rows: Sequence[str], wides: Sequence[int], scale: int) -> Sequence[int]:
     """Returns rows of modules, each of which is so many wide, as the numbers that their dots are:
-    all at once, in a quarter of the time.
+    all at once, which is quicker.
     """
     if max(wides) > 1:
         rows = ["".join(map(mul, row, wides)) for row in rows]
