@@ -28,7 +28,7 @@ WIDE = 'x="2" y="2" width="56" height="10"'
 ONE: Label = ("code128 A", {"title": "Title"})
 PICTURE = '<image x="2" y="2" width="5" height="5" href="data:image/{};base64,{}"/>' + CODE
 NOT_EMBEDDED = "is of another file, or is not PNG or JPEG; embed it"
-NOT_DRAWN = "is not drawn; export it as a picture, or with texts as paths"
+TO_PATHS = "export it as a picture, or with texts as paths"
 PIXELS = "pictures have more than 25 million pixels; make its pictures smaller"
 HIDDEN = "the place title is hidden, or has no size; give it a width and a height, and show its"
 
@@ -84,8 +84,11 @@ REFUSED = (
     (f'<path d="M2 2H9" fill="url(other.svg#red)"/>{CODE}', f"path {NOT_EMBEDDED}"),
     (f'<style>@import "other.css";</style>{CODE}', f"style {NOT_EMBEDDED}"),
     (f"<style>text{{fill:url('other.svg')}}</style>{CODE}", f"style {NOT_EMBEDDED}"),
-    (f"<foreignObject/><switch/>{CODE}", f"foreignObject, switch {NOT_DRAWN}"),
-    (f"<flowRoot><flowPara>Door 2</flowPara></flowRoot>{CODE}", f"flowRoot, flowPara {NOT_DRAWN}"),
+    (
+        f"<switch><g/><g/></switch><foreignObject/>{CODE}",
+        f"switch, foreignObject cannot be drawn; {TO_PATHS}",
+    ),
+    (f"<flowRoot><flowPara>Door 2</flowPara></flowRoot>{CODE}", "flowRoot, flowPara cannot be dr"),
     ("<g>" * 100_000 + "</g>" * 100_000 + CODE, "is not SVG: "),
     (f"<!--{'x' * 8_000_000}-->{CODE}", "has more than 8 MB; make its pictures smaller"),
     (PICTURE.format("webp", "aGVsbG8="), f"image {NOT_EMBEDDED}"),
@@ -276,13 +279,16 @@ class Names(OwnPages):
             self.assertEqual(self.said(found), [])
 
     def test_what_is_drawn_and_no_place(self) -> None:
-        """A picture of Figma, a text that it has named by its words, what Illustrator clips by, the
-        page of Affinity: each is drawn as it is, and a flow without words is not there.
+        """A picture of Figma, a text that it has named by its words, what Illustrator clips by, and
+        its switch, the page of Affinity: each is drawn as it is, and a flow without words is not
+        there.
         """
         box = 'x="2" y="2" width="9" height="9"'
         pattern = '<pattern id="p" width="1" height="1"><path d="M0 0H9V9H0Z"/></pattern>'
         clip = f'<defs><rect id="SVGID_1_" {box}/></defs><clipPath id="c"><use href="#SVGID_1_"/>'
+        own = '<foreignObject requiredExtensions="http://ns.adobe.com/AdobeIllustrator/10.0/"/>'
         for body, said in (
+            (f'<switch>{own}<g><rect {box}/><rect id="note" {WIDE}/></g></switch>', 1),
             (f'{pattern}<rect id="logo 1" {box} fill="url(#p)"/>', 0),
             (f'{clip}</clipPath><path d="M0 0H60V19H0Z" clip-path="url(#c)"/>', 0),
             (f'<flowRoot><flowPara/></flowRoot><rect id="Artboard1" {box}/>', 0),

@@ -155,10 +155,13 @@ def check_elements(file: str, root: Element) -> None:
     """Raises `ToolError` for what would not be drawn: elements that are not known, other files,
     pictures of other kinds.
     """
-    filled = (one for one in root.iter() if not is_empty_flow(one))
+    for switch in [*root.iter(f"{SPACE}switch")]:
+        if sum(not is_left_out(child) for child in switch) == 1:
+            switch.tag = f"{SPACE}g"
+    filled = (one for one in root.iter() if not is_left_out(one))
     tags = dict.fromkeys(map(tag_of, filled))
     if unknown := [tag for tag in tags if not tag.startswith("{") and tag not in ELEMENTS]:
-        raise ToolError(Text("{}: {} is not drawn", file, ", ".join(unknown)), PLAIN)
+        raise ToolError(Text("{}: {} cannot be drawn", file, ", ".join(unknown)), PLAIN)
     pixels = 0
     for element in root.iter():
         links = [*filter(None, map(element.get, LINKS))]
@@ -187,9 +190,12 @@ def pixels_of(file: str, data: str) -> int:
         raise ToolError(Text("{}: a picture is broken", file), Text("embed it again")) from error
 
 
-def is_empty_flow(element: Element) -> bool:
-    """Returns whether an element is of text that flows, as Inkscape leaves it behind, and empty."""
-    return tag_of(element).startswith("flow") and not "".join(element.itertext()).strip()
+def is_left_out(element: Element) -> bool:
+    """Returns whether an element is one that nobody sees: empty text that flows, of Inkscape, or
+    what only Illustrator reads, beside what is drawn, in a switch.
+    """
+    is_empty_flow = tag_of(element).startswith("flow") and not "".join(element.itertext()).strip()
+    return is_empty_flow or bool(element.get("requiredExtensions"))
 
 
 def rsvg() -> Any:
