@@ -229,7 +229,7 @@ def in_rows(change: Callable[[list[str], int], object]) -> Callable[..., bytes]:
 
 def first_letters(whole: list[str]) -> int:
     """The number of the first row with dots: that of a title."""
-    return next(number for number, text in enumerate(whole) if text not in (",", ":"))
+    return next(number for number, text in enumerate(whole) if re.search("[1-9A-F]", text))
 
 
 def wrong_count(whole: list[str], size: int) -> None:
@@ -603,6 +603,19 @@ def rows_of(symbol: Any) -> tuple[list[str], list[str], int]:
     return rows * (4 + len(longer)), ["1" * wide] * 4 + longer, 4
 
 
+def whites_of(symbol: Any, scale: int, quarters: int, corner: tuple[int, int]) -> tuple[Box, ...]:
+    """Where a symbol is on a page, turned, in dots: all of it but for its longer guards, and each
+    of these.
+    """
+    rows, _, high = rows_of(symbol)
+    found = [Box(0, 0, len(rows[0]), high)]
+    for first, last in compare.GUARDS.get(symbol.symbology, ()):
+        found.append(Box(symbol.quiet_zones[0] + first, high, last - first, 5))
+    boxes = [compare.turned(box, (len(rows[0]), len(rows)), quarters) for box in found]
+    dots = [[scale * side for side in box] for box in boxes]
+    return tuple(Box(left + corner[0], top + corner[1], *size) for left, top, *size in dots)
+
+
 class Read(unittest.TestCase):
     """What is read back is what was written."""
 
@@ -619,17 +632,16 @@ class Read(unittest.TestCase):
                 self.assertEqual(decode.dots_of(form, data, 24), (picture, copies))
 
     def test_rows_by_the_manual(self) -> None:
-        """The examples of the ZPL II manual for counts: M6 is seven of 6, hB forty of B."""
-        row = decode.rows_of_field((b"M6hBgMF", 37))
-        self.assertEqual(row.hex().upper(), "6666666" + "B" * 40 + "F" * 27)
-        rows = decode.rows_of_field((b"F0,J5,:,12345678,M9,", 4))
-        wanted = "F0000000 55550000 55550000 00000000 12345678 00000000 99999990"
+        """Counts as the ZPL II manual has them, before 0: G is 1, M is 7, Y is 19."""
+        row = decode.rows_of_field((b"1G0Y0M0FF", 15))
+        self.assertEqual(row.hex().upper(), "1" + "0" * 27 + "FF")
+        rows = decode.rows_of_field((b"F0L0:12345678N012J0451234567G0", 4))
+        wanted = "F0000000 F0000000 12345678 00000000 12000045 12345670"
         self.assertEqual(rows.hex(" ", 4).upper(), wanted)
-        rows = decode.rows_of_field((b"N112345678N3", 4))  # runs that end with their rows
-        self.assertEqual(rows.hex(" ", 4), "11111111 12345678 33333333")
-        over = b"1234567H82345678:", b"gJ1"  # runs that go on in the next row
-        wrong = b"F0F", b"12345678F", b"GZ", b"12:", b"M:", b"12 3", b"12345678:\n:"
-        for text in (*wrong, *over):
+        over = b"1234567H02345678:", b"Y012345"  # runs that go on in the next row
+        wrong = b"F0F", b"12345678F", b"GZ", b"12:", b"M:", b"12 3", b"12345678:\n:", b":12345678"
+        others = b"N1::", b"gJ0", b"MG0::", b"123456,::", b"1234567f::", b"1234567N::"
+        for text in (*wrong, *over, *others):
             with self.subTest(text=text), self.assertRaises(decode.NotDecoded):
                 decode.dots_of("zpl", FIELD % text, 32)
 
@@ -650,7 +662,8 @@ class Read(unittest.TestCase):
                 dark, looked = (["".join(c) for c in zip(*rows[::-1])] for rows in (dark, looked))
             box = Box(left, 2, len(dark[0]), len(dark))
             record = mock.sentinel.record
-            where = compare.Where(box, (), quarters, scale, wide, high)
+            whites = whites_of(symbol, scale, quarters, (left, 2))
+            where = compare.Where(box, whites, quarters, scale, wide, high)
             wanted = compare.Wanted(record, symbol, where)
             size = (box.right + 7) // 8
             behind = 8 * size - box.right
@@ -689,7 +702,7 @@ class Read(unittest.TestCase):
     def test_fields_that_are_not_whole(self) -> None:
         """Each field ends, is on the label, and over no other one."""
         label = b"^XA^PON^LH0,0^LS0^PW32^LL3\n%b^XZ\n"
-        first = b"^FO0,0^GFA,4,4,2,12,:^FS\n"
+        first = b"^FO0,0^GFA,4,4,2,1200:^FS\n"
         for field in (
             b"^FO0,0^GFA,12,12,4,12345678::",
             b"^FO0,0^GFA,12,12,4,12345678::^FS",
@@ -702,8 +715,8 @@ class Read(unittest.TestCase):
             b"^FO0,0^GFA,8,8,4,12345678::^FS\n",
             b"^FO0,0^GFA,16,16,4,12345678:::^FS\n",
             b"^FO0,0^GFA,0,0,0,^FS\n",
-            first + b"^FO0,1^GFA,2,2,2,34,^FS\n",
-            first + b"^FO0,0^GFA,6,6,2,,::^FS\n",
+            first + b"^FO0,1^GFA,2,2,2,3400^FS\n",
+            first + b"^FO0,0^GFA,6,6,2,0000::^FS\n",
         ):
             with self.subTest(field=field), self.assertRaises(decode.NotDecoded):
                 decode.dots_of("zpl", label % field, 32)

@@ -150,22 +150,21 @@ class Zpl(unittest.TestCase):
         self.assertLess(len(job), 30_000)
 
     def test_run_lengths_as_the_manual_has_them(self) -> None:
-        """The worked example of the ZPL II manual: M is 7, hM is 47 (40 and 7), and so on."""
-        from labeltools.drawing.zpl import count_of, run_lengths
+        """Counts of the ZPL II manual: L is 6, M is 7, and Y is 19, of the digit that follows."""
+        from labeltools.drawing.zpl import run_lengths
 
-        for count, text in (
-            (1, "G"),
-            (7, "M"),
-            (19, "Y"),
-            (20, "g"),
-            (40, "h"),
-            (47, "hM"),
-            (400, "z"),
-        ):
-            self.assertEqual(count_of(count), text)
-        dots = bytes.fromhex("FFFFFF000000 FFFFFF000000 000000000000 0AFFFFFFFFFF")
-        self.assertEqual(run_lengths(dots, 6), b"LF,:,0APF")
-        self.assertEqual(jobs.data_of_run_lengths(run_lengths(dots, 6), 6), dots)
+        rows = (
+            ("FF", 24),
+            ("FF", 24),
+            ("", 26),
+            ("", 26),
+            ("0AB0000000CD", 14),
+            ("0AB00000CDEF", 14),
+        )
+        dots = bytes.fromhex("".join(digits + zeros * "0" for digits, zeros in rows))
+        text = run_lengths(dots, 13)
+        self.assertEqual(text, b"FFY000000:Y0M0:0ABM0CDT00AB00000CDEFT0")
+        self.assertEqual(jobs.data_of_run_lengths(text, 13), dots)
 
     def test_no_field_is_longer_than_a_printer_takes(self) -> None:
         """The manual has 1 to 99999 bytes for ^GF; the QR symbol of this label, which no white row or

@@ -8,7 +8,7 @@ user's own may have several.
 """
 
 from functools import cache, lru_cache
-from itertools import groupby, islice, tee
+from itertools import islice, tee
 from operator import itemgetter, mul
 from typing import Any, Iterator, NamedTuple, Optional, Sequence
 
@@ -79,6 +79,28 @@ class Wanted(NamedTuple):
     record: LineRecord
     symbol: Any
     where: Where
+
+
+class Part(NamedTuple):
+    """A part of a symbol: rows of modules as digits, 1 where dark; of how many modules each column
+    is wide, and each row high; and the light modules left, right, above and below.
+    """
+
+    rows: tuple[str, ...]
+    wides: tuple[int, ...]
+    highs: tuple[int, ...]
+    zones: tuple[int, int, int, int] = (0, 0, 0, 0)
+
+    def turned(self, quarters: int) -> "Part":
+        """Returns it turned to the right."""
+        if not quarters:
+            return self
+        rows, wides, highs, (left, right, above, below) = self
+        for _ in range(quarters):
+            rows = tuple("".join(column) for column in zip(*rows[::-1]))
+            wides, highs = highs[::-1], wides
+            left, right, above, below = below, above, left, right
+        return Part(rows, wides, highs, (left, right, above, below))
 
 
 class Comparison:
@@ -242,94 +264,74 @@ def check_dots(wanted: Wanted, page: Picture, dot: float) -> None:
     box = wanted.where.picture
     if box.left < 0 or box.right > page.width or not 0 <= box.top <= box.bottom <= page.height:
         raise Different(Text("its code extends beyond the page"), wanted.record)
+    if not all(has_dots(page, box, dark) for box, dark in parts_in_dots(wanted)):
+        raise wrong(wanted, dot)
+
+
+def has_dots(page: Picture, box: Box, dark: bytes) -> bool:
+    """Returns whether the dots in a box of a page are as they have to be, in its rows of bytes."""
+    first, size, behind = bytes_of(box)
+    read = rows_reader(first, size, page.stride - first - size, box.height)
+    found = b"".join(read(page.packed, box.top * page.stride))
+    if found == dark:
+        return True
+    inside = (((1 << box.width) - 1) << behind).to_bytes(size, "big") * box.height
+    differ = int.from_bytes(found, "big") ^ int.from_bytes(dark, "big")
+    return not differ & int.from_bytes(inside, "big")
+
+
+def bytes_of(box: Box) -> tuple[int, int, int]:
+    """Returns at which byte of a row a box begins, how many bytes it is in, and how many bits of
+    the last one are behind it.
+    """
     first, last = box.left // 8, bytes_a_row(box.right)
-    size, behind = last - first, 8 * last - box.right
-    start = box.top * page.stride
-    for looked, rows in groupby(rows_of(wanted), itemgetter(1)):
-        dark = b"".join([(row << behind).to_bytes(size, "big") * high for row, _, high in rows])
-        high = len(dark) // size
-        found = dots_in(page, start, first, size, high)
-        if found != dark:
-            both = int.from_bytes(found, "big") ^ int.from_bytes(dark, "big")
-            if both & int.from_bytes((looked << behind).to_bytes(size, "big") * high, "big"):
-                raise wrong(wanted, dot)
-        start += high * page.stride
+    return first, last - first, 8 * last - box.right
 
 
-def dots_in(page: Picture, start: int, first: int, size: int, high: int) -> bytes:
-    """Returns some bytes of each of some rows of a page, which begin at a byte of it."""
-    band = page.packed[start : start + high * page.stride]
-    row = band[: page.stride]
-    if band == row * high:  # as of bars with nothing beside them
-        return row[first : first + size] * high
-    return b"".join(rows_reader(first, size, page.stride - first - size, high)(band))
-
-
-def rows_of(wanted: Wanted) -> Iterator[tuple[int, int, int]]:
-    """Yields the rows of dots of a symbol as it is on a page: which are dark, and which are looked
-    at, as numbers; and how many rows one below another are so. Between longer guards none are
-    looked at, since digits are there.
+def parts_in_dots(wanted: Wanted) -> Iterator[tuple[Box, bytes]]:
+    """Yields the boxes of a symbol on a page with their dots: all of it but for what is longer, and
+    then each longer guard. Between these are digits.
     """
     symbol, where = wanted.symbol, wanted.where
-    left, right, above, below = symbol.quiet_zones
     modules = symbol.modules.translate(DIGITS).decode()
-    parts = (modules[at : at + symbol.width] for at in range(0, len(modules), symbol.width))
-    rows = ["0" * left + part + "0" * right for part in parts]
-    highs: tuple[int, ...] = (where.high,)
-    symbology = symbol.symbology if symbol.symbology in GUARDS else ""
-    if symbology:
-        rows, highs = rows * 2, (where.high, LONGER)
-    elif symbol.rows > 1:
-        blank = ["0" * where.wide]
-        rows, highs = blank * above + rows + blank * below, (1,) * where.high
-    wides = (1,) * where.wide
-    for _ in range(where.quarters):
-        rows = ["".join(column) for column in zip(*rows[::-1])]
-        highs, wides = wides, highs[::-1]
-    looks = looks_of(where, symbology, left)
-    for row, look, high in zip(numbers_of(rows, wides, where.scale), looks, highs):
-        yield row, look, high * where.scale
+    width, count = symbol.width, symbol.rows
+    rows = tuple([modules[at : at + width] for at in range(0, len(modules), width)])
+    highs = (1,) * count
+    zones = symbol.quiet_zones
+    if count == 1:
+        highs = (where.high,)
+        zones = (*zones[:2], 0, 0)
+    whole, *longer = where.whites
+    part = Part(rows, (1,) * width, highs, zones)
+    yield whole, in_dots(part.turned(where.quarters), where.scale, whole)
+    for box, (first, end) in zip(longer, GUARDS.get(symbol.symbology, ())):
+        yield box, guard_in_dots(modules[first:end], where, box)
 
 
 @lru_cache(KNOWN)
-def looks_of(where: Where, symbology: str, left: int) -> Sequence[int]:
-    """Returns the dots that are looked at in each row of modules on a page: all of a symbol, or of
-    bars with longer guards those too.
+def guard_in_dots(digits: str, where: Where, box: Box) -> bytes:
+    """Returns a longer guard in the dots of a box; most labels have the same ones."""
+    part = Part((digits,), (1,) * len(digits), (LONGER,))
+    return in_dots(part.turned(where.quarters), where.scale, box)
+
+
+def in_dots(part: Part, scale: int, box: Box) -> bytes:
+    """Returns a part in the dots of a box, in its rows of bytes: all rows at once, which is
+    quicker.
     """
-    wide = where.wide
-    if not symbology:
-        dots = (1 << where.picture.width) - 1
-        return [dots] * max(wide, where.high)
-    looks = ["1" * wide, guards_of(symbology, left, wide)]
-    wides: tuple[int, ...] = (1,) * wide
-    highs: tuple[int, ...] = (where.high, LONGER)
-    for _ in range(where.quarters):
-        looks = ["".join(column) for column in zip(*looks[::-1])]
-        highs, wides = wides, highs[::-1]
-    return numbers_of(looks, wides, where.scale)
-
-
-@cache
-def guards_of(symbology: str, left: int, wide: int) -> str:
-    """Returns a row with the modules of longer guards, behind a quiet zone, as digits."""
-    found = ["0"] * wide
-    for first, end in GUARDS[symbology]:
-        found[left + first : left + end] = "1" * (end - first)
-    return "".join(found)
-
-
-def numbers_of(rows: Sequence[str], wides: Sequence[int], scale: int) -> Sequence[int]:
-    """Returns rows of modules, each of which is so many wide, as the numbers that their dots are:
-    all at once, which is quicker.
-    """
+    rows, wides, highs, (left, right, above, below) = part
+    _, size, behind = bytes_of(box)
     if max(wides) > 1:
-        rows = ["".join(map(mul, row, wides)) for row in rows]
-    behind = "0" * (-sum(wides) % 8)
-    size = bytes_a_row(sum(wides))
-    packed = int(behind.join(rows) + behind, 2).to_bytes(size * len(rows), "big")
-    dots = b"".join(map(bytes_in(scale).__getitem__, packed))
-    parts = (dots[at : at + size * scale] for at in range(0, len(dots), size * scale))
-    return [int.from_bytes(part, "big") >> len(behind) * scale for part in parts]
+        rows = tuple("".join(map(mul, row, wides)) for row in rows)
+    wide = left + sum(wides) + right
+    light = "0" * (left + right + 8 + -wide % 8)  # what is shifted out of a row is of these
+    number = int(light + light.join(rows), 2)
+    packed = number.to_bytes(bytes_a_row(8 + wide) * len(rows), "big")
+    dots = b"".join(itemgetter(*packed)(bytes_in(scale)))
+    shifted = int.from_bytes(dots, "big") << behind + right * scale
+    read = rows_reader(len(dots) // len(rows) - size, size, 0, len(rows))
+    dark = map(mul, read(shifted.to_bytes(len(dots), "big")), [high * scale for high in highs])
+    return bytes(above * scale * size) + b"".join(dark) + bytes(below * scale * size)
 
 
 @cache
@@ -366,6 +368,15 @@ def modules_of(wanted: Wanted) -> tuple[int, int, bytes]:
     guards = int(digits.ljust(8 * len(packed), "0"), 2) & int.from_bytes(packed, "big")
     rows += guards.to_bytes(len(packed), "big") * LONGER
     return where.wide, where.high + LONGER, rows
+
+
+@cache
+def guards_of(symbology: str, left: int, wide: int) -> str:
+    """Returns a row with the modules of longer guards, behind a quiet zone, as digits."""
+    found = ["0"] * wide
+    for first, end in GUARDS[symbology]:
+        found[left + first : left + end] = "1" * (end - first)
+    return "".join(found)
 
 
 def wrong(wanted: Wanted, dot: float) -> Different:

@@ -5,10 +5,9 @@ manuals. It shares no rule with what writes them.
 import re
 import struct
 import zlib
-from binascii import unhexlify
-from operator import itemgetter
+from binascii import Error, unhexlify
 
-from labeltools.common.kept import Found, Kept
+from labeltools.common.kept import Kept
 from labeltools.common.text import Text
 from labeltools.paper.picture import Picture, rows_reader
 
@@ -17,14 +16,13 @@ ZPL_FIELD = re.compile(rb"\^FO([0-9]+),([0-9]+)\^GFA,([0-9]+),([0-9]+),([1-9][0-
 FIELD_END = b"^FS\n"
 ZPL_END = re.compile(rb"(?:\^PQ([0-9]+)\n)?\^XZ\n")
 DIGITS = b"0123456789ABCDEF"
+LOWER = b"abcdef"  # of digits
 ROWS = DIGITS + b":"  # of rows without counts
-COUNTS = bytes([*range(ord("G"), ord("Y") + 1), *range(ord("g"), ord("z") + 1)])
-COUNTS_ALONE = bytes(byte if byte in COUNTS else ord(" ") for byte in range(256))
-# spaces for counts; a sign that fills the rest of a row does what tabs do with spaces; that of a
-# row that comes again is a line end meanwhile, behind which a row begins
-MARKED = bytes.maketrans(COUNTS + b",:", b" " * len(COUNTS) + b"\t\r")
-UNMARKED = bytes([*range(128), *range(128)]).translate(bytes.maketrans(b" \r", b"0:"))
-GOES_ON = 128  # marks the digits of a run but for the last one, which a row may end in
+COUNTS = bytes(range(ord("G"), ord("Y") + 1))  # of the 0 that follows: G is 1, Y is 19
+AT_COUNTS = bytes.maketrans(COUNTS, b" " * len(COUNTS))
+# the digits of a run but for the last one, which a row may end in, are marked meanwhile
+MARKED = bytes([ord("0") | 128])
+RUNS = {letter: MARKED * (letter - ord("G")) for letter in COUNTS}
 AGAIN = re.compile(rb":(:*)")
 RASTER = b"\x1dv0\0"
 SIZE = struct.Struct("<HH")  # of a raster image: its bytes across and its rows
@@ -110,7 +108,7 @@ def dots_of_escpos(data: bytes, width: int) -> Printed:
 def dots_of_zpl(data: bytes, _: int) -> Printed:
     """Reads the graphic fields of a label, which is white where none is."""
     head = ZPL_HEAD.match(data)
-    if not head:
+    if not head or any(map(data.__contains__, LOWER)):
         raise NotDecoded(Text("no zpl of label-print"))
     width, height = map(int, head.groups())
     stride = (width + 7) // 8
@@ -119,7 +117,7 @@ def dots_of_zpl(data: bytes, _: int) -> Printed:
     at = head.end()
     while field := ZPL_FIELD.match(data, at):
         left, top, length, again, size = map(int, field.groups())
-        end = data.index(FIELD_END, field.end())
+        end = data.index(FIELD_END[0], field.end())
         dots = FIELDS.get((data[field.end() : end], size), rows_of_field)
         left, rest = divmod(left, 8)
         right, bottom = left + size, top + length // size
@@ -128,15 +126,17 @@ def dots_of_zpl(data: bytes, _: int) -> Printed:
         if not length == again == len(dots):
             raise NotDecoded(Text("ZPL with a field that has too few rows"))
         beside = [one for one in fields if one[1] < bottom and top < one[3]]
-        if any([one[0] < right and left < one[2] for one in beside]):
+        if beside and any([one[0] < right and left < one[2] for one in beside]):
             raise NotDecoded(Text("ZPL with a field over another one"))
         put(page, slice(stride * top + left, stride * bottom, stride), dots, size, bool(beside))
         fields.append((left, top, right, bottom))
+        if not data.startswith(FIELD_END, end):
+            break
         at = end + len(FIELD_END)
     count = ZPL_END.fullmatch(data, at)
     if not count:
         raise NotDecoded(Text("ZPL without an end"))
-    return Picture(width, height, bytes(page)), int(count[1] or 1)
+    return Picture(width, height, page), int(count[1] or 1)  # a copy takes as long as to read it
 
 
 def put(page: bytearray, place: slice, dots: bytes, size: int, is_beside: bool) -> None:
@@ -162,59 +162,39 @@ def rows_of_field(field: tuple[bytes, int]) -> bytes:
     """Returns the rows of a graphic field, of some bytes each, one behind another; raises
     `NotDecoded`.
 
-    >>> rows_of_field((b"F0,:12345678M9,", 4)).hex(" ", 4)
-    'f0000000 f0000000 12345678 99999990'
+    >>> rows_of_field((b"FM0:12345678", 4)).hex(" ", 4)
+    'f0000000 f0000000 12345678'
     """
     text, size = field
     parts = AGAIN.split(text)
-    rest = b":".join(parts[::2])
-    signs = rest.translate(None, ROWS)
-    if signs:
-        rest = without_counts(rest, signs, 2 * size)
-    rows = [*map(unhexlify, rest.split(b":"))]
-    if any([len(some) % size for some in rows]):
+    digits = parts[::2]
+    try:
+        rows = [*map(unhexlify, digits)]
+    except Error:
+        rows = [*map(unhexlify, without_counts(b":".join(digits), 2 * size))]
+    if not rows[0] or any([len(some) % size for some in rows]):
         raise NotDecoded(Text("a row of the ZPL has the wrong length"))
     for number, again in enumerate(parts[1::2]):
         rows[number] += rows[number][-size:] * (1 + len(again))
     return b"".join(rows)
 
 
-def without_counts(text: bytes, signs: bytes, digits: int) -> bytes:
-    """Returns the digits of rows with counts, of so many digits each; what the text has beside
-    digits and `:` is given. Raises `NotDecoded`.
+def without_counts(text: bytes, digits: int) -> list[bytes]:
+    """Returns the digits of rows with counts, of so many digits each, from one `:` to the next.
+    Raises `NotDecoded`.
     """
-    if signs.translate(None, COUNTS + b","):
+    counts = text.translate(None, ROWS)
+    parted = text.translate(AT_COUNTS)
+    if counts.translate(None, COUNTS) or parted.count(b" 0") != len(counts):
         raise NotDecoded(Text("no zpl of label-print"))
-    marked = expanded(text).expandtabs(digits)
-    if not marked.replace(b"\r", b"")[digits - 1 :: digits].isascii():
-        raise NotDecoded(Text("a row of the ZPL has the wrong length"))
-    return marked.translate(UNMARKED)
-
-
-def expanded(text: bytes) -> bytes:
-    """Returns digits for counts and digits, those marked that go on, tabs for rests of rows, and
-    line ends for rows that come again; raises `NotDecoded` where a count has no digit.
-
-    >>> expanded(b"FIFA,:")
-    b'F\\xc6\\xc6FA\\t\\r'
-    """
-    pieces = [*filter(None, (b"+" + text).translate(MARKED).split(b" "))]
-    counts = text.translate(COUNTS_ALONE).split()
+    pieces = parted.split(b" ")
     found = [b""] * (len(pieces) + len(counts))
     found[0::2] = pieces
-    found[1::2] = map(RUNS.__getitem__, zip(counts, map(itemgetter(0), pieces[1:])))
-    return b"".join(found)[1:]
-
-
-def digits_of(run: tuple[bytes, int]) -> bytes:
-    """Returns the digits that counts say, marked, but for the one that follows each of them: G to Y
-    are 1 to 19, g to z are 20 to 400. Raises `NotDecoded`.
-    """
-    count, digit = run
-    if digit not in DIGITS:
-        raise NotDecoded(Text("no zpl of label-print"))
-    times = sum(one - 70 if one <= 89 else 20 * (one - 102) for one in count)
-    return bytes([digit | GOES_ON]) * (times - 1)
+    found[1::2] = map(RUNS.__getitem__, counts)
+    parts = b"".join(found).split(b":")
+    if not b"".join([part[digits - 1 :: digits] for part in parts]).isascii():
+        raise NotDecoded(Text("a row of the ZPL has the wrong length"))
+    return [part.replace(MARKED, b"0") for part in parts]
 
 
 def whole(data: bytes, length: int) -> bytes:
@@ -224,7 +204,6 @@ def whole(data: bytes, length: int) -> bytes:
     return data
 
 
-RUNS: Found[tuple[bytes, int], bytes] = Found(digits_of)
 FIELDS: Kept[tuple[bytes, int], bytes] = Kept(1024)
 DECODERS = {
     "pbm": dots_of_pbm,

@@ -1,7 +1,7 @@
 """ZPL II of label printers."""
 
 import re
-from functools import cache, reduce
+from functools import reduce
 from itertools import repeat
 from operator import ne, or_
 from typing import Iterator, NamedTuple
@@ -15,15 +15,13 @@ INKED_ROWS = re.compile(rb"[^\0]+(?:\0{1,7}[^\0]+)*")
 INKED = re.compile(rb"[^\0]+(?:\0{1,2}[^\0]+)*")
 INKED_OF_MANY = re.compile(rb"[^\0]+")
 MANY = 50  # rows that differ, from which on a byte of white in each takes more: large letters
-# run lengths: counts of one are a letter from G on, counts of twenty a letter from g on
-MOST_COUNT = 400
-TWENTY = 20
+# run lengths: a count of 6 to 19, which is a letter, stands before a 0; fewer save next to nothing
+OFTEN = re.compile("(000000{1,14})")
 BEFORE_ONE = ord("F")
-BEFORE_TWENTY = ord("f")
-# a count of fewer saves next to nothing; one pattern for both takes twice the time
-OFTEN = (re.compile("(000000*)"), re.compile("(FFFFFF*)"))
-RUNS = ("000000", "FFFFFF")
-RARELY = 20  # digits to one of these: where there are more, counts save less than a third
+MOST_COUNT = 19
+COUNTS = [chr(BEFORE_ONE + count) + "0" for count in range(MOST_COUNT + 1)]
+RUN = "000000"
+RARELY = 30  # digits to one of these: where there are more, counts save too little
 BLOCKS: Kept[tuple[bytes, int], bytes] = Kept(1024)
 
 
@@ -104,10 +102,10 @@ def bands_of(picture: Picture, block: Block) -> Iterator[Block]:
 
 def run_lengths(dots: bytes, size: int) -> bytes:
     """Returns rows of some bytes in hexadecimal: `:` for the row above once more, and where it
-    saves much, a count before 0 and F that come often, and `,` for a rest of 0.
+    saves much, counts before 0 that come often.
 
     >>> run_lengths(bytes.fromhex("FF00AB FF00AB 00000000000C"), 3)
-    b'FF00AB:,K0C'
+    b'FF00AB:L000000C'
     """
     return BLOCKS.get((dots, size), new_run_lengths)
 
@@ -118,33 +116,8 @@ def new_run_lengths(block: tuple[bytes, int]) -> bytes:
     rows = dots.hex("\n", size).upper().split("\n")
     texts = [":" if row == above else row for above, row in zip(["", *rows], rows)]
     whole = "".join(texts)
-    if sum(map(whole.count, RUNS)) * RARELY < len(whole):
-        return whole.encode()
-    # no run goes on from a row to the next, and a sign is the rest of a row where that is 0
-    whole = "\n".join([row.rstrip("0") + "," if row[-1] == "0" else row for row in texts])
-    for often in OFTEN:
-        pieces = often.split(whole)
-        pieces[1::2] = map(run_length_of, pieces[1::2])
-        whole = "".join(pieces)
-    return whole.replace("\n", "").encode()
-
-
-@cache
-def run_length_of(run: str) -> str:
-    """Returns digits that are all the same as a count and one digit."""
-    return count_of(len(run)) + run[0]
-
-
-def count_of(number: int) -> str:
-    """Returns a count: `z` is 400, `g` to `y` are 20 to 380, `G` to `Y` are 1 to 19.
-
-    >>> count_of(3), count_of(27), count_of(400), count_of(827)
-    ('I', 'gM', 'z', 'zzgM')
-    """
-    text = "z" * (number // MOST_COUNT)
-    twenties, ones = divmod(number % MOST_COUNT, TWENTY)
-    if twenties:
-        text += chr(BEFORE_TWENTY + twenties)
-    if ones:
-        text += chr(BEFORE_ONE + ones)
-    return text
+    if whole.count(RUN) * RARELY >= len(whole):
+        pieces = OFTEN.split("\n".join(texts))  # no run goes on from a row to the next
+        pieces[1::2] = map(COUNTS.__getitem__, map(len, pieces[1::2]))
+        whole = "".join(pieces).replace("\n", "")
+    return whole.encode()
