@@ -695,7 +695,9 @@ class WindowTest(Keeper):
         self.assertEqual(self.window.dpi.get_active_id(), "203")
 
     def test_what_becomes_of_a_job_is_shown(self) -> None:
-        """By CUPS: a queue that is paused, one without paper, and a job that is cancelled."""
+        """By CUPS: a queue that is paused, and jobs that are cancelled; two at once are named both,
+        and a job that is over is not named with the next one.
+        """
         scheduler.add("paused", "both")
         subprocess.run(["cupsdisable", "paused"], check=True)
         self.open()
@@ -703,7 +705,14 @@ class WindowTest(Keeper):
             said = self.answered("paused")
             self.assertRegex(said, "^sent to paused, at 600 dpi: job [0-9]+")
             self.until(lambda: "paused: it is paused" in self.window.said.get_text())
+            self.answered("paused")
+            self.until(lambda: self.window.said.get_text().count("it is paused") == 2)
 
+            subprocess.run(["cancel", "-a", "paused"], check=True)
+            self.until(lambda: self.window.said.get_text().count("was cancelled") == 2)
+            self.answered("paused")
+            self.until(lambda: "it is paused" in self.window.said.get_text())
+            self.assertNotIn("cancelled", self.window.said.get_text())
             subprocess.run(["cancel", "-a", "paused"], check=True)
             self.until(lambda: "was cancelled" in self.window.said.get_text())
         state = JobState(NOTHING, "The printer is not responding.", True)

@@ -33,6 +33,8 @@ class Ways:
 
     def __init__(self, window: Any) -> None:
         self.window = window
+        self.reports: dict[Optional[SentJob], str] = {}  # of the last job, and of those before it
+        self.over: list[Optional[SentJob]] = []  # jobs that the next report leaves out
 
     def send(self, way: Callable[[Prepared, Talk], Sent], is_all: bool = True) -> None:
         """Sends labels by a way, all or those of chosen pages, and keeps what is chosen for the
@@ -52,9 +54,19 @@ class Ways:
             table.keep_printed(made)
         else:
             text = Text("{}; pages were chosen, so these labels do not count as printed", text)
-        self.window.tell(translated(text))
+        for one in self.over:
+            del self.reports[one]
+        self.over.clear()
+        self.report(job, translated(text), job is None)
         if job is not None:
             self.watch(job, translated(text), "")
+
+    def report(self, job: Optional[SentJob], text: str, is_over: bool) -> None:
+        """Shows what is reported of a job, with the others that were not over before it."""
+        self.reports[job] = text
+        self.window.tell("\n".join(self.reports.values()))
+        if is_over:
+            self.over.append(job)
 
     def watch(self, job: SentJob, sent: str, before: str) -> None:
         """Looks at a job, and shows what CUPS reports of it if that is other than before."""
@@ -67,8 +79,8 @@ class Ways:
             return
         state = future.result()
         text = translated(state.trouble) or state.said
-        if text != before:
-            self.window.tell("\n".join(filter(None, (sent, text))))
+        if text != before or state.is_over:
+            self.report(job, "\n".join(filter(None, (sent, text))), state.is_over)
         if not state.is_over:
             GLib.timeout_add(WATCH, self.watch, job, sent, text)
 
