@@ -136,7 +136,7 @@ def dots_of_zpl(data: bytes, _: int) -> Printed:
     count = ZPL_END.fullmatch(data, at)
     if not count:
         raise NotDecoded(Text("ZPL without an end"))
-    return Picture(width, height, page), int(count[1] or 1)  # a copy takes as long as to read it
+    return Picture(width, height, page), int(count[1] or 1)  # not copied: it does not change
 
 
 def put(page: bytearray, place: slice, dots: bytes, size: int, is_beside: bool) -> None:

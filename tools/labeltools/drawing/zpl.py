@@ -15,11 +15,9 @@ INKED_ROWS = re.compile(rb"[^\0]+(?:\0{1,7}[^\0]+)*")
 INKED = re.compile(rb"[^\0]+(?:\0{1,2}[^\0]+)*")
 INKED_OF_MANY = re.compile(rb"[^\0]+")
 MANY = 50  # rows that differ, from which on a byte of white in each takes more: large letters
-# run lengths: a count of 6 to 19, which is a letter, stands before a 0; fewer save next to nothing
+# run lengths: a count of 6 to 19, L to Y, stands before a 0; fewer save next to nothing
 OFTEN = re.compile("(000000{1,14})")
-BEFORE_ONE = ord("F")
-MOST_COUNT = 19
-COUNTS = [chr(BEFORE_ONE + count) + "0" for count in range(MOST_COUNT + 1)]
+COUNTS = [chr(ord("F") + count) + "0" for count in range(20)]
 RUN = "000000"
 RARELY = 30  # digits to one of these: where there are more, counts save too little
 BLOCKS: Kept[tuple[bytes, int], bytes] = Kept(1024)
