@@ -54,17 +54,16 @@ class Ways:
             table.keep_printed(made)
         else:
             text = Text("{}; pages were chosen, so these labels do not count as printed", text)
-        for one in self.over:
-            del self.reports[one]
-        self.over.clear()
+        while self.over:
+            self.reports.pop(self.over.pop(), None)
         self.report(job, translated(text), job is None)
         if job is not None:
             self.watch(job, translated(text), "")
 
     def report(self, job: Optional[SentJob], text: str, is_over: bool) -> None:
-        """Shows what is reported of a job, with the others that were not over before it."""
+        """Shows what is reported of a job, and of those before it that were not over then."""
         self.reports[job] = text
-        self.window.tell("\n".join(self.reports.values()))
+        self.window.tell("\n".join([*self.reports.values()][::-1]))
         if is_over:
             self.over.append(job)
 
