@@ -221,9 +221,12 @@ class Keeper(unittest.TestCase):
         setattr(self.window, name, mock.Mock(**{"run.return_value": confirmed, **calls}))
 
     def change(self, **choices: Any) -> None:
-        """Changes choices, and waits for the labels."""
+        """Changes choices, and waits for the labels; for other words the table is read again."""
         taken = [{name.replace("_", "-"): value} for name, value in choices.items()]
         self.remade(lambda: [*map(self.window.take, taken)])
+        words = choices.get("for_table", self.window.words)
+        self.until(lambda: self.window.words == words)
+        self.until(lambda: self.window.has_labels or self.problem())
 
     def remade(self, change: Callable[[], Any]) -> None:
         """Changes something, and waits for other labels than before."""
