@@ -60,9 +60,10 @@ class Document(NamedTuple):
 
 
 class Where(NamedTuple):
-    """Where a symbol has to be on a page: its picture, which has longer guards too; what of it is
-    on white in a drawing, its bars and these guards; the quarters by which it is turned; the dots
-    of a module; and how many modules, as it is read, it is wide, and has rows of bars.
+    """Where a symbol has to be on a page: its picture, which has longer guards too; the parts of
+    that which are on white in a drawing, its bars and each of these guards; the quarters by which
+    it is turned; the dots of a module; and how many modules, as it is read, it is wide, and has
+    rows of bars.
     """
 
     picture: Box

@@ -191,8 +191,8 @@ def pixels_of(file: str, data: str) -> int:
 
 
 def is_left_out(element: Element) -> bool:
-    """Returns whether an element is one that nobody sees: empty text that flows, of Inkscape, or
-    what only Illustrator reads, beside what is drawn, in a switch.
+    """Returns whether an element is never seen: empty text that flows, which Inkscape leaves
+    behind, or what only Illustrator reads.
     """
     is_empty_flow = tag_of(element).startswith("flow") and not "".join(element.itertext()).strip()
     return is_empty_flow or bool(element.get("requiredExtensions"))

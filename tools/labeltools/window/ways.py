@@ -34,7 +34,7 @@ class Ways:
     def __init__(self, window: Any) -> None:
         self.window = window
         self.reports: dict[Optional[SentJob], str] = {}  # of the last job, and of those before it
-        self.over: list[Optional[SentJob]] = []  # jobs that the next report leaves out
+        self.over: list[Optional[SentJob]] = []  # jobs whose reports go when the next one is sent
 
     def send(self, way: Callable[[Prepared, Talk], Sent], is_all: bool = True) -> None:
         """Sends labels by a way, all or those of chosen pages, and keeps what is chosen for the
@@ -56,16 +56,16 @@ class Ways:
             text = Text("{}; pages were chosen, so these labels do not count as printed", text)
         while self.over:
             self.reports.pop(self.over.pop(), None)
-        self.report(job, translated(text), job is None)
-        if job is not None:
+        self.report(job, translated(text))
+        if job is None:
+            self.over.append(job)
+        else:
             self.watch(job, translated(text), "")
 
-    def report(self, job: Optional[SentJob], text: str, is_over: bool) -> None:
-        """Shows what is reported of a job, and of those before it that were not over then."""
+    def report(self, job: Optional[SentJob], text: str) -> None:
+        """Keeps the report of a job, and shows all that are kept, that of the newest job first."""
         self.reports[job] = text
         self.window.tell("\n".join([*self.reports.values()][::-1]))
-        if is_over:
-            self.over.append(job)
 
     def watch(self, job: SentJob, sent: str, before: str) -> None:
         """Looks at a job, and shows what CUPS reports of it if that is other than before."""
@@ -78,9 +78,11 @@ class Ways:
             return
         state = future.result()
         text = translated(state.trouble) or state.said
-        if text != before or state.is_over:
-            self.report(job, "\n".join(filter(None, (sent, text))), state.is_over)
-        if not state.is_over:
+        if text != before:
+            self.report(job, "\n".join(filter(None, (sent, text))))
+        if state.is_over:
+            self.over.append(job)
+        else:
             GLib.timeout_add(WATCH, self.watch, job, sent, text)
 
     def is_meant(self) -> bool:
