@@ -16,4 +16,4 @@ pub use filter::Filter;
 pub use read_loop::run;
 pub use status::{RunFault, Status};
 pub use streams::run_streams;
-pub use symbol::draw;
+pub use symbol::{draw, matrix_of, row_of, zone_of};

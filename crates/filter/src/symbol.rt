@@ -1,22 +1,22 @@
 //! Drawing the symbol of a line.
-ghost use Rattle.std.specs.Prelude.{◌≡◌, ◌≢◌, ◌+◌, ◌≤◌, IfOk, [], length};
+ghost use Rattle.std.specs.Prelude.{◌≡◌, ◌≢◌, ◌+◌, ◌≤◌, IfOk, IfErr, Err, Ok, []};
 ghost use Rattle.device.specs.Writing.{WritesText};
 ghost use Rattle.labelcore.specs.LineItem.{drawn, outcome_of};
+ghost use Rattle.labelcore.specs.OptionValues.{LabelValues};
+ghost use Rattle.labelcore.specs.declared.symbology.Symbology.{Symbology as Symbologies};
 ghost use Rattle.labelcore.specs.declared.symbology.Symbology.TheVariants.{Qr};
-ghost use Rattle.linear.specs.declared.limits.TheConstants.{MAX_MODULES};
 ghost use Rattle.picture.specs.Picture.{bars, symbol_picture};
-ghost use Rattle.qrdata.specs.Fewest.{chosen_segments};
 ghost use Rattle.filter.specs.Filter.{DrawsOutcome};
 ghost use Rattle.filter.specs.Output.{image_of, text_of};
 ghost use Rattle.filter.specs.Readback.{IsRead};
-ghost use Rattle.filter.specs.Private.{beside, image_in};
-ghost use Rattle.filter.specs.Symbol.{linear_symbol, qr_modules, quiet_zone, symbol_of};
+ghost use Rattle.filter.specs.Private.{HasModules, IsMatrixOf, beside, image_in};
+ghost use Rattle.filter.specs.Symbol.{linear_symbol, quiet_zone, symbol_of};
 
 use device::{IoFault, Sink};
 use labelcore::{Fault, Format, LabelOptions, Options, RunOptions, Symbology};
 use linear::{Code128, Ean8, Ean13, Linear, QuietZones, Row, UpcA};
 use picture::{Bars, Framed, Grid, QuietZone, Scaled, write_ascii, write_pbm};
-use qrdata::{Codewords, Plan, choose, codewords};
+use qrdata::{Codewords, choose, codewords};
 use qrmatrix::{Matrix, QUIET_ZONE};
 
 /// Draws one symbol: writes the image of `bytes` in a symbology, under the options of a run and of a label, and flushes
@@ -27,7 +27,6 @@ use qrmatrix::{Matrix, QUIET_ZONE};
 /// # Errors
 ///
 /// [`IoFault`] where a write fails: the sink took a beginning of the image.
-#[tactic(auto, unfolding(crate::specs::Symbol::symbol_of))]
 pub fn draw<O: Sink>(
     run: &RunOptions,
     label: &LabelOptions,
@@ -43,63 +42,38 @@ pub fn draw<O: Sink>(
 {
     Options::prove_ranges(run, label);
     match symbology {
-        Symbology::Ean13 => draw_linear::<Ean13, O>(run, label, bytes, out),
-        Symbology::Ean8 => draw_linear::<Ean8, O>(run, label, bytes, out),
-        Symbology::UpcA => draw_linear::<UpcA, O>(run, label, bytes, out),
-        Symbology::Code128 => draw_linear::<Code128, O>(run, label, bytes, out),
-        Symbology::Qr => draw_qr(run, label, bytes, out),
+        Symbology::Qr => draw_square(run, label, bytes, out),
+        _ => draw_row(run, label, symbology, bytes, out),
     }
 }
 
 /// Draws a linear symbol.
-fn draw_linear<L: Linear, O: Sink>(
+fn draw_row<O: Sink>(
     run: &RunOptions,
     label: &LabelOptions,
+    symbology: Symbology,
     bytes: &[u8],
     out: &mut O,
 ) -> Result<Result<(), Fault>, IoFault>
     requires some { bytes.now ≢ [] }
-    requires narrow { L.QUIET_ZONES.left + L.QUIET_ZONES.right ≤ 20 }
-    ensures { (symbology : Symbology) → quiet_zone symbology ≡ beside L.QUIET_ZONES
-        → DrawsOutcome O.Sink out.old out.new run.now
-        (outcome_of (linear_symbol symbology L.row_of label.now (L.full_data bytes.now))) result }
+    requires linear { symbology ≢ Qr }
+    ensures { DrawsOutcome O.Sink out.old out.new run.now
+        (outcome_of (symbol_of label.now symbology bytes.now)) result }
 {
+    Options::prove_ranges(run, label);
     let mut row = Row::new();
-    match L::encode(bytes, &mut row) {
+    match row_of(symbology, bytes, &mut row) {
         Ok(()) => {
-            write_bars(run, label, row.as_slice(), L::QUIET_ZONES, out)?;
+            let bars = Bars::new(row.as_slice(), usize::from(label.height()));
+            write_picture(run, bars, zone_of(symbology), out)?;
             Ok(Ok(()))
         }
-        Err(refusal) => Ok(Err(Fault::from(refusal))),
+        Err(fault) => Ok(Err(fault)),
     }
 }
 
-/// Writes the image of a row as bars, with these quiet zones before and after it.
-fn write_bars<O: Sink>(
-    run: &RunOptions,
-    label: &LabelOptions,
-    row: &[bool],
-    zones: QuietZones,
-    out: &mut O,
-) -> Result<(), IoFault>
-    requires fits { length row.now ≤ MAX_MODULES }
-    requires narrow { zones.left + zones.right ≤ 20 }
-    ensures { WritesText O.Sink out.old out.new (image_in (beside zones) run.now
-        (bars row.now label.now.height)) result }
-{
-    let bars = Bars::new(row, usize::from(label.height()));
-    let zone = QuietZone {
-        left: zones.left,
-        right: zones.right,
-        top: 0,
-        bottom: 0,
-    };
-    write_picture(run, bars, zone, out)
-}
-
 /// Draws a QR symbol.
-#[tactic(auto, unfolding(crate::specs::Symbol::symbol_of))]
-fn draw_qr<O: Sink>(
+fn draw_square<O: Sink>(
     run: &RunOptions,
     label: &LabelOptions,
     bytes: &[u8],
@@ -108,47 +82,101 @@ fn draw_qr<O: Sink>(
     ensures { DrawsOutcome O.Sink out.old out.new run.now
         (outcome_of (symbol_of label.now Qr bytes.now)) result }
 {
-    match choose(label.min_version(), label.level(), bytes) {
-        Ok(plan) => {
-            write_plan(run, label, &plan, out)?;
+    match matrix_of(label, bytes) {
+        Ok(matrix) => {
+            write_picture(run, matrix, zone_of(Symbology::Qr), out)?;
             Ok(Ok(()))
         }
-        Err(refusal) => Ok(Err(Fault::from(refusal))),
+        Err(fault) => Ok(Err(fault)),
     }
 }
 
-/// Writes the image of a plan.
-fn write_plan<O: Sink>(
-    run: &RunOptions,
-    label: &LabelOptions,
-    plan: &Plan,
-    out: &mut O,
-) -> Result<(), IoFault>
-    requires chosen { plan.now.segments ≡ chosen_segments plan.now.version plan.now.bytes }
-    requires level { plan.now.level ≡ label.now.level }
-    ensures { WritesText O.Sink out.old out.new (image_in (quiet_zone Qr) run.now
-        (qr_modules label.now plan.now.bytes plan.now.version)) result }
+/// Draws the row of a linear symbol of `bytes`, which is not empty, into `row`.
+///
+/// # Errors
+///
+/// The fault where the data is refused.
+pub fn row_of(symbology: Symbology, bytes: &[u8], row: &mut Row) -> Result<(), Fault>
+    requires some { bytes.now ≢ [] }
+    requires linear { symbology ≢ Qr }
+    ensures drawn { (label : LabelValues) → IfOk result (λ _.
+        HasModules (symbol_of label symbology bytes.now) symbology (bars row.new.items label.height)) }
+    ensures refused { (label : LabelValues) → IfErr result (λ fault.
+        symbol_of label symbology bytes.now ≡ Err fault) }
 {
-    let zone = QuietZone {
-        left: QUIET_ZONE,
-        right: QUIET_ZONE,
-        top: QUIET_ZONE,
-        bottom: QUIET_ZONE,
-    };
-    write_picture(run, matrix_of(label, plan), zone, out)
+    match symbology {
+        Symbology::Ean13 => linear_row::<Ean13>(bytes, row),
+        Symbology::Ean8 => linear_row::<Ean8>(bytes, row),
+        Symbology::UpcA => linear_row::<UpcA>(bytes, row),
+        Symbology::Code128 => linear_row::<Code128>(bytes, row),
+        Symbology::Qr => Ok(()),
+    }
 }
 
-/// The symbol of a plan.
-#[tactic(auto, unfolding(crate::specs::Symbol::qr_modules))]
-fn matrix_of(label: &LabelOptions, plan: &Plan) -> Matrix
-    requires chosen { plan.now.segments ≡ chosen_segments plan.now.version plan.now.bytes }
-    requires level { plan.now.level ≡ label.now.level }
-    ensures modules { symbol_picture result ≡ qr_modules label.now plan.now.bytes plan.now.version }
-    ensures side { result.side ≤ 57 }
+/// Draws the row of a linear symbol.
+fn linear_row<L: Linear>(bytes: &[u8], row: &mut Row) -> Result<(), Fault>
+    requires { bytes.now ≢ [] }
+    ensures drawn { (symbology : Symbologies) (label : LabelValues) → IfOk result (λ _.
+        HasModules (linear_symbol symbology L.row_of label (L.full_data bytes.now)) symbology
+        (bars row.new.items label.height)) }
+    ensures refused { (symbology : Symbologies) (label : LabelValues) → IfErr result (λ fault.
+        linear_symbol symbology L.row_of label (L.full_data bytes.now) ≡ Err fault) }
 {
-    let mut all = Codewords::new();
-    codewords(plan, &mut all);
-    Matrix::draw(plan.version(), plan.level(), label.mask(), &all)
+    match L::encode(bytes, row) {
+        Ok(()) => Ok(()),
+        Err(refusal) => Err(Fault::from(refusal)),
+    }
+}
+
+/// Returns the QR symbol of `bytes`.
+///
+/// # Errors
+///
+/// The fault where the data is refused.
+#[tactic(auto, unfolding(crate::specs::Symbol::symbol_of, crate::specs::Symbol::qr_modules))]
+pub fn matrix_of(label: &LabelOptions, bytes: &[u8]) -> Result<Matrix, Fault>
+    ensures symbol { IfOk result (λ matrix. symbol_of label.now Qr bytes.now
+        ≡ Ok (record { symbology = Qr; full = bytes.now; modules = symbol_picture matrix })) }
+    ensures refused { IfErr result (λ fault. symbol_of label.now Qr bytes.now ≡ Err fault) }
+    ensures side { IfOk result (λ matrix. matrix.side ≤ 57) }
+    ensures numbers { IfOk result (λ matrix. IsMatrixOf label.now bytes.now matrix) }
+{
+    let plan = choose(label.min_version(), label.level(), bytes)?;
+    let mut written = Codewords::new();
+    codewords(&plan, &mut written);
+    Ok(Matrix::draw(plan.version(), plan.level(), label.mask(), &written))
+}
+
+/// Returns the quiet zone of a symbology.
+pub fn zone_of(symbology: Symbology) -> QuietZone
+    ensures zone { result ≡ quiet_zone symbology }
+    ensures narrow { result.left + result.right ≤ 20 }
+    ensures low { symbology ≢ Qr → result.top + result.bottom ≡ 0 }
+{
+    match symbology {
+        Symbology::Ean13 => zone_beside(Ean13::QUIET_ZONES),
+        Symbology::Ean8 => zone_beside(Ean8::QUIET_ZONES),
+        Symbology::UpcA => zone_beside(UpcA::QUIET_ZONES),
+        Symbology::Code128 => zone_beside(Code128::QUIET_ZONES),
+        Symbology::Qr => QuietZone {
+            left: QUIET_ZONE,
+            right: QUIET_ZONE,
+            top: QUIET_ZONE,
+            bottom: QUIET_ZONE,
+        },
+    }
+}
+
+/// Returns quiet zones before and after a row.
+fn zone_beside(zones: QuietZones) -> QuietZone
+    ensures { result ≡ beside zones }
+{
+    QuietZone {
+        left: zones.left,
+        right: zones.right,
+        top: 0,
+        bottom: 0,
+    }
 }
 
 /// Writes the image of a grid in its quiet zone, enlarged by the scale of the run.
