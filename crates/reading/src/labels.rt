@@ -9,11 +9,11 @@ ghost use Rattle.reading.specs.Labels.{ModulesAreRead, read_dots, read_short};
 use crate::bars::read_bars;
 use crate::sampled::Sampled;
 use crate::squares::read_square;
+use filter::zone_of;
 use labelcore::{Options, Symbology};
-use linear::{Code128, Ean8, Ean13, Linear, UpcA};
-use picture::{Grid, QuietZone};
+use linear::{Code128, Ean8, Ean13, UpcA};
+use picture::Grid;
 use qr_reading::SymbolData;
-use qrmatrix::QUIET_ZONE;
 
 /// Reads modules, without quiet zones, as a symbol of a symbology: its full data. There is no correction: each module has
 /// to have its colour.
@@ -30,32 +30,13 @@ pub fn read_modules<G: Grid>(symbology: Symbology, modules: &G) -> Option<Symbol
     }
 }
 
-/// Returns the quiet zone of a symbology.
-fn quiet_zone(symbology: Symbology) -> QuietZone
-    ensures { result ≡ quiet_zone symbology }
-{
-    let (left, right, above) = match symbology {
-        Symbology::Ean13 => (Ean13::QUIET_ZONES.left, Ean13::QUIET_ZONES.right, 0),
-        Symbology::Ean8 => (Ean8::QUIET_ZONES.left, Ean8::QUIET_ZONES.right, 0),
-        Symbology::UpcA => (UpcA::QUIET_ZONES.left, UpcA::QUIET_ZONES.right, 0),
-        Symbology::Code128 => (Code128::QUIET_ZONES.left, Code128::QUIET_ZONES.right, 0),
-        Symbology::Qr => (QUIET_ZONE, QUIET_ZONE, QUIET_ZONE),
-    };
-    QuietZone {
-        left,
-        right,
-        top: above,
-        bottom: above,
-    }
-}
-
 /// Reads dots as a symbol of a symbology, in its quiet zone, each module `scale` dots wide: its full data. There is no
 /// correction: each dot has to have the colour of its module, and the quiet zone has to be light.
 pub fn read<G: Grid>(symbology: Symbology, dots: &G, scale: usize) -> Option<SymbolData>
     requires { 0 < scale }
     ensures { option_map (λ bytes. bytes.items) result ≡ read_dots symbology scale (raster (G.picture dots.now)) }
 {
-    let modules = Sampled::new(dots, scale, quiet_zone(symbology))?;
+    let modules = Sampled::new(dots, scale, zone_of(symbology))?;
     read_modules(symbology, &modules)
 }
 
