@@ -5,14 +5,16 @@ use Rattle.labelcore.specs.LineItem.{outcome_of}
 use Rattle.labelcore.specs.OptionValues.{RunValues}
 use Rattle.labelcore.specs.declared.fault.Fault.{Fault}
 use Rattle.filter.specs.Output.{picture_of}
-use Rattle.filter.specs.Symbol.{Symbol}
-use Rattle.picture.specs.Picture.{AreEqualRows, Picture}
+use Rattle.labelcore.specs.declared.symbology.Symbology.{Symbology}
+use Rattle.filter.specs.Private.{HasModules}
+use Rattle.filter.specs.Symbol.{Symbol, quiet_zone}
+use Rattle.picture.specs.Picture.{AreEqualRows, Picture, enlargement, with_quiet_zone}
 use Rattle.picture.specs.Reading.{raster}
 use Rattle.picture.specs.Text.{pixel_row}
 use Rattle.reading.specs.Found.{ReadingIsAlone}
 use Rattle.reading.specs.Labels.{read_dots}
 use Rattle.picture.proofs.GridLaws.{pixel_row-equal}
-use Rattle.capi.specs.Bits.{AnswersBits, AnswersBitsOutcome, IsReadInDots, ReadsBitsOutcome, bytes_of, put_bit_rows, row_size}
+use Rattle.capi.specs.Bits.{AnswersBits, AnswersBitsOutcome, IsReadInDots, PutsBits, ReadsBitsOutcome, bytes_of, put_bit_rows, row_size}
 use Rattle.capi.specs.Private.BitRows.{put_equal}
 use Rattle.capi.specs.Calls.{Rooms}
 use Rattle.capi.specs.Room.{put_text}
@@ -58,3 +60,11 @@ pub bits_outcome : (rooms : Rooms) (stride : ℕ) (dots : Dots) (run : RunValues
     → AnswersBits rooms stride dots run found → AnswersBitsOutcome rooms stride dots run (outcome_of found)
 bits_outcome rooms stride dots run (Ok symbol) h = h
 bits_outcome rooms stride dots run (Err fault) h = h
+
+-- the dots of modules are those of a symbol that has them
+pub bits_of_modules : (rooms : Rooms) (stride : ℕ) (dots : Dots) (run : RunValues) (found : Result Symbol Fault)
+    (symbology : Symbology) (p : Picture) → HasModules found symbology p
+    → PutsBits rooms stride dots (enlargement (with_quiet_zone p (quiet_zone symbology)) run.scale)
+    → AnswersBits rooms stride dots run found
+bits_of_modules rooms stride dots run (Ok symbol) symbology p has puts = rw (has.0, has.1) puts
+bits_of_modules rooms stride dots run (Err fault) symbology p has puts = absurd has

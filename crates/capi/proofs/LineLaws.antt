@@ -1,5 +1,5 @@
 -- The symbol of a line with the rows that are put, and that with all.
-use Rattle.std.proofs.Common.{◌≡◌, ◌<◌, ◌≤◌, ℕ, List, [], refl, sym, ap, arith, ◌∙◌}
+use Rattle.std.proofs.Common.{◌≡◌, ◌<◌, ◌≤◌, ℕ, List, [], refl, sym, ap, arith, subst, ◌∙◌}
 use Rattle.std.specs.Prelude.{Bool, true, false, Result, Ok, Err, MatchResult, IfOk, Some, if◌then◌else◌}
 use Rattle.labelcore.specs.LineItem.{Outcome, Request, drawn, item, outcome_of}
 use Rattle.labelcore.specs.declared.options.Options.{Options}
@@ -20,10 +20,12 @@ use Rattle.linear.specs.Code128.{full_code128, code128_row}
 use Rattle.filter.specs.Symbol.{Symbol, linear_symbol, qr_modules, symbol_of}
 use Rattle.filter.specs.ModuleReading.{IsReadInModules}
 use Rattle.filter.specs.Readback.{IsRead}
+use Rattle.filter.specs.Private.{HasModules}
+use Rattle.picture.specs.Picture.{Picture}
 use Rattle.capi.specs.Calls.{AnswersSymbol, Rooms}
 use Rattle.capi.specs.Full.{IsFullPut, PutsFull, PutsFullOutcome}
 use Rattle.capi.specs.Line.{AnswersOutcome, AnswersPicture, ReadsOutcome, ReadsPicture, rows_put, with_rows_put}
-use Rattle.capi.specs.Modules.{AnswersModules, IsDrawnAs, IsSizeOf, ModuleRooms, height_told, one_row}
+use Rattle.capi.specs.Modules.{AnswersModules, IsDrawnAs, IsSizeOf, ModuleRooms, PutsModules, height_told, one_row}
 use Rattle.capi.specs.Numbers.{code_of, symbology_numbered}
 use Rattle.capi.specs.declared.numbers.Answer.{Answer}
 use Rattle.capi.specs.declared.numbers.SymbolInfo.{SymbolInfo}
@@ -59,6 +61,18 @@ lowered label Ean8 bytes = linear_lowered Ean8 ean8_row label refl (λ w. refl) 
 lowered label UpcA bytes = linear_lowered UpcA upca_row label refl (λ w. refl) (full_digits 11 bytes)
 lowered label Code128 bytes = linear_lowered Code128 code128_row label refl (λ w. refl) (full_code128 bytes)
 lowered label Qr bytes = qr_lowered label bytes _
+
+-- the modules that are put are those of a symbol that has them
+pub answers_of_modules : (rooms : ModuleRooms) (answer : Answer) (info : SymbolInfo) (found : Result Symbol Fault)
+    (symbology : Symbology) (p : Picture) → HasModules found symbology p → PutsModules rooms answer p
+    → ((symbol : Symbol) → symbol.symbology ≡ symbology → symbol.modules.width ≡ p.width
+    → symbol.modules.height ≡ p.height → IsSizeOf symbol info)
+    → AnswersModules rooms answer info found code_of
+answers_of_modules rooms answer info (Ok symbol) symbology p has puts size = (
+  subst (PutsModules rooms answer) (sym has.1) puts,
+  size symbol has.0 (ap (λ (q : Picture). q.width) has.1) (ap (λ (q : Picture). q.height) has.1),
+)
+answers_of_modules rooms answer info (Err fault) symbology p has puts size = absurd has
 
 -- the code of what is drawn
 one_at_most : (b : Bool) (n : ℕ) → n ≡ (if b then 0 else 1) → 1 < n → ⊥

@@ -11,9 +11,7 @@ use Rattle.labelcore.specs.declared.symbology.Symbology.TheVariants.{Qr}
 use Rattle.picture.specs.Picture.{Picture}
 use Rattle.qrdata.specs.Codewords.{symbol_codewords}
 use Rattle.qrdata.specs.Fewest.{chosen_segments, chosen_version}
-use Rattle.qrdata.specs.Versions.{side_of}
 use Rattle.qrmatrix.specs.MaskChoice.{chosen_mask}
-use Rattle.qrmatrix.specs.Symbol.{Symbol as Matrix}
 use Rattle.capi.specs.Numbers.{are_unused, level_numbered, place_of, symbology_numbered}
 use Rattle.picture.specs.Text.{below, pixel_row}
 use Rattle.capi.specs.Calls.{Declines}
@@ -99,14 +97,6 @@ AnswersAsked rooms answer info (Ok a) bytes code =
 abbrev pub ReadsModules : Result Asked Reason → List ℕ → Type 0
 ReadsModules found bytes = IfOk found (λ a.
     IfOk (symbol_of (one_row a.options.label) a.symbology bytes) IsReadInModules)
-
--- a QR matrix of the bytes: its version, its side and its mask
-pub record IsMatrixOf (label : LabelValues) (bytes : List ℕ) (matrix : Matrix) : Type 0 where
-  pub version : ℕ
-  pub chosen : chosen_version label.min_version label.level bytes ≡ Some version
-  pub side : matrix.side ≡ side_of version
-  pub mask : matrix.mask ≡ chosen_mask version label.level label.mask
-      (symbol_codewords version label.level (chosen_segments version bytes) bytes)
 
 -- the version, the level and the mask that a QR symbol has
 pub record HasQrNumbers (label : LabelValues) (bytes : List ℕ) (info : SymbolInfo) : Type 0 where

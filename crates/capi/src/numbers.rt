@@ -299,3 +299,15 @@ pub fn number_of(symbology: Symbology) -> u32
         Symbology::Qr => 4,
     }
 }
+
+/// Returns the number of a level.
+pub fn number_of_level(level: Level) -> u32
+    ensures { level_numbered result ≡ Some level }
+{
+    match level {
+        Level::L => 0,
+        Level::M => 1,
+        Level::Q => 2,
+        Level::H => 3,
+    }
+}

@@ -1,17 +1,13 @@
 //! The modules of one symbol into a caller's room.
-ghost use Rattle.std.specs.Prelude.{◌≡◌, ◌≢◌, ◌+◌, ◌*◌, ◌<◌, ◌≤◌, ◌++◌, ℕ, List, [], length, take, drop};
-ghost use Rattle.std.specs.Prelude.{Ok, Err, IfOk, IfErr};
+ghost use Rattle.std.specs.Prelude.{◌≡◌, ◌≢◌, ◌*◌, ◌^◌, ◌<◌, ◌≤◌, ◌++◌, ℕ, List, [], IfOk, length, take, drop};
 ghost use Rattle.labelcore.specs.OptionValues.{LabelValues};
-ghost use Rattle.filter.specs.Private.{beside};
-ghost use Rattle.filter.specs.ModuleReading.{IsReadInModules};
-ghost use Rattle.filter.specs.Symbol.{linear_symbol as linear_symbol_of, quiet_zone, symbol_of};
 ghost use Rattle.labelcore.specs.declared.symbology.Symbology.TheVariants.{Qr};
-ghost use Rattle.labelcore.specs.declared.symbology.Symbology.{Symbology as Symbologies};
-ghost use Rattle.picture.specs.Picture.{symbol_picture};
+ghost use Rattle.filter.specs.ModuleReading.{IsReadInModules};
+ghost use Rattle.filter.specs.Symbol.{Symbol as Drawn, symbol_of};
 ghost use Rattle.picture.specs.Text.{pixel_row};
 ghost use Rattle.capi.specs.Calls.{asked};
 ghost use Rattle.capi.specs.Full.{PutsFull, PutsFullAsked};
-ghost use Rattle.capi.specs.Modules.{AnswersAsked, AnswersModules, HasNumbers, HasQrNumbers, IsDrawnAs, IsMatrixOf};
+ghost use Rattle.capi.specs.Modules.{AnswersAsked, AnswersModules, HasNumbers, HasQrNumbers, IsDrawnAs, IsSizeOf};
 ghost use Rattle.capi.specs.Modules.{NumbersAsked, PutsModules, ReadsModules, ToldAsked};
 ghost use Rattle.capi.specs.Modules.{height_told, modules_of, one_row};
 ghost use Rattle.capi.specs.Numbers.{code_of as number_of};
@@ -21,13 +17,12 @@ use crate::draw::{declined_at, refused};
 use crate::full::put_full;
 use crate::numbers::{
     Answer, CallOptions, DONE, NO_ROOM, SymbolInfo, Told, number_of as number_of_symbology,
-    told_nothing,
+    number_of_level, told_nothing,
 };
-use labelcore::{Fault, LabelOptions, Options, Symbology};
-use linear::{Code128, Ean8, Ean13, Linear, Row, UpcA};
+use filter::{matrix_of, row_of, zone_of};
+use labelcore::{LabelOptions, Options, Symbology};
+use linear::Row;
 use picture::{Bars, Grid, bits_of, read_pixels};
-use qrdata::{Codewords, Level, choose, codewords};
-use qrmatrix::{Matrix, QUIET_ZONE};
 
 /// The bits of a row.
 const BITS: usize = 64;
@@ -176,7 +171,6 @@ fn height_of(symbology: Symbology, width: u32, height: u16) -> u32
 }
 
 /// Puts the modules of one symbol. The height of the label is of no matter.
-#[tactic(auto, unfolding(filter::specs::Symbol::symbol_of))]
 fn symbol_asked(
     label: &LabelOptions,
     symbology: Symbology,
@@ -196,60 +190,66 @@ fn symbol_asked(
         HasNumbers label.now symbology bytes.now result.info) }
 {
     match symbology {
-        Symbology::Ean13 => linear_symbol::<Ean13>(bytes, modules, message),
-        Symbology::Ean8 => linear_symbol::<Ean8>(bytes, modules, message),
-        Symbology::UpcA => linear_symbol::<UpcA>(bytes, modules, message),
-        Symbology::Code128 => linear_symbol::<Code128>(bytes, modules, message),
-        Symbology::Qr => qr_symbol(label, bytes, modules, message),
+        Symbology::Qr => square_symbol(label, bytes, modules, message),
+        _ => row_symbol(symbology, bytes, modules, message),
+    }
+}
+
+/// Returns what is told of a symbol of this size, with the quiet zones of its symbology.
+fn info_of(symbology: Symbology, width: usize, rows: usize) -> SymbolInfo
+    requires { (width < 2 ^ 32) × (rows < 2 ^ 32) }
+    ensures size { (symbol : Drawn) → symbol.symbology ≡ symbology → symbol.modules.width ≡ width
+        → symbol.modules.height ≡ rows → IsSizeOf symbol result }
+    ensures zeros { (result.version ≡ 0) × ((result.level ≡ 0) × (result.mask ≡ 0)) }
+{
+    let zone = zone_of(symbology);
+    SymbolInfo {
+        symbology: 0,
+        width: width as u32,
+        rows: rows as u32,
+        height: rows as u32,
+        left: zone.left as u32,
+        right: zone.right as u32,
+        top: zone.top as u32,
+        bottom: zone.bottom as u32,
+        version: 0,
+        level: 0,
+        mask: 0,
+        reserved: [0; 5],
+        data_length: 0,
     }
 }
 
 /// Puts the row of a linear symbol.
-fn linear_symbol<L: Linear>(bytes: &[u8], modules: &mut [bool], message: &mut [u8]) -> Told
+fn row_symbol(symbology: Symbology, bytes: &[u8], modules: &mut [bool], message: &mut [u8]) -> Told
     requires some { bytes.now ≢ [] }
-    requires narrow { L.QUIET_ZONES.left + L.QUIET_ZONES.right ≤ 20 }
-    ensures zeros { IfOk (L.full_data bytes.now) (λ full.
+    requires linear { symbology ≢ Qr }
+    ensures answers { (label : LabelValues) → label.height ≡ 1 → AnswersModules (record {
+      modules = modules.old;
+      modules_after = modules.new;
+      message = message.old;
+      message_after = message.new;
+    }) result.answer result.info (symbol_of label symbology bytes.now) number_of }
+    ensures zeros { (label : LabelValues) → IfOk (symbol_of label symbology bytes.now) (λ symbol.
         (result.info.version ≡ 0) × ((result.info.level ≡ 0) × (result.info.mask ≡ 0))) }
-    ensures answers { (symbology : Symbologies) (label : LabelValues) → label.height ≡ 1
-        → quiet_zone symbology ≡ beside L.QUIET_ZONES
-        → AnswersModules (record {
-          modules = modules.old;
-          modules_after = modules.new;
-          message = message.old;
-          message_after = message.new;
-        }) result.answer result.info
-        (linear_symbol_of symbology L.row_of label (L.full_data bytes.now)) number_of }
 {
     let mut row = Row::new();
-    match L::encode(bytes, &mut row) {
-        Ok(()) => {
-            let info = SymbolInfo {
-                symbology: 0,
-                width: row.len() as u32,
-                rows: 1,
-                height: 1,
-                left: L::QUIET_ZONES.left as u32,
-                right: L::QUIET_ZONES.right as u32,
-                top: 0,
-                bottom: 0,
-                version: 0,
-                level: 0,
-                mask: 0,
-                reserved: [0; 5],
-                data_length: 0,
-            };
-            Told {
-                answer: offer_grid(&Bars::new(row.as_slice(), 1), modules),
-                info,
-            }
-        }
-        Err(refusal) => told_nothing(refused(&Fault::from(refusal), message)),
+    match row_of(symbology, bytes, &mut row) {
+        Ok(()) => Told {
+            answer: offer_grid(&Bars::new(row.as_slice(), 1), modules),
+            info: info_of(symbology, row.len(), 1),
+        },
+        Err(fault) => told_nothing(refused(&fault, message)),
     }
 }
 
 /// Puts the modules of a QR symbol.
-#[tactic(auto, unfolding(filter::specs::Symbol::symbol_of))]
-fn qr_symbol(label: &LabelOptions, bytes: &[u8], modules: &mut [bool], message: &mut [u8]) -> Told
+fn square_symbol(
+    label: &LabelOptions,
+    bytes: &[u8],
+    modules: &mut [bool],
+    message: &mut [u8],
+) -> Told
     ensures numbers { IfOk (symbol_of label.now Qr bytes.now) (λ symbol.
         HasQrNumbers label.now bytes.now result.info) }
     ensures answers { AnswersModules (record {
@@ -261,27 +261,11 @@ fn qr_symbol(label: &LabelOptions, bytes: &[u8], modules: &mut [bool], message: 
 {
     match matrix_of(label, bytes) {
         Ok(matrix) => {
-            let side = matrix.side() as u32;
-            let info = SymbolInfo {
-                symbology: 0,
-                width: side,
-                rows: side,
-                height: side,
-                left: QUIET_ZONE as u32,
-                right: QUIET_ZONE as u32,
-                top: QUIET_ZONE as u32,
-                bottom: QUIET_ZONE as u32,
-                version: side.saturating_sub(17) / 4,
-                level: match label.level() {
-                    Level::L => 0,
-                    Level::M => 1,
-                    Level::Q => 2,
-                    Level::H => 3,
-                },
-                mask: u32::from(matrix.mask().number()),
-                reserved: [0; 5],
-                data_length: 0,
-            };
+            let side = matrix.side();
+            let mut info = info_of(Symbology::Qr, side, side);
+            info.version = (side as u32).saturating_sub(17) / 4;
+            info.level = number_of_level(label.level());
+            info.mask = u32::from(matrix.mask().number());
             Told {
                 answer: offer_grid(&matrix, modules),
                 info,
@@ -289,19 +273,4 @@ fn qr_symbol(label: &LabelOptions, bytes: &[u8], modules: &mut [bool], message: 
         }
         Err(fault) => told_nothing(refused(&fault, message)),
     }
-}
-
-/// Returns the QR symbol of the bytes.
-#[tactic(auto, unfolding(filter::specs::Symbol::symbol_of, filter::specs::Symbol::qr_modules))]
-pub fn matrix_of(label: &LabelOptions, bytes: &[u8]) -> Result<Matrix, Fault>
-    ensures symbol { IfOk result (λ matrix. symbol_of label.now Qr bytes.now
-        ≡ Ok (record { symbology = Qr; full = bytes.now; modules = symbol_picture matrix })) }
-    ensures refusal { IfErr result (λ fault. symbol_of label.now Qr bytes.now ≡ Err fault) }
-    ensures side { IfOk result (λ matrix. matrix.side ≤ 57) }
-    ensures numbers { IfOk result (λ matrix. IsMatrixOf label.now bytes.now matrix) }
-{
-    let plan = choose(label.min_version(), label.level(), bytes)?;
-    let mut written = Codewords::new();
-    codewords(&plan, &mut written);
-    Ok(Matrix::draw(plan.version(), plan.level(), label.mask(), &written))
 }
