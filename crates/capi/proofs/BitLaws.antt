@@ -14,7 +14,8 @@ use Rattle.picture.specs.Text.{pixel_row}
 use Rattle.reading.specs.Found.{ReadingIsAlone}
 use Rattle.reading.specs.Labels.{read_dots}
 use Rattle.picture.proofs.GridLaws.{pixel_row-equal}
-use Rattle.capi.specs.Bits.{AnswersBits, AnswersBitsOutcome, IsReadInDots, PutsBits, ReadsBitsOutcome, bytes_of, put_bit_rows, row_size}
+use Rattle.capi.specs.Private.Asking.{AnswersSymbolBits}
+use Rattle.capi.specs.Bits.{AnswersBitsOutcome, IsReadInDots, PutsBits, ReadsBitsOutcome, bytes_of, put_bit_rows, row_size}
 use Rattle.capi.specs.Private.BitRows.{put_equal}
 use Rattle.capi.specs.Calls.{Rooms}
 use Rattle.capi.specs.Room.{put_text}
@@ -57,7 +58,7 @@ reads_outcome run (Err fault) h = tt
 
 -- what is left of a symbol is what is left of its line
 pub bits_outcome : (rooms : Rooms) (stride : ℕ) (dots : Dots) (run : RunValues) (found : Result Symbol Fault)
-    → AnswersBits rooms stride dots run found → AnswersBitsOutcome rooms stride dots run (outcome_of found)
+    → AnswersSymbolBits rooms stride dots run found → AnswersBitsOutcome rooms stride dots run (outcome_of found)
 bits_outcome rooms stride dots run (Ok symbol) h = h
 bits_outcome rooms stride dots run (Err fault) h = h
 
@@ -65,6 +66,6 @@ bits_outcome rooms stride dots run (Err fault) h = h
 pub bits_of_modules : (rooms : Rooms) (stride : ℕ) (dots : Dots) (run : RunValues) (found : Result Symbol Fault)
     (symbology : Symbology) (p : Picture) → HasModules found symbology p
     → PutsBits rooms stride dots (enlargement (with_quiet_zone p (quiet_zone symbology)) run.scale)
-    → AnswersBits rooms stride dots run found
+    → AnswersSymbolBits rooms stride dots run found
 bits_of_modules rooms stride dots run (Ok symbol) symbology p has puts = rw (has.0, has.1) puts
 bits_of_modules rooms stride dots run (Err fault) symbology p has puts = absurd has

@@ -1,6 +1,7 @@
 -- Worked values: the numbers of lib/labels.h, bits as binary PBM has them (pbm(5)), and a symbol that is read.
 use Rattle.std.proofs.Common.{◌≡◌, ℕ, Bool, List, [], ◌∷◌, ◌++◌, ◌-◌, ◌==◌, true, false, None, Some, codes, refl, map, take, drop, replicate}
 use Rattle.std.specs.Prelude.{Ok, Err, if◌then◌else◌, ◌||◌}
+use Rattle.labelcore.specs.LineItem.{drawn, item}
 use Rattle.labelcore.specs.declared.fault.Fault.TheVariants.{NotADigit, WrongNumberOfDigits, WrongCheckDigit}
 use Rattle.labelcore.specs.declared.fault.Fault.TheVariants.{DataTooLong, NotAscii, DoesNotFit, NoData}
 use Rattle.labelcore.specs.declared.fault.Fault.TheVariants.{LineTooLong, UnknownSymbology, UnknownSetting, BadValue}
@@ -14,10 +15,9 @@ use Rattle.linear.specs.Tables.{number_set_a, left_half_sets}
 use Rattle.picture.specs.Picture.{Picture}
 use Rattle.picture.specs.Reading.{sample}
 use Rattle.capi.specs.Bits.{bits_fit, bits_size, byte_at, bytes_of, dot_at, put_bit_rows, row_size, row_step}
-use Rattle.capi.specs.Calls.{asked, options_asked}
+use Rattle.capi.specs.Calls.{asked, has_LF, line_asked, options_asked}
 use Rattle.capi.specs.Layout.{between, in_quiet_zones, layout_of, longer_bars, modules_at, no_layout, printed}
-use Rattle.capi.specs.Line.{has_LF, line_asked, rows_put, with_rows_put}
-use Rattle.capi.specs.Modules.{height_told, is_nothing, modules_of, one_row}
+use Rattle.capi.specs.Modules.{height_told, is_nothing, modules_of, rows_put, with_rows_put}
 use Rattle.capi.specs.Numbers.{are_in_range, are_unused, code_of, flag_numbered, format_numbered, level_numbered, mask_numbered}
 use Rattle.capi.specs.Numbers.{options_numbered, place_of, symbology_numbered, wrong_option}
 use Rattle.capi.specs.Read.{bits_as, modules_asked, read_asked, region_numbered}
@@ -96,7 +96,10 @@ unfolding options_numbered defaults default_options beyond nameless
 default_numbers = (refl, (refl, refl))
 
 -- options, then the symbology, then the data
-asked_for : (asked defaults 4 (65 ∷ []) ≡ Ok (record { options = default_options; symbology = Qr }))
+asked_for : (asked defaults 4 (65 ∷ []) ≡ Ok (record {
+  run = default_options.run;
+  item = drawn (record { symbology = Qr; options = default_options.label; bytes = 65 ∷ [] });
+}))
     × ((asked (record defaults { scale = 9 }) 5 [] ≡ Err (record { code = 2; at = 2 }))
     × ((asked defaults 5 [] ≡ Err (record { code = 3; at = 0 })) × (asked defaults 4 [] ≡ Err (record { code = 4; at = 0 }))))
 unfolding asked options_asked options_numbered wrong_option defaults default_options
@@ -169,7 +172,7 @@ printed_digits = (refl, refl, refl, refl)
 -- ---- lines
 
 lines_asked : (map has_LF ([] ∷ codes "qr" ∷ codes "q\n" ∷ []) ≡ false ∷ false ∷ true ∷ [])
-    × ((line_asked defaults (codes "qr A") ≡ Ok default_options)
+    × ((line_asked defaults (codes "qr A") ≡ Ok (record { run = default_options.run; item = item default_options (codes "qr A") }))
     × ((line_asked defaults (codes "qr A\n") ≡ Err (record { code = 15; at = 0 }))
     × (line_asked (record defaults { mask = 9 }) (codes "\n") ≡ Err (record { code = 2; at = 6 }))))
 unfolding line_asked options_asked options_numbered wrong_option defaults default_options
@@ -193,10 +196,6 @@ one_of_the_rows : ((with_rows_put (record { symbology = Qr; full = []; modules =
     × ((with_rows_put (record { symbology = Ean8; full = []; modules = dots })).modules.height ≡ 1)
 unfolding dots
 one_of_the_rows = (refl, refl)
-
-one_row_high : (one_row default_options.label).height ≡ 1
-unfolding default_options
-one_row_high = refl
 
 -- nothing told of a symbol, and each number by itself
 nothing : SymbolInfo

@@ -1,9 +1,8 @@
 -- The symbol of a line with the rows that are put, and that with all.
 use Rattle.std.proofs.Common.{◌≡◌, ◌<◌, ◌≤◌, ℕ, List, [], refl, sym, ap, arith, subst, ◌∙◌}
 use Rattle.std.specs.Prelude.{Bool, true, false, Result, Ok, Err, MatchResult, IfOk, Some, if◌then◌else◌}
-use Rattle.labelcore.specs.LineItem.{Outcome, Request, drawn, item, outcome_of}
-use Rattle.labelcore.specs.declared.options.Options.{Options}
-use Rattle.filter.specs.Output.{image_of, outcome, outcome_of_item}
+use Rattle.labelcore.specs.LineItem.{drawn, outcome_of}
+use Rattle.filter.specs.Output.{image_of}
 use Rattle.labelcore.specs.OptionValues.{LabelValues, RunValues}
 use Rattle.labelcore.specs.Settings.{◌>>=◌}
 use Rattle.labelcore.specs.declared.fault.Fault.{Fault}
@@ -22,10 +21,11 @@ use Rattle.filter.specs.ModuleReading.{IsReadInModules}
 use Rattle.filter.specs.Readback.{IsRead}
 use Rattle.filter.specs.Private.{HasModules}
 use Rattle.picture.specs.Picture.{Picture}
-use Rattle.capi.specs.Calls.{AnswersSymbol, Rooms}
-use Rattle.capi.specs.Full.{IsFullPut, PutsFull, PutsFullOutcome}
-use Rattle.capi.specs.Line.{AnswersOutcome, AnswersPicture, ReadsOutcome, ReadsPicture, rows_put, with_rows_put}
-use Rattle.capi.specs.Modules.{AnswersModules, IsDrawnAs, IsSizeOf, ModuleRooms, PutsModules, height_told, one_row}
+use Rattle.capi.specs.Calls.{AnswersPicture, ReadsPicture, Rooms}
+use Rattle.capi.specs.Private.Asking.{AnswersSymbol, PutsSymbolFull, one_row}
+use Rattle.capi.specs.Full.{IsFullPut, PutsFullOutcome}
+use Rattle.capi.specs.Modules.{AnswersModules, AnswersOutcome, IsDrawnAs, IsSizeOf, ModuleRooms, PutsModules, ReadsOutcome}
+use Rattle.capi.specs.Modules.{height_told, rows_put, with_rows_put}
 use Rattle.capi.specs.Numbers.{code_of, symbology_numbered}
 use Rattle.capi.specs.declared.numbers.Answer.{Answer}
 use Rattle.capi.specs.declared.numbers.SymbolInfo.{SymbolInfo}
@@ -133,7 +133,7 @@ pub none_put : (symbology : Symbology) (height : ℕ) (low found : Result Symbol
     → IsLowered symbology height low found
     → (rooms : ModuleRooms) (answer : Answer) (info : SymbolInfo) (code : Fault → ℕ)
     → AnswersModules rooms answer info low code → 1 < answer.code
-    → (room : List ℕ) (told : ℕ) → PutsFull room room told found
+    → (room : List ℕ) (told : ℕ) → PutsSymbolFull room room told found
 none_put symbology height low (Err fault) is rooms answer info code answers high room told = refl
 none_put symbology height low (Ok symbol) is rooms answer info code answers high room told =
     absurd (not_drawn symbology height low (Ok symbol) is rooms answer info code answers high (λ s. ⊥))
@@ -144,14 +144,14 @@ pub some_put : (symbology : Symbology) (height : ℕ) (low found : Result Symbol
     → (rooms : ModuleRooms) (answer : Answer) (info : SymbolInfo)
     → AnswersModules rooms answer info low code_of → answer.code ≤ 1
     → (room room_after : List ℕ) (told : ℕ) → IfOk found (λ symbol. IsFullPut symbol.full room room_after told)
-    → PutsFull room room_after told found
+    → PutsSymbolFull room room_after told found
 some_put symbology height low (Ok symbol) is rooms answer info answers few room room_after told put = put
 some_put symbology height low (Err fault) is rooms answer info answers few room room_after told put =
     absurd (let why = rw is at answers in let code = (why.1.1 []).code_is in let high = refusals_high fault in omega (arith, code, high, few))
 
 -- the full data of a symbol is that of its line
 pub outcome_full : (found : Result Symbol Fault) (room room_after : List ℕ) (told : ℕ)
-    → PutsFull room room_after told found → PutsFullOutcome room room_after told (outcome_of found)
+    → PutsSymbolFull room room_after told found → PutsFullOutcome room room_after told (outcome_of found)
 outcome_full (Ok symbol) room room_after told put = put
 outcome_full (Err fault) room room_after told put = put
 
@@ -163,12 +163,6 @@ pub outcome_answers : (symbology : Symbology) (height : ℕ) (low found : Result
     → AnswersOutcome rooms answer info (outcome_of found) code
 outcome_answers symbology height low (Err fault) is rooms answer info code answers told = rw is at answers
 outcome_answers symbology height low (Ok symbol) is rooms answer info code answers told = (rw is.0 at answers, told)
-
--- what is drawn of a line, by its item
-pub outcome_seen : (options : Options) (text : List ℕ) (seen : Outcome Request) → seen ≡ item options text
-    → outcome options text ≡ outcome_of_item seen
-unfolding outcome
-outcome_seen options text seen same = ap outcome_of_item (sym same)
 
 -- the symbol that is put reads, and so does that with all its rows
 pub reads_lowered : (symbology : Symbology) (height : ℕ) (low found : Result Symbol Fault)

@@ -5,17 +5,14 @@ use Rattle.std.specs.Int.{div_ceil}
 use Rattle.labelcore.specs.LineItem.{Outcome, skipped, refused, drawn}
 use Rattle.labelcore.specs.Message.{fault_text}
 use Rattle.labelcore.specs.OptionValues.{RunValues}
-use Rattle.labelcore.specs.declared.fault.Fault.{Fault}
-use Rattle.labelcore.specs.declared.options.Options.{Options}
 use Rattle.picture.specs.Picture.{Picture}
 use Rattle.picture.specs.Text.{below, pixel_row}
-use Rattle.filter.specs.Output.{outcome, picture_of}
-use Rattle.filter.specs.Symbol.{Symbol, symbol_of}
+use Rattle.filter.specs.Output.{outcome_of_item, picture_of}
+use Rattle.filter.specs.Symbol.{Symbol}
 use Rattle.reading.specs.Found.{any_reading}
-use Rattle.capi.specs.Calls.{Declines, Rooms}
+use Rattle.capi.specs.Calls.{Asked, Declines, Rooms}
 use Rattle.capi.specs.Numbers.{code_of, place_of}
 use Rattle.capi.specs.Room.{put_text}
-use Rattle.capi.specs.declared.asked.Asked.{Asked}
 use Rattle.capi.specs.declared.asked.Reason.{Reason}
 use Rattle.capi.specs.declared.numbers.Dots.{Dots}
 
@@ -77,39 +74,22 @@ IsReadInDots run symbol = any_reading (picture_of run symbol)
 abbrev pub DeclinesBits : Rooms → Dots → ℕ → ℕ → List ℕ → Type 0
 DeclinesBits rooms dots code place text = (dots.width ≡ 0) × ((dots.height ≡ 0) × Declines rooms dots.answer code place text)
 
--- the dots of a symbol in its quiet zone, or why there are none
-abbrev pub AnswersBits : Rooms → ℕ → Dots → RunValues → Result Symbol Fault → Type 0
-AnswersBits rooms stride dots run (Ok symbol) = PutsBits rooms stride dots (picture_of run symbol)
-AnswersBits rooms stride dots run (Err fault) = DeclinesBits rooms dots (code_of fault) (place_of fault) (fault_text fault)
-
--- the dots of what is asked for, or why there are none
-abbrev pub AnswersBitsAsked : Rooms → ℕ → Dots → Result Asked Reason → List ℕ → Type 0
-AnswersBitsAsked rooms stride dots (Err reason) bytes = DeclinesBits rooms dots reason.code reason.at []
-AnswersBitsAsked rooms stride dots (Ok a) bytes =
-    AnswersBits rooms stride dots a.options.run (symbol_of a.options.label a.symbology bytes)
-
--- the dots of what is asked for read as its full data
-abbrev pub ReadsBits : Result Asked Reason → List ℕ → Type 0
-ReadsBits found bytes = IfOk found (λ a.
-    IfOk (symbol_of a.options.label a.symbology bytes) (IsReadInDots a.options.run))
-
--- the dots of the symbol of a line, or why there are none; 14 is a line that is skipped
+-- the dots of a symbol that is drawn, or why there are none; 14 is a line that is skipped
 abbrev pub AnswersBitsOutcome : Rooms → ℕ → Dots → RunValues → Outcome Symbol → Type 0
 AnswersBitsOutcome rooms stride dots run skipped = DeclinesBits rooms dots 14 0 []
 AnswersBitsOutcome rooms stride dots run (refused fault) = DeclinesBits rooms dots (code_of fault) (place_of fault) (fault_text fault)
 AnswersBitsOutcome rooms stride dots run (drawn symbol) = PutsBits rooms stride dots (picture_of run symbol)
 
--- the dots of the symbol of a line read as its full data
+-- the dots of what is asked for, or why there are none
+abbrev pub AnswersBits : Rooms → ℕ → Dots → Result Asked Reason → Type 0
+AnswersBits rooms stride dots (Err reason) = DeclinesBits rooms dots reason.code reason.at []
+AnswersBits rooms stride dots (Ok a) = AnswersBitsOutcome rooms stride dots a.run (outcome_of_item a.item)
+
+-- the dots of a symbol read as its full data
 abbrev pub ReadsBitsOutcome : RunValues → Outcome Symbol → Type 0
 ReadsBitsOutcome run (drawn symbol) = IsReadInDots run symbol
 ReadsBitsOutcome run other = ⊤
 
--- the same of the line that is asked for
-abbrev pub ReadsBitsLine : Result Options Reason → List ℕ → Type 0
-ReadsBitsLine found text = IfOk found (λ options. ReadsBitsOutcome options.run (outcome options text))
-
--- the dots of the line that is asked for, or why there are none
-abbrev pub AnswersBitsLine : Rooms → ℕ → Dots → Result Options Reason → List ℕ → Type 0
-AnswersBitsLine rooms stride dots (Err reason) text = DeclinesBits rooms dots reason.code reason.at []
-AnswersBitsLine rooms stride dots (Ok options) text =
-    AnswersBitsOutcome rooms stride dots options.run (outcome options text)
+-- the dots of what is asked for read as its full data
+abbrev pub ReadsBits : Result Asked Reason → Type 0
+ReadsBits found = IfOk found (λ a. ReadsBitsOutcome a.run (outcome_of_item a.item))

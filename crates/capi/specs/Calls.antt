@@ -1,19 +1,19 @@
--- What a call of the C library leaves in the caller's memory.
-use Rattle.std.specs.Prelude.{◌≡◌, ℕ, ◌-◌, ◌^◌, nat_le, min, ok_or, Option, None, Some, Result, Ok, Err, List, [], ◌∷◌, length}
-use Rattle.std.specs.Prelude.{if◌then◌else◌, IfOk}
-use Rattle.labelcore.specs.LineItem.{drawn}
+-- What a call of the C library asks for, and what it leaves in the caller's memory.
+use Rattle.std.specs.Prelude.{◌≡◌, ℕ, ◌-◌, ◌^◌, nat_eq, nat_le, min, ok_or, Bool, Option, None, Some, Result, Ok, Err, List, [], ◌∷◌, length}
+use Rattle.std.specs.Prelude.{if◌then◌else◌, IfOk, ⊤}
+use Rattle.std.specs.List.{list_any}
+use Rattle.labelcore.specs.LineItem.{Outcome, Request, skipped, refused, drawn, item}
+use Rattle.labelcore.specs.Lines.{LF}
 use Rattle.labelcore.specs.Message.{fault_text}
 use Rattle.labelcore.specs.OptionValues.{RunValues}
-use Rattle.labelcore.specs.declared.fault.Fault.{Fault}
 use Rattle.labelcore.specs.declared.options.Options.{Options}
 use Rattle.labelcore.specs.declared.symbology.Symbology.{Symbology}
-use Rattle.filter.specs.Output.{image_of}
+use Rattle.filter.specs.Output.{image_of, outcome_of_item}
 use Rattle.filter.specs.Readback.{IsRead}
-use Rattle.filter.specs.Symbol.{Symbol, symbol_of}
+use Rattle.filter.specs.Symbol.{Symbol}
 use Rattle.capi.specs.Numbers.{code_of, options_numbered, place_of, symbology_numbered, wrong_option}
 use Rattle.capi.specs.Room.{put_text}
 use Rattle.capi.specs.declared.numbers.Answer.{Answer}
-use Rattle.capi.specs.declared.asked.Asked.{Asked}
 use Rattle.capi.specs.declared.asked.Reason.{Reason}
 use Rattle.capi.specs.declared.numbers.CallOptions.{CallOptions}
 
@@ -21,16 +21,39 @@ use Rattle.capi.specs.declared.numbers.CallOptions.{CallOptions}
 unfoldable pub options_asked : CallOptions → Result Options Reason
 options_asked options = ok_or (options_numbered options) (record { code = 2; at = wrong_option options })
 
--- what is asked for, or why nothing can be drawn: options, then symbology, then data
+-- what a call asks for: the options of a run, and what is drawn with them
+pub record Asked : Type 0 where
+  pub run : RunValues
+  pub item : Outcome Request
+
+-- what is asked for of data, or why nothing can be drawn: options, then symbology, then data
 abbrev pub asked_of : Result Options Reason → Option Symbology → List ℕ → Result Asked Reason
 asked_of (Err reason) symbology bytes = Err reason
 asked_of (Ok options) None bytes = Err (record { code = 3; at = 0 })
 asked_of (Ok options) (Some symbology) [] = Err (record { code = 4; at = 0 })
-asked_of (Ok options) (Some symbology) (b ∷ bytes) = Ok (record { options = options; symbology = symbology })
+asked_of (Ok options) (Some symbology) (b ∷ bytes) = Ok (record {
+  run = options.run;
+  item = drawn (record { symbology = symbology; options = options.label; bytes = b ∷ bytes });
+})
 
 -- what the numbers of a call ask for
 unfoldable pub asked : CallOptions → ℕ → List ℕ → Result Asked Reason
 asked options symbology bytes = asked_of (options_asked options) (symbology_numbered symbology) bytes
+
+-- whether a text has an LF, and so is more than one line
+abbrev pub has_LF : List ℕ → Bool
+has_LF text = list_any (λ byte. nat_eq byte LF) text
+
+-- what is asked for by a line, or why it cannot be read: options, then line feeds
+abbrev pub line_asked_of : Result Options Reason → List ℕ → Result Asked Reason
+line_asked_of (Err reason) text = Err reason
+line_asked_of (Ok options) text =
+    if has_LF text then Err (record { code = 15; at = 0 })
+    else Ok (record { run = options.run; item = item options text })
+
+-- what the numbers of a call and a line ask for
+unfoldable pub line_asked : CallOptions → List ℕ → Result Asked Reason
+line_asked options text = line_asked_of (options_asked options) text
 
 -- the caller's room for a picture or modules, and that for a message, before and after
 pub record Rooms : Type 0 where
@@ -59,18 +82,22 @@ pub record PutsWhole (rooms : Rooms) (answer : Answer) (text : List ℕ) : Type 
   pub out : rooms.out_after ≡ put_text rooms.out 0 text
   pub message : rooms.message_after ≡ rooms.message
 
--- the image of a symbol, or why there is none
-abbrev pub AnswersSymbol : Rooms → Answer → RunValues → Result Symbol Fault → Type 0
-AnswersSymbol rooms answer run (Ok symbol) = PutsWhole rooms answer (image_of run (drawn symbol))
-AnswersSymbol rooms answer run (Err fault) = Declines rooms answer (code_of fault) (place_of fault) (fault_text fault)
+-- the image of a symbol that is drawn, or why there is none; 14 is a line that is skipped
+abbrev pub AnswersPicture : Rooms → Answer → RunValues → Outcome Symbol → Type 0
+AnswersPicture rooms answer run skipped = Declines rooms answer 14 0 []
+AnswersPicture rooms answer run (refused fault) = Declines rooms answer (code_of fault) (place_of fault) (fault_text fault)
+AnswersPicture rooms answer run (drawn symbol) = PutsWhole rooms answer (image_of run (drawn symbol))
 
 -- the image of what is asked for, or why there is none
-abbrev pub Answers : Rooms → Answer → Result Asked Reason → List ℕ → Type 0
-Answers rooms answer (Err reason) bytes = Declines rooms answer reason.code reason.at []
-Answers rooms answer (Ok a) bytes =
-    AnswersSymbol rooms answer a.options.run (symbol_of a.options.label a.symbology bytes)
+abbrev pub Answers : Rooms → Answer → Result Asked Reason → Type 0
+Answers rooms answer (Err reason) = Declines rooms answer reason.code reason.at []
+Answers rooms answer (Ok a) = AnswersPicture rooms answer a.run (outcome_of_item a.item)
+
+-- the image of a symbol reads as its full data
+abbrev pub ReadsPicture : RunValues → Outcome Symbol → Type 0
+ReadsPicture run (drawn symbol) = IsRead run.format run.scale (image_of run (drawn symbol)) symbol
+ReadsPicture run other = ⊤
 
 -- the image of what is asked for reads as the full data
-abbrev pub ReadsAsked : Result Asked Reason → List ℕ → Type 0
-ReadsAsked found bytes = IfOk found (λ a. IfOk (symbol_of a.options.label a.symbology bytes) (λ symbol.
-    IsRead a.options.run.format a.options.run.scale (image_of a.options.run (drawn symbol)) symbol))
+abbrev pub ReadsAsked : Result Asked Reason → Type 0
+ReadsAsked found = IfOk found (λ a. ReadsPicture a.run (outcome_of_item a.item))

@@ -2,7 +2,6 @@ pub mod Bits
 pub mod Calls
 pub mod Full
 pub mod Layout
-pub mod Line
 pub mod Modules
 pub mod Numbers
 pub mod Private

@@ -1,10 +1,12 @@
 -- What a call of the C library leaves of a symbol's modules.
 use Rattle.std.specs.Prelude.{◌≡◌, ℕ, ◌*◌, nat_le, Bool, true, Some, Result, Ok, Err, List, [], ◌∷◌, ◌++◌, length, drop, flat_map}
-use Rattle.std.specs.Prelude.{if◌then◌else◌, IfOk}
+use Rattle.std.specs.Prelude.{if◌then◌else◌, IfOk, ⊤}
+use Rattle.labelcore.specs.LineItem.{Outcome, Request, skipped, refused, drawn}
 use Rattle.labelcore.specs.Message.{fault_text}
 use Rattle.labelcore.specs.OptionValues.{LabelValues}
 use Rattle.labelcore.specs.declared.fault.Fault.{Fault}
 use Rattle.filter.specs.ModuleReading.{IsReadInModules}
+use Rattle.filter.specs.Output.{outcome_of_item}
 use Rattle.filter.specs.Symbol.{Symbol, quiet_zone, symbol_of}
 use Rattle.labelcore.specs.declared.symbology.Symbology.{Symbology}
 use Rattle.labelcore.specs.declared.symbology.Symbology.TheVariants.{Qr}
@@ -14,8 +16,7 @@ use Rattle.qrdata.specs.Fewest.{chosen_segments, chosen_version}
 use Rattle.qrmatrix.specs.MaskChoice.{chosen_mask}
 use Rattle.capi.specs.Numbers.{are_unused, level_numbered, place_of, symbology_numbered}
 use Rattle.picture.specs.Text.{below, pixel_row}
-use Rattle.capi.specs.Calls.{Declines}
-use Rattle.capi.specs.declared.asked.Asked.{Asked}
+use Rattle.capi.specs.Calls.{Asked, Declines}
 use Rattle.capi.specs.declared.asked.Reason.{Reason}
 use Rattle.capi.specs.declared.numbers.Answer.{Answer}
 use Rattle.capi.specs.declared.numbers.SymbolInfo.{SymbolInfo}
@@ -83,20 +84,37 @@ abbrev pub AnswersModules : ModuleRooms → Answer → SymbolInfo → Result Sym
 AnswersModules rooms answer info (Ok symbol) code = PutsModules rooms answer symbol.modules × IsSizeOf symbol info
 AnswersModules rooms answer info (Err fault) code = DeclinesModules rooms answer info (code fault) (place_of fault) (fault_text fault)
 
--- the options of a symbol that has one row where it is linear
-abbrev pub one_row : LabelValues → LabelValues
-one_row label = record label { height = 1 }
+-- the rows of a symbol that are put: one of a linear symbol, whose rows are equal
+abbrev pub rows_put : Symbology → ℕ → ℕ
+rows_put Qr rows = rows
+rows_put other rows = 1
+
+-- a symbol with the rows that are put
+abbrev pub with_rows_put : Symbol → Symbol
+with_rows_put symbol = record symbol {
+  modules = record symbol.modules { height = rows_put symbol.symbology symbol.modules.height };
+}
+
+-- the modules of a symbol that is drawn, and what they are drawn as; or why there are none. 14 is a line that is skipped
+abbrev pub AnswersOutcome : ModuleRooms → Answer → SymbolInfo → Outcome Symbol → (Fault → ℕ) → Type 0
+AnswersOutcome rooms answer info skipped code = DeclinesModules rooms answer info 14 0 []
+AnswersOutcome rooms answer info (refused fault) code = DeclinesModules rooms answer info (code fault) (place_of fault) (fault_text fault)
+AnswersOutcome rooms answer info (drawn symbol) code =
+    AnswersModules rooms answer info (Ok (with_rows_put symbol)) code × IsDrawnAs symbol info
 
 -- the modules of what is asked for, or why there are none
-abbrev pub AnswersAsked : ModuleRooms → Answer → SymbolInfo → Result Asked Reason → List ℕ → (Fault → ℕ) → Type 0
-AnswersAsked rooms answer info (Err reason) bytes code = DeclinesModules rooms answer info reason.code reason.at []
-AnswersAsked rooms answer info (Ok a) bytes code =
-    AnswersModules rooms answer info (symbol_of (one_row a.options.label) a.symbology bytes) code
+abbrev pub AnswersAsked : ModuleRooms → Answer → SymbolInfo → Result Asked Reason → (Fault → ℕ) → Type 0
+AnswersAsked rooms answer info (Err reason) code = DeclinesModules rooms answer info reason.code reason.at []
+AnswersAsked rooms answer info (Ok a) code = AnswersOutcome rooms answer info (outcome_of_item a.item) code
+
+-- the modules of a symbol read as its full data, and as nothing else
+abbrev pub ReadsOutcome : Outcome Symbol → Type 0
+ReadsOutcome (drawn symbol) = IsReadInModules (with_rows_put symbol)
+ReadsOutcome other = ⊤
 
 -- the modules of what is asked for read as the full data, and as nothing else
-abbrev pub ReadsModules : Result Asked Reason → List ℕ → Type 0
-ReadsModules found bytes = IfOk found (λ a.
-    IfOk (symbol_of (one_row a.options.label) a.symbology bytes) IsReadInModules)
+abbrev pub ReadsModules : Result Asked Reason → Type 0
+ReadsModules found = IfOk found (λ a. ReadsOutcome (outcome_of_item a.item))
 
 -- the version, the level and the mask that a QR symbol has
 pub record HasQrNumbers (label : LabelValues) (bytes : List ℕ) (info : SymbolInfo) : Type 0 where
@@ -110,12 +128,12 @@ abbrev pub HasNumbers : LabelValues → Symbology → List ℕ → SymbolInfo �
 HasNumbers label Qr bytes info = HasQrNumbers label bytes info
 HasNumbers label other bytes info = (info.version ≡ 0) × ((info.level ≡ 0) × (info.mask ≡ 0))
 
--- the numbers of what is asked for, where it is drawn
-abbrev pub NumbersAsked : SymbolInfo → Result Asked Reason → List ℕ → Type 0
-NumbersAsked info found bytes = IfOk found (λ a. IfOk (symbol_of (one_row a.options.label) a.symbology bytes)
-    (λ symbol. HasNumbers a.options.label a.symbology bytes info))
+-- the numbers of a symbol that is drawn
+abbrev pub NumbersItem : SymbolInfo → Outcome Request → Type 0
+NumbersItem info (drawn asked) = IfOk (symbol_of asked.options asked.symbology asked.bytes)
+    (λ symbol. HasNumbers asked.options asked.symbology asked.bytes info)
+NumbersItem info other = ⊤
 
--- the symbology and the height of what is asked for, where it is drawn
-abbrev pub ToldAsked : SymbolInfo → Result Asked Reason → List ℕ → Type 0
-ToldAsked info found bytes = IfOk found (λ a. IfOk (symbol_of a.options.label a.symbology bytes)
-    (λ symbol. IsDrawnAs symbol info))
+-- the numbers of what is asked for
+abbrev pub NumbersAsked : SymbolInfo → Result Asked Reason → Type 0
+NumbersAsked info found = IfOk found (λ a. NumbersItem info a.item)

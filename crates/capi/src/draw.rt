@@ -7,14 +7,17 @@ ghost use Rattle.filter.specs.Symbol.{symbol_of};
 ghost use Rattle.filter.specs.Readback.{IsRead};
 ghost use Rattle.filter.specs.Output.{image_of};
 ghost use Rattle.std.specs.Prelude.{IfOk, List, ℕ};
-ghost use Rattle.capi.specs.Calls.{Answers, AnswersSymbol, Declines, ReadsAsked, asked};
+ghost use Rattle.labelcore.specs.ItemView.{item_seen};
+ghost use Rattle.filter.specs.Output.{outcome_of_item};
+ghost use Rattle.capi.specs.Calls.{Answers, AnswersPicture, Declines, ReadsAsked, ReadsPicture, asked, line_asked};
+ghost use Rattle.capi.specs.Private.Asking.{AnswersSymbol, HasBytes, asked_seen};
 ghost use Rattle.capi.specs.Numbers.{code_of as number_of, place_of as place_told};
 
-use crate::asked::{Reason, asked_of};
-use crate::numbers::{Answer, CallOptions, DONE, NO_ROOM, code_of, place_of};
+use crate::asked::{Asked, Reason, asked_of, line_asked};
+use crate::numbers::{Answer, CallOptions, DONE, NO_ROOM, SKIPPED, code_of, place_of};
 use crate::slice_sink::SliceSink;
 use filter::draw;
-use labelcore::{Fault, LabelOptions, RunOptions, Symbology, write_reason};
+use labelcore::{Fault, Item, LabelOptions, LineBuf, RunOptions, Scratch, Symbology, write_reason};
 
 /// Draws one symbol into `out`, or puts the reason why there is none into `message`. Of a text that is too long it puts
 /// what there is room for, and answers with the length of the whole.
@@ -30,19 +33,71 @@ pub fn draw_into(
       out_after = out.new;
       message = message.old;
       message_after = message.new;
-    }) result (asked options.now symbology bytes.now) bytes.now }
-    ensures read { ReadsAsked (asked options.now symbology bytes.now) bytes.now }
+    }) result (asked options.now symbology bytes.now) }
+    ensures read { ReadsAsked (asked options.now symbology bytes.now) }
 {
-    match asked_of(options, symbology, bytes) {
-        Ok(asked) => draw_asked(
-            &asked.options.run,
-            &asked.options.label,
-            asked.symbology,
-            bytes,
-            out,
-            message,
-        ),
-        Err(reason) => declined_at(reason),
+    put_picture(&asked_of(options, symbology, bytes), out, message)
+}
+
+/// Draws what a line asks for into `out`, or puts the reason why there is no picture into `message`. A text with an LF
+/// is refused.
+pub fn draw_line_into(
+    options: &CallOptions,
+    text: &[u8],
+    out: &mut [u8],
+    message: &mut [u8],
+) -> Answer
+    ensures answers { Answers (record {
+      out = out.old;
+      out_after = out.new;
+      message = message.old;
+      message_after = message.new;
+    }) result (line_asked options.now text.now) }
+    ensures read { ReadsAsked (line_asked options.now text.now) }
+{
+    let mut line = LineBuf::new();
+    let mut scratch = Scratch::new();
+    put_picture(
+        &line_asked(options, text, &mut line, &mut scratch),
+        out,
+        message,
+    )
+}
+
+/// Draws what a call asks for.
+fn put_picture(asked: &Result<Asked<'_>, Reason>, out: &mut [u8], message: &mut [u8]) -> Answer
+    requires { IfOk asked.now (λ a. HasBytes (item_seen a.item)) }
+    ensures answers { Answers (record {
+      out = out.old;
+      out_after = out.new;
+      message = message.old;
+      message_after = message.new;
+    }) result (asked_seen asked.now) }
+    ensures read { ReadsAsked (asked_seen asked.now) }
+{
+    match asked {
+        Err(reason) => declined_at(*reason),
+        Ok(asked) => item_picture(&asked.run, &asked.item, out, message),
+    }
+}
+
+/// Puts the picture of what is drawn.
+fn item_picture(run: &RunOptions, item: &Item<'_>, out: &mut [u8], message: &mut [u8]) -> Answer
+    requires { HasBytes (item_seen item.now) }
+    ensures answers { AnswersPicture (record {
+      out = out.old;
+      out_after = out.new;
+      message = message.old;
+      message_after = message.new;
+    }) result run.now (outcome_of_item (item_seen item.now)) }
+    ensures read { ReadsPicture run.now (outcome_of_item (item_seen item.now)) }
+{
+    match *item {
+        Item::Skipped => declined(SKIPPED),
+        Item::Refused(fault) => refused(&fault, message),
+        Item::Drawn(symbology, label, bytes) => {
+            symbol_picture(run, &label, symbology, bytes, out, message)
+        }
     }
 }
 
@@ -83,7 +138,7 @@ pub fn declined(code: u32) -> Answer
 }
 
 /// Draws one symbol.
-pub fn draw_asked(
+fn symbol_picture(
     run: &RunOptions,
     label: &LabelOptions,
     symbology: Symbology,
@@ -103,7 +158,7 @@ pub fn draw_asked(
         IsRead run.now.format run.now.scale (image_of run.now (drawn symbol)) symbol) }
 {
     let room = out.len();
-    match put_picture(run, label, symbology, bytes, out) {
+    match picture_of(run, label, symbology, bytes, out) {
         Ok(length) => Answer {
             code: if length <= room { DONE } else { NO_ROOM },
             reserved: 0,
@@ -116,7 +171,7 @@ pub fn draw_asked(
 }
 
 /// Puts the picture of one symbol into a room. Returns its length, or why there is none.
-fn put_picture(
+fn picture_of(
     run: &RunOptions,
     label: &LabelOptions,
     symbology: Symbology,

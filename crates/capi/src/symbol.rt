@@ -5,22 +5,25 @@ ghost use Rattle.labelcore.specs.declared.symbology.Symbology.TheVariants.{Qr};
 ghost use Rattle.filter.specs.ModuleReading.{IsReadInModules};
 ghost use Rattle.filter.specs.Symbol.{Symbol as Drawn, symbol_of};
 ghost use Rattle.picture.specs.Text.{pixel_row};
-ghost use Rattle.capi.specs.Calls.{asked};
-ghost use Rattle.capi.specs.Full.{PutsFull, PutsFullAsked};
-ghost use Rattle.capi.specs.Modules.{AnswersAsked, AnswersModules, HasNumbers, HasQrNumbers, IsDrawnAs, IsSizeOf};
-ghost use Rattle.capi.specs.Modules.{NumbersAsked, PutsModules, ReadsModules, ToldAsked};
-ghost use Rattle.capi.specs.Modules.{height_told, modules_of, one_row};
+ghost use Rattle.labelcore.specs.ItemView.{item_seen};
+ghost use Rattle.filter.specs.Output.{outcome_of_item};
+ghost use Rattle.capi.specs.Calls.{asked, line_asked};
+ghost use Rattle.capi.specs.Full.{PutsFull, PutsFullOutcome};
+ghost use Rattle.capi.specs.Modules.{AnswersAsked, AnswersModules, AnswersOutcome, HasNumbers, HasQrNumbers, IsDrawnAs};
+ghost use Rattle.capi.specs.Modules.{IsSizeOf, NumbersAsked, NumbersItem, PutsModules, ReadsModules, ReadsOutcome};
+ghost use Rattle.capi.specs.Modules.{height_told, modules_of};
+ghost use Rattle.capi.specs.Private.Asking.{HasBytes, PutsSymbolFull, asked_seen, one_row};
 ghost use Rattle.capi.specs.Numbers.{code_of as number_of};
 
-use crate::asked::asked_of;
-use crate::draw::{declined_at, refused};
+use crate::asked::{Asked, Reason, asked_of, line_asked};
+use crate::draw::{declined, declined_at, refused};
 use crate::full::put_full;
 use crate::numbers::{
-    Answer, CallOptions, DONE, NO_ROOM, SymbolInfo, Told, number_of as number_of_symbology,
-    number_of_level, told_nothing,
+    Answer, CallOptions, DONE, NO_ROOM, SKIPPED, SymbolInfo, Told,
+    number_of as number_of_symbology, number_of_level, told_nothing,
 };
 use filter::{matrix_of, row_of, zone_of};
-use labelcore::{LabelOptions, Options, Symbology};
+use labelcore::{Item, LabelOptions, LineBuf, Options, RunOptions, Scratch, Symbology};
 use linear::Row;
 use picture::{Bars, Grid, bits_of, read_pixels};
 
@@ -100,28 +103,99 @@ pub fn symbol_into(
       modules_after = modules.new;
       message = message.old;
       message_after = message.new;
-    }) result.answer result.info (asked options.now symbology bytes.now) bytes.now number_of }
-    ensures read { ReadsModules (asked options.now symbology bytes.now) bytes.now }
-    ensures numbers { NumbersAsked result.info (asked options.now symbology bytes.now) bytes.now }
-    ensures told { ToldAsked result.info (asked options.now symbology bytes.now) bytes.now }
-    ensures full { PutsFullAsked full.old full.new result.info.data_length
-        (asked options.now symbology bytes.now) bytes.now }
+    }) result.answer result.info (asked options.now symbology bytes.now) number_of }
+    ensures read { ReadsModules (asked options.now symbology bytes.now) }
+    ensures numbers { NumbersAsked result.info (asked options.now symbology bytes.now) }
+    ensures full { PutsFull full.old full.new result.info.data_length (asked options.now symbology bytes.now) }
 {
-    match asked_of(options, symbology, bytes) {
-        Ok(asked) => symbol_told(
-            &asked.options,
-            asked.symbology,
-            bytes,
-            modules,
-            message,
-            full,
-        ),
-        Err(reason) => told_nothing(declined_at(reason)),
+    put_modules(&asked_of(options, symbology, bytes), modules, message, full)
+}
+
+/// Puts the modules of the symbol that a line draws into `modules` and its full data into `full`, or the reason why there
+/// is none into `message`. Of a linear symbol it puts one row. Format and scale are of no matter. A text with an LF is
+/// refused.
+pub fn line_into(
+    options: &CallOptions,
+    text: &[u8],
+    modules: &mut [bool],
+    message: &mut [u8],
+    full: &mut [u8],
+) -> Told
+    ensures answers { AnswersAsked (record {
+      modules = modules.old;
+      modules_after = modules.new;
+      message = message.old;
+      message_after = message.new;
+    }) result.answer result.info (line_asked options.now text.now) number_of }
+    ensures read { ReadsModules (line_asked options.now text.now) }
+    ensures numbers { NumbersAsked result.info (line_asked options.now text.now) }
+    ensures full { PutsFull full.old full.new result.info.data_length (line_asked options.now text.now) }
+{
+    let mut line = LineBuf::new();
+    let mut scratch = Scratch::new();
+    put_modules(
+        &line_asked(options, text, &mut line, &mut scratch),
+        modules,
+        message,
+        full,
+    )
+}
+
+/// Puts the modules of what a call asks for.
+fn put_modules(
+    asked: &Result<Asked<'_>, Reason>,
+    modules: &mut [bool],
+    message: &mut [u8],
+    full: &mut [u8],
+) -> Told
+    requires { IfOk asked.now (λ a. HasBytes (item_seen a.item)) }
+    ensures answers { AnswersAsked (record {
+      modules = modules.old;
+      modules_after = modules.new;
+      message = message.old;
+      message_after = message.new;
+    }) result.answer result.info (asked_seen asked.now) number_of }
+    ensures read { ReadsModules (asked_seen asked.now) }
+    ensures numbers { NumbersAsked result.info (asked_seen asked.now) }
+    ensures full { PutsFull full.old full.new result.info.data_length (asked_seen asked.now) }
+{
+    match asked {
+        Err(reason) => told_nothing(declined_at(*reason)),
+        Ok(asked) => item_modules(&asked.run, &asked.item, modules, message, full),
+    }
+}
+
+/// Puts the modules of what is drawn.
+fn item_modules(
+    run: &RunOptions,
+    item: &Item<'_>,
+    modules: &mut [bool],
+    message: &mut [u8],
+    full: &mut [u8],
+) -> Told
+    requires { HasBytes (item_seen item.now) }
+    ensures answers { AnswersOutcome (record {
+      modules = modules.old;
+      modules_after = modules.new;
+      message = message.old;
+      message_after = message.new;
+    }) result.answer result.info (outcome_of_item (item_seen item.now)) number_of }
+    ensures read { ReadsOutcome (outcome_of_item (item_seen item.now)) }
+    ensures numbers { NumbersItem result.info (item_seen item.now) }
+    ensures full { PutsFullOutcome full.old full.new result.info.data_length (outcome_of_item (item_seen item.now)) }
+{
+    match *item {
+        Item::Skipped => told_nothing(declined(SKIPPED)),
+        Item::Refused(fault) => told_nothing(refused(&fault, message)),
+        Item::Drawn(symbology, label, bytes) => {
+            let options = Options { run: *run, label };
+            symbol_told(&options, symbology, bytes, modules, message, full)
+        }
     }
 }
 
 /// Puts the modules of one symbol, tells its symbology and how high it is drawn, and puts its full data into `full`.
-pub fn symbol_told(
+fn symbol_told(
     options: &Options,
     symbology: Symbology,
     bytes: &[u8],
@@ -142,7 +216,7 @@ pub fn symbol_told(
         HasNumbers options.now.label symbology bytes.now result.info) }
     ensures told { IfOk (symbol_of options.now.label symbology bytes.now) (λ symbol.
         IsDrawnAs symbol result.info) }
-    ensures full { PutsFull full.old full.new result.info.data_length
+    ensures full { PutsSymbolFull full.old full.new result.info.data_length
         (symbol_of options.now.label symbology bytes.now) }
 {
     Options::prove_ranges(&options.run, &options.label);

@@ -4,12 +4,11 @@
 //! written overlaps nothing else that is passed; each byte of `modules` is 0 or 1 when the call begins.
 #![tactic(auto)]
 
-ghost use Rattle.capi.specs.Bits.{AnswersBitsAsked, AnswersBitsLine, ReadsBits, ReadsBitsLine};
-ghost use Rattle.capi.specs.Calls.{Answers, ReadsAsked, asked};
-ghost use Rattle.capi.specs.Full.{PutsFullAsked, PutsFullLine};
+ghost use Rattle.capi.specs.Bits.{AnswersBits, ReadsBits};
+ghost use Rattle.capi.specs.Calls.{Answers, ReadsAsked, asked, line_asked};
+ghost use Rattle.capi.specs.Full.{PutsFull};
 ghost use Rattle.capi.specs.Layout.{AnswersLayout};
-ghost use Rattle.capi.specs.Line.{AnswersDrawnLine, AnswersLine, NumbersLine, ReadsDrawnLine, ReadsLine, line_asked};
-ghost use Rattle.capi.specs.Modules.{AnswersAsked, NumbersAsked, ReadsModules, ToldAsked};
+ghost use Rattle.capi.specs.Modules.{AnswersAsked, NumbersAsked, ReadsModules};
 ghost use Rattle.capi.specs.Numbers.{code_of, symbology_numbered};
 ghost use Rattle.capi.specs.Read.{AnswersFound, AnswersRead, bits_asked, modules_asked, read_asked};
 
@@ -30,8 +29,8 @@ pub extern "C" fn labels_proved_draw(
       out_after = out.new;
       message = message.old;
       message_after = message.new;
-    }) answer.new (asked options.now symbology bytes.now) bytes.now }
-    ensures read { ReadsAsked (asked options.now symbology bytes.now) bytes.now }
+    }) answer.new (asked options.now symbology bytes.now) }
+    ensures read { ReadsAsked (asked options.now symbology bytes.now) }
 {
     *answer = capi::draw_into(options, symbology, bytes, out, message);
 }
@@ -53,13 +52,10 @@ pub extern "C" fn labels_proved_symbol(
       modules_after = modules.new;
       message = message.old;
       message_after = message.new;
-    }) answer.new info.new
-        (asked options.now symbology bytes.now) bytes.now code_of }
-    ensures read { ReadsModules (asked options.now symbology bytes.now) bytes.now }
-    ensures numbers { NumbersAsked info.new (asked options.now symbology bytes.now) bytes.now }
-    ensures told { ToldAsked info.new (asked options.now symbology bytes.now) bytes.now }
-    ensures full { PutsFullAsked full.old full.new info.new.data_length
-        (asked options.now symbology bytes.now) bytes.now }
+    }) answer.new info.new (asked options.now symbology bytes.now) code_of }
+    ensures read { ReadsModules (asked options.now symbology bytes.now) }
+    ensures numbers { NumbersAsked info.new (asked options.now symbology bytes.now) }
+    ensures full { PutsFull full.old full.new info.new.data_length (asked options.now symbology bytes.now) }
 {
     let told = capi::symbol_into(options, symbology, bytes, modules, message, full);
     *info = told.info;
@@ -79,14 +75,14 @@ pub extern "C" fn labels_proved_bitmap(
     height: &mut u32,
     answer: &mut Answer,
 )
-    ensures answers { AnswersBitsAsked (record {
+    ensures answers { AnswersBits (record {
       out = bits.old;
       out_after = bits.new;
       message = message.old;
       message_after = message.new;
     }) stride (record { answer = answer.new; width = width.new; height = height.new })
-        (asked options.now symbology bytes.now) bytes.now }
-    ensures read { ReadsBits (asked options.now symbology bytes.now) bytes.now }
+        (asked options.now symbology bytes.now) }
+    ensures read { ReadsBits (asked options.now symbology bytes.now) }
 {
     let dots = capi::bits_into(options, symbology, bytes, bits, stride, message);
     *width = dots.width;
@@ -106,15 +102,15 @@ pub extern "C" fn labels_proved_line(
     info: &mut SymbolInfo,
     answer: &mut Answer,
 )
-    ensures answers { AnswersLine (record {
+    ensures answers { AnswersAsked (record {
       modules = modules.old;
       modules_after = modules.new;
       message = message.old;
       message_after = message.new;
-    }) answer.new info.new (line_asked options.now text.now) text.now code_of }
-    ensures read { ReadsLine (line_asked options.now text.now) text.now }
-    ensures numbers { NumbersLine info.new (line_asked options.now text.now) text.now }
-    ensures full { PutsFullLine full.old full.new info.new.data_length (line_asked options.now text.now) text.now }
+    }) answer.new info.new (line_asked options.now text.now) code_of }
+    ensures read { ReadsModules (line_asked options.now text.now) }
+    ensures numbers { NumbersAsked info.new (line_asked options.now text.now) }
+    ensures full { PutsFull full.old full.new info.new.data_length (line_asked options.now text.now) }
 {
     let told = capi::line_into(options, text, modules, message, full);
     *info = told.info;
@@ -130,13 +126,13 @@ pub extern "C" fn labels_proved_draw_line(
     message: &mut [u8],
     answer: &mut Answer,
 )
-    ensures answers { AnswersDrawnLine (record {
+    ensures answers { Answers (record {
       out = out.old;
       out_after = out.new;
       message = message.old;
       message_after = message.new;
-    }) answer.new (line_asked options.now text.now) text.now }
-    ensures read { ReadsDrawnLine (line_asked options.now text.now) text.now }
+    }) answer.new (line_asked options.now text.now) }
+    ensures read { ReadsAsked (line_asked options.now text.now) }
 {
     *answer = capi::draw_line_into(options, text, out, message);
 }
@@ -153,14 +149,14 @@ pub extern "C" fn labels_proved_bitmap_line(
     height: &mut u32,
     answer: &mut Answer,
 )
-    ensures answers { AnswersBitsLine (record {
+    ensures answers { AnswersBits (record {
       out = bits.old;
       out_after = bits.new;
       message = message.old;
       message_after = message.new;
     }) stride (record { answer = answer.new; width = width.new; height = height.new })
-        (line_asked options.now text.now) text.now }
-    ensures read { ReadsBitsLine (line_asked options.now text.now) text.now }
+        (line_asked options.now text.now) }
+    ensures read { ReadsBits (line_asked options.now text.now) }
 {
     let dots = capi::bits_line_into(options, text, bits, stride, message);
     *width = dots.width;

@@ -9,8 +9,5 @@ returns-clause-read c = c.symbol_into-told.ensures.read
 pub returns-clause-numbers : goal.returns-clause-numbers
 returns-clause-numbers c = c.symbol_into-told.ensures.numbers
 
-pub returns-clause-told : goal.returns-clause-told
-returns-clause-told c = c.symbol_into-told.ensures.told
-
 pub returns-clause-full : goal.returns-clause-full
 returns-clause-full c = c.symbol_into-told.ensures.full

@@ -1,7 +1,7 @@
 use Rattle.std.proofs.Common.{arith}
 use Rattle.filter.proofs.ReadLaws.{modules_of_data_read}
 use Rattle.capi.proofs.LineLaws.{drawn_as, lowered, more_told, none_put, not_drawn, some_put}
-use Rattle.capi.specs.Modules.{one_row}
+use Rattle.capi.specs.Private.Asking.{one_row}
 use Rattle.capi.proofs.symbol.symbol_told.Goals as goal
 
 pub returns-clause-read : goal.returns-clause-read

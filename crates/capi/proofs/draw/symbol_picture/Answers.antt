@@ -1,6 +1,6 @@
 use Rattle.std.proofs.Common.{◌∙◌}
 use Rattle.capi.specs.Private.Puts.{put_nothing}
-use Rattle.capi.proofs.draw.draw_asked.Goals as goal
+use Rattle.capi.proofs.draw.symbol_picture.Goals as goal
 
 pub returns-in-Err-clause-answers : goal.returns-in-Err-clause-answers
 returns-in-Err-clause-answers c =
