@@ -1,6 +1,5 @@
 -- The first answer, and the scale of what is found.
-use Rattle.std.proofs.Common.{◌≡◌, ◌<◌, ◌≤◌, ◌+◌, ◌-◌, ℕ, zero, suc, min, false, Option, Some, None, List, [], ◌∷◌, ◌∙◌, refl, sym, subst, arith}
-use Rattle.std.specs.List.{range_with_len}
+use Rattle.std.proofs.Common.{◌≡◌, ◌≤◌, ◌+◌, ℕ, zero, suc, min, false, Option, Some, None, List, [], ◌∷◌, ◌∙◌, refl, sym, subst, arith}
 use Rattle.std.specs.Option.{is_some, option_map, option_or}
 use Rattle.std.proofs.lemmas.Bool.{false≢true}
 use Rattle.std.specs.Prelude.{IfSome}
@@ -12,15 +11,6 @@ use Rattle.reading.specs.Found.{any_reading, first_some, found_of, reading_as, r
 use Rattle.reading.specs.Labels.{read_dots}
 use Rattle.reading.specs.declared.found.Reading.{Reading}
 use Rattle.reading.proofs.ScaleLaws.{scale_within}
-
--- the answers from one question on
-pub asked_in_vain : {B : Type 0} (ask : ℕ → Option B) (a n : ℕ) → a < n → None ≡ ask a
-    → first_some ask (range_with_len a (n - a)) ≡ first_some ask (range_with_len (a + 1) (n - (a + 1)))
-asked_in_vain ask a n inside none = let more : n - a ≡ suc (n - (a + 1)) = omega arith in rw (more, ← none) refl
-
-pub answered : {B : Type 0} (ask : ℕ → Option B) (a n : ℕ) (v : B) → a < n → Some v ≡ ask a
-    → first_some ask (range_with_len a (n - a)) ≡ Some v
-answered ask a n v inside some = let more : n - a ≡ suc (n - (a + 1)) = omega arith in rw (more, ← some) refl
 
 pub or_later : {A : Type 0} (a b c : Option A) → option_or (option_or a b) c ≡ option_or a (option_or b c)
 or_later (Some x) b c = refl

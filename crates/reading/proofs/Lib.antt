@@ -4,6 +4,7 @@ mod BitLaws
 mod FoundLaws
 mod ScaleLaws
 mod AloneLaws
+mod FirstLaws
 mod Examples
 mod WidthLaws
 mod SquareLaws

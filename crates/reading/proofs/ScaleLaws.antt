@@ -34,6 +34,7 @@ use Rattle.filter.specs.Symbol.{quiet_zone}
 use Rattle.filter.proofs.FoundLaws.{common_rows}
 use Rattle.reading.specs.Found.{symbologies}
 use Rattle.reading.specs.Labels.{read_dots, read_short}
+use Rattle.reading.specs.Private.{is_second_light}
 use Rattle.reading.proofs.CellLaws.{begins, same_cell}
 
 -- ---- the first modules
@@ -65,18 +66,12 @@ corner_dark Qr rows full read =
     option_and_then_some (λ n. read_square n (value_at rows)) (then_some _ (length rows)) full read (λ n is after.
     square_dark n (value_at rows) full after)
 
-is_ean : Symbology → Bool
-is_ean Code128 = false
-is_ean Qr = false
-is_ean other = true
-
 ean13_light : (full : List ℕ) → get_or (ean13_row full) 1 false ≡ false
 ean13_light [] = refl
 ean13_light (first ∷ rest) = refl
 
-second_light : (symbology : Symbology) → is_ean symbology ≡ true → (rows : List (List Bool)) (full : List ℕ)
+second_light : (symbology : Symbology) → is_second_light symbology ≡ true → (rows : List (List Bool)) (full : List ℕ)
     → read_modules symbology rows ≡ Some full → value_at rows 1 0 ≡ false
-unfolding is_ean
 second_light Ean13 is rows full read =
     ap (λ (l : List Bool). get_or l 1 false) (ean13_drawn (get_or rows 0 []) full (first_read read_ean13 rows full read)).0
     ∙ ean13_light full
@@ -90,7 +85,7 @@ second_light Qr is rows full read = absurd (false≢true is)
 -- ---- quiet zones
 
 -- no two have as many modules on the left, and none more than eleven
-zone_is : (a : Symbology) → (find (λ b. (quiet_zone b).left == (quiet_zone a).left) symbologies ≡ Some a)
+pub zone_is : (a : Symbology) → (find (λ b. (quiet_zone b).left == (quiet_zone a).left) symbologies ≡ Some a)
     × (0 < (quiet_zone a).left) × ((quiet_zone a).left ≤ 11) × (0 < (quiet_zone a).right)
 zone_is Ean13 = (refl, omega arith, omega arith, omega arith)
 zone_is Ean8 = (refl, omega arith, omega arith, omega arith)
@@ -103,8 +98,7 @@ same_zone a b e = same_Some a b (sym (zone_is a).0
     ∙ ap (λ n. find (λ c. (quiet_zone c).left == n) symbologies) e ∙ (zone_is b).0)
 
 -- none is a multiple of that of EAN or UPC
-once : (a : Symbology) (m n : ℕ) → is_ean a ≡ true → (quiet_zone a).left * m ≡ n → 0 < n → n ≤ 11 → m ≡ 1
-unfolding is_ean
+once : (a : Symbology) (m n : ℕ) → is_second_light a ≡ true → (quiet_zone a).left * m ≡ n → 0 < n → n ≤ 11 → m ≡ 1
 once Ean13 m n is e some most = omega arith
 once Ean8 m n is e some most = omega arith
 once UpcA m n is e some most = omega arith
@@ -114,18 +108,18 @@ once Qr m n is e some most = absurd (false≢true is)
 -- ---- what is read
 
 -- the modules that are sampled, and the place of the first one, which is dark
-record IsRead (symbology : Symbology) (r : Raster) (scale : ℕ) : Type 0 where
-  some : 0 < scale
-  rows : List (List Bool)
-  is : sample r scale (quiet_zone symbology) ≡ Some rows
-  columns : 0 < columns_of r scale (quiet_zone symbology)
-  lines : 0 < rows_of r scale (quiet_zone symbology)
-  wide : (quiet_zone symbology).left * scale < r.width
-  high : (quiet_zone symbology).top * scale < r.height
-  dark : value_at r.rows ((quiet_zone symbology).left * scale) ((quiet_zone symbology).top * scale) ≡ true
-  light : is_ean symbology ≡ true → value_at rows 1 0 ≡ false
+pub record IsRead (symbology : Symbology) (r : Raster) (scale : ℕ) : Type 0 where
+  pub some : 0 < scale
+  pub rows : List (List Bool)
+  pub is : sample r scale (quiet_zone symbology) ≡ Some rows
+  pub columns : 0 < columns_of r scale (quiet_zone symbology)
+  pub lines : 0 < rows_of r scale (quiet_zone symbology)
+  pub wide : (quiet_zone symbology).left * scale < r.width
+  pub high : (quiet_zone symbology).top * scale < r.height
+  pub dark : value_at r.rows ((quiet_zone symbology).left * scale) ((quiet_zone symbology).top * scale) ≡ true
+  pub light : is_second_light symbology ≡ true → value_at rows 1 0 ≡ false
 
-is_read : (symbology : Symbology) (r : Raster) (scale : ℕ) (full : List ℕ) → 0 < scale
+pub is_read : (symbology : Symbology) (r : Raster) (scale : ℕ) (full : List ℕ) → 0 < scale
     → read_dots symbology scale r ≡ Some full → IsRead symbology r scale
 is_read symbology r scale full some read =
     let zone = quiet_zone symbology in
@@ -185,7 +179,7 @@ module _ {a : Symbology} {r : Raster} {s : ℕ} (it : IsRead a r s) where
   outside_light x y wide high out = colour_is x y wide high ∙ rw out refl
 
   -- what is dark is neither left of the first module nor above it
-  after_first : (x y : ℕ) → x < r.width → y < r.height → value_at r.rows x y ≡ true
+  pub after_first : (x y : ℕ) → x < r.width → y < r.height → value_at r.rows x y ≡ true
       → ((quiet_zone a).left * s ≤ x) × ((quiet_zone a).top * s ≤ y)
   unfolding colour
   after_first x y wide high dark =
@@ -193,10 +187,10 @@ module _ {a : Symbology} {r : Raster} {s : ℕ} (it : IsRead a r s) where
       ((le-div_iff_mul-le it.some).0 (grind (arith, nat_tests)), (le-div_iff_mul-le it.some).0 (grind (arith, nat_tests)))
 
   -- the module right of the first one is light in EAN and UPC
-  second_wide : ((quiet_zone a).left + 1) * s < r.width
+  pub second_wide : ((quiet_zone a).left + 1) * s < r.width
   second_wide = begins r.width s ((quiet_zone a).left + 1) it.some (omega (arith, it.columns, (zone_is a).3))
 
-  second_is : is_ean a ≡ true → value_at r.rows (((quiet_zone a).left + 1) * s) ((quiet_zone a).top * s) ≡ false
+  pub second_is : is_second_light a ≡ true → value_at r.rows (((quiet_zone a).left + 1) * s) ((quiet_zone a).top * s) ≡ false
   second_is ean =
       let zone = quiet_zone a in
       let column : (zone.left + 1) * s / s ≡ zone.left + 1 = mul-div_cancel (zone.left + 1) it.some in
@@ -216,7 +210,7 @@ same_corner is too =
     (omega (arith, first.0, other.0), omega (arith, first.1, other.1))
 
 -- dots that are read as a symbol of EAN or UPC are read as no other
-one_ean : {r : Raster} {a b : Symbology} {s u : ℕ} → is_ean a ≡ true → IsRead a r s → IsRead b r u → (a ≡ b) × (s ≡ u)
+one_ean : {r : Raster} {a b : Symbology} {s u : ℕ} → is_second_light a ≡ true → IsRead a r s → IsRead b r u → (a ≡ b) × (s ≡ u)
 one_ean {r = r} {a = a} {b = b} {s = s} {u = u} ean is too = elim (cases_eq (s % u) 0) [
   | inl whole ↦
       let m = s / u in
@@ -253,7 +247,6 @@ other_way : {a b : Symbology} {s u : ℕ} → (a ≡ b) × (s ≡ u) → (b ≡ 
 other_way e = (sym e.0, sym e.1)
 
 one : {r : Raster} {s u : ℕ} (a b : Symbology) → IsRead a r s → IsRead b r u → (a ≡ b) × (s ≡ u)
-unfolding is_ean
 one Ean13 b is too = one_ean refl is too
 one Ean8 b is too = one_ean refl is too
 one UpcA b is too = one_ean refl is too

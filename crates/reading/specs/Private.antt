@@ -1,11 +1,16 @@
 -- Definitions that only the contracts of private functions cite: nothing here has to be believed.
-use Rattle.std.specs.Prelude.{◌≡◌, ◌≢◌, ◌⊎◌, ◌<◌, ℕ, ◌+◌, ◌-◌, ◌*◌, ◌/◌, ◌%◌, ◌==◌, ◌&&◌, nat_le, Bool}
+use Rattle.std.specs.Prelude.{◌≡◌, ◌≢◌, ◌⊎◌, ◌<◌, ℕ, ◌+◌, ◌-◌, ◌*◌, ◌/◌, ◌%◌, ◌==◌, ◌&&◌, nat_le, nat_lt, not, Bool, true, false}
+use Rattle.std.specs.Prelude.{Option, None, if◌then◌else◌}
 use Rattle.std.specs.Bool.{beq}
 use Rattle.std.specs.List.{list_all}
+use Rattle.labelcore.specs.declared.symbology.Symbology.{Symbology}
+use Rattle.labelcore.specs.declared.symbology.Symbology.TheVariants.{Code128, Qr}
+use Rattle.filter.specs.Symbol.{quiet_zone}
 use Rattle.picture.specs.Picture.{Picture}
 use Rattle.picture.specs.Reading.{is_module}
 use Rattle.picture.specs.Text.{below}
 use Rattle.picture.specs.declared.quiet_zone.QuietZone.{QuietZone}
+use Rattle.reading.specs.Found.{Found, reading_as}
 
 -- the rows before one have the pixels of the first
 abbrev pub AreAlike : Picture → ℕ → Type 0
@@ -38,3 +43,38 @@ modules_in p scale zone = record {
   height = p.height / scale - zone.top - zone.bottom;
   dark = λ column row. p.dark ((zone.left + column) * scale) ((zone.top + row) * scale);
 }
+
+-- the pixels of a row before one are light
+abbrev pub IsLightBefore : Picture → ℕ → ℕ → Type 0
+IsLightBefore p end y = (x : ℕ) → x < end → p.dark x y ≡ false
+
+-- the rows before one are light
+abbrev pub AreLightBefore : Picture → ℕ → Type 0
+AreLightBefore p end = (x y : ℕ) → x < p.width → y < end → p.dark x y ≡ false
+
+-- the first dark pixel of a picture, row by row
+pub record IsFirst (p : Picture) (x y : ℕ) : Type 0 where
+  pub wide : x < p.width
+  pub high : y < p.height
+  pub dark : p.dark x y ≡ true
+  pub before : IsLightBefore p x y
+  pub above : AreLightBefore p y
+
+-- whether the second module of each symbol of a symbology is light: that of EAN and UPC
+abbrev pub is_second_light : Symbology → Bool
+is_second_light Code128 = false
+is_second_light Qr = false
+is_second_light other = true
+
+-- whether a symbol of a symbology can have its first module at the first dark pixel, behind its quiet zone
+abbrev pub can_begin : Picture → ℕ → ℕ → Symbology → Bool
+can_begin p x y symbology =
+    let zone = quiet_zone symbology in
+    let scale = x / zone.left in
+    x % zone.left == 0 && y == zone.top * scale && nat_lt (x + scale) p.width
+    && not (is_second_light symbology && p.dark (x + scale) y) && nat_lt 0 scale
+
+-- what a picture is read as by the rule of a symbology, at the scale at which its quiet zone ends at the first dark pixel
+abbrev pub reading_from : ℕ → Picture → ℕ → ℕ → Symbology → Option Found
+reading_from turns p x y symbology =
+    if can_begin p x y symbology then reading_as turns p (x / (quiet_zone symbology).left) symbology else None

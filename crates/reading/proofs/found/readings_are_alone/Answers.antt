@@ -2,4 +2,4 @@ use Rattle.reading.proofs.AloneLaws.{read_upright}
 use Rattle.reading.proofs.found.readings_are_alone.Goals as goal
 
 pub returns : goal.returns
-returns c = λ p symbology scale full some read. rw (read_upright p symbology scale full some read)
+returns c = λ p symbology scale full some read. rw (read_upright 0 p symbology scale full some read)
