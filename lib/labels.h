@@ -233,6 +233,9 @@ LABELS_API int labels_read(int symbology, uint32_t scale, const void *dots, uint
  * `found` has them; its numbers are 0 where nothing is read. Where the region is read by no symbology at any scale it is
  * turned, by as few quarter turns as it is read after. No two symbologies, and no two scales, read the same upright dots.
  *
+ * The time grows with the number of dots alone, whatever they show: each symbology is tried at one scale in each direction,
+ * at which its quiet zone ends at the first dark dot. A region without a dark dot is looked at once.
+ *
  * `bits` has `size` bytes; those from the end of the last row of the region on may be left out. The bits around the region
  * do not matter. The codes are those of labels_read(), LABELS_BAD_OPTION where the region is not within the bits, its rows
  * overlap, `dark` is neither 0 nor 1, or a reserved word is not 0. */

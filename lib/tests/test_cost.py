@@ -1,0 +1,62 @@
+"""What labels_read_bits() costs at most, in instructions for each dot: by the dots alone, whatever they show."""
+
+import re
+import tempfile
+import unittest
+from pathlib import Path
+
+from support import LIB, PROVED, WithLibrary, run, text_of
+
+FLAGS = ("-std=c11", "-O2", "-g", "-Wall", "-Wextra", "-Werror", f"-I{LIB}", f"-I{LIB}/tests")
+PICTURES = "blank row column dot last corner dark rows columns squares noise below".split()
+SYMBOLS = [f"{symbol}-{turns}" for symbol in ("ean8", "qr") for turns in range(4)]
+# The number of divisors of a side is that of the scales that it has room for.
+MANY_DIVISORS, PRIME = 360, 359
+MOST_FOR_A_DOT = 150
+NOT_READ = 17
+
+
+class Cost(WithLibrary):
+    def setUp(self) -> None:
+        self.program = Path(tempfile.mkdtemp(dir=self.library.folder)) / "read_cost"
+        done = run("gcc", *FLAGS, LIB / "tests/read_cost.c", LIB / "labels.c", PROVED, "-o", self.program)
+        self.assertEqual(done.returncode, 0, text_of(done))
+
+    def counted(self, picture: str, side: int, *words: str) -> tuple[int, float]:
+        """The code of the call, and the instructions that it takes for each dot of a picture."""
+        tool = ("valgrind", "--tool=callgrind", "--toggle-collect=labels_read*", "--callgrind-out-file=/dev/null")
+        done = run(*tool, self.program, picture, str(side), *words)
+        collected = re.search(rb"Collected : (\d+)", done.stderr)
+        self.assertTrue(done.returncode == 0 and collected, text_of(done))
+        assert collected
+        code, dots = map(int, done.stdout.split())
+        return code, int(collected[1]) / dots
+
+    def test_pictures_without_a_symbol(self) -> None:
+        for picture in [*PICTURES, "qr-finders"]:
+            with self.subTest(picture):
+                code, cost = self.counted(picture, MANY_DIVISORS)
+                self.assertEqual(code, NOT_READ)
+                self.assertLess(cost, MOST_FOR_A_DOT)
+
+    def test_symbols_in_each_direction(self) -> None:
+        for picture in SYMBOLS:
+            with self.subTest(picture):
+                code, cost = self.counted(picture, 0)
+                self.assertEqual(code, 0)
+                self.assertLess(cost, MOST_FOR_A_DOT)
+
+    def test_divisors_of_the_side_cost_nothing(self) -> None:
+        for picture in ("blank", "row", "column"):
+            with self.subTest(picture):
+                _, many = self.counted(picture, MANY_DIVISORS)
+                _, few = self.counted(picture, PRIME)
+                self.assertLess(many, 1.1 * few)
+
+    def test_each_scale_tried_is_seen(self) -> None:
+        _, cost = self.counted("blank", MANY_DIVISORS, "each")
+        self.assertGreater(cost, MOST_FOR_A_DOT)
+
+
+if __name__ == "__main__":
+    unittest.main()
