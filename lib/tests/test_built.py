@@ -118,8 +118,9 @@ class Built(WithLibrary):
 
     def test_the_test_of_the_packages(self) -> None:
         """debian/tests/library passes, and fails where one of the three ways to the library draws otherwise, or has no
-        version."""
+        version, and where the package depends on an older C library than it needs."""
         self.assertEqual(self.packages_tested({}), 0)
+        self.assertNotEqual(self.packages_tested({}, libc="2.2.5"), 0)
         lower = "{LABELS_PBM, 1, 40, LABELS_LEVEL_M, 1, LABELS_MASK_AUTO, 0, {0}};"
         source = self.library.changed(("labels.c", "defaults = LABELS_DEFAULTS;", f"defaults = {lower}"))
         wrong = Path(tempfile.mkdtemp(dir=self.library.folder))
@@ -135,9 +136,14 @@ class Built(WithLibrary):
             with self.subTest(name):
                 self.assertNotEqual(self.packages_tested({name: found}), 0)
 
-    def packages_tested(self, changed: dict[str, Path]) -> int:
-        """The status of debian/tests/library over a copy of what is installed, with other files in it."""
+    def packages_tested(self, changed: dict[str, Path], libc: str = "2.14") -> int:
+        """The status of debian/tests/library over a copy of what is installed, with other files in it; `libc` is the
+        version of the C library that the package depends on."""
         folder = Path(tempfile.mkdtemp(dir=self.library.folder))
+        said = folder / "bin/dpkg-query"
+        said.parent.mkdir()
+        said.write_text(f"#!/bin/sh\necho 'libc6 (>= {libc})'\n", encoding="ascii")
+        said.chmod(0o755)
         root = folder / "root"
         shutil.copytree(self.library.root, root, symlinks=True)
         for name, file in changed.items():
@@ -146,6 +152,7 @@ class Built(WithLibrary):
             name: value.replace(str(self.library.root), str(root)) for name, value in self.library.environment.items()
         }
         test = LIB.parent / "debian/tests/library"
+        places["PATH"] = f"{said.parent}:{places['PATH']}"
         return run("bash", test, environment={**places, "AUTOPKGTEST_TMP": str(folder)}).returncode
 
     def test_each_file_is_looked_for(self) -> None:

@@ -485,7 +485,9 @@ class Judges(unittest.TestCase):
 # What stands in for the programs that debian/tests calls, as they are and as they must not be. That of the library
 # is tried in lib/tests.
 RIGHT_PROGRAMS = {
-    "labels": "read line; case $line in *8) echo 'line 1: check digit is 8, should be 7' >&2 ;; *) echo P1 ;; esac",
+    "labels": "read line; case $line in *8) echo 'line 1: check digit is 8, should be 7' >&2 ;; *) echo P1 ;; esac"
+    " # GLIBC_2.14 GLIBC_2.34 GLIBC_2.4",
+    "dpkg-query": "echo 'libc6 (>= 2.34)'",
     "label-table": "printf 'ean13 4006381333931\\nean13 4006381333948\\n'",
     "label-print": "[ $1 = --stock ] && echo %PDF-1.5 || printf '^XA\\n^XA\\n'",
     "man": "echo SYNOPSIS",
@@ -496,6 +498,8 @@ RIGHT_PROGRAMS = {
 WRONG_PROGRAMS = (
     ("program", {"labels": "echo P1"}),
     ("program", {"labels": "read line; case $line in *8) echo 'line 1: check digit is 8, should be 7' >&2 ;; esac"}),
+    ("program", {"dpkg-query": "echo 'libc6 (>= 2.17)'"}),
+    ("program", {"dpkg-query": "echo libgcc-s1"}),
     ("tools", {"label-table": "echo ean13 4006381333931"}),
     ("tools", {"label-print": "echo %PDF-1.5"}),
     ("tools", {"label-print": "printf '^XA\\n^XA\\n'"}),
