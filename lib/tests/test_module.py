@@ -13,7 +13,7 @@ LINES = 1000
 TESTS = LIB / "tests"
 DOCSTRINGS = """
 import doctest, liblabels, sys
-for module in (liblabels, liblabels._reading):
+for module in (liblabels, liblabels._pictures, liblabels._reading):
     failed, tried = doctest.testmod(module)
     if failed or not tried:
         sys.exit(1)

@@ -53,13 +53,15 @@ for version in range(1, 11):
 assert liblabels.read("qr", liblabels.draw("qr", 652 * "7", level="L")) == 652 * b"7"
 """
 )
-# The same dots as an array of truths, as one of grey, as images and as PBM of both kinds, with a margin too many, and
-# with light and dark exchanged.
+# The same dots as an array of truths, as one of grey, as images, as a bitmap and as files of each kind, with a margin
+# too many, and with light and dark exchanged.
 IMAGES = (
     DRAWN
     + """
-import io, itertools, numpy
+import io, itertools, numpy, pathlib, tempfile
 from PIL import Image
+kept = tempfile.TemporaryDirectory()
+folder = pathlib.Path(kept.name)
 for ((symbology, data), full), scale in itertools.product(DRAWN.items(), (3, 8)):
     bitmap = liblabels.bitmap(symbology, data, scale=scale, height=9)
     picture = Image.frombytes("1", (bitmap.width, bitmap.height), bitmap.bits, "raw", "1;I")
@@ -71,8 +73,21 @@ for ((symbology, data), full), scale in itertools.product(DRAWN.items(), (3, 8))
     plain = liblabels.draw(symbology, data, scale=scale, height=9)
     by_column = numpy.asfortranarray(~light)
     arrays = (~light, grey, by_column, (~light)[::-1][::-1])
-    images = (picture, picture.convert("L"), picture.convert("RGB"), Image.fromarray(grey))
-    for image in (*arrays, *images, binary, file.getvalue(), plain, bytearray(plain)):
+    images = (picture, picture.convert("L"), picture.convert("P"), picture.convert("RGB"), Image.fromarray(grey))
+    # A palette of white and black; and all black, seen through where it is light: on paper that is white.
+    palette = Image.fromarray((~light).astype(numpy.uint8), "P")
+    palette.putpalette([255, 255, 255, 0, 0, 0])
+    clear = Image.new("RGBA", picture.size)
+    clear.putalpha(Image.fromarray(255 - 255 * light.astype(numpy.uint8)))
+    images += (palette, clear, clear.convert("LA"))
+    black = palette.copy()
+    black.putpalette([0, 0, 0, 0, 0, 0])
+    png = io.BytesIO()
+    black.save(png, "png", transparency=bytes([0, 255]))
+    for name, dots in (("dots.png", bitmap.png()), ("dots.pbm", plain)):
+        (folder / name).write_bytes(dots)
+    files = (binary, file.getvalue(), plain, bytearray(plain), bitmap.png(), png.getvalue())
+    for image in (*arrays, *images, *files, bitmap, *folder.iterdir()):
         assert liblabels.read(image) == liblabels.Reading(symbology, scale, 0, full), (symbology, type(image))
         assert liblabels.read(symbology, image) == full, (symbology, type(image))
         assert liblabels.read(symbology, image, scale) == full, (symbology, type(image))
@@ -89,7 +104,7 @@ for ((symbology, data), full), scale in itertools.product(DRAWN.items(), (3, 8))
 """
 )
 WRONG = """
-import liblabels, numpy
+import liblabels, numpy, pathlib
 from PIL import Image
 truths = numpy.zeros((3, 3), bool)
 for error, said, symbology, image, scale in (
@@ -99,14 +114,19 @@ for error, said, symbology, image, scale in (
     (ValueError, "not bool of 1", "qr", numpy.zeros(9, bool), None),
     (ValueError, "not float64 of 2", "qr", numpy.zeros((3, 3)), None),
     (ValueError, "not uint8 of 3", "qr", numpy.zeros((3, 3, 3), numpy.uint8), None),
-    (ValueError, "mode of an image is RGBA", "qr", Image.new("RGBA", (3, 3)), None),
-    (ValueError, "have to be PBM", "qr", b"P5\\n1 1\\n255\\n\\0", None),
-    (ValueError, "have to be PBM", "qr", b"", None),
+    (ValueError, "0 and 1 are both dark", "qr", numpy.eye(3, dtype=numpy.uint8), None),
+    (ValueError, "mode of an image is CMYK", "qr", Image.new("CMYK", (3, 3)), None),
+    (ValueError, "have to be PNG, or PBM", "qr", b"P5\\n1 1\\n255\\n\\0", None),
+    (ValueError, "have to be PNG, or PBM", "qr", b"", None),
+    (ValueError, "has to have 6 bytes of them, not 5", "qr", liblabels.Bitmap(9, 3, b"12345"), None),
+    (TypeError, "not int", "qr", liblabels.Bitmap(9, 3, 27), None),
+    (OSError, "cannot identify", "qr", b"\\x89PNG\\r\\n\\x1a\\n", None),
+    (OSError, "No such file", "qr", pathlib.Path("no such file"), None),
     (ValueError, "as many digits 0 and 1", "qr", b"P1\\n2 2\\n011\\n", None),
     (ValueError, "as many digits 0 and 1", "qr", b"P1\\n2 2\\n0112\\n", None),
     (ValueError, "has to have 2 bytes of them, not 3", "qr", b"P4\\n2 2\\n123", None),
     (TypeError, "not str", "qr", "P1 1 1 0", None),
-    (TypeError, "not the name 'x.png'", "x.png", None, None),
+    (TypeError, "Path('x.png') names a file", "x.png", None, None),
 ):
     try:
         liblabels.read(symbology, image, scale)
@@ -122,12 +142,17 @@ MUTANTS = (
     (READ, "found.symbology != symbology", "found.symbology is None"),
     (IMAGES, "found.turns or found", "found"),
     (IMAGES, "found.turns, out", "0, out"),
-    (IMAGES, "grey >= _FIRST_LIGHT", "grey > _FIRST_LIGHT"),
-    (IMAGES, ', "1").tobytes(), dark=0)', ', "1").tobytes())'),
+    (IMAGES, "grey < _FIRST_LIGHT", "grey <= _FIRST_LIGHT"),
+    (IMAGES, "_DARK = 1", "_DARK = 0"),
+    (IMAGES, ' and "transparency" not in image.info', ""),
+    (IMAGES, '"A" not in image.mode and ', ""),
+    (IMAGES, "_WHITE - opaque for", "opaque for"),
+    (IMAGES, "text.startswith(PNG_HEAD)", "not text"),
     (IMAGES, "_FIRST_LIGHT = 128", "_FIRST_LIGHT = 127"),
     (IMAGES, "height, width = array.shape", "width, height = array.shape"),
     (IMAGES, "return (width + 7) // 8", "return (width + 8) // 8"),
     (WRONG, "digits.strip", "digits[:3].strip"),
+    (WRONG, "1 in dots and not", "1 in dots and"),
 )
 
 

@@ -29,6 +29,7 @@ from dataclasses import dataclass, field
 
 from . import _binding, _pictures
 from ._binding import FORMATS, LEVELS, LIBRARY, SYMBOLOGIES, Data
+from ._pictures import Bitmap
 from ._reading import Reading, read
 
 __all__ = [
@@ -174,31 +175,6 @@ class Symbol:
     def _repr_svg_(self) -> str:
         """Returns what a notebook shows."""
         return self.svg(4, light="white")
-
-
-@dataclass(frozen=True)
-class Bitmap:
-    """A picture as bits, 1 where dark, in rows of whole bytes, as binary PBM has them.
-
-    Attributes:
-        width: dots in a row, with the quiet zones.
-        height: rows of dots.
-        bits: the rows, each (width + 7) // 8 bytes, the first dot in the highest bit.
-    """
-
-    width: int
-    height: int
-    bits: bytes = field(repr=False)
-
-    def png(self, dpi: float | None = None) -> bytes:
-        """Returns the picture as PNG of one bit a dot; `dpi` says how many dots an inch has where it is printed.
-
-        Raises ValueError for a `dpi` that is not 1 to 100,000.
-
-        >>> bitmap("ean8", "7351353", scale=2).png(dpi=300)[1:4]
-        b'PNG'
-        """
-        return _pictures.png_of(self.width, self.height, self.bits, dpi)
 
 
 @dataclass(frozen=True)

@@ -4,12 +4,14 @@ import html
 import struct
 import zlib
 from collections.abc import Iterable
+from dataclasses import dataclass, field
 
 Rectangle = tuple[int, int, int, int]
 
 UNITS = ("", "px", "mm", "cm", "in", "pt")
 _DARK_IS_0 = bytes(255 - byte for byte in range(256))
 _METRES_OF_AN_INCH = 0.0254
+PNG_HEAD = b"\x89PNG\r\n\x1a\n"
 
 
 def dark_runs(modules: bytes, width: int) -> Iterable[tuple[int, int, int]]:
@@ -74,4 +76,30 @@ def png_of(width: int, height: int, bits: bytes, dpi: float | None) -> bytes:
         a_metre = round(dpi / _METRES_OF_AN_INCH)
         chunks.append(_chunk(b"pHYs", struct.pack(">2IB", a_metre, a_metre, 1)))
     chunks += [_chunk(b"IDAT", zlib.compress(rows, 9)), _chunk(b"IEND", b"")]
-    return b"\x89PNG\r\n\x1a\n" + b"".join(chunks)
+    return PNG_HEAD + b"".join(chunks)
+
+
+@dataclass(frozen=True)
+class Bitmap:
+    """A picture as bits, 1 where dark, in rows of whole bytes, as binary PBM has them.
+
+    Attributes:
+        width: dots in a row, with the quiet zones.
+        height: rows of dots.
+        bits: the rows, each (width + 7) // 8 bytes, the first dot in the highest bit.
+    """
+
+    width: int
+    height: int
+    bits: bytes = field(repr=False)
+
+    def png(self, dpi: float | None = None) -> bytes:
+        """Returns the picture as PNG of one bit a dot; `dpi` says how many dots an inch has where it is printed.
+
+        Raises ValueError for a `dpi` that is not 1 to 100,000.
+
+        >>> from liblabels import bitmap
+        >>> bitmap("ean8", "7351353", scale=2).png(dpi=300)[1:4]
+        b'PNG'
+        """
+        return png_of(self.width, self.height, self.bits, dpi)

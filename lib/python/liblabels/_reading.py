@@ -1,20 +1,28 @@
-"""Pictures read back as the data of their symbols: those of numpy, of Pillow and of PBM files."""
+"""Pictures read back as the data of their symbols: those of numpy, of Pillow and of files."""
 
 import ctypes
+import importlib
+import io
+import os
 import re
-from collections.abc import Sequence
+from collections.abc import Mapping, Sequence
 from dataclasses import dataclass
+from pathlib import Path
 from typing import Protocol, overload, runtime_checkable
 
 from . import _binding
 from ._binding import LIBRARY, SYMBOLOGIES
+from ._pictures import PNG_HEAD, Bitmap
 
 _MOST = 2**32 - 1  # the largest number of a call
 _FIRST_LIGHT = 128
+_DARK = 1  # the bits that are dark
 _DIGITS_OF_TRUTHS = b"0" + b"1" * 255
 _DIGITS_OF_GREY = b"1" * _FIRST_LIGHT + b"0" * (256 - _FIRST_LIGHT)
-_IS_LIGHT = [grey >= _FIRST_LIGHT for grey in range(256)]
-_MODES = ("1", "L", "RGB")
+_IS_DARK = [grey < _FIRST_LIGHT for grey in range(256)]
+_WHITE = 255
+_SEEN_THROUGH = [_WHITE - opaque for opaque in range(256)]
+_MODES = ("1", "L", "LA", "P", "RGB", "RGBA")
 _BETWEEN = rb"(?:\s|#[^\n]*\n)+"  # white space and comments, as pbm(5) has them
 _HEAD = re.compile(rb"(P[14])" + _BETWEEN + rb"(\d{1,9})" + _BETWEEN + rb"(\d{1,9})\s")
 
@@ -47,10 +55,20 @@ class Image(Protocol):
     def size(self) -> tuple[int, int]:
         ...
 
+    @property
+    def info(self) -> Mapping[str, object]:
+        ...
+
     def convert(self, mode: str) -> "Image":
         ...
 
-    def point(self, lut: Sequence[int], mode: str) -> "Image":
+    def point(self, lut: Sequence[int], mode: str | None = None) -> "Image":
+        ...
+
+    def getchannel(self, channel: str) -> "Image":
+        ...
+
+    def paste(self, im: int, box: None, mask: "Image") -> None:
         ...
 
     def tobytes(self) -> bytes:
@@ -74,33 +92,32 @@ class Reading:
     data: bytes
 
 
-@dataclass(frozen=True)
-class _Bits:
-    """Rows of bits, each of whole bytes, of which `dark` are dark: 1 or 0."""
-
-    width: int
-    height: int
-    bits: bytes
-    dark: int = 1
-
-
 def _size_of_row(width: int) -> int:
     return (width + 7) // 8
 
 
-def _packed(width: int, height: int, digits: bytes) -> _Bits:
+def _packed(width: int, height: int, digits: bytes) -> Bitmap:
     """The bits of rows of digits, 1 where dark, else 0."""
     size = _size_of_row(width)
     rows = (digits[start : start + width].ljust(8 * size, b"0") for start in range(0, len(digits), width or 1))
     bits = int(b"".join(rows) or b"0", 2).to_bytes(size * height, "big")
-    return _Bits(width, height, bits)
+    return Bitmap(width, height, bits)
 
 
-def _bits_of_pbm(text: bytes) -> _Bits:
-    """The bits of plain or binary PBM of one picture, pbm(5)."""
+def _whole(width: int, height: int, bits: bytes) -> Bitmap:
+    size = _size_of_row(width) * height
+    if len(bits) != size:
+        raise ValueError(f"a picture of {width} by {height} dots has to have {size} bytes of them, not {len(bits)}")
+    return Bitmap(width, height, bits)
+
+
+def _bits_of_file(text: bytes) -> Bitmap:
+    """The bits of PNG, which Pillow reads, or of plain or binary PBM of one picture, pbm(5)."""
+    if text.startswith(PNG_HEAD):
+        return _bits_of_image(importlib.import_module("PIL.Image").open(io.BytesIO(text)))
     head = _HEAD.match(text)
     if not head:
-        raise ValueError("bytes have to be PBM: P1 or P4, the width and the height, and the dots")
+        raise ValueError("bytes have to be PNG, or PBM: P1 or P4, the width and the height, and the dots")
     width, height = int(head[2]), int(head[3])
     rest = text[head.end() :]
     if head[1] == b"P1":
@@ -108,35 +125,49 @@ def _bits_of_pbm(text: bytes) -> _Bits:
         if digits.strip(b"01") or len(digits) != width * height:
             raise ValueError(f"PBM of {width} by {height} dots has to have as many digits 0 and 1")
         return _packed(width, height, digits)
-    size = _size_of_row(width) * height
-    if len(rest) != size:
-        raise ValueError(f"PBM of {width} by {height} dots has to have {size} bytes of them, not {len(rest)}")
-    return _Bits(width, height, rest)
+    return _whole(width, height, rest)
 
 
-def _bits_of_array(array: Array) -> _Bits:
+def _bits_of_array(array: Array) -> Bitmap:
     digits_of = {"bool": _DIGITS_OF_TRUTHS, "uint8": _DIGITS_OF_GREY}.get(str(array.dtype))
     if digits_of is None or len(array.shape) != 2:
         raise ValueError(f"an array has to be bool or uint8 of 2 axes, not {array.dtype} of {len(array.shape)}")
     height, width = array.shape
-    return _packed(width, height, array.tobytes().translate(digits_of))
+    dots = array.tobytes()
+    if digits_of is _DIGITS_OF_GREY and 1 in dots and not dots.strip(b"\0\1"):
+        raise ValueError("an array of uint8 is grey, where 0 and 1 are both dark: make it one of bool")
+    return _packed(width, height, dots.translate(digits_of))
 
 
-def _bits_of_image(image: Image) -> _Bits:
+def _grey_of(image: Image) -> Image:
+    """An image in grey, on white where it is transparent."""
+    if "A" not in image.mode and "transparency" not in image.info:
+        return image.convert("L")
+    opaque = image.convert("RGBA")
+    grey = opaque.convert("L")
+    grey.paste(_WHITE, None, opaque.getchannel("A").point(_SEEN_THROUGH))
+    return grey
+
+
+def _bits_of_image(image: Image) -> Bitmap:
     if image.mode not in _MODES:
         raise ValueError(f"mode of an image is {image.mode}, and has to be one of {', '.join(_MODES)}: convert it")
     width, height = image.size
-    return _Bits(width, height, image.convert("L").point(_IS_LIGHT, "1").tobytes(), dark=0)
+    return Bitmap(width, height, _grey_of(image).point(_IS_DARK, "1").tobytes())
 
 
-def _bits_of(picture: object) -> _Bits:
+def _bits_of(picture: object) -> Bitmap:
+    if isinstance(picture, Bitmap):
+        return _whole(picture.width, picture.height, _binding.encoded(picture.bits))
+    if isinstance(picture, os.PathLike):
+        return _bits_of_file(Path(picture).read_bytes())
     if isinstance(picture, (bytes, bytearray)):
-        return _bits_of_pbm(_binding.encoded(picture))
+        return _bits_of_file(_binding.encoded(picture))
     if isinstance(picture, Image):
         return _bits_of_image(picture)
     if isinstance(picture, Array):
         return _bits_of_array(picture)
-    raise TypeError(f"a picture is of numpy or of Pillow, or bytes of PBM, not {type(picture).__name__}")
+    raise TypeError(f"a picture is of numpy, of Pillow, a Bitmap, a Path or bytes, not {type(picture).__name__}")
 
 
 def _found(picture: object) -> Reading | None:
@@ -145,7 +176,7 @@ def _found(picture: object) -> Reading | None:
     height = _binding.within("height", bits.height, 0, _MOST)
     if not bits.bits:
         return None
-    region = _binding.Region(_size_of_row(width), 0, 0, width, height, bits.dark)
+    region = _binding.Region(_size_of_row(width), 0, 0, width, height, _DARK)
     found = _binding.Found()
     answer = _binding.Answer()
     out = ctypes.create_string_buffer(_binding.MAX_DATA)
@@ -158,13 +189,16 @@ def _found(picture: object) -> Reading | None:
     return Reading(SYMBOLOGIES[found.symbology], found.scale, found.turns, out.raw[: answer.length])
 
 
+Picture = Array | Image | Bitmap | os.PathLike[str] | bytes | bytearray
+
+
 @overload
-def read(picture: Array | Image | bytes | bytearray, /) -> Reading | None:
+def read(picture: Picture, /) -> Reading | None:
     ...
 
 
 @overload
-def read(symbology: str, image: Array | Image | bytes | bytearray, scale: int | None = None) -> bytes | None:
+def read(symbology: str, image: Picture, scale: int | None = None) -> bytes | None:
     ...
 
 
@@ -174,8 +208,10 @@ def read(symbology: object, image: object = None, scale: int | None = None) -> R
     A picture is
 
     - an array of numpy of two axes: of bool, True where dark, or of uint8, grey, dark below 128;
-    - an image of Pillow of mode 1, L or RGB, dark where its grey is below 128;
-    - bytes of plain or binary PBM (P1, P4) of one picture.
+    - an image of Pillow of mode 1, L, P, RGB, LA or RGBA, dark where its grey is below 128, on white where it is
+      transparent;
+    - bytes of PNG, for which Pillow has to be installed, or of plain or binary PBM (P1, P4) of one picture;
+    - a Path of such a file, or a `Bitmap`.
 
     It is the symbol in its quiet zone, and nothing else: each module a square of dots, the zone as wide as
     `Symbol.quiet_zones` says, above and below bars none, and the height of bars a whole number of modules. The
@@ -190,8 +226,9 @@ def read(symbology: object, image: object = None, scale: int | None = None) -> R
     digit of EAN and UPC is part of what is returned. The bars of a UPC-A symbol are those of the EAN-13 symbol of a 0
     and its digits; their quiet zones differ, and so each is read as itself alone.
 
-    Raises ValueError for an unknown symbology, a scale below 1, a picture of other axes, types or modes,
-    and bytes that are no PBM; TypeError for another picture.
+    Raises ValueError for an unknown symbology, a scale below 1, a picture of other axes, types, modes or sizes, an
+    array of uint8 that has 0 and 1 alone, and bytes that are neither PNG nor PBM; TypeError for another picture; and
+    what Pillow and the file system raise.
 
     >>> from liblabels import draw
     >>> picture = draw("ean13", "400638133393", scale=3)
@@ -203,7 +240,9 @@ def read(symbology: object, image: object = None, scale: int | None = None) -> R
     if not isinstance(symbology, str):
         return _found(symbology)
     if image is None:
-        raise TypeError(f"a picture has to be an array, an image or bytes of PBM, not the name {symbology!r}")
+        raise TypeError(
+            f"a picture is no str: Path({symbology!r}) names a file, and a symbology is told before a picture"
+        )
     _binding.index_of(SYMBOLOGIES, "symbology", symbology)
     wanted = None if scale is None else _binding.within("scale", scale, 1, _MOST)
     found = _found(image)
