@@ -1,7 +1,10 @@
-"""Draws one label as PNG."""
+"""Draws one label as PNG, and reads it back."""
 
-import sys
+from pathlib import Path
 
 import liblabels
 
-sys.stdout.buffer.write(liblabels.symbol("ean13", "4006381333931").png(scale=4, dpi=300))
+symbol = liblabels.symbol("ean13", "400638133393")
+print(symbol.data)  # b'4006381333931': the check digit is put behind it
+symbol.save("code.png", scale=4, dpi=300)
+print(liblabels.read(Path("code.png")))  # Reading(symbology='ean13', scale=4, turns=0, data=b'4006381333931')

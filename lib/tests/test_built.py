@@ -18,6 +18,7 @@ FILES = {
     f"{LIBDIR}/liblabels.so.1.2.0",
     f"{LIBDIR}/pkgconfig/labels.pc",
     f"{PYTHONDIR}/liblabels/__init__.py",
+    f"{PYTHONDIR}/liblabels/__main__.py",
     f"{PYTHONDIR}/liblabels/_binding.py",
     f"{PYTHONDIR}/liblabels/_pictures.py",
     f"{PYTHONDIR}/liblabels/_reading.py",

@@ -1,6 +1,7 @@
 """The examples of docs/LIBRARY.md: programs in six languages, whose pictures zbar reads, and clients over a pipe."""
 
 import os
+import re
 import select
 import subprocess
 import tempfile
@@ -65,7 +66,12 @@ class Examples(WithLibrary):
         self.assertEqual(done.returncode, 1, text_of(done))
 
     def test_python(self) -> None:
-        self.assert_reads(self.run_ok(PYTHON, EXAMPLES / "draw.py"), "4006381333931")
+        """It prints what its comments say, and zbar reads the picture too."""
+        folder = Path(tempfile.mkdtemp(dir=self.library.folder))
+        said = self.run_ok("env", "-C", folder, PYTHON, EXAMPLES / "draw.py").decode().splitlines()
+        comments = re.findall("# (.*)", (EXAMPLES / "draw.py").read_text(encoding="utf-8"))
+        self.assertEqual(said, [comment.partition(": ")[0] for comment in comments])
+        self.assert_reads((folder / "code.png").read_bytes(), "4006381333931")
 
     def test_python_reads(self) -> None:
         """A file is read as its data; one with a dark dot too many is named, and the files after it are read."""

@@ -22,7 +22,9 @@ WITH_LIBRARIES = """
 import liblabels, numpy
 from PIL import Image
 symbol = liblabels.line("qr,level=Q https://example.com/article/000123")
-array = numpy.frombuffer(symbol.modules, bool).reshape(symbol.rows, symbol.width)
+array = numpy.asarray(symbol)
+assert (array == numpy.frombuffer(symbol.modules, bool).reshape(symbol.rows, symbol.width)).all()
+assert array.dtype == bool and numpy.asarray(liblabels.symbol("ean8", "7351353")).shape == (1, 67)
 image = Image.frombytes("1", (symbol.width, symbol.rows), symbol.packed(), "raw", "1;I")
 bitmap = liblabels.bitmap_line("qr,level=Q https://example.com/article/000123")
 framed = Image.frombytes("1", (bitmap.width, bitmap.height), bitmap.bits, "raw", "1;I")
@@ -30,6 +32,38 @@ assert symbol.packed(quiet_zones=True) == bitmap.bits
 light = numpy.array(framed)
 assert (numpy.array(image) == ~array).all() and (light[4:-4, 4:-4] == ~array).all()
 assert light[:4].all() and light[-4:].all() and light[:, :4].all() and light[:, -4:].all()
+"""
+# What `save` and the module as a program write, in the folder that it runs in.
+WRITTEN = """
+import liblabels, pathlib, subprocess, sys
+symbol = liblabels.symbol("qr", "gr\u00fcn", level="H")
+symbol.save("code.png", scale=3, dpi=300)
+symbol.save(pathlib.Path("code.SVG"), module=0.5, unit="mm")
+assert pathlib.Path("code.png").read_bytes() == symbol.png(3, 300)
+assert pathlib.Path("code.SVG").read_text() == symbol.svg(0.5, "mm")
+for name in ("code", "code.jpg", "png"):
+    try:
+        symbol.save(name)
+    except ValueError as why:
+        assert name in str(why) and not pathlib.Path(name).exists()
+    else:
+        raise AssertionError(name)
+def program(*words):
+    return subprocess.run([sys.executable, "-m", "liblabels", *words], capture_output=True)
+for words, picture in (
+    ("--level H --scale 3 --dpi 300", symbol.png(3, 300)),
+    ("--level H", symbol.png(4)),
+    ("--level H --svg", symbol.svg().encode()),
+):
+    done = program("qr", "gr\u00fcn", *words.split())
+    assert (done.returncode, done.stdout, done.stderr) == (0, picture, b""), done
+number = liblabels.symbol("ean8", "7351353", height=9)
+assert program("ean8", "7351353", "--height", "9").stdout == number.png(4)
+assert program("ean8", "7351353", *"--height 9 --svg --digits".split()).stdout == number.svg(digits=True).encode()
+WRONG = (("ean13 4006381333930", b"check digit is 0"), ("qr x --scale 9", b"scale is 9"), ("pdf x", b"choice"))
+for words, said in WRONG:
+    done = program(*words.split())
+    assert (done.returncode, done.stdout) == (2, b"") and said in done.stderr, done
 """
 WRONG_OPTIONS = """
 import liblabels
@@ -166,6 +200,26 @@ class Module(WithLibrary):
     def test_with_numpy_and_pillow(self) -> None:
         self.run_ok(PYTHON, "-c", WITH_LIBRARIES)
         self.assert_fails(PYTHON, "-c", WITH_LIBRARIES.replace("1;I", "1"))
+
+    def test_what_is_written(self) -> None:
+        folder = ("env", "-C", tempfile.mkdtemp(dir=self.library.folder))
+        self.run_ok(*folder, PYTHON, "-c", WRITTEN)
+        for old, new in (('== ".svg"', '== ".jpg"'), ("self.png(**options)", "self.png()")):
+            with_module = self.with_module(self.wrong_module(old, new))
+            self.assert_fails(*folder, *with_module, "-c", WRITTEN)
+
+    def test_installed_by_pip(self) -> None:
+        """The same files as `make install` puts there, and the same version."""
+        folder = Path(tempfile.mkdtemp(dir=self.library.folder))
+        pip = (PYTHON, "-m", "pip", "install", "--quiet", "--no-index", "--no-build-isolation", "--no-compile")
+        self.run_ok(*pip, "--target", folder, self.library.changed() / "python")
+        for ours in (self.library.root / PYTHONDIR / "liblabels").iterdir():
+            self.assertEqual((folder / "liblabels" / ours.name).read_bytes(), ours.read_bytes(), ours.name)
+        program = (
+            "import importlib.metadata, liblabels; print(importlib.metadata.version('liblabels'), liblabels.version())"
+        )
+        made, *others = self.run_ok(*self.with_module(folder), "-c", program).split()
+        self.assertEqual([made], others)
 
     def test_wrong_arguments(self) -> None:
         self.run_ok(PYTHON, "-c", WRONG_OPTIONS)

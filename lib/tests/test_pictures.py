@@ -1,4 +1,4 @@
-"""SVG and PNG of a symbol: each dot is that of the proved picture, and zbar and zxing-cpp read the data."""
+"""SVG and PNG of a symbol: each dot is that of the proved picture, zbar and zxing-cpp read the data, and digits."""
 
 import unittest
 
@@ -92,6 +92,37 @@ for line, (name, data) in LINES.items():
         assert [(name, data)] == by_zxing(png), (line, by_zxing(png))
 """
 )
+# The digits of EAN and UPC below: each group in the middle of its bars, below them and within the picture; only the
+# guard bars are longer. Other symbols are as without.
+DIGITS = (
+    LINES
+    + """
+import liblabels, re, subprocess
+BAR = re.compile(r"M(\\d+) (\\d+)h(\\d+)v(\\d+)h")
+TEXT = re.compile(r'<text x="([\\d.]+)" y="(\\d+)">(\\d+)</text>')
+for line, (name, data) in LINES.items():
+    symbol = liblabels.line(line)
+    plain, svg = symbol.svg(4), symbol.svg(4, digits=True)
+    of = liblabels.layout(symbol.symbology)
+    assert (plain == svg) == (not of.digits), line
+    assert "".join(text for _, _, text in TEXT.findall(svg)) == (data if of.digits else "")
+    for (middle, foot, text), (first, last, begin, end) in zip(TEXT.findall(svg), of.digits, strict=True):
+        assert (float(middle), text) == ((begin + end) / 2, data[first:last])
+        assert f'height="{4 * (int(foot) + 1)}"' in svg and int(foot) > symbol.height + 5
+    for before, after in zip(BAR.findall(plain), BAR.findall(svg), strict=True):
+        is_guard = any(first <= int(before[0]) < last for first, last in of.guards)
+        assert after == (*before[:3], str(int(before[3]) + 5 * is_guard)), (line, before)
+    drawn = subprocess.run(["rsvg-convert", "-b", "white"], input=svg.encode(), capture_output=True, check=True).stdout
+    words = ["zbarimg", "-q", "--raw", "-Supca.enable", "-"]
+    assert data in subprocess.run(words, input=drawn, capture_output=True).stdout.decode(), line
+try:
+    symbol.svg(quiet_zones=False, digits=True)
+except ValueError as why:
+    assert "quiet_zones" in str(why)
+else:
+    raise AssertionError
+"""
+)
 
 
 class Pictures(WithLibrary):
@@ -115,6 +146,15 @@ class Pictures(WithLibrary):
             self.library.changed(("python/liblabels/_pictures.py", "M{left + x}", "M{left + x + y % 2}")) / "python"
         )
         self.assert_fails(*self.with_module(module), "-c", READ)
+
+    def test_digits(self) -> None:
+        self.run_ok(PYTHON, "-c", DIGITS)
+        for right, wrong in (
+            ("(begin + end) / 2", "begin"),
+            ("left + x in guard", "x in guard"),
+            ("5 * any", "4 * any"),
+        ):
+            self.assert_fails(*self.with_module(self.wrong_module(right, wrong)), "-c", DIGITS)
 
 
 if __name__ == "__main__":

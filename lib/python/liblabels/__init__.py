@@ -12,8 +12,10 @@ Reading(symbology='ean8', scale=2, turns=0, data=b'73513537')
 
 The modules as an array of numpy, without quiet zones, and a picture as an image of Pillow:
 
-    numpy.frombuffer(symbol.modules, bool).reshape(symbol.rows, symbol.width)
+    numpy.asarray(symbol)  # of bool, True where dark
     Image.frombytes("1", (bitmap.width, bitmap.height), bitmap.bits, "raw", "1;I")
+
+`python3 -m liblabels ean13 400638133393 > code.png` writes a symbol in a shell.
 
 Data and lines are bytes, bytearray or memoryview, or str, which is encoded as UTF-8. What the library
 refuses raises `Refused` with the text of labels(1), which a pool of processes passes on; a wrong option raises
@@ -24,8 +26,11 @@ it is not installed the import raises OSError.
 """
 
 import ctypes
+import os
 from collections.abc import Callable, Iterator
 from dataclasses import dataclass, field
+from pathlib import Path
+from typing import Any
 
 from . import _binding, _pictures
 from ._binding import FORMATS, LEVELS, LIBRARY, SYMBOLOGIES, Data
@@ -141,17 +146,32 @@ class Symbol:
         for row, first, end in _pictures.dark_runs(self.modules, self.width):
             yield first, row * high, end - first, high
 
-    def svg(self, module: float = 1, unit: str = "", quiet_zones: bool = True, light: str | None = None) -> str:
+    def svg(
+        self,
+        module: float = 1,
+        unit: str = "",
+        quiet_zones: bool = True,
+        light: str | None = None,
+        digits: bool = False,
+    ) -> str:
         """Returns the symbol as SVG, its modules `module` of a unit wide: "mm", "cm", "in", "pt", "px", or none.
 
-        `light` is the colour behind it, as "white"; without one what is behind it shows. Raises ValueError for another
-        unit, and for a module that is not above 0.
+        `light` is the colour behind it, as "white"; without one what is behind it shows. With `digits` EAN and UPC
+        have longer guard bars, and their digits below, in a font of the program that shows them: ten modules more. The
+        digits need the quiet zones. Raises ValueError for another unit, for a module that is not above 0, and for
+        digits without quiet zones.
 
         >>> symbol("ean8", "7351353", height=5).svg(0.33, "mm")[:83]
         '<svg xmlns="http://www.w3.org/2000/svg" width="26.73mm" height="1.65mm" viewBox="0 '
         """
+        if digits and not quiet_zones:
+            raise ValueError("digits need quiet_zones")
         left, _, top, _ = self.quiet_zones if quiet_zones else (0, 0, 0, 0)
-        return _pictures.svg_of(self.bars(), self.size(quiet_zones), (left, top), module, unit, light)
+        printed = layout(self.symbology) if digits else Layout((), ())
+        guarded = [range(first, last) for first, last in printed.guards]
+        bars = [(x, y, w, h + 5 * any(left + x in guard for guard in guarded)) for x, y, w, h in self.bars()]
+        texts = [((begin + end) / 2, self.data[first:last].decode()) for first, last, begin, end in printed.digits]
+        return _pictures.svg_of(bars, self.size(quiet_zones), (left, top), module, unit, light, texts)
 
     def png(self, scale: int = 1, dpi: float | None = None) -> bytes:
         """Returns the symbol as PNG with its quiet zones, its modules `scale` dots wide: that of its `bitmap`.
@@ -171,6 +191,28 @@ class Symbol:
             mask=self.mask,
         )
         return drawn.png(dpi)
+
+    def save(self, file: str | os.PathLike[str], **options: Any) -> None:
+        """Writes the symbol to a file whose name ends with .svg or .png, with the options of `svg` or of `png`.
+
+        Raises ValueError for another ending, and what these raise.
+
+        >>> symbol("qr", "HELLO").save("code.gif")
+        Traceback (most recent call last):
+        ValueError: the name of a file has to end with .svg or .png: code.gif
+        """
+        ending = Path(file).suffix.lower()
+        if ending == ".svg":
+            Path(file).write_text(self.svg(**options), encoding="utf-8")
+        elif ending == ".png":
+            Path(file).write_bytes(self.png(**options))
+        else:
+            raise ValueError(f"the name of a file has to end with .svg or .png: {os.fspath(file)}")
+
+    @property
+    def __array_interface__(self) -> dict[str, object]:
+        """What numpy.asarray makes an array of: the modules, True where dark, without quiet zones."""
+        return {"version": 3, "shape": (self.rows, self.width), "typestr": "|b1", "data": self.modules}
 
     def _repr_svg_(self) -> str:
         """Returns what a notebook shows."""

@@ -3,7 +3,7 @@
 import html
 import struct
 import zlib
-from collections.abc import Iterable
+from collections.abc import Iterable, Sequence
 from dataclasses import dataclass, field
 
 Rectangle = tuple[int, int, int, int]
@@ -11,6 +11,7 @@ Rectangle = tuple[int, int, int, int]
 UNITS = ("", "px", "mm", "cm", "in", "pt")
 _DARK_IS_0 = bytes(255 - byte for byte in range(256))
 _METRES_OF_AN_INCH = 0.0254
+_BELOW_BARS = 10  # modules that digits take there, and how high their font is
 PNG_HEAD = b"\x89PNG\r\n\x1a\n"
 
 
@@ -32,11 +33,13 @@ def svg_of(
     module: float,
     unit: str,
     light: str | None,
+    texts: Sequence[tuple[float, str]],
 ) -> str:
     """Returns dark rectangles as SVG.
 
     `bars` are column, row, width and height of each, in modules from `corner` on; `size` is that of the whole picture
     in modules. A module is `module` of `unit`, one of UNITS, wide. `light` is the colour behind them, None for none.
+    `texts` are put below, where there are any: the middle of each, in modules, and its digits.
 
     Raises ValueError for another unit, and for a module that is not above 0.
     """
@@ -46,11 +49,16 @@ def svg_of(
         raise ValueError(f"module is {module}, and has to be above 0")
     left, top = corner
     width, height = size
+    below = ""
+    if texts:
+        height += _BELOW_BARS
+        below = f'<g font-family="OCR-B, OCRB, monospace" font-size="{_BELOW_BARS}" text-anchor="middle">'
+        below += "".join(f'<text x="{middle:g}" y="{height - 1}">{text}</text>' for middle, text in texts) + "</g>"
     path = "".join(f"M{left + x} {top + y}h{w}v{h}h-{w}z" for x, y, w, h in bars)
     behind = "" if light is None else f'<path fill="{html.escape(light)}" d="M0 0h{width}v{height}h-{width}z"/>'
     return (
         f'<svg xmlns="http://www.w3.org/2000/svg" width="{width * module:g}{unit}" height="{height * module:g}{unit}"'
-        f' viewBox="0 0 {width} {height}" shape-rendering="crispEdges">{behind}<path d="{path}"/></svg>'
+        f' viewBox="0 0 {width} {height}" shape-rendering="crispEdges">{behind}<path d="{path}"/>{below}</svg>'
     )
 
 
