@@ -86,7 +86,7 @@ CHANGED = {
         ("docs/INPUT.md", "```console\n$ ", "```console\n", "this session does not begin with a prompt"),
         ("docs/PROOF.md", "`Buffered::prove_reached`", "`Buffered::nought`", "no `Buffered::nought` in the code"),
         ("docs/PROOF.md", "believed definitions", "definitions", "docs/PROOF.md: no operator of"),
-        ("scripts/counts.txt", "3713 changes", "3714 changes", "docs/PROOF.md: one at a time: 3,713"),
+        ("scripts/counts.txt", "3666 changes", "3667 changes", "docs/PROOF.md: one at a time: 3,666"),
         ("README.md", END, f"{2 * MANY}{END}", "README.md: 1"),
         ("docs/DECISIONS.md", END, f"{MANY * 99}{END}", "pages by hand: "),
         (

@@ -1,6 +1,7 @@
 -- Worked values: the numbers of lib/labels.h, bits as binary PBM has them (pbm(5)), and a symbol that is read.
 use Rattle.std.proofs.Common.{◌≡◌, ℕ, Bool, List, [], ◌∷◌, ◌++◌, ◌-◌, ◌==◌, true, false, None, Some, codes, refl, map, take, drop, replicate}
 use Rattle.std.specs.Prelude.{Ok, Err, if◌then◌else◌, ◌||◌}
+use Rattle.std.specs.Result.{result_err}
 use Rattle.labelcore.specs.LineItem.{drawn, item}
 use Rattle.labelcore.specs.declared.fault.Fault.TheVariants.{NotADigit, WrongNumberOfDigits, WrongCheckDigit}
 use Rattle.labelcore.specs.declared.fault.Fault.TheVariants.{DataTooLong, NotAscii, DoesNotFit, NoData}
@@ -18,8 +19,8 @@ use Rattle.capi.specs.Bits.{bits_fit, bits_size, byte_at, bytes_of, dot_at, put_
 use Rattle.capi.specs.Calls.{asked, has_LF, line_asked, options_asked}
 use Rattle.capi.specs.Layout.{between, in_quiet_zones, layout_of, longer_bars, modules_at, no_layout, printed}
 use Rattle.capi.specs.Modules.{height_told, is_nothing, modules_of, rows_put, with_rows_put}
-use Rattle.capi.specs.Numbers.{are_in_range, are_unused, code_of, flag_numbered, format_numbered, level_numbered, mask_numbered}
-use Rattle.capi.specs.Numbers.{options_numbered, place_of, symbology_numbered, wrong_option}
+use Rattle.capi.specs.Numbers.{are_unused, code_of, flag_numbered, format_numbered, level_numbered, mask_numbered}
+use Rattle.capi.specs.Numbers.{options_numbered, place_of, symbology_numbered}
 use Rattle.capi.specs.Read.{bits_as, modules_asked, read_asked, region_numbered}
 use Rattle.capi.specs.declared.layout.Layout.{Layout}
 use Rattle.capi.specs.declared.numbers.CallOptions.{CallOptions}
@@ -69,14 +70,11 @@ nameless =
     record defaults { format = 2 } ∷ record defaults { level = 4 } ∷ record defaults { escapes = 2 }
     ∷ record defaults { reserved = 0 ∷ 0 ∷ 0 ∷ 0 ∷ 1 ∷ [] } ∷ []
 
-ranges : (map are_in_range at_ends ≡ replicate 6 true) × (map are_in_range beyond ≡ replicate 7 false)
-unfolding defaults at_ends beyond
-ranges = (refl, refl)
-
 -- the fields of labels_options in their order
-wrong_options : (map wrong_option at_ends ≡ replicate 6 0)
-    × ((map wrong_option beyond ≡ 2 ∷ 2 ∷ 3 ∷ 3 ∷ 5 ∷ 5 ∷ 6 ∷ []) × (map wrong_option nameless ≡ 1 ∷ 4 ∷ 7 ∷ 8 ∷ []))
-unfolding wrong_option defaults at_ends beyond nameless
+wrong_options : (map (λ o. result_err (options_numbered o)) at_ends ≡ replicate 6 None)
+    × ((map options_numbered beyond ≡ map Err (2 ∷ 2 ∷ 3 ∷ 3 ∷ 5 ∷ 5 ∷ 6 ∷ []))
+    × (map options_numbered nameless ≡ map Err (1 ∷ 4 ∷ 7 ∷ 8 ∷ [])))
+unfolding options_numbered defaults at_ends beyond nameless
 wrong_options = (refl, (refl, refl))
 
 -- words that are 0, or are not all
@@ -90,10 +88,9 @@ default_options = record {
   label = record { height = 50; level = M; min_version = 1; mask = None };
 }
 
-default_numbers : (options_numbered defaults ≡ Some default_options)
-    × ((map options_numbered beyond ≡ replicate 7 None) × (map options_numbered nameless ≡ replicate 4 None))
-unfolding options_numbered defaults default_options beyond nameless
-default_numbers = (refl, (refl, refl))
+default_numbers : options_numbered defaults ≡ Ok default_options
+unfolding options_numbered defaults default_options
+default_numbers = refl
 
 -- options, then the symbology, then the data
 asked_for : (asked defaults 4 (65 ∷ []) ≡ Ok (record {
@@ -102,7 +99,7 @@ asked_for : (asked defaults 4 (65 ∷ []) ≡ Ok (record {
 }))
     × ((asked (record defaults { scale = 9 }) 5 [] ≡ Err (record { code = 2; at = 2 }))
     × ((asked defaults 5 [] ≡ Err (record { code = 3; at = 0 })) × (asked defaults 4 [] ≡ Err (record { code = 4; at = 0 }))))
-unfolding asked options_asked options_numbered wrong_option defaults default_options
+unfolding asked options_asked options_numbered defaults default_options
 asked_for = (refl, (refl, (refl, refl)))
 
 -- enum labels_code
@@ -175,7 +172,7 @@ lines_asked : (map has_LF ([] ∷ codes "qr" ∷ codes "q\n" ∷ []) ≡ false �
     × ((line_asked defaults (codes "qr A") ≡ Ok (record { run = default_options.run; item = item default_options (codes "qr A") }))
     × ((line_asked defaults (codes "qr A\n") ≡ Err (record { code = 15; at = 0 }))
     × (line_asked (record defaults { mask = 9 }) (codes "\n") ≡ Err (record { code = 2; at = 6 }))))
-unfolding line_asked options_asked options_numbered wrong_option defaults default_options
+unfolding line_asked options_asked options_numbered defaults default_options
 lines_asked = (refl, (refl, (refl, refl)))
 
 -- ---- modules

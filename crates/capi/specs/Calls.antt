@@ -1,7 +1,8 @@
 -- What a call of the C library asks for, and what it leaves in the caller's memory.
-use Rattle.std.specs.Prelude.{◌≡◌, ℕ, ◌-◌, ◌^◌, nat_eq, nat_le, min, ok_or, Bool, Option, None, Some, Result, Ok, Err, List, [], ◌∷◌, length}
+use Rattle.std.specs.Prelude.{◌≡◌, ℕ, ◌-◌, ◌^◌, nat_eq, nat_le, min, Bool, Option, None, Some, Result, Ok, Err, List, [], ◌∷◌, length}
 use Rattle.std.specs.Prelude.{if◌then◌else◌, IfOk, ⊤}
 use Rattle.std.specs.List.{list_any}
+use Rattle.std.specs.Result.{result_map_both}
 use Rattle.labelcore.specs.LineItem.{Outcome, Request, skipped, refused, drawn, item}
 use Rattle.labelcore.specs.Lines.{LF}
 use Rattle.labelcore.specs.Message.{fault_text}
@@ -11,7 +12,7 @@ use Rattle.labelcore.specs.declared.symbology.Symbology.{Symbology}
 use Rattle.filter.specs.Output.{image_of, outcome_of_item}
 use Rattle.filter.specs.Readback.{IsRead}
 use Rattle.filter.specs.Symbol.{Symbol}
-use Rattle.capi.specs.Numbers.{code_of, options_numbered, place_of, symbology_numbered, wrong_option}
+use Rattle.capi.specs.Numbers.{code_of, options_numbered, place_of, symbology_numbered}
 use Rattle.capi.specs.Room.{put_text}
 use Rattle.capi.specs.declared.numbers.Answer.{Answer}
 use Rattle.capi.specs.declared.asked.Reason.{Reason}
@@ -19,7 +20,8 @@ use Rattle.capi.specs.declared.numbers.CallOptions.{CallOptions}
 
 -- the options that the numbers of a call mean, or the code and the number of the first that is out of its range
 unfoldable pub options_asked : CallOptions → Result Options Reason
-options_asked options = ok_or (options_numbered options) (record { code = 2; at = wrong_option options })
+options_asked options =
+    result_map_both (λ found. found) (λ number. record { code = 2; at = number }) (options_numbered options)
 
 -- what a call asks for: the options of a run, and what is drawn with them
 pub record Asked : Type 0 where

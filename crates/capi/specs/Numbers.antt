@@ -1,7 +1,7 @@
 -- What the numbers of a call mean: the constants of the C header.
 -- Why: `format_numbered`, `level_numbered`, `symbology_numbered`, `mask_numbered`, `options_numbered`, `code_of`: lib/labels.h.
-use Rattle.std.specs.Prelude.{ℕ, ◌==◌, ◌&&◌, nat_le, Bool, true, false, not, List, Option, None, Some, is_none, if◌then◌else◌}
-use Rattle.std.specs.Bool.{then_some}
+use Rattle.std.specs.Prelude.{ℕ, ◌==◌, ◌&&◌, nat_le, Bool, true, false, List, Option, None, Some, ok_or, if◌then◌else◌}
+use Rattle.std.specs.Prelude.{Result, Ok, Err}
 use Rattle.std.specs.List.{list_all}
 use Rattle.labelcore.specs.declared.fault.Fault.{Fault}
 use Rattle.labelcore.specs.declared.fault.Fault.TheVariants.{NotADigit, WrongNumberOfDigits, WrongCheckDigit}
@@ -13,7 +13,6 @@ use Rattle.labelcore.specs.declared.options.Format.TheVariants.{Pbm, Ascii}
 use Rattle.labelcore.specs.declared.options.Options.{Options}
 use Rattle.labelcore.specs.declared.symbology.Symbology.{Symbology}
 use Rattle.labelcore.specs.declared.symbology.Symbology.TheVariants.{Ean13, Ean8, UpcA, Code128, Qr}
-use Rattle.qrdata.specs.Steps.{◌>>=◌}
 use Rattle.qrdata.specs.declared.level.Level.{Level}
 use Rattle.qrdata.specs.declared.level.Level.TheVariants.{L, M, Q, H}
 use Rattle.capi.specs.declared.numbers.CallOptions.{CallOptions}
@@ -41,40 +40,35 @@ flag_numbered n = if n == 0 then Some false else if n == 1 then Some true else N
 abbrev pub mask_numbered : ℕ → Option ℕ
 mask_numbered n = if n == 8 then None else Some n
 
--- whether the options that are numbers and no names are in their ranges
-abbrev pub are_in_range : CallOptions → Bool
-are_in_range o =
-    nat_le 1 o.scale && nat_le o.scale 8 && nat_le 1 o.height && nat_le o.height 500
-    && nat_le 1 o.min_version && nat_le o.min_version 10 && nat_le o.mask 8
+infixl 10 ◌>>=◌
+-- the next step, on what this one found; or the number of this one
+abbrev pub ◌>>=◌ : {A B : Type 0} → Result A ℕ → (A → Result B ℕ) → Result B ℕ
+(Ok x) >>= f = f x
+(Err number) >>= f = Err number
+
+-- a number from `low` to `high`; else `at`
+abbrev pub ranged : (low n high at : ℕ) → Result ℕ ℕ
+ranged low n high at = if nat_le low n && nat_le n high then Ok n else Err at
 
 -- whether spare words are 0, as a later version may give them a meaning
 abbrev pub are_unused : List ℕ → Bool
 are_unused words = list_all (λ word. word == 0) words
 
--- the options that the numbers of a call mean
-unfoldable pub options_numbered : CallOptions → Option Options
+-- the options that the numbers of a call mean, or the number of the first that is out of its range, as the C header has
+-- them, from 1 on: 8 is a spare word
+unfoldable pub options_numbered : CallOptions → Result Options ℕ
 options_numbered o = do
-  format ← format_numbered o.format
-  level ← level_numbered o.level
-  escapes ← flag_numbered o.escapes
-  then_some (are_in_range o && are_unused o.reserved) (record {
-    run = record { format = format; scale = o.scale; escapes = escapes };
-    label = record { height = o.height; level = level; min_version = o.min_version; mask = mask_numbered o.mask };
-  })
-
--- the number of the first option that is out of its range, as the C header has them, from 1 on: 8 is a spare word; 0 where
--- there is none
-unfoldable pub wrong_option : CallOptions → ℕ
-wrong_option o =
-    if is_none (format_numbered o.format) then 1
-    else if not (nat_le 1 o.scale && nat_le o.scale 8) then 2
-    else if not (nat_le 1 o.height && nat_le o.height 500) then 3
-    else if is_none (level_numbered o.level) then 4
-    else if not (nat_le 1 o.min_version && nat_le o.min_version 10) then 5
-    else if not (nat_le o.mask 8) then 6
-    else if is_none (flag_numbered o.escapes) then 7
-    else if not (are_unused o.reserved) then 8
-    else 0
+  format ← ok_or (format_numbered o.format) 1
+  scale ← ranged 1 o.scale 8 2
+  height ← ranged 1 o.height 500 3
+  level ← ok_or (level_numbered o.level) 4
+  min_version ← ranged 1 o.min_version 10 5
+  mask ← ranged 0 o.mask 8 6
+  escapes ← ok_or (flag_numbered o.escapes) 7
+  if are_unused o.reserved then Ok (record {
+    run = record { format = format; scale = scale; escapes = escapes };
+    label = record { height = height; level = level; min_version = min_version; mask = mask_numbered mask };
+  }) else Err 8
 
 -- the place of the wrong byte of a refusal, or of the wrong setting, from 1 on; 0 of others
 abbrev pub place_of : Fault → ℕ

@@ -7,7 +7,6 @@ ghost use Rattle.capi.specs.Private.Asking.{HasBytes, asked_seen};
 
 use crate::numbers::{
     BAD_OPTION, BAD_SYMBOLOGY, CallOptions, NO_DATA, NOT_ONE_LINE, options_of, symbology_of,
-    wrong_option,
 };
 use labelcore::{Item, LineBuf, Options, RunOptions, Scratch, parse};
 
@@ -35,10 +34,10 @@ fn options_asked(options: &CallOptions) -> Result<Options, Reason>
     ensures { result ≡ options_asked options.now }
 {
     match options_of(options) {
-        Some(found) => Ok(found),
-        None => Err(Reason {
+        Ok(found) => Ok(found),
+        Err(at) => Err(Reason {
             code: BAD_OPTION,
-            at: wrong_option(options),
+            at,
         }),
     }
 }

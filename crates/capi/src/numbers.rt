@@ -1,8 +1,8 @@
 //! Numbers in place of enums, as C has them.
 ghost use Rattle.std.specs.Prelude.{◌≡◌, Some, true};
-ghost use Rattle.capi.specs.Numbers.{are_in_range, are_unused, code_of, flag_numbered, format_numbered, level_numbered, place_of};
+ghost use Rattle.capi.specs.Numbers.{are_unused, code_of, flag_numbered, format_numbered, level_numbered, place_of};
 ghost use Rattle.capi.specs.Modules.{is_nothing};
-ghost use Rattle.capi.specs.Numbers.{options_numbered, symbology_numbered, wrong_option};
+ghost use Rattle.capi.specs.Numbers.{options_numbered, symbology_numbered};
 
 use labelcore::{Fault, Format, Options, Symbology};
 use qrdata::Level;
@@ -138,22 +138,44 @@ pub fn told_nothing(answer: Answer) -> Told
 }
 
 /// Returns the options that these numbers name.
+///
+/// # Errors
+///
+/// The number of the first option that is out of its range, from 1 on; 8 for a spare word that is not 0.
 #[tactic(auto, unfolding(crate::specs::Numbers::options_numbered))]
-pub fn options_of(numbers: &CallOptions) -> Option<Options>
+pub fn options_of(numbers: &CallOptions) -> Result<Options, usize>
     ensures { result ≡ options_numbered numbers.now }
 {
-    let format = format_of(numbers.format)?;
-    let level = level_of(numbers.level)?;
-    let escapes = flag_of(numbers.escapes)?;
-    if !are_in_range(numbers) || !are_unused(&numbers.reserved) {
-        return None;
+    let Some(format) = format_of(numbers.format) else {
+        return Err(1);
+    };
+    if !matches!(numbers.scale, 1..=8) {
+        return Err(2);
+    }
+    if !matches!(numbers.height, 1..=500) {
+        return Err(3);
+    }
+    let Some(level) = level_of(numbers.level) else {
+        return Err(4);
+    };
+    if !matches!(numbers.min_version, 1..=10) {
+        return Err(5);
+    }
+    if numbers.mask > 8 {
+        return Err(6);
+    }
+    let Some(escapes) = flag_of(numbers.escapes) else {
+        return Err(7);
+    };
+    if !are_unused(&numbers.reserved) {
+        return Err(8);
     }
     let mask = if numbers.mask == 8 {
         None
     } else {
         Some(numbers.mask as u8)
     };
-    Options::new(
+    let options = Options::new(
         format,
         numbers.scale as u8,
         numbers.height as u16,
@@ -161,44 +183,8 @@ pub fn options_of(numbers: &CallOptions) -> Option<Options>
         numbers.min_version as u8,
         mask,
         escapes,
-    )
-}
-
-/// Returns the number of the first option that is out of its range, from 1 on; 8 for a spare word that is not 0. Returns
-/// 0 where there is none.
-#[tactic(auto, unfolding(crate::specs::Numbers::wrong_option))]
-pub fn wrong_option(numbers: &CallOptions) -> usize
-    ensures { result ≡ wrong_option numbers.now }
-{
-    if format_of(numbers.format).is_none() {
-        1
-    } else if !matches!(numbers.scale, 1..=8) {
-        2
-    } else if !matches!(numbers.height, 1..=500) {
-        3
-    } else if level_of(numbers.level).is_none() {
-        4
-    } else if !matches!(numbers.min_version, 1..=10) {
-        5
-    } else if numbers.mask > 8 {
-        6
-    } else if flag_of(numbers.escapes).is_none() {
-        7
-    } else if !are_unused(&numbers.reserved) {
-        8
-    } else {
-        0
-    }
-}
-
-/// Returns whether the numbers that are no names are in their ranges.
-fn are_in_range(numbers: &CallOptions) -> bool
-    ensures { result ≡ are_in_range numbers.now }
-{
-    matches!(numbers.scale, 1..=8)
-        && matches!(numbers.height, 1..=500)
-        && matches!(numbers.min_version, 1..=10)
-        && numbers.mask <= 8
+    );
+    options.ok_or(0)
 }
 
 /// Returns whether the spare words are 0.
