@@ -4,8 +4,14 @@ Expected values come from the standards, the man page, and other programs: none 
 """
 
 import errno
+import fcntl
+import re
+import resource
+import struct
 import subprocess
 import tempfile
+import termios
+import time
 import unittest
 from pathlib import Path
 from typing import List, Sequence, Tuple
@@ -288,6 +294,88 @@ class Lines(unittest.TestCase):
         data = b"\n".join((letters, b"#" + letters, b"ean8 7351353"))
         said = b"line 1: line is longer than 1100 bytes\n"
         self.assertEqual(ran("--height", "1", data=data), (1, pbm([EAN8]), said))
+
+
+def is_read(pipe: int) -> bool:
+    """Whether nothing is left in a pipe."""
+    return struct.unpack("i", fcntl.ioctl(pipe, termios.FIONREAD, struct.pack("i", 0))) == (0,)
+
+
+def ran_in_two(first: bytes, second: bytes) -> Ran:
+    """A run that is given the second piece of its input once it has read the first."""
+    command = [str(support.labels_program()), *OPTIONS]
+    with subprocess.Popen(command, stdin=-1, stdout=-1, stderr=-1, bufsize=0) as running:
+        assert running.stdin
+        running.stdin.write(first)
+        until = time.monotonic() + support.SECONDS
+        while not is_read(running.stdin.fileno()) and time.monotonic() < until:
+            time.sleep(0.0002)
+        out, err = running.communicate(second, timeout=support.SECONDS)
+        return running.returncode, out, err
+
+
+def limit_files(size: int) -> None:
+    """Has each file of this process end at a size: a write beyond it fails."""
+    resource.setrlimit(resource.RLIMIT_FSIZE, (size, size))
+
+
+def code128_of_one(byte: int) -> str:
+    """The row of Code 128 of one ASCII character (ISO/IEC 15417): set B, and set A for a control character, where it
+    comes after the others."""
+    table = support.TOP / "crates/linear/specs/Tables.antt"
+    widths = re.findall(r"\b[1-4]{6,7}\b", table.read_text(encoding="utf-8"))
+    start, value = (103, byte + 64) if byte < 32 else (104, byte - 32)
+    shown = [widths[it] for it in (start, value, (start + value) % 103, 106)]
+    bars = "".join("10"[place % 2] * int(width) for place, width in enumerate("".join(shown)))
+    return f"{10 * '0'}{bars}{10 * '0'}"
+
+
+@support.slow
+class Pieces(unittest.TestCase):
+    """Inputs and outputs that are cut at every place."""
+
+    def test_each_cut_of_the_input(self) -> None:
+        """Into two pieces, which are read one after the other: a line is cut at each of its bytes."""
+        refused = [*REFUSED[:2], *REFUSED[4:7]]
+        data = b"#\n" + b"\n".join(line for line, _ in [*refused, *DRAWN[4:]])
+        pictures = b"".join(pbm(rows) for _, rows in DRAWN[4:])
+        faults = enumerate([fault for _, fault in refused], 2)
+        said = b"".join(b"line %d: %s\n" % fault for fault in faults)
+        for cut in range(len(data) + 1):
+            found = ran_in_two(data[:cut], data[cut:])
+            self.assertEqual(found, (1, pictures, said), data[:cut])
+
+    def test_each_byte_in_a_line(self) -> None:
+        """A character that is drawn, one that is not ASCII, and a line feed, which ends a line without data."""
+        data = b"".join(b"code128 %c\n" % byte for byte in range(256))
+        pictures = b"".join(pbm([code128_of_one(byte)]) for byte in range(128) if byte != 10)
+        faults = [(11, "no data"), *((byte + 2, "byte 1 is not ASCII") for byte in range(128, 256))]
+        said = "".join(f"line {number}: {fault}\n" for number, fault in faults).encode()
+        self.assertEqual((len(pictures), len(faults)), (9525, 129))
+        self.assertEqual(ran("--height", "1", data=data), (1, pictures, said))
+
+    def test_each_end_of_the_output(self) -> None:
+        """The file that takes the pictures is full after each byte: those before are whole, and of the last one there
+        is a beginning."""
+        command = [str(support.labels_program()), *OPTIONS]
+        data = b"\n".join(line for line, _ in DRAWN)
+        pictures = b"".join(pbm(rows) for _, rows in DRAWN)
+        with tempfile.TemporaryFile() as taken:
+            for size in range(len(pictures)):
+                taken.seek(0)
+                taken.truncate()
+                done = subprocess.run(
+                    command,
+                    input=data,
+                    stdout=taken,
+                    stderr=-1,
+                    timeout=support.SECONDS,
+                    restore_signals=False,  # Python ignores the signal of a full file, and so does the program
+                    preexec_fn=lambda: limit_files(size),
+                )
+                taken.seek(0)
+                found = done.returncode, taken.read(), done.stderr
+                self.assertEqual(found, (3, pictures[:size], b"labels: write failed\n"))
 
 
 if __name__ == "__main__":
