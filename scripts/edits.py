@@ -1,16 +1,17 @@
 """Wrong bodies as their files have them, and functions once more with such a body.
 
-A file is like a must-fail edit of the kit, with one line more. `refused: FUNCTION` names the
-function whose proof has to fail, by its path below the crate. Then it has one of two forms:
+A file is like a must-fail edit of the kit, with one line more. `refused: FUNCTION` names the function whose proof has
+to fail, by its path below the crate. Then it has one of two forms:
 
-- `body: TEXT` is a body in place of the function's own. It can call the function itself, which is
-  there beside it: `body: match run(source) { Err(_) => Ok(()), well => well }`. So it quotes no
-  code, and a change of the code leaves it as it is. It is tried in a copy of the function without
-  a proof, and a right body, one that calls the function and does no more, shows that this is
-  enough. No function of a trait has a copy, and none that calls itself. `clause: NAME` says
-  which of several clauses the body breaks: the copy has no other, so no other refuses it.
-- `file: FILE` and pairs of `old: TEXT` and `new: TEXT` change the code in its place; each TEXT is
-  in the file once.
+- `body: TEXT` is a body in place of the function's own. It can call the function itself, which is there beside it:
+  `body: match run(source) { Err(_) => Ok(()), well => well }`. So it quotes no code, and a change of the code leaves
+  it as it is. It is tried in a copy of the function without a proof, and a right body, one that calls the function and
+  does no more, shows that this is enough. No function of a trait has a copy, and none that calls itself. `clause:
+  NAME` says which of several clauses the body breaks: the copy has no other, so no other refuses it. `alone:
+  Runs.produces Produces.sends Produces.given` says which field it breaks, the last one: in the copy's clause these
+  records have these fields alone, and the values that they speak of. A second copy, without the last, must be
+  accepted.
+- `file: FILE` and pairs of `old: TEXT` and `new: TEXT` change the code in its place; each TEXT is in the file once.
 """
 
 import dataclasses
@@ -38,9 +39,9 @@ class Change:
 
 @dataclass(frozen=True)
 class Body:
-    """A wrong body: `text` in place of the body of its function, or else changes of the code. One
-    that `is_right` is there to be accepted. `clause` is the one that it is to break, or empty.
-    """
+    """A wrong body: `text` in place of the body of its function, or else changes of the code. One that `is_right` is
+    there to be accepted. `clause` is the one that it is to break, or empty, and `fields` are those that its records
+    are left, or empty for all."""
 
     name: str
     function: str
@@ -48,21 +49,24 @@ class Body:
     changes: tuple[Change, ...] = ()
     is_right: bool = False
     clause: str = ""
+    fields: tuple[str, ...] = ()
 
 
 @dataclass(frozen=True)
 class Copy:
     """A function once more, under the name that `body` has, with the text of that.
 
-    `function` is the path of the one that it is a copy of, and `end` the place in the file at
-    which that one ends; `text` has the attributes too, and begins in the column of that one.
-    """
+    `function` is the path of the one that it is a copy of, and `end` the place in the file at which that one ends;
+    `text` has the attributes too, and begins in the column of that one. `specs` is a file of specs/ that it needs, or
+    empty, and `names` what it takes from that."""
 
     body: Body
     function: str
     file: str
     end: int
     text: str
+    specs: str = ""
+    names: tuple[str, ...] = ()
 
 
 @dataclass(frozen=True)
@@ -82,16 +86,20 @@ class Found:
 # ---- files
 
 
-def read_body(path: str) -> Body:
-    """Returns the wrong or right body of a file. Stops where it has none of the two forms."""
+def read_bodies(path: str) -> list[Body]:
+    """Returns the wrong or right body of a file: for each line `alone:` a wrong and a right one. Stops where it has
+    none of the two forms."""
     kind, name = path.split(os.sep)[-2:]
     last: dict[str, str] = {}
     changes = []
+    alone = []
     for line in sources.read(path).split("\n"):
         key, _, text = line.partition(":")
         last[key] = text.removeprefix(" ")
         if key == "new":
             changes.append(Change(last.get("file", ""), last.get("old", ""), last["new"]))
+        if key == "alone":
+            alone.append(tuple(text.split()))
     text = f" {last['body']} " if last.get("body") else ""
     is_whole = all(one.file and one.old for one in changes) and bool(text) != bool(changes)
     if not last.get("refused") or not is_whole:
@@ -100,14 +108,17 @@ def read_body(path: str) -> Body:
             "and pairs of 'old:' and 'new:'"
         )
     name = name.removesuffix(".edit")
-    is_right = kind == "right-bodies"
-    return Body(name, last["refused"], text, tuple(changes), is_right, last.get("clause", ""))
+    one = Body(name, last["refused"], text, tuple(changes), kind == "right-bodies", last.get("clause", ""))
+    wrong = [dataclasses.replace(one, name=f"{name}:{it[-1]}", fields=it) for it in alone]
+    left = {it: (*it.fields[:-1], it.fields[-1].partition(".")[0]) for it in wrong}
+    right = [dataclasses.replace(it, name=f"{it.name}-less", is_right=True, fields=left[it]) for it in wrong]
+    return [*wrong, *right] or [one]
 
 
 def bodies_of(folder: str) -> list[Body]:
     """Returns the wrong bodies of a crate, and the right ones."""
     kinds = [f"{folder}/{kind}-bodies" for kind in ("wrong", "right")]
-    return [read_body(path) for kind in kinds for path in sources.files_below(kind, ".edit")]
+    return [body for kind in kinds for path in sources.files_below(kind, ".edit") for body in read_bodies(path)]
 
 
 # ---- texts
@@ -132,9 +143,7 @@ def ghost_text(text: str) -> str:
 
 
 def changed(texts: Mapping[str, str], body: Body, folder: str) -> dict[str, str] | None:
-    """Returns the texts of files with the changes in them, or None where an old text is not in
-    its file just once.
-    """
+    """Returns the texts of files with the changes in them, or None where an old text is not in its file just once."""
     made = dict(texts)
     for one in body.changes:
         text = made.get(one.file) or file_at(folder, one.file).text
@@ -142,6 +151,56 @@ def changed(texts: Mapping[str, str], body: Body, folder: str) -> dict[str, str]
             return None
         made[one.file] = text.replace(one.old, one.new)
     return made
+
+
+# ---- records
+
+
+@dataclass(frozen=True)
+class Record:
+    """A record of specs/: its file, its text before the fields, and these, each with its text."""
+
+    module: str
+    head: str
+    fields: dict[str, str]
+
+    def values(self) -> set[str]:
+        """Returns the names of the fields that later ones speak of: values, and no statements."""
+        later = [" ".join([*self.fields.values()][place + 1 :]) for place in range(len(self.fields))]
+        return {it for it, said in zip(self.fields, later) if re.search(rf"(?<![\w.]){it}\b", said)}
+
+
+def records_in(text: str, module: str = "") -> dict[str, Record]:
+    """Returns the records of a file of specs/, by their names."""
+    found = re.findall(r"^(pub record (\w+)\b.*? where\n)(.*?)(?:\n\n|\Z)", text, re.M | re.S)
+    fields = re.compile(r"^  pub (\w+) : (.*(?:\n    .*)*)", re.M)
+    return {name: Record(module, head, dict(fields.findall(inner))) for head, name, inner in found}
+
+
+def with_fields(fields: Sequence[str], ending: str, folder: str) -> tuple[str, dict[str, str]]:
+    """Returns a file of specs/ that has the records of these fields once more, with these alone and the values that
+    they speak of, and the names that they have there. A record without a field is one of nothing. Stops where one is
+    not there."""
+    files = {path: sources.read(path) for path in sources.files_below(f"{folder}/specs", ".antt")}
+    records = {name: one for path, text in files.items() for name, one in records_in(text, path).items()}
+    wanted = [name.partition(".")[::2] for name in fields]
+    gone = [f"{name}.{it}" for name, it in wanted if name not in records or it not in ("", *records[name].fields)]
+    if gone:
+        sys.exit(f"{folder}/specs has no {gone[0]}")
+    names = {name: f"{name}_{ending}" for name, _ in wanted}
+    uses, texts = list[str](), list[str]()
+    for name in reversed(names):
+        one = records[name]
+        kept = [it for it in one.fields if (name, it) in wanted or it in one.values()]
+        lines = [f"  pub {it} : {one.fields[it]}\n" for it in kept] or ["  pub nothing : Unit {0}\n"]
+        texts.append(re.sub(rf"\b({'|'.join(names)})\b", lambda it: names[it[1]], one.head + "".join(lines)))
+        for path, inner in re.findall(r"^use ([\w.]+)\.\{(.*?)\}", files[one.module], re.M | re.S):
+            uses += [f"use {path}.{{{it.strip()}}}" for it in inner.split(",")]
+        module = one.module[len(folder) + 1 : -len(".antt")].replace(os.sep, ".")
+        here = {*re.findall(r"^(?:\w+ )?pub (?:record |data )?(\w+)\b", files[one.module], re.M)}
+        cited = sorted(here & {*re.findall(r"\w+", texts[-1])})
+        uses += [f"use Rattle.{os.path.basename(folder)}.{module}.{{{it}}}" for it in cited]
+    return "\n".join([*dict.fromkeys(uses), "", *texts]), names
 
 
 # ---- functions
@@ -223,9 +282,8 @@ def clauses_of(item: reader.Declaration) -> dict[str, tuple[int, int]]:
 
 
 def copy_of(body: Body, ending: str, folder: str) -> Copy | None:
-    """Returns a copy of the function of a body that is a text, with this ending of its name. There
-    is none of a function of a trait, and of one that calls itself.
-    """
+    """Returns a copy of the function of a body that is a text, with this ending of its name. There is none of a
+    function of a trait, and of one that calls itself."""
     found = found_anywhere(body.function, folder)
     if found is None or "cycle" in [token.text for token in found.item.attributes]:
         return None
@@ -236,9 +294,13 @@ def copy_of(body: Body, ending: str, folder: str) -> Copy | None:
     for name, (start, last) in clauses_of(one).items():
         if body.clause not in ("", name):
             head = head.replace(file.text[start:last], "")
+    specs, names = with_fields(body.fields, ending, folder) if body.fields else ("", {})
+    for name, other in names.items():
+        head = re.sub(rf"\b{name}\b", other, head)
     renamed = dataclasses.replace(body, function=f"{body.function}_{ending}")
     margin = " " * one.tokens[0].column
-    return Copy(renamed, body.function, found.name, end, f"{margin}{attributes}{head}{{{body.text}}}")
+    text = f"{margin}{attributes}{head}{{{body.text}}}"
+    return Copy(renamed, body.function, found.name, end, text, specs, tuple(it for it in names.values() if it in text))
 
 
 def parameters_of(words: Sequence[str]) -> list[str]:
@@ -270,9 +332,8 @@ def call_of(item: reader.Declaration, is_method: bool) -> str:
 
 
 def calling_itself(function: str, folder: str) -> Copy | None:
-    """Returns a copy of a function whose body calls it and does no more, a control: that nothing
-    more is proved of a copy refuses no right body.
-    """
+    """Returns a copy of a function whose body calls it and does no more, a control: that nothing more is proved of a
+    copy refuses no right body."""
     found = found_anywhere(function, folder)
     if not found:
         return None
@@ -283,9 +344,8 @@ def calling_itself(function: str, folder: str) -> Copy | None:
 
 
 def copies_of(bodies: Sequence[Body], folder: str) -> list[Copy]:
-    """Returns copies of functions with the bodies that are texts, and for each of these functions
-    one that calls it.
-    """
+    """Returns copies of functions with the bodies that are texts, and for each of these functions one that calls
+    it."""
     texts = [body for body in bodies if body.text]
     controls = (calling_itself(it, folder) for it in dict.fromkeys(body.function for body in texts))
     copies = (copy_of(body, str(number), folder) for number, body in enumerate(texts))
@@ -298,13 +358,19 @@ def with_copies(copies: Sequence[Copy], folder: str) -> dict[str, str]:
     for copy in sorted(copies, key=lambda it: -it.end):
         text = texts[copy.file]
         texts[copy.file] = f"{text[:copy.end]}\n\n{copy.text}{text[copy.end:]}"
+    for number, copy in enumerate(it for it in copies if it.specs):
+        module, crate = f"Alone{number}", os.path.basename(folder)
+        use = f"ghost use Rattle.{crate}.specs.{module}.{{{', '.join(copy.names)}}};\n"
+        texts[copy.file] = re.sub(r"^(?!//!)", lambda _: use, texts[copy.file], count=1, flags=re.M)
+        texts[f"specs/{module}.antt"] = copy.specs
+        listed = texts.get("specs/Lib.antt") or sources.read(f"{folder}/specs/Lib.antt")
+        texts["specs/Lib.antt"] = f"{listed}pub mod {module}\n"
     return texts
 
 
 def together(bodies: Sequence[Body], folder: str, copies: Sequence[Copy]) -> tuple[list[Body], dict[str, str]]:
-    """Returns as many of the bodies that change code as fit beside copies, each in a function
-    of its own that no copy calls, and the texts of the files then.
-    """
+    """Returns as many of the bodies that change code as fit beside copies, each in a function of its own that no copy
+    calls, and the texts of the files then."""
     chosen: list[Body] = []
     texts = with_copies(copies, folder)
     taken = {name for copy in copies for name in (copy.function, copy.body.function)}

@@ -1,25 +1,22 @@
 #!/usr/bin/python3
 """Tries the wrong bodies of crates/*/wrong-bodies: the prover must refuse each.
 
-scripts/edits.py says what such a file has. A wrong body changes bodies of src/: it leaves clauses,
-ghost items and attributes as they are. The files of crates/*/right-bodies are of the same form and
-not wrong: the prover has to accept each, and one that is reported as refused is a fault of this
-script.
+scripts/edits.py says what such a file has. A wrong body changes bodies of src/: it leaves clauses, ghost items and
+attributes as they are. The files of crates/*/right-bodies are of the same form and not wrong: the prover has to accept
+each, and one that is reported as refused is a fault of this script.
 
-`rt` tries each must-fail edit by a check of the crate. Here one check tries many: a copy of the
-crate has a function once more for each of its bodies that are texts, and beside these a control
-that the prover must accept. A body that changes the code is tried in its function's place. A proof
-reads of other functions their contracts alone, so one check tries several functions, and those
-that are not tried have a hole for a proof (scripts/stand_ins.py). What fails only because it calls
-another is not judged, and is tried again without it.
+`rt` tries each must-fail edit by a check of the crate. Here one check tries many: a copy of the crate has a function
+once more for each of its bodies that are texts, and beside these a control that the prover must accept. A body that
+changes the code is tried in its function's place. A proof reads of other functions their contracts alone, so one check
+tries several functions, and those that are not tried have a hole for a proof (scripts/stand_ins.py). What fails only
+because it calls another is not judged, and is tried again without it.
 
-The verdicts of a crate are kept in out/wrong-bodies, and hold as long as nothing changes that
-decides them: the files of the crate and of those below it, its bodies, the kit, these scripts.
-Verdicts with a fault are not kept.
+The verdicts of a crate are kept in out/wrong-bodies, and hold as long as nothing changes that decides them: the files
+of the crate and of those below it, its bodies, the kit, these scripts. Verdicts with a fault are not kept.
 
-The status is 0 where each wrong body is refused, 1 where one is not or there is none, and 2 where
-an argument names no crate or there is no kit. For each crate a line says how many bodies were
-refused and accepted. The last line is `N passed, M failed`, as of `rt ci`.
+The status is 0 where each wrong body is refused, 1 where one is not or there is none, and 2 where an argument names no
+crate or there is no kit. For each crate a line says how many bodies were refused and accepted. The last line is `N
+passed, M failed`, as of `rt ci`.
 """
 
 import concurrent.futures
@@ -67,9 +64,8 @@ class Outcome(Enum):
 
 
 def is_refused(line: str, of_others: tuple[str, ...], form: set[str]) -> bool:
-    """Whether a line says that a function is not proved for what is written in it: by an error that
-    is in the proof of no other function that was asked for, and more than one of form.
-    """
+    """Whether a line says that a function is not proved for what is written in it: by an error that is in the proof of
+    no other function that was asked for, and more than one of form."""
     stands_on = STANDS_ON.match(line)
     if not stands_on:
         return bool(REFUSED.match(line))
@@ -83,10 +79,9 @@ def of_form(crate: str, said: str) -> set[str]:
 
 
 def outcome(crate: str, body: Body, asked: Sequence[Body], said: str) -> Outcome:
-    """Returns what a check of the bodies that were asked for says of one. A right one that fails
-    only by what it calls is as good as proved, if all its goals were tried. A copy is refused only
-    for what it is to ensure, and not for a step on the way, such as an overflow.
-    """
+    """Returns what a check of the bodies that were asked for says of one. A right one that fails only by what it calls
+    is as good as proved, if all its goals were tried. A copy is refused only for what it is to ensure, and not for a
+    step on the way, such as an overflow."""
     others = [it.function for it in asked if it.function != body.function]
     of_others = tuple(f"Rattle.{crate}.proofs.{it.replace('::', '.')}." for it in others)
     found = re.search(rf"^fn {crate}::{re.escape(body.function)}: (.*)$", said, re.M)
@@ -104,9 +99,8 @@ def outcome(crate: str, body: Body, asked: Sequence[Body], said: str) -> Outcome
 
 @dataclass
 class Tried:
-    """What was tried in a crate: which wrong bodies were refused, how many right ones were
-    accepted, and a line on each other.
-    """
+    """What was tried in a crate: which wrong bodies were refused, how many right ones were accepted, and a line on
+    each other."""
 
     crate: str
     refused: list[str] = field(default_factory=list)
@@ -160,9 +154,8 @@ def check(
 
 
 def try_bodies(rtlib: Any, crate: Any, bodies: Sequence[Body], kept: str, tried: Tried) -> None:
-    """Tries bodies: in the first check all copies, and what fits beside them in its place. Those
-    that are not judged are tried again, those in place one by one if none was judged.
-    """
+    """Tries bodies: in the first check all copies, and what fits beside them in its place. Those that are not judged
+    are tried again, those in place one by one if none was judged."""
     copies = edits.copies_of(bodies, crate.folder)
     left = [body for body in bodies if not body.text]
     most = None

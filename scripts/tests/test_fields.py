@@ -1,9 +1,10 @@
 """Each field of the records that promise what a run does has a wrong body that breaks it, and so has each clause of
 the functions that carry them.
 
-A line `refutes: Runs.ended Filter::finish.status` of a body names what it breaks, and nothing else where that can
-be; a line `clause: status` has it tried against this clause alone. The prover refuses the body, so it would see that
-this field is weakened. What no body can break holds by a law that the check proves.
+A line `alone: Runs.ended` of a body names the field that it breaks, and has it tried against this field alone, or with
+those before it, and once without (scripts/edits.py). So the body is refused for this field, and for nothing else.
+`refutes: Filter::finish.status` names a clause, and `clause: status` does the same. What no body can break holds by a
+law that the check proves.
 """
 
 import glob
@@ -12,7 +13,9 @@ import re
 import unittest
 from typing import Iterable, Mapping
 
-from support import TOP, read
+from support import TOP, module, read
+
+edits = module("edits")
 
 # The records, and the functions with the clauses that speak of them.
 RECORDS = {
@@ -22,7 +25,11 @@ RECORDS = {
     "Sends": "filter/specs/Filter.antt",
     "Shows": "filter/specs/Shown.antt",
     "IsRead": "filter/specs/Readback.antt",
+    "RunsOver": "command/specs/Program.antt",
     "Finishes": "command/specs/Program.antt",
+    "PutsWhole": "capi/specs/Calls.antt",
+    "PutsModules": "capi/specs/Modules.antt",
+    "PutsBits": "capi/specs/Bits.antt",
 }
 FUNCTIONS = {
     "Filter::feed": "filter/src/filter.rt",
@@ -43,16 +50,17 @@ LAWS = {
     "IsRead.alone": "IsAlone-read",
 }
 
+# What a body breaks only beside another field, or where the prover does not find what is left: `refutes:` names it.
+BESIDE = {
+    *("Sends.grown", "Shows.images", "RunsOver.runs", "RunsOver.whole"),
+    *("PutsWhole.message", "PutsModules.message", "PutsBits.message"),
+}
+
 
 def fields_of(name: str, text: str) -> list[str]:
     """The fields of a record that are statements: those that a later one speaks of are values."""
-    found = re.search(rf"^pub record {name} .*? where\n(.*?)(?:\n\n|\Z)", text, re.M | re.S)
-    assert found, f"there is no record {name}"
-    fields = re.findall(r"^  pub (\w+) : (.*(?:\n    .*)*)", found[1], re.M)
-    said = [" ".join(later for _, later in fields[place + 1 :]) for place in range(len(fields))]
-    return [
-        f"{name}.{field}" for (field, _), later in zip(fields, said) if not re.search(rf"(?<![\w.]){field}\b", later)
-    ]
+    one = edits.records_in(text)[name]
+    return [f"{name}.{field}" for field in one.fields if field not in one.values()]
 
 
 def clauses_of(name: str, text: str) -> list[str]:
@@ -76,7 +84,13 @@ def promised() -> list[str]:
 def refuted(bodies: Mapping[str, str]) -> set[str]:
     """What wrong bodies name as broken."""
     lines = [line for text in bodies.values() for line in text.split("\n") if line.startswith("refutes:")]
-    return {name for line in lines for name in line.split()[1:]}
+    return {name for line in lines for name in line.split()[1:]} | tried_alone(bodies)
+
+
+def tried_alone(bodies: Mapping[str, str]) -> set[str]:
+    """The fields that bodies are tried against alone, of the records of a run."""
+    found = re.findall(r"^alone:.* (\S+)$", "\n".join(bodies.values()), re.M)
+    return {name for name in found if name.split(".")[0] in RECORDS}
 
 
 def bodies() -> dict[str, str]:
@@ -93,6 +107,11 @@ class Fields(unittest.TestCase):
     def test_each_has_a_body_or_a_law(self) -> None:
         self.assertEqual(without_a_body(promised(), bodies()), set())
         self.assertEqual(refuted(bodies()) & {*LAWS}, set())
+
+    def test_each_field_is_judged(self) -> None:
+        """Alone, but for those that cannot be."""
+        fields = {name for name in promised() if name.split(".")[0] in RECORDS}
+        self.assertEqual(fields ^ tried_alone(bodies()), BESIDE | ({*LAWS} & fields))
 
     def test_each_clause_is_judged(self) -> None:
         """A body that names a clause of its function is tried against this clause alone."""

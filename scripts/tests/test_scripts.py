@@ -223,6 +223,21 @@ class Outcomes(InFolder):
         self.assertTrue(placed.startswith(lib.rstrip()))
         self.assertEqual(placed.count(copy.text) + placed.count(calling.text), 2)
 
+    def test_a_field_alone(self) -> None:
+        """The copy's clause has the record with that field alone, and the control's without it."""
+        record = "pub record All (r : N) : Type 0 where\n  pub one : r\n    + text\n  pub two : Here\n\n"
+        specs = {"specs/Lib.antt": "", "specs/Run.antt": f"use A.{{B, C as D}}\n\n{record}abbrev pub Here : N\n"}
+        lib = ONE.replace("result", "All result", 1)
+        folder = self.crate({LIB: lib, **specs, WRONG: body("2") + "alone: All.two All.one\n"}).folder
+        texts = edits.with_copies(edits.copies_of(edits.bodies_of(folder), folder), folder)
+        for number, field in enumerate(["  pub one : r\n    + text\n", ""]):
+            self.assertIn(f"All_{number} result", texts[LIB])
+            text = texts[f"specs/Alone{number}.antt"]
+            for wanted in (f"where\n{field}  pub two : Here\n", "use A.{C as D}\n", ".specs.Run.{Here}\n"):
+                self.assertIn(wanted, text)
+        with self.assertRaises(SystemExit):
+            edits.with_fields(["All.later"], "0", folder)
+
     def test_bodies_of_no_form(self) -> None:
         for text in (body("2") + edit("2").partition("\n")[2], "refused: one\n", "body: 2\n"):
             with self.subTest(text), self.assertRaises(SystemExit):
@@ -355,9 +370,7 @@ fn called() {
 """
 
     def test_functions(self) -> None:
-        """All have a hole and a body that calls nothing, but one that is asked for and those of
-        other names.
-        """
+        """All have a hole and a body that calls nothing, but one that is asked for and those of other names."""
         folder = self.path("crates", "small")
         write(f"{folder}/src/lib.rt", ONE)
         write(f"{folder}/src/part.rt", self.PART)
