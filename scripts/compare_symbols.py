@@ -172,7 +172,7 @@ def main() -> int:
     program = sources.program_given(__doc__)
     labels = all_labels()
     with_zint = [label for label in labels if label.has_no_choice]
-    pairs = zip(with_zint, map(pictures.modules_of, pictures_of(program, with_zint)))
+    pairs = [*zip(with_zint, map(pictures.modules_of, pictures_of(program, with_zint)))]
     same = [label for label, modules in pairs if is_as_zint(label, modules)]
     found = [*readings(program, labels)]
     read = [label for label, reading in found if is_read_back(label, reading)]
@@ -181,9 +181,9 @@ def main() -> int:
         f"{label.line()!r}: read as {reading!r}" for label, reading in found if not is_read_back(label, reading)
     ]
     last = f"{len(labels)} labels: {len(read)} read back, {len(same)} of {len(with_zint)} as zint draws them"
-    return sources.ended(
-        faults, f"{last}; of those read back {pictures.kinds_of(read) or 'none'}", wrong_cases(program)
-    )
+    last += f"; of those read back {pictures.kinds_of(read) or 'none'}"
+    total = sources.sum_of([repr(labels), *(modules.tobytes() for _, modules in pairs)])
+    return sources.ended(faults, f"{last}; sum {total}", wrong_cases(program))
 
 
 if __name__ == "__main__":

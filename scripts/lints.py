@@ -5,12 +5,11 @@ What a file is, its first line says, or its ending; a first line `#!` that is no
 beside the code are not read, but for scripts/mypy.ini; remarks in the code that silence a lint are faults. A lint that
 found nothing runs again where one of its files or a package of the system changes: out/lints.txt has the sums. What is
 looked at here: how long functions are, the subjects of commits since SINCE, HANDLES, the root files of the crates, and
-debian/tests. The last line is `N lints, F faults`.
+debian/tests. The last line is `N lints with the limits S, F faults`: S is a sum of their commands and settings.
 """
 
 import ast
 import glob
-import hashlib
 import os
 import re
 import sys
@@ -49,7 +48,8 @@ TYPED = (("scripts", "debian"), ("lib",), ("tools", "completions"))
 # black puts a space before the colon of a slice, which E203 is against.
 STYLE = f"flake8 --isolated --disable-noqa --extend-ignore E203 --max-complexity {MOST_WAYS} --max-line-length"
 LAYOUT = f"black --config {os.devnull} --quiet --check --line-length"
-TYPES = "mypy --no-error-summary --config-file scripts/mypy.ini --cache-dir out/mypy"
+SETTINGS = "scripts/mypy.ini"
+TYPES = f"mypy --no-error-summary --config-file {SETTINGS} --cache-dir out/mypy"
 KEPT, PACKAGES = "out/lints.txt", "/var/lib/dpkg/status"
 # What silences a lint where it is written.
 WORDS = r"noqa|type:\s*ignore|fmt:\s*(?:off|skip)|pragma|mypy:|flake8:|shellcheck disable"
@@ -58,19 +58,20 @@ SILENCED = re.compile(rf"#\s*(?:{WORDS})", re.I)
 
 @dataclass(frozen=True)
 class Lint:
-    """A lint: its command, the files that it reads, and a file that it has to refuse, with what it has to say."""
+    """A lint: its command, the files that it reads, a file that it has to refuse, with what it has to say, and other
+    files that decide what it finds."""
 
     command: str
     files: Sequence[str]
     wrong_name: str
     wrong: str
     finds: tuple[str, ...] = ("",)
+    beside: Sequence[str] = ()
 
     def sum(self) -> str:
         """The sum of all that a run of it depends on."""
-        texts = (f"{path}\0{sources.read(path)}" for path in self.files)
-        said = "\0".join((f"{os.stat(PACKAGES).st_mtime_ns} {os.environ['PATH']} {self.command}", *texts))
-        return hashlib.sha256(said.encode()).hexdigest()
+        texts = (f"{path}\0{sources.read(path)}" for path in (*self.files, *self.beside))
+        return sources.sum_of((f"{os.stat(PACKAGES).st_mtime_ns} {os.environ['PATH']} {self.command}", *texts))
 
     def findings(self, files: Sequence[str]) -> str:
         """What it finds, and its status; nothing where it finds nothing."""
@@ -157,6 +158,7 @@ def all_lints(files: Mapping[str, Sequence[str]]) -> list[Lint]:
     """The lints over these files. Python of the tools is 100 columns wide, else 119."""
     tools = below(["tools"], files["python"])
     used = [path for path in tools if "/tests/" not in path]
+    beside = [SETTINGS, *sources.files_below("lib/python", ".py")]
     layouts = {"100": tools, "119": [path for path in files["python"] if path not in tools]}
     styles = {"100": used, "119": [path for path in files["python"] if path not in used]}
     return [
@@ -164,7 +166,7 @@ def all_lints(files: Mapping[str, Sequence[str]]) -> list[Lint]:
         Lint("shellcheck --norc --shell=bash", files["completion"], "wrong.bash", "rm $1\n"),
         *(Lint(f"{LAYOUT} {width}", paths, "wrong.py", "x = 'one'\n") for width, paths in layouts.items()),
         *(Lint(f"{STYLE} {width}", paths, "wrong.py", WRONG, FINDS) for width, paths in styles.items()),
-        *(Lint(TYPES, below(it, files["python"]), "wrong.py", UNTYPED, FINDS_TYPES) for it in TYPED),
+        *(Lint(TYPES, below(it, files["python"]), "wrong.py", UNTYPED, FINDS_TYPES, beside) for it in TYPED),
         Lint("mandoc -Tlint -W warning", files["manual"], "wrong.1", ".TH WRONG 1\n.SH NAME\n.XX\n"),
     ]
 
@@ -182,7 +184,9 @@ def main() -> int:
     faults_of_lints = {it: fault for it, lint in found.items() if it not in before and (fault := lint.fault())}
     sources.write(KEPT, "".join(f"{it}\n" for it in found if it not in faults_of_lints))
     faults += faults_of_lints.values()
-    return sources.ended(faults, f"{len(lints)} lints, {len(faults)} faults")
+    limits = [*(lint.command for lint in lints), f"{MOST_STATEMENTS} {LONGEST} {WORDS}"]
+    limits += [sources.read(lint.beside[0]) for lint in lints if lint.beside]
+    return sources.ended(faults, f"{len(lints)} lints with the limits {sources.sum_of(limits)}, {len(faults)} faults")
 
 
 if __name__ == "__main__":

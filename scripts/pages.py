@@ -16,7 +16,8 @@
 - Pages, manuals and messages together have at most MOST_ODD of the words of ODD, which natural English has not.
 - A number of a page that a step of the gate counts is the one in scripts/counts.txt.
 
-The last line is `N pages, L links, B blocks, K names, F faults`. A fault is a line before it, and makes the status 1.
+The last line is `N pages, L links, B blocks, K names, M numbers, F faults`. A fault is a line before it, and makes the
+status 1.
 """
 
 import functools
@@ -98,8 +99,7 @@ CODE_IN_PROSE = re.compile(r"```.*?```|`[^`\n]*`", re.DOTALL)
 @dataclass(frozen=True)
 class Block:
     """A block of code: the number of its first line, its language, its code, the page above it, and whether it is
-    closed and whether nothing is between it and the block before.
-    """
+    closed and whether nothing is between it and the block before."""
 
     line: int
     language: str
@@ -263,6 +263,7 @@ def names_in(text: str) -> Iterator[tuple[int, str]]:
 def words_of_code() -> frozenset[str]:
     """The words of the code: of the crates, the library and the scripts."""
     paths = [path for pattern in CODE for path in glob.glob(pattern, recursive=True) if os.path.isfile(path)]
+    paths = [path for path in paths if "__pycache__" not in path]
     return frozenset(word for path in paths for word in re.findall(r"\w+", sources.read(path)))
 
 
@@ -333,7 +334,7 @@ def main() -> int:
         if page.startswith("crates/"):
             found += faults_of_example(page.split("/")[1], text, blocks)
         faults += [f"{page}:{number}: {fault}" for number, fault in found]
-    counts = f"{len(pages)} pages, {links} links, {count} blocks, {names} names"
+    counts = f"{len(pages)} pages, {links} links, {count} blocks, {names} names, {len(IN_PAGES)} numbers"
     return sources.ended(faults, f"{counts}, {len(faults)} faults")
 
 

@@ -169,11 +169,15 @@ def damaged(symbols: list[Symbol], count: int) -> Iterator[Symbol]:
         yield replace(symbol, modules=pictures.with_turned(symbol.modules, places))
 
 
+def scaled(symbols: list[Symbol]) -> Iterator[tuple[Symbol, int]]:
+    """Each of the symbols, with its dots a module: 1, 2 or 3."""
+    return zip(symbols, itertools.cycle((1, 2, 3)))
+
+
 def readings(symbols: list[Symbol]) -> list[bytes | None]:
-    """What each of the symbols is read as, at 1, 2 or 3 dots a module; nothing of another symbology or scale."""
+    """What each of the symbols is read as; nothing of another symbology or scale."""
     read = sources.library().read
-    scales = [1 + place % 3 for place in range(len(symbols))]
-    return [read(one.symbology, one.dots(scale) != 0, scale) for one, scale in zip(symbols, scales)]
+    return [read(one.symbology, one.dots(scale) != 0, scale) for one, scale in scaled(symbols)]
 
 
 def faults(symbols: list[Symbol], are_damaged: bool) -> list[str]:
@@ -203,7 +207,8 @@ def main() -> int:
     cases = [case for one in one_of_each for case in wrong_cases(one)]
     nothing = readings(turned).count(None)
     last = f"{len(symbols)} symbols: {len(symbols) - len(wrong)} read as asked; {len(turned)} damaged: "
-    last += f"{len(turned) - len(torn) - nothing} data, {nothing} nothing"
+    looked_at = (part for one, scale in scaled([*symbols, *turned]) for part in (one.data, one.dots(scale).tobytes()))
+    last += f"{len(turned) - len(torn) - nothing} data, {nothing} nothing; sum {sources.sum_of(looked_at)}"
     return sources.ended([*wrong, *torn], last, cases)
 
 

@@ -125,16 +125,17 @@ def wrong_cases() -> Iterator[tuple[str, bool]]:
 
 def main() -> int:
     program = sources.program_given(__doc__)
-    found: Counter[str] = Counter()
+    found, wholes = Counter[str](), list[str]()
     with tempfile.TemporaryDirectory() as name:
         folder = Path(name)
         build(REFUSE, folder / "refuse")
         for arguments in (STORED, [*STORED, "stdin"], *OTHERS):
             whole, *ends = ends_of(folder, [program, *arguments])
             found += judged(f"{arguments}", whole, ends)
+            wholes.append(f"{arguments} {whole}")
     faults = [f"{found['wrong']} growths are wrong"] if found["wrong"] else []
     kinds = ", ".join(f"{found[kind]} {kind}" for kind in ("no memory", "unaffected", "wrong"))
-    return sources.ended(faults, f"{found.total()} growths: {kinds}", wrong_cases())
+    return sources.ended(faults, f"{found.total()} growths: {kinds}; sum {sources.sum_of(wholes)}", wrong_cases())
 
 
 if __name__ == "__main__":

@@ -194,17 +194,18 @@ def main() -> int:
     draw, scanners = random.Random(SEED), Scanners()
     labels = some_labels()
     cases, faults = [*scanners.wrong_cases(program)], list[str]()
-    guesses, found = 0, Counter[str]()
+    guesses, found, looked_at = 0, Counter[str](), list[str]()
     for picture in pictures(program, labels):
         if "read" not in scanners.scan(picture, picture.pixels):
             faults.append(f"{picture.label.line()!r} is read by no scanner as it is drawn")
         for pixels, is_guess in [*((it, False) for it in positions(picture.pixels)), *within(picture, draw)]:
             found.update(scanners.scan(picture, pixels, is_guess))
+            looked_at.append(sources.sum_of([repr(picture.label), pixels.tobytes()]))
             guesses += is_guess
     faults += [f"{found['misread']} damaged labels are read as other data"] if found["misread"] else []
     faults += [] if found["read"] else ["no damaged label is read"]
     counts = f"{found['read']} as drawn, {found['unread']} not, {found['misread']} misread, "
-    counts += f"{found['guessed']} of {guesses} guessed; of {kinds_of(labels)}"
+    counts += f"{found['guessed']} of {guesses} guessed; of {kinds_of(labels)}; sum {sources.sum_of(looked_at)}"
     return sources.ended(faults, f"{found.total() // len(SCANNERS)} damaged labels, read twice: {counts}", cases)
 
 

@@ -3,6 +3,7 @@
 import argparse
 import functools
 import glob
+import hashlib
 import importlib
 import os
 import subprocess
@@ -83,12 +84,19 @@ def ended(faults: Iterable[str], last: str, cases: Iterable[tuple[str, bool]] = 
     """Prints what a script found wrong, and its last line. Returns its status: 1 where something was wrong.
 
     `cases` are the wrong cases that it was shown, each with whether it reported it: one that it did not is wrong too.
-    The last line says how many there were, and so does the file of counts: none is left out unseen.
-    """
+    The last line says how many there were, and so does the file of counts: none is left out unseen."""
     shown = [*cases]
     found = [*faults, *(f"this wrong case is not reported: {name}" for name, is_reported in shown if not is_reported)]
     print(*found, f"{last}; {len(shown)} wrong cases shown" if shown else last, sep="\n", flush=True)
     return 1 if found else 0
+
+
+def sum_of(parts: Iterable[bytes | str]) -> str:
+    """A checksum of what a step looked at. Its last line has it, and so has the file of counts: others are seen."""
+    total = hashlib.sha256()
+    for part in parts:
+        total.update((part.encode() if isinstance(part, str) else part) + b"\0")
+    return total.hexdigest()[:8]
 
 
 def read(path: str) -> str:

@@ -246,11 +246,13 @@ class KeptLints(InFolder):
         lints = module("lints")
         write(self.path("bin/look"), '#!/bin/sh\necho "$@" >> log\n! grep -l wrong "$@"\n', is_program=True)
         write(self.path("packages"), "none")
+        write(self.path("settings"), "none")
         os.chdir(self.folder)
         self.addCleanup(os.chdir, TOP)
         for changed, text, status, runs in (
             ("one", "right", 0, 2),
             ("packages", "", 0, 2),
+            ("settings", "other", 0, 2),
             ("", "", 0, 0),
             ("one", "wrong", 1, 2),
             ("", "", 1, 2),
@@ -261,7 +263,7 @@ class KeptLints(InFolder):
             write(self.path("log"), "")
             bent: dict[str, Any] = {
                 "PACKAGES": "packages",
-                "all_lints": lambda _: [lints.Lint("look", ["one"], "bad", "wrong")],
+                "all_lints": lambda _: [lints.Lint("look", ["one"], "bad", "wrong", beside=["settings"])],
             }
             nothing: dict[str, Any] = {
                 name: lambda *_: iter(()) for name in ("faults_of", "faults_of_rules", "faults_of_subjects")
