@@ -1,18 +1,18 @@
 #!/usr/bin/python3
 """What has to be believed of the contracts that users rely on, in lines and by name.
 
-The contracts are the clauses of the program's own call, `shows` and `runs`, each alone and both
-together, and those of the functions that the C library exports. --check compares the number in
-README.md and the table in docs/PROOF.md with what the files give, and the names of std in
-docs/DEFINITIONS.md with those that the program's call leans on: status 1 where they differ. --write
-writes the number and the table. Each number counts definitions without blank lines and
-comments, the contract itself with the types, traits and views that it speaks by, and a line for
-each name of std and of the kit's clap. What stands behind clap's names is counted apart.
+The contracts are the clauses of the program's own call, `shows` and `runs`, each alone and both together, and those of
+the functions that the C library exports. --check compares the number in README.md and the table in docs/PROOF.md with
+what the files give, and the names of std in docs/DEFINITIONS.md with those that the program's call leans on: status 1
+where they differ. It does the same with scripts/believed_sums.txt, which has a checksum of each definition, without
+comments and layout: so one that is weakened, such as a row of a proposition, is a line of the diff that names it.
+--write writes the number, the table and the sums. Each number counts definitions without blank lines and comments, the
+contract itself with the types, traits and views that it speaks by, and a line for each name of std and of the kit's
+clap. What stands behind clap's names is counted apart.
 
---show prints what a contract rests on, in reading order, each with its comment: `shows`, `runs`,
-`program` for both, or `library`. The first comment of a file says what the file is about. Lines
-`-- Why: ` after it say what its definitions follow: names between backticks, a colon, and the
-clause of a standard or a page.
+--show prints what a contract rests on, in reading order, each with its comment: `shows`, `runs`, `program` for both,
+or `library`. The first comment of a file says what the file is about. Lines `-- Why: ` after it say what its
+definitions follow: names between backticks, a colon, and the clause of a standard or a page.
 """
 
 import argparse
@@ -41,6 +41,8 @@ UNSAID = "arguments_of"
 README = "README.md"
 PROOF = os.path.join("docs", "PROOF.md")
 PAGE = os.path.join("docs", "DEFINITIONS.md")
+SUMS = os.path.join("scripts", "believed_sums.txt")
+HEAD_OF_SUMS = "# A checksum of each definition to be believed: `scripts/believed.py --write` makes it anew.\n"
 OF_STD = "## Names of std"
 BEGIN, END = "<!-- believed: begin -->", "<!-- believed: end -->"
 # The number of README, by what stands after it.
@@ -64,9 +66,8 @@ def item_of(repository: Repository, function: str) -> tuple[File, Declaration]:
 
 
 def call_of(repository: Repository, names: Sequence[str] = ()) -> CodeItem:
-    """Returns the contract of the program's own call, or its clauses of these names. Stops where
-    the program does not make that call.
-    """
+    """Returns the contract of the program's own call, or its clauses of these names. Stops where the program does not
+    make that call."""
     function = CALL[-1]
     if not any(f"{function}(" in it.text for it in repository.of_program):
         says = "CALL in scripts/believed.py names the call that it makes"
@@ -95,18 +96,14 @@ def all_bases(repository: Repository) -> dict[str, Base]:
 
 @dataclass(frozen=True)
 class Counts:
-    """The lines of the table of PROOF, what has to be read and how much of it, and the number of
-    README.
-    """
+    """The lines of the table of PROOF, what has to be read and how much of it, and the number of README."""
 
     rows: list[tuple[str, Lines]]
     of_readme: int
 
 
 def unsaid_lines(repository: Repository) -> int:
-    """Returns how many lines the code has that no clause speaks of: the program and what gives it
-    its arguments.
-    """
+    """Returns how many lines the code has that no clause speaks of: the program and what gives it its arguments."""
     tokens = [token for file in repository.of_program for token in file.tokens]
     here = len({token.line for token in tokens})
     return here + len({token.line for token in item_of(repository, UNSAID)[1].tokens})
@@ -154,6 +151,14 @@ def with_number(readme: str, counts: Counts) -> str:
     return NUMBER.sub(f"{counts.of_readme:,}", readme)
 
 
+def sums_of(found: dict[str, Base]) -> str:
+    """Returns the lines of the file of sums."""
+    definitions = {it.key: it for base in found.values() for it in base.definitions}
+    words = {key: [token.text for token in it.tokens] for key, it in sorted(definitions.items())}
+    lines = (f"{key.crate}/{key.module} {key.name} {sources.sum_of(said)}\n" for key, said in words.items())
+    return HEAD_OF_SUMS + "".join(lines)
+
+
 def faults_of_names(page: str, base: Base) -> list[str]:
     """Returns which names of std and of clap the page says nothing of, or does not need to."""
     listed = re.findall(r"^\| `(\S+)` \|", page.partition(OF_STD)[2], re.M)
@@ -170,15 +175,13 @@ def differences(name: str, was: str, text: str) -> list[str]:
     return [*difflib.unified_diff(was.split("\n"), text.split("\n"), *names, lineterm="", n=1)]
 
 
-def compared(top: str, counts: Counts, base: Base, writes: bool) -> int:
-    """Compares the pages with what the files give, or writes them, prints the numbers, and returns
-    the status; `base` is that of the program's call.
-    """
-    wrong = faults_of_names(sources.read(os.path.join(top, PAGE)), base)
-    for name, anew in ((README, with_number), (PROOF, with_table)):
+def compared(top: str, counts: Counts, found: dict[str, Base], writes: bool) -> int:
+    """Compares the pages with what the files give, or writes them, prints the numbers, and returns the status."""
+    wrong = faults_of_names(sources.read(os.path.join(top, PAGE)), found["program"])
+    read = {name: sources.read(os.path.join(top, name)) for name in (README, PROOF, SUMS)}
+    made = with_number(read[README], counts), with_table(read[PROOF], counts), sums_of(found)
+    for (name, was), text in zip(read.items(), made):
         path = os.path.join(top, name)
-        was = sources.read(path)
-        text = anew(was, counts)
         if writes:
             sources.write(path, text)
         else:
@@ -206,9 +209,7 @@ def about(file: File) -> list[str]:
 
 
 def names_in(file: File, why: str) -> set[str]:
-    """Returns the names of a `Why: ` of a file. Stops where it has none, or the file does not
-    define one.
-    """
+    """Returns the names of a `Why: ` of a file. Stops where it has none, or the file does not define one."""
     match = WHY.match(why)
     names = {*re.findall(r"`([^`]+)`", match[1])} if match else set[str]()
     gone = sorted(names - {*file.of_name})
@@ -274,7 +275,7 @@ def main() -> int:
         show(repository, found[given.show])
         return 0
     counts = counts_of(repository, found)
-    return compared(sources.TOP, counts, found["program"], given.write)
+    return compared(sources.TOP, counts, found, given.write)
 
 
 if __name__ == "__main__":

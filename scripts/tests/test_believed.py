@@ -83,6 +83,7 @@ class Believed(InCopy):
             ("crates.txt", "gf256:", "gf65536:\ngf256:", "gf65536"),
             ("crates/labels/src/main.rt", "from(program(", "from(other(", "does not call program"),
             (held_line, "pub line_limit :", "pub line_bound :", "has no line_limit"),
+            ("crates/filter/specs/Damage.antt", "→ IsNotMisread", "→ IsMisread", "-filter/Damage IsGuarded "),
         )
         self.assert_changes_fail(changes, self.check)
 
