@@ -56,9 +56,8 @@ class Base:
 
 @dataclass(frozen=True)
 class Repository:
-    """The crates that others rest on, in the order in which a reader meets them, from the headline
-    down, the files of specs/ by crate and module, those of the code, and what contracts speak by.
-    """
+    """The crates that others rest on, in the order in which a reader meets them, from the headline down, the files of
+    specs/ by crate and module, those of the code, and what contracts speak by."""
 
     crates: list[str]
     specs: dict[tuple[str, str], File]
@@ -66,9 +65,8 @@ class Repository:
     items: list[CodeItem]
 
     def definition(self, key: Key) -> Declaration | None:
-        """Returns the definition of a name, or None: the code's own type, or a name of the kit or
-        of a lemma. Stops where a file names a definition that is not there.
-        """
+        """Returns the definition of a name, or None: the code's own type, or a name of the kit or of a lemma. Stops
+        where a file names a definition that is not there."""
         if key.crate not in self.crates or key.part != "specs" or key.module.startswith("declared"):
             return None
         file = self.specs.get((key.crate, key.module))

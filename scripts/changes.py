@@ -1,9 +1,8 @@
 """The small changes of believed definitions, and the worked values that are to refuse them.
 
-A change puts another word in the place of one word of a definition of crates/*/specs: a number one
-off, another cell of a table, `<` for `<=`, `+` for `-`, `and` for `or`, the other truth value, the
-row for the column. Propositions are left out, since they are proved, but for the ranges of the
-options and what damage is little.
+A change puts another word in the place of one word of a definition of crates/*/specs: a number one off, another cell
+of a table, `<` for `<=`, `+` for `-`, `and` for `or`, the other truth value, the row for the column. Propositions are
+left out, since they are proved, but for the ranges of the options and what damage is little.
 """
 
 import hashlib
@@ -50,9 +49,8 @@ FIRST_CELLS = "0123456789A"
 
 @dataclass(eq=False)
 class Change:
-    """One word of a definition in another's place; `by` is the worked value that refuses it, and
-    `is_same` whether it means the same.
-    """
+    """One word of a definition in another's place; `by` is the worked value that refuses it, and `is_same` whether it
+    means the same."""
 
     definition: Declaration
     file: File
@@ -74,26 +72,21 @@ class Change:
 
 @dataclass
 class Crate:
-    """The files of specs/ of a crate, and those of worked values that judge them, the quick ones
-    first, each by its module.
-    """
+    """The files of specs/ of a crate, and those of worked values that judge them, the quick ones first, each by its
+    module."""
 
     specs: dict[str, File]
     examples: dict[str, File]
 
     def checksum(self, definitions: Iterable[Declaration], values: Iterable[str]) -> str:
-        """Returns the checksum of definitions and of worked values by their names, without
-        comments and layout.
-        """
+        """Returns the checksum of definitions and of worked values by their names, without comments and layout."""
         worked = {one.name: one for file in self.examples.values() for one in file.declarations}
         found = [*definitions, *(worked[name] for name in values if name in worked)]
         words = [[token.text for token in one.tokens] for one in found]
         return hashlib.sha256(repr(words).encode()).hexdigest()[:8]
 
     def resting_on(self, name: str, file: File) -> list[str]:
-        """Returns the names of what rests on a definition, of specs/ and of a file of worked
-        values.
-        """
+        """Returns the names of what rests on a definition, of specs/ and of a file of worked values."""
         users: dict[str, list[str]] = {}
         for one in [one for it in (*self.specs.values(), file) for one in it.declarations]:
             for word in reader.names_in(one.tokens):
@@ -164,9 +157,8 @@ def words_of(tokens: Sequence[Token]) -> Iterator[tuple[int, str]]:
 
 
 def uses_in(words: Sequence[tuple[int, str]]) -> Iterator[tuple[int, str]]:
-    """Yields the words of a clause that can be changed, with their places: none that binds a name,
-    and none of the type of types.
-    """
+    """Yields the words of a clause that can be changed, with their places: none that binds a name, and none of the
+    type of types."""
     is_bound = False
     none = (0, "")
     for (_, before), (at, word), (_, after) in zip([none, *words], words, [*words[1:], none]):
@@ -200,9 +192,7 @@ def other_words(word: str) -> list[Other]:
 
 
 def other_texts(inner: str) -> list[Other]:
-    """Returns what is tried in a text: each cell of a table, each border of two widths, or else
-    the first letter.
-    """
+    """Returns what is tried in a text: each cell of a table, each border of two widths, or else the first letter."""
     for letters in ("01", "AB"):
         if re.fullmatch(rf"[{letters}]+( [{letters}]+)*", inner) and len(inner) > 1:
             cells = [(at, it) for at, it in enumerate(inner) if it != " "]

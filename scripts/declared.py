@@ -27,10 +27,9 @@ Name = tuple[str, str, str]
 
 @dataclass(frozen=True)
 class CodeItem:
-    """An item: its crate, its file in src/ without the ending, its description, how many lines it
-    has, what these cite, the words of the type that it is or shows, or of the contract, which name
-    more types, and the members of types that it names, as `remaining` in `R.remaining`.
-    """
+    """An item: its crate, its file in src/ without the ending, its description, how many lines it has, what these
+    cite, the words of the type that it is or shows, or of the contract, which name more types, and the members of
+    types that it names, as `remaining` in `R.remaining`."""
 
     kind: str
     name: str
@@ -136,9 +135,8 @@ def clauses_of(stated: Sequence[Token]) -> tuple[list[Token], dict[str, list[Tok
 
 
 def contract_of(file: File, item: Declaration, names: Sequence[str] = ()) -> CodeItem:
-    """Returns the contract of a function of a file: its head and its clauses, or those of these
-    names. Stops where it has no clause of a name.
-    """
+    """Returns the contract of a function of a file: its head and its clauses, or those of these names. Stops where it
+    has no clause of a name."""
     head, clauses = clauses_of(item.stated)
     if gone := [it for it in names if it not in clauses]:
         sys.exit(f"{item.name} in {file.path} has no clause {', '.join(gone)}")

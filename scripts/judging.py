@@ -50,9 +50,7 @@ ERROR = re.compile(r"^\./proofs/V(\d+)/(\w+)\.antt:\d+:\d+: error: (.*)", re.M)
 
 @dataclass(frozen=True)
 class Copy:
-    """A change, its crate, and a file of worked values with the names of those that are to refuse
-    the change.
-    """
+    """A change, its crate, and a file of worked values with the names of those that are to refuse the change."""
 
     change: Change
     crate: Crate
@@ -81,10 +79,8 @@ def with_imports(text: str, new: str) -> str:
 
 
 def put_copy(room: str, copy: Copy, number: int) -> None:
-    """Writes a copy of a file of worked values, of the changed file, and of those by which the one
-    rests on the other. Where more was copied, the code's own types would speak of records that are
-    not the copy's.
-    """
+    """Writes a copy of a file of worked values, of the changed file, and of those by which the one rests on the other.
+    Where more was copied, the code's own types would speak of records that are not the copy's."""
     change, examples = copy.change, copy.text
     own, changed = f"Rattle.{change.file.crate}.specs", change.file.module
     texts = {module: file.text for module, file in copy.crate.specs.items()}
@@ -108,9 +104,8 @@ def put_copy(room: str, copy: Copy, number: int) -> None:
 
 
 def errors_in(rtlib: Any, words: Sequence[str], copies: Sequence[Copy]) -> dict[int, list[tuple[str, str]]]:
-    """Checks copies, and returns the errors of each by its number: the file, and the worked value
-    or else what the error says.
-    """
+    """Checks copies, and returns the errors of each by its number: the file, and the worked value or else what the
+    error says."""
     with tempfile.TemporaryDirectory(prefix="believed-rows-") as room:
         sources.write(f"{room}/src/lib.rt", CODE)
         for number, copy in enumerate(copies):
@@ -129,9 +124,8 @@ def errors_in(rtlib: Any, words: Sequence[str], copies: Sequence[Copy]) -> dict[
 
 
 def words_for(crates: Sequence[Any], as_left: bool) -> list[str]:
-    """Builds what is not built of crates of the kit and of those below them, or takes what `rt ci`
-    left, and returns the words of a check of a crate above them.
-    """
+    """Builds what is not built of crates of the kit and of those below them, or takes what `rt ci` left, and returns
+    the words of a check of a crate above them."""
     places: list[tuple[str, str]] = []
     for crate in crates:
         with open(os.devnull, "w", encoding="utf-8") as nowhere:
@@ -158,10 +152,9 @@ def as_they_are(copies: Sequence[Copy]) -> Iterator[Copy]:
 
 
 def judge_copies(rtlib: Any, words: Sequence[str], copies: Sequence[Copy]) -> list[Copy]:
-    """Notes in the changes of copies what refuses them, and returns the copies that are refused.
-    Stops where worked values are refused as they are. The copies of one change are in the order of
-    their files, and the first that is refused counts.
-    """
+    """Notes in the changes of copies what refuses them, and returns the copies that are refused. Stops where worked
+    values are refused as they are. The copies of one change are in the order of their files, and the first that is
+    refused counts."""
     controls = [*as_they_are(copies)]
     errors = errors_in(rtlib, words, [*copies, *controls])
     for number, control in enumerate(controls, len(copies)):
@@ -194,11 +187,9 @@ def judge(
     changes: Sequence[Change],
     values: dict[str, list[str]] | None = None,
 ) -> None:
-    """Notes in each change the worked value that refuses it; `values` are the names of those that
-    alone are to judge the changes of a file, by its title. One check has changes of all crates,
-    each with its first file. Those that are left are judged by the next, or by all where they are
-    few.
-    """
+    """Notes in each change the worked value that refuses it; `values` are the names of those that alone are to judge
+    the changes of a file, by its title. One check has changes of all crates, each with its first file. Those that are
+    left are judged by the next, or by all where they are few."""
     rtlib = libraries.kit()
     homes = {HOME.get(it.file.crate, it.file.crate) for it in changes}
     words = words_for([it for it in rtlib.crates_below(top) if it.name in homes], as_left)

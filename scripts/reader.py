@@ -66,8 +66,7 @@ class Declaration:
     """What a file declares: a definition, a lemma or an item of the code, with the comment above it.
 
     `stated` are its tokens without the bodies of functions. Of the code, `attributes` are the tokens of its
-    attributes, and `inner` what it has between braces. Of the logic, `statements` are a signature and its clauses.
-    """
+    attributes, and `inner` what it has between braces. Of the logic, `statements` are a signature and its clauses."""
 
     kind: str
     key: Key

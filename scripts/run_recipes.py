@@ -98,8 +98,7 @@ def commands_of(page: str) -> Iterator[Commands]:
 
 def session_of(lines: Iterable[str], may_fail: bool = False) -> Commands:
     """The commands of a session, which begins with a prompt, and what one `sh` prints of them. After each command it
-    prints a mark with the status of that command, or an empty mark where any status will do.
-    """
+    prints a mark with the status of that command, or an empty mark where any status will do."""
     typed: list[tuple[str, str]] = []
     for line in lines:
         if line.startswith(pages.PROMPT):

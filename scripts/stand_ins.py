@@ -22,9 +22,7 @@ BODY = "{ loop {} }"
 
 @dataclass(frozen=True)
 class Function:
-    """A function with a body: its path below the crate, and where the body begins and ends in its
-    file.
-    """
+    """A function with a body: its path below the crate, and where the body begins and ends in its file."""
 
     path: str
     begin: int
@@ -38,10 +36,9 @@ def name_of_holder(name: str) -> str:
 
 
 def functions_in(file: reader.File, items: Iterable[reader.Declaration], path: str) -> Iterator[Function]:
-    """Yields the functions that items of a file have. Left out are `main`, those that call
-    themselves, which are proved in the folder of their cycle, and those of an `impl` that is not
-    the only one of its name, for which the kit has another.
-    """
+    """Yields the functions that items of a file have. Left out are `main`, those that call themselves, which are
+    proved in the folder of their cycle, and those of an `impl` that is not the only one of its name, for which the kit
+    has another."""
     items = [*items]
     holders = [item.name for item in items if item.kind in ("impl", "trait")]
     for item in items:
@@ -71,9 +68,8 @@ def put_hole(function: Function, crate: str, folder: str) -> None:
 
 
 def put(top: str, crate: str, asked: Collection[str]) -> None:
-    """Leaves of each function its contract alone, in the copy of a crate that is in `crates` below
-    `top`, but of those that are asked for.
-    """
+    """Leaves of each function its contract alone, in the copy of a crate that is in `crates` below `top`, but of those
+    that are asked for."""
     folder = f"{top}/crates/{crate}"
     for file in reader.files_at(top, sources.files_below(f"{folder}/src", ".rt")):
         functions = [it for it in functions_of(file) if it.path not in asked]
