@@ -74,6 +74,7 @@ READ = (
     + """
 import io, liblabels, subprocess, sys
 import zxingcpp
+from xml.etree import ElementTree
 from PIL import Image
 def by_zbar(png):
     words = ["zbarimg", "-q", "--raw", "-Supca.enable", "-Sean13.enable", "-Sean8.enable", "-"]
@@ -81,6 +82,8 @@ def by_zbar(png):
 def by_zxing(png):
     image = Image.open(io.BytesIO(png)).convert("L")
     return [(found.format.name, found.text) for found in zxingcpp.read_barcodes(image)]
+strange = ElementTree.fromstring(liblabels.symbol("qr", b"a").svg(light="\\"<&'"))
+assert strange[0].get("fill") == "\\"<&'"
 for line, (name, data) in LINES.items():
     symbol = liblabels.line(line)
     svg = symbol.svg(4, light="white").encode()

@@ -13,8 +13,9 @@ import jobs
 import numpy
 import support
 import drivers
+from labeltools.lines.symbologies import SYMBOLOGIES
 from labeltools.printing.job import PrintOptions, planned
-from labeltools.printing.cups import SentJob, lp_line, queue_of, queues
+from labeltools.printing.cups import Queue, SentJob, dpi_of, lp_line, media_of, queue_of, queues
 from drivers import Bars, bars_of, shift_of, with_end
 from laying import laid_out, look
 from printers import Printer
@@ -40,9 +41,73 @@ LINES = support.file_of(
     [(f"ean13 {support.ean13(400638000000 + number)}", {"title": "Seife"}) for number in range(3)]
 )
 
+INCH = 25.4
+# ISO 216, and the papers of North America.
+PAPERS = {
+    "A3": (297, 420),
+    "A4": (210, 297),
+    "A5": (148, 210),
+    "A6": (105, 148),
+    "Letter": (8.5 * INCH, 11 * INCH),
+    "Legal": (8.5 * INCH, 14 * INCH),
+}
+
 
 def setUpModule() -> None:
     os.environ["LABELS"] = str(support.labels_program())
+
+
+class Driver:
+    """A driver whose options that are marked run this code, one section after the other."""
+
+    def __init__(self, *code: str) -> None:
+        self.code = code
+
+    def emitString(self, section: int, least: float) -> str:
+        return self.code[section] if section < len(self.code) else ""
+
+
+def told(across: int, down: int) -> str:
+    """The code that sets a resolution."""
+    return f"<</HWResolution[{across} {down}]>>setpagedevice\n"
+
+
+class Drivers(unittest.TestCase):
+    def test_papers(self) -> None:
+        for name, (width, height) in PAPERS.items():
+            self.assertEqual(media_of((width, height)), name)
+            wide = media_of((width + 1, height))
+            self.assertEqual(wide.split(".")[0], "Custom", name)
+
+    def test_dots_of_a_sheet_and_of_a_roll(self) -> None:
+        """A sheet has those of drawings, 600, if the driver can, and else those of the queue."""
+        for own, others, of_sheet, of_roll in (
+            (300, (300, 600), 600, 300),
+            (300, (300, 1200), 600, 300),
+            (203, (203, 300), 203, 203),
+            (0, (300, 360), 360, 360),
+            (0, (), 600, 0),
+        ):
+            queue = Queue("office", own, {dots: f"{dots}dpi" for dots in others})
+            self.assertEqual((queue.dpi_for(True), queue.dpi_for(False)), (of_sheet, of_roll))
+
+    def test_dots_of_a_driver(self) -> None:
+        """What is told last counts, the fewer of those across and down; none that do not fit."""
+        for code, dots in (
+            ([told(300, 300)], 300),
+            ([told(600, 600), told(300, 300)], 300),
+            ([told(1200, 600)], 600),
+            ([told(300, 600)], 300),
+            ([told(360, 600)], 0),
+        ):
+            self.assertEqual(dpi_of(Driver(*code)), dots, code)
+
+
+class Symbologies(unittest.TestCase):
+    def test_numbers(self) -> None:
+        """The others take any data, and their bars are as wide as there is room for."""
+        found = {name for name, one in SYMBOLOGIES.items() if one.is_number}
+        self.assertEqual(found, {"ean13", "ean8", "upca"})
 
 
 class Lines(unittest.TestCase):
