@@ -151,7 +151,7 @@ MUTANTS = (
     (IMAGES, "_FIRST_LIGHT = 128", "_FIRST_LIGHT = 127"),
     (IMAGES, "height, width = array.shape", "width, height = array.shape"),
     (IMAGES, "return (width + 7) // 8", "return (width + 8) // 8"),
-    (WRONG, "digits.strip", "digits[:3].strip"),
+    (WRONG, "digits.translate", "digits[:3].translate"),
     (WRONG, "1 in dots and not", "1 in dots and"),
 )
 

@@ -82,8 +82,12 @@ class Install(unittest.TestCase):
             else:
                 wanted |= {"lib/examples/read.py", "tools/tests/printers.py"}
             top = self.folder / place
-            found = {str(path.relative_to(top)) for path in top.rglob("*") if path.is_file()}
-            self.assertEqual(found, wanted)
+            files = {path.relative_to(top) for path in top.rglob("*") if path.is_file()}
+            compiled = {path for path in files if path.parent.name == "__pycache__"}
+            self.assertEqual({str(path) for path in files - compiled}, wanted)
+            modules = {path for path in files if path.suffix == ".py" and place.endswith("tools")}
+            sources = {path.parent.parent / path.name.partition(".")[0] for path in compiled}
+            self.assertEqual(sources, {path.with_suffix("") for path in modules})
 
     def test_the_desktop_has_what_it_needs(self) -> None:
         """What is beside the code, the help in each language, and the completion of each shell."""

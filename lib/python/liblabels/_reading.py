@@ -23,6 +23,7 @@ _IS_DARK = [grey < _FIRST_LIGHT for grey in range(256)]
 _WHITE = 255
 _SEEN_THROUGH = [_WHITE - opaque for opaque in range(256)]
 _MODES = ("1", "L", "LA", "P", "RGB", "RGBA")
+_WHITE_SPACE = b" \t\n\r\v\f"
 _BETWEEN = rb"(?:\s|#[^\n]*\n)+"  # white space and comments, as pbm(5) has them
 _HEAD = re.compile(rb"(P[14])" + _BETWEEN + rb"(\d{1,9})" + _BETWEEN + rb"(\d{1,9})\s")
 
@@ -121,8 +122,8 @@ def _bits_of_file(text: bytes) -> Bitmap:
     width, height = int(head[2]), int(head[3])
     rest = text[head.end() :]
     if head[1] == b"P1":
-        digits = b"".join(rest.split())
-        if digits.strip(b"01") or len(digits) != width * height:
+        digits = rest.translate(None, _WHITE_SPACE)
+        if digits.translate(None, b"01") or len(digits) != width * height:
             raise ValueError(f"PBM of {width} by {height} dots has to have as many digits 0 and 1")
         return _packed(width, height, digits)
     return _whole(width, height, rest)

@@ -61,7 +61,7 @@ def png(picture: Picture, dot: float) -> bytes:
     chunks = (
         chunk(b"IHDR", head),
         chunk(b"pHYs", a_metre + a_metre + b"\1"),
-        chunk(b"IDAT", zlib.compress(rows, 9)),
+        chunk(b"IDAT", zlib.compress(rows)),
         chunk(b"IEND", b""),
     )
     return b"\x89PNG\r\n\x1a\n" + b"".join(chunks)
