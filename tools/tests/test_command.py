@@ -91,7 +91,9 @@ main_of("small-tool", function)
         body = "[standard_output().write(b'x' * 3000) for _ in range(4)]"
         for unbuffered in ("", "export PYTHONUNBUFFERED=1; "):
             with tempfile.TemporaryDirectory() as folder:
-                ended = self.small_tool(body, shell=f'{unbuffered}ulimit -f 4; "$@" > {folder}/out')
+                ended = self.small_tool(
+                    body, shell=f'{unbuffered}ulimit -f 4; "$@" > "{folder}/out"'
+                )
             self.assertEqual(ended, (1, b"", "small-tool: standard output: File too large\n"))
 
     def test_a_closed_pipe(self) -> None:

@@ -183,7 +183,7 @@ class Running(unittest.TestCase):
 
     def test_a_pdf_that_does_not_fit_leaves_nothing(self) -> None:
         with tempfile.TemporaryDirectory() as folder:
-            shell = f'trap "" XFSZ; ulimit -f 8; "$@" > {folder}/sheet.pdf'
+            shell = f'trap "" XFSZ; ulimit -f 8; "$@" > "{folder}/sheet.pdf"'
             data = support.file_of(LABELS)
             done = in_shell(shell, "--stock", "l7160", data=data, TMPDIR=folder)
             size = Path(folder, "sheet.pdf").stat().st_size

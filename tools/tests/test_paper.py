@@ -652,7 +652,7 @@ class Users(unittest.TestCase):
 
     def test_a_full_disk_names_its_file(self) -> None:
         with tempfile.TemporaryDirectory() as folder:
-            shell = f'trap "" XFSZ; ulimit -f 1; "$@" --each {folder}/new/%d.pbm'
+            shell = f'trap "" XFSZ; ulimit -f 1; "$@" --each "{folder}/new/%d.pbm"'
             words = [str(support.TOOLS / "label-print"), "--paper", "90x90", "--dpi", "300"]
             done = subprocess.run(
                 ["bash", "-c", shell, "sh", *words],

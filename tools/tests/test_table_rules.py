@@ -469,7 +469,7 @@ class Summary(RulesTest):
 
     def test_it_is_written_where_somebody_sees_it(self) -> None:
         support.needs("script")
-        command = f"printf 'EAN\\n{SMALL}\\n' | label-table --code EAN > {self.folder}/lines"
+        command = f"printf 'EAN\\n{SMALL}\\n' | label-table --code EAN > '{self.folder}/lines'"
         done = support.run("/usr/bin/script", "--quiet", "--command", command, "/dev/null")
         self.assertIn(b"label-table: 1 label from 1 row: 1 EAN-8", done.stdout)
 
