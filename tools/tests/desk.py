@@ -10,7 +10,7 @@ import time
 import unittest
 from pathlib import Path
 from types import MappingProxyType
-from typing import IO, List, Mapping, Sequence, Union
+from typing import IO, Mapping, Sequence
 from unittest import mock
 
 import jobs
@@ -43,7 +43,7 @@ def limit(size):
 start("label-print", "labeltools.commands.label_print")
 """
 # Where the lines of a program come from, and what it writes goes: a file or its number, PIPE, NULL.
-End = Union[int, IO[bytes]]
+End = int | IO[bytes]
 
 
 def printed(*words: str, input: bytes = TICKETS) -> "support.Finished[bytes]":
@@ -51,12 +51,12 @@ def printed(*words: str, input: bytes = TICKETS) -> "support.Finished[bytes]":
     return support.printed(*ROLL, *words, input=input)
 
 
-def labels_in(done: "support.Finished[bytes]") -> List[bytes]:
+def labels_in(done: "support.Finished[bytes]") -> list[bytes]:
     """The labels on standard output."""
     return LABEL.findall(done.stdout)
 
 
-def on_paper(done: "support.Finished[bytes]") -> List[bytes]:
+def on_paper(done: "support.Finished[bytes]") -> list[bytes]:
     """The dots of the labels on standard output, each as often as it is printed."""
     return [dots.tobytes() for dots in jobs.dots_of_zpl(done.stdout)]
 
@@ -126,7 +126,7 @@ class Desk(unittest.TestCase):
         self.addCleanup(patient.stop)
         patient.start()
 
-    def events(self) -> List[str]:
+    def events(self) -> list[str]:
         """The events of the journal."""
         lines = Path(self.path).read_text().splitlines()[1:]
         return [line.split("\t")[1] for line in lines]
@@ -188,7 +188,7 @@ class Desk(unittest.TestCase):
 
     # ---- streams
 
-    def answers(self, input: bytes, *words: str) -> List[str]:
+    def answers(self, input: bytes, *words: str) -> list[str]:
         """The answers to lines."""
         done = printed("--stream", *words, input=input)
         self.assertEqual(done.stderr.count(b"\n"), len(done.stderr.splitlines()))

@@ -3,7 +3,7 @@
 import itertools
 import unittest
 from dataclasses import dataclass
-from typing import Any, Optional, Sequence
+from typing import Any, Sequence
 
 import jobs
 from labeltools.drawing.dots import drawn_page
@@ -40,7 +40,7 @@ class Laid:
         """A length in millimetres."""
         return dots * self.prepared.laid_out.area.dot
 
-    def fault(self, item: LaidOut) -> Optional[str]:
+    def fault(self, item: LaidOut) -> str | None:
         """What is wrong with a label as it is drawn, if anything."""
         return fault_of(item, self.prepared.laid_out.area, self.pen)
 

@@ -1,7 +1,7 @@
 """Reads labels as they are drawn, by zxing-cpp."""
 
 import re
-from typing import Optional, Sequence
+from typing import Sequence
 
 import zxingcpp
 
@@ -18,14 +18,14 @@ NOT_DRAWN = "its bars as drawn are not those of labels"
 PIXELS = bytes.maketrans(b"01", b"\xff\0")
 
 
-def fault_of(item: LaidOut, area: Area, pen: Pen) -> Optional[str]:
+def fault_of(item: LaidOut, area: Area, pen: Pen) -> str | None:
     """Returns what is wrong with a label as it is drawn in its area, if anything."""
     size = area.width, area.height
     picture = drawn_page(size, pen, [(item, (0, 0))])
     return fault_in([bits_of(row) for row in picture.rows], symbols_of(item, Box(0, 0, *size)))
 
 
-def fault_in(rows: list[str], symbols: Sequence[OwnSymbol]) -> Optional[str]:
+def fault_in(rows: list[str], symbols: Sequence[OwnSymbol]) -> str | None:
     """Returns what is wrong with one of the symbols of a label, each read in its place alone."""
     for symbol in symbols:
         box = symbol.box
@@ -38,7 +38,7 @@ def fault_in(rows: list[str], symbols: Sequence[OwnSymbol]) -> Optional[str]:
     return None
 
 
-def fault_of_symbol(rows: list[str], symbol: OwnSymbol) -> Optional[str]:
+def fault_of_symbol(rows: list[str], symbol: OwnSymbol) -> str | None:
     """Returns what is wrong with a symbol in dots of its place: its data is read by zxing-cpp, and
     each row of its bars is compared.
     """
@@ -50,7 +50,7 @@ def fault_of_symbol(rows: list[str], symbol: OwnSymbol) -> Optional[str]:
     return None if is_drawn(rows, symbol.modules, symbol.boxes["bars"]) else NOT_DRAWN
 
 
-def code_in(rows: list[str], form: str) -> Optional[bytes]:
+def code_in(rows: list[str], form: str) -> bytes | None:
     """Returns the data of a code of a form in rows of dots; None where it is not read."""
     pixels = "".join(rows).encode().translate(PIXELS)
     picture = memoryview(pixels).cast("B", [len(rows), len(rows[0])])

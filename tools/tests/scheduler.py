@@ -10,7 +10,7 @@ import subprocess
 import tempfile
 import time
 from pathlib import Path
-from typing import Any, List, Tuple, Union
+from typing import Any
 
 import cups
 import numpy
@@ -114,7 +114,7 @@ class Scheduler:
         (self.folder / "cups-files.conf").write_text("\n".join([*lines, "FileDevice Yes", ""]))
         words = [CUPSD, "-f", "-c", f"{self.folder}/cupsd.conf"]
         words += ["-s", f"{self.folder}/cups-files.conf"]
-        self.processes: List[Any] = []
+        self.processes: list[Any] = []
         self.start(*words)
         self.before = os.environ.get("CUPS_SERVER")
         os.environ["CUPS_SERVER"] = self.name
@@ -195,14 +195,14 @@ class Scheduler:
         cups.setServer(self.before or "")
 
 
-def is_open(address: Union[str, Tuple[str, int]]) -> bool:
+def is_open(address: str | tuple[str, int]) -> bool:
     """Whether a program listens at a socket's file, or at a port of a host."""
     kind = socket.AF_UNIX if isinstance(address, str) else socket.AF_INET
     with socket.socket(kind) as line:
         return line.connect_ex(address) == 0
 
 
-def raster_of(job: bytes) -> Tuple[Tuple[int, int], Dots]:
+def raster_of(job: bytes) -> tuple[tuple[int, int], Dots]:
     """The dots an inch across and down, and the dots of the first page: of CUPS raster with a bit
     for each dot, or of PWG raster with a byte for each, in which 0 is black.
     """

@@ -8,7 +8,7 @@ from contextlib import contextmanager
 from dataclasses import dataclass, replace
 from itertools import count, product
 from pathlib import Path
-from typing import Any, Callable, Iterator, Optional, Sequence
+from typing import Any, Callable, Iterator, Sequence
 from unittest import mock
 
 import support
@@ -165,7 +165,7 @@ def twice(*arguments: Any) -> None:
     DRAW_MODULES(*arguments)
 
 
-def drawn_wrong(number: int, other: Optional[Modules] = None) -> Callable[..., Any]:
+def drawn_wrong(number: int, other: Modules | None = None) -> Callable[..., Any]:
     """`Pen.draw_modules` that draws one of the symbols of the first label with a module less, or as
     another symbol.
     """
@@ -458,7 +458,7 @@ class OwnDesigns(unittest.TestCase):
         ("ean8 73513537", {"title": "Kaugummi", "text": {"Check": "7"}}),
     ]
 
-    def found(self, form: str, turn: Optional[bool], is_sheet: bool) -> Prepared:
+    def found(self, form: str, turn: bool | None, is_sheet: bool) -> Prepared:
         size = (60.0, 100.0) if turn else (100.0, 60.0)
         sheet = {"cell": size, "columns": 1, "rows": 2, "paper": None}
         chosen = sheet if is_sheet else {"paper": size, "cell": None}

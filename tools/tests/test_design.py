@@ -8,7 +8,7 @@ import tempfile
 import unittest
 import zlib
 from pathlib import Path
-from typing import Any, Dict, Sequence, Tuple
+from typing import Any, Sequence
 from unittest import mock
 
 import numpy
@@ -863,9 +863,9 @@ class Papers(OwnPages):
             ' transform="rotate(-90)"/>'
             '<rect id="code" x="1" y="20" width="46" height="18"/>'
         )
-        sheet: Dict[str, Any] = {"columns": 2, "rows": 3, "edge": (0.0, 0.0, 0.0, 0.0)}
+        sheet: dict[str, Any] = {"columns": 2, "rows": 3, "edge": (0.0, 0.0, 0.0, 0.0)}
         pages = ("pdf", "svg", "png", "pbm")
-        cases: Sequence[Tuple[str, Dict[str, Any]]] = (
+        cases: Sequence[tuple[str, dict[str, Any]]] = (
             *((form, {"paper": (60.0, 40.0)}) for form in (*pages, "zpl", "escpos")),
             *((form, {"paper": (40.0, 60.0)}) for form in (*pages, "zpl", "escpos")),
             *((form, {"paper": None, "cell": (60.0, 40.0), **sheet}) for form in pages),

@@ -8,7 +8,7 @@ import subprocess
 import tempfile
 import unittest
 from pathlib import Path
-from typing import Any, Dict
+from typing import Any
 
 import numpy
 
@@ -105,7 +105,7 @@ class Drawings(unittest.TestCase):
 
     def test_a_drawing_ends_at_the_edge_of_its_label(self) -> None:
         """What a PDF of a sheet has beyond it would be on the next label."""
-        sheet: Dict[str, Any] = {"cell": (60.0, 40.0), "margin": (10.0, 10.0), "paper": None}
+        sheet: dict[str, Any] = {"cell": (60.0, 40.0), "margin": (10.0, 10.0), "paper": None}
         with tempfile.TemporaryDirectory() as folder:
             path = designs.written(
                 Path(folder, "own.svg"), f'<path d="M50 1H90V9H50Z"/>{designs.CODE}'

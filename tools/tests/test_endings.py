@@ -11,7 +11,7 @@ import tempfile
 import time
 import unittest
 from pathlib import Path
-from typing import Any, Callable, Sequence, Tuple
+from typing import Any, Callable, Sequence
 from unittest import mock
 
 import desk
@@ -48,7 +48,7 @@ def takes(run: "subprocess.Popen[bytes]", number: int) -> bool:
     return bool(caught >> (number - 1) & 1)
 
 
-def said_after(form: str, labels: int) -> Tuple[str, ...]:
+def said_after(form: str, labels: int) -> tuple[str, ...]:
     """What may be said where a signal came after so many labels of LABELS: of a printer's form the
     row to go on from, or that all went out, unless nothing had begun, or all was done before.
     """
@@ -65,7 +65,7 @@ def said_after(form: str, labels: int) -> Tuple[str, ...]:
     return (message,) if labels else ("", message)
 
 
-def records_of(data: bytes) -> Tuple[LineRecord, ...]:
+def records_of(data: bytes) -> tuple[LineRecord, ...]:
     """The lines of a file."""
     return read_lines(data, "lines").records
 
@@ -237,7 +237,7 @@ class Signals(desk.Desk):
         Path(self.lines).write_bytes(support.file_of(LABELS))
 
     def test_labels_are_whole(self) -> None:
-        forms: Sequence[Tuple[str, Callable[[bytes], Sequence[Any]]]] = (
+        forms: Sequence[tuple[str, Callable[[bytes], Sequence[Any]]]] = (
             ("zpl", jobs.dots_of_zpl),
             ("escpos", jobs.dots_of_escpos),
             ("pbm", jobs.pictures_of_pbm),
@@ -253,7 +253,7 @@ class Signals(desk.Desk):
                 seen.add(count)
             self.assertGreater(len(seen), 3, form)
 
-    def stopped(self, form: str, size: int, moment: int) -> Tuple[bytes, str]:
+    def stopped(self, form: str, size: int, moment: int) -> tuple[bytes, str]:
         """The output and the messages of a run that gets a signal after so many bytes of it were
         read, while it waits, and whose reader goes on then.
         """

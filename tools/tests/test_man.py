@@ -3,7 +3,6 @@
 import re
 import subprocess
 import unittest
-from typing import Dict
 
 import support
 from labeltools.commands import label_print, label_table
@@ -141,7 +140,7 @@ def shown(page: str) -> str:
     return re.sub(".\b", "", subprocess.run(command, stdout=subprocess.PIPE, text=True).stdout)
 
 
-def defaults_of(page: str) -> Dict[str, str]:
+def defaults_of(page: str) -> dict[str, str]:
     """The defaults that a page names, by option."""
     found = re.findall(r"^ {7}(--[a-z-]+).*\n {14}(.*)$", shown(page), re.M)
     claims = {option: NAMED.search(text) for option, text in found}

@@ -9,7 +9,7 @@ import tempfile
 import unittest
 from dataclasses import replace
 from pathlib import Path
-from typing import Any, Dict, List, Optional, Tuple
+from typing import Any
 
 import numpy
 import zxingcpp
@@ -40,7 +40,7 @@ def setUpModule() -> None:
     os.environ["LABELS"] = str(support.labels_program())
 
 
-def codes_in(job: bytes) -> List[str]:
+def codes_in(job: bytes) -> list[str]:
     """The data of the labels of a ZPL job."""
     formats = zxingcpp.EAN13 | zxingcpp.EAN8 | zxingcpp.UPCA | zxingcpp.Code128 | zxingcpp.QRCode
     read = (
@@ -50,9 +50,7 @@ def codes_in(job: bytes) -> List[str]:
 
 
 class Rows(unittest.TestCase):
-    def zpl(
-        self, *arguments: str, data: Optional[bytes] = None
-    ) -> Tuple[int, List[str], List[str]]:
+    def zpl(self, *arguments: str, data: bytes | None = None) -> tuple[int, list[str], list[str]]:
         """The status, the data of the labels and the messages for a roll of 60 by 40 mm."""
         data = support.file_of(SHELF) if data is None else data
         done = support.printed(
@@ -75,7 +73,7 @@ class Rows(unittest.TestCase):
         found = self.zpl(data=support.file_of(labels))
         self.assertEqual(found, (0, [codes[1], *3 * [codes[2]]], []))
         for copies in (-1, 10000, 1.5, "3", True, None):
-            fields: Dict[str, Any] = {"copies": copies}
+            fields: dict[str, Any] = {"copies": copies}
             found = self.zpl(data=support.file_of([(SHELF[0][0], fields)]))
             self.assertEqual(found[:2], (1, []), copies)
 
@@ -93,7 +91,7 @@ class Rows(unittest.TestCase):
         self.assertEqual(drawn[0][:-1], drawn[1][:-1][::-1])
 
     def test_refused_lines_and_rows_that_were_left_out(self) -> None:
-        labels: List[Tuple[str, Any]] = [
+        labels: list[tuple[str, Any]] = [
             SHELF[0],
             ("ean13 4006381333932", {}),
             ("code128 " + "x" * 81, {}),
@@ -123,7 +121,7 @@ class Rows(unittest.TestCase):
         )
 
     def test_a_handful_of_messages(self) -> None:
-        labels: List[Tuple[str, Any]] = [
+        labels: list[tuple[str, Any]] = [
             (f"code128 {'x' * (25 + number % 50)}", {}) for number in range(1500)
         ]
         labels += [(f"ean8 735135{number % 100:02}", {}) for number in range(1000)]
@@ -165,7 +163,7 @@ class Rows(unittest.TestCase):
 class Cells(unittest.TestCase):
     GRID = ("--columns", "2", "--rows", "2", "--cell", "60x40", "--to", "pbm", "--dpi", "150")
 
-    def pages(self, *arguments: str) -> List[jobs.Dots]:
+    def pages(self, *arguments: str) -> list[jobs.Dots]:
         """The pages of a grid."""
         done = support.printed(*self.GRID, *arguments, input=support.file_of(SHELF[:3]))
         self.assertEqual(done.returncode, 0, done.stderr)

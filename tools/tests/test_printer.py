@@ -6,7 +6,7 @@ import subprocess
 import tempfile
 import unittest
 from pathlib import Path
-from typing import Any, Callable, Dict, Iterator, Sequence, Tuple
+from typing import Any, Callable, Iterator, Sequence
 from unittest import mock
 
 import jobs
@@ -119,7 +119,7 @@ class Queues(unittest.TestCase):
     # 6 mm at both ends are not printed
     DYMO = ("--paper", "35.63x88.9", "--turn", "--edge", "1.5,6,1.5,6")
     # drivers of CUPS: what they are tried with, and what turns their language back into pages
-    LANGUAGES: Dict[str, Tuple[Sequence[str], Pages, Sequence[int]]] = {
+    LANGUAGES: dict[str, tuple[Sequence[str], Pages, Sequence[int]]] = {
         "zebra": (ROLL, drivers.pages_of_zpl, (203, 300, 600)),
         "zebraep2": (ROLL, drivers.pages_of_epl, (203, 300)),
         "dymo": (DYMO, drivers.pages_of_dymo, (300,)),

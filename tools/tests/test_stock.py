@@ -4,7 +4,6 @@ import tempfile
 import unittest
 import unittest.mock
 from pathlib import Path
-from typing import Dict
 
 import support
 from labeltools.paper import stock
@@ -35,7 +34,7 @@ class Stock(unittest.TestCase):
             done = support.printed("--stock", name, input=b"ean8 7351353\n")
             self.assertEqual((done.returncode, done.stdout), (2, b""))
             self.assertIn(reason, done.stderr.decode(), name)
-        names: Dict[str, set[str]] = {}
+        names: dict[str, set[str]] = {}
         for brand, part in stock.parts():
             names.setdefault(stock.plain(part), set()).add(brand)
         shared = next(name for name, brands in names.items() if len(brands) > 1)

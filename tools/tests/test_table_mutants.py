@@ -16,7 +16,7 @@ import time
 import unittest
 import zipfile
 from contextlib import contextmanager
-from typing import Callable, Dict, Iterator, List, Sequence
+from typing import Callable, Iterator, Sequence
 
 import support
 from labeltools.common.messages import Silence, ToolError
@@ -37,7 +37,7 @@ OPTIONS = TableOptions(
 )
 
 
-def base_files() -> List[Dict[str, str]]:
+def base_files() -> list[dict[str, str]]:
     """The parts of a workbook of each kind, with most of what such a file may have."""
     line = [PENCIL, "Bleistift\n2B", cell(0.8, style=1), 3]
     merges = (
@@ -151,7 +151,7 @@ CHANGES: Sequence[Callable[[str, random.Random], str]] = (
 )
 
 
-def mutant(files: Sequence[Dict[str, str]], number: int) -> bytes:
+def mutant(files: Sequence[dict[str, str]], number: int) -> bytes:
     """The mutant of a number."""
     numbers = random.Random(f"{SEED} {number}")
     parts = dict(numbers.choice(files))

@@ -10,7 +10,7 @@ user's own may have several.
 from functools import cache, lru_cache
 from itertools import islice, tee
 from operator import itemgetter, mul
-from typing import Any, Iterator, NamedTuple, Optional, Sequence
+from typing import Any, Iterator, NamedTuple, Sequence
 
 from labeltools.paper.area import Plan
 from labeltools.paper.picture import Picture, rows_reader
@@ -43,7 +43,7 @@ DIGITS = bytes.maketrans(b"\0\1", b"01")
 class Different(NotDecoded):
     """What differs in a label of a line, if that is known."""
 
-    def __init__(self, what: Text, record: Optional[LineRecord] = None) -> None:
+    def __init__(self, what: Text, record: LineRecord | None = None) -> None:
         super().__init__(what)
         self.record = record
 
@@ -56,7 +56,7 @@ class Document(NamedTuple):
     data: bytes
     pages: Sequence[Labels]
     copies: int = 1
-    drawn: Optional[Picture] = None
+    drawn: Picture | None = None
 
 
 class Where(NamedTuple):
@@ -390,7 +390,7 @@ def wrong(wanted: Wanted, dot: float) -> Different:
     return Different(what, wanted.record)
 
 
-def own_text(place: Place, record: LineRecord) -> Optional[str]:
+def own_text(place: Place, record: LineRecord) -> str | None:
     """Returns the text of a label in a place, by the line itself; None where it is put together of
     several.
     """

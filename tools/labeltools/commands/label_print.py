@@ -8,7 +8,7 @@ import stat
 import sys
 from dataclasses import replace
 from pathlib import Path
-from typing import Any, Callable, Optional, Sequence
+from typing import Any, Callable, Sequence
 
 from labeltools.common.command_line import (
     CommandTalk,
@@ -217,7 +217,7 @@ def add_output_options(group: Any) -> None:
     flag(group, "--no-cut", "is_cut", "escpos: do not cut after each label", False)
 
 
-def options_of(words: Optional[Sequence[str]] = None) -> PrintOptions:
+def options_of(words: Sequence[str] | None = None) -> PrintOptions:
     """Returns what words ask for, or else the arguments of this program; raises `ToolError` and
     `OSError`.
     """
@@ -253,7 +253,7 @@ def run() -> int:
     return print_lines(job, queue, CommandTalk(TOOL))
 
 
-def print_lines(job: Job, queue: Optional[Queue], talk: CommandTalk) -> int:
+def print_lines(job: Job, queue: Queue | None, talk: CommandTalk) -> int:
     """Prints the lines of a file; returns 1 where a label is left out or doubtful."""
     found = labels_of(job, *read_input(job.options.lines), talk)
     for message in [*report(found.left_out, found.tables), *(one.reason for one in found.remarks)]:
@@ -278,7 +278,7 @@ def listed(wanted: str) -> str:
     raise ToolError(Text("{}: {}", what, hint))
 
 
-def check_way(job: Job, queue: Optional[Queue]) -> None:
+def check_way(job: Job, queue: Queue | None) -> None:
     """Raises `ToolError` where a queue does not print a job, or standard output is closed or would
     show a drawing.
     """

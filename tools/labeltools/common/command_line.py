@@ -11,7 +11,7 @@ from contextlib import contextmanager, suppress
 from importlib import import_module
 from io import RawIOBase, TextIOWrapper
 from pathlib import Path
-from typing import Any, BinaryIO, Callable, Iterator, Mapping, NoReturn, Optional
+from typing import Any, BinaryIO, Callable, Iterator, Mapping, NoReturn
 
 from labeltools import RELEASE
 from labeltools.common.text import NOTHING, Text, translated
@@ -111,7 +111,7 @@ def words_of(options: Mapping[str, Any]) -> list[str]:
     return found
 
 
-def read_input(path: Optional[str]) -> tuple[str, bytes]:
+def read_input(path: str | None) -> tuple[str, bytes]:
     """Returns the name and bytes of a file, or of standard input where it is None or `-`.
 
     Raises `ToolError` if it is empty, and `OSError`.
@@ -140,19 +140,19 @@ def start(tool: str, module: str, *packages: str) -> NoReturn:
     names packages: those that are given, and those that draw labels.
     """
 
-    def run() -> Optional[int]:
+    def run() -> int | None:
         try:
             command = import_module(module)
         except (ImportError, ValueError) as missing:
             names = " ".join((*packages, *DRAWING))
             raise ToolError(Text("{}", missing), Text("apt-get install {}", names)) from missing
-        status: Optional[int] = command.run()
+        status: int | None = command.run()
         return status
 
     main_of(tool, run)
 
 
-def main_of(tool: str, function: Callable[[], Optional[int]]) -> NoReturn:
+def main_of(tool: str, function: Callable[[], int | None]) -> NoReturn:
     """Runs a tool and ends with its status (None is 0), or with a message and a status for
     ToolError and OSError.
     """
@@ -185,7 +185,7 @@ def make_streams_wait() -> None:
             os.set_blocking(stream.fileno(), True)
 
 
-def status_of(tool: str, function: Callable[[], Optional[int]]) -> int:
+def status_of(tool: str, function: Callable[[], int | None]) -> int:
     """Returns the status of a tool; its messages are written."""
     try:
         buffer_output()

@@ -2,7 +2,7 @@
 
 from dataclasses import dataclass
 from itertools import groupby, islice
-from typing import Iterable, Iterator, Optional, Sequence
+from typing import Iterable, Iterator, Sequence
 
 from labeltools.common.text import NOTHING, Text, joined
 from labeltools.common.messages import Place
@@ -16,7 +16,7 @@ Ranges = Sequence[tuple[int, int]]  # the first and the last number of each
 class LeftOut:
     """A label that is not printed: its place where that is known, its data, why, and what to do."""
 
-    place: Optional[Place]
+    place: Place | None
     data: str
     reason: Text
     hint: Text = NOTHING

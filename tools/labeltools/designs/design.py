@@ -17,7 +17,7 @@ import re
 from collections import Counter
 from dataclasses import dataclass, replace
 from functools import lru_cache
-from typing import Any, Callable, Iterator, Mapping, NamedTuple, Optional
+from typing import Any, Callable, Iterator, Mapping, NamedTuple
 from xml.etree.ElementTree import Element
 
 import cairo
@@ -140,7 +140,7 @@ def size_of_page(file: str) -> Size:
     return page.size
 
 
-def read_design(file: str, cell: Size, white: Edges, turn: Optional[bool]) -> OwnDesign:
+def read_design(file: str, cell: Size, white: Edges, turn: bool | None) -> OwnDesign:
     """Returns the design of a file for cells of a size, of which `white` takes no ink; raises
     `ToolError` where it does not suit them, or is no design.
     """
@@ -168,7 +168,7 @@ def read_design(file: str, cell: Size, white: Edges, turn: Optional[bool]) -> Ow
     return replace(design, places=tuple(places), remarks=said)
 
 
-def fitting_turn(page: SvgPage, cell: Size, turn: Optional[bool]) -> bool:
+def fitting_turn(page: SvgPage, cell: Size, turn: bool | None) -> bool:
     """Returns whether labels of a page are turned; raises `ToolError` where it does not suit."""
     for is_turned in (False, True):
         label = cell[::-1] if is_turned else cell
@@ -277,7 +277,7 @@ def located_place(file: str, place: Place, whole: Any, upper: Any, left: Any) ->
     return replace(place, quarters=quarters, **sides)
 
 
-def colour_of(handle: Any, name: str, area: Any, place: Place) -> Optional[Colour]:
+def colour_of(handle: Any, name: str, area: Any, place: Place) -> Colour | None:
     """Returns the colour in the middle of a place; None where it is not filled, or more than half
     transparent.
     """

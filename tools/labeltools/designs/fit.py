@@ -8,7 +8,7 @@ from bisect import bisect_left
 from collections import Counter
 from functools import cache
 from statistics import median_high
-from typing import NamedTuple, Optional
+from typing import NamedTuple
 
 from labeltools.layout.fitting import Style
 from labeltools.layout.glyphs import LINE_END
@@ -120,7 +120,7 @@ class Room:
         whole = self.lines_of(text, sizes[end]) if end < len(sizes) else None
         return Fit(self.least, text, True) if whole is None else Fit(sizes[end], whole)
 
-    def lines_of(self, text: str, size: int) -> Optional[str]:
+    def lines_of(self, text: str, size: int) -> str | None:
         """Returns a text with the ends of its lines in letters of a size; None where it does not
         fit.
         """

@@ -7,7 +7,7 @@
 import re
 from dataclasses import dataclass, replace
 from functools import cached_property, lru_cache
-from typing import Any, Optional
+from typing import Any
 from xml.etree.ElementTree import Element
 
 from labeltools.common.messages import ToolError, quoted
@@ -71,7 +71,7 @@ class Place:
     down: float = 0.5
     is_bold: bool = False
     font: str = ""
-    colour: Optional[Colour] = None
+    colour: Colour | None = None
     symbology: str = ""
     settings: tuple[str, ...] = ()
     module: float = 0.0

@@ -2,7 +2,7 @@
 
 from functools import cache
 from math import ceil
-from typing import Any, Iterator, Optional
+from typing import Any, Iterator
 
 import cairo
 
@@ -37,9 +37,7 @@ class OwnPen(Pen):
         # Ghostscript and MuPDF show a pattern in all places as it is in the first one
         self.has_patterns = medium.is_pdf and design.page.has("pattern")
 
-    def new_recorded(
-        self, absent: frozenset[str], _: Optional[Dots]
-    ) -> Optional[cairo.RecordingSurface]:
+    def new_recorded(self, absent: frozenset[str], _: Dots | None) -> cairo.RecordingSurface | None:
         """Returns the drawing without some parts as it is, up to the edges of a label, which a file
         has once, or once for each place that is given; None where there is no ink.
         """
@@ -52,9 +50,7 @@ class OwnPen(Pen):
         self.design.draw(canvas, scale, absent)
         return surface if min(surface.ink_extents()[2:]) > 0 else None
 
-    def new_dots(
-        self, absent: frozenset[str], size: Optional[Dots]
-    ) -> Optional[cairo.ImageSurface]:
+    def new_dots(self, absent: frozenset[str], size: Dots | None) -> cairo.ImageSurface | None:
         """Returns the drawing without some parts in black dots, on a page of a size if that is
         given; None where there is no ink.
         """

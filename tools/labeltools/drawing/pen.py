@@ -6,7 +6,7 @@ from collections import defaultdict
 from dataclasses import dataclass
 from functools import cache, lru_cache
 from itertools import accumulate, repeat
-from typing import Any, Iterable, Iterator, NamedTuple, Optional, Sequence
+from typing import Any, Iterable, Iterator, NamedTuple, Sequence
 
 import cairo
 
@@ -54,7 +54,7 @@ class Placed(NamedTuple):
     style: Style
     box: Box
     quarters: int = 0
-    colour: Optional[Colour] = None
+    colour: Colour | None = None
     is_edged: bool = False
 
 

@@ -3,7 +3,7 @@
 import re
 from functools import cache
 from math import ceil, floor
-from typing import Any, Hashable, Iterator, NamedTuple, Optional, Sequence
+from typing import Any, Hashable, Iterator, NamedTuple, Sequence
 
 import cairo
 
@@ -44,7 +44,7 @@ class Style(NamedTuple):
     across: int
     down: float
     struck: int
-    base: Optional[int] = None
+    base: int | None = None
 
 
 class Fitted(NamedTuple):
@@ -57,7 +57,7 @@ class Fitted(NamedTuple):
     y: int
     height: int
     layout: Any
-    glyphs: Optional[Glyphs] = None
+    glyphs: Glyphs | None = None
     rows: Sequence[Row] = ()
     room: int = 0
     part: float = 0.0
@@ -92,7 +92,7 @@ class Fitter:
         key = text, style, width, height
         return self.kept.get(key, lambda _: self.by_glyphs(*key) or self.by_pango(*key), copied)
 
-    def by_glyphs(self, text: str, style: Style, width: int, height: int) -> Optional[Fitted]:
+    def by_glyphs(self, text: str, style: Style, width: int, height: int) -> Fitted | None:
         """Returns a text of plain letters; None where Pango has to say it, or another size."""
         glyphs = self.glyphs(style)
         is_on_base = style.base is not None
@@ -179,7 +179,7 @@ class Fitter:
         layout.set_attributes(attributes_of(style, size))
         return layout
 
-    def new_glyphs(self, style: Style) -> Optional[Glyphs]:
+    def new_glyphs(self, style: Style) -> Glyphs | None:
         """Returns the glyphs of a style, in a font whose letters are nearer by pairs."""
         is_of_pairs = style.family.lower().startswith(BY_PAIRS) and not style.struck
         how = (style.family, style.is_bold, style.size, style.lines > 0)

@@ -19,7 +19,7 @@ import math
 from collections import Counter
 from dataclasses import dataclass, field
 from itertools import product
-from typing import Callable, Mapping, NamedTuple, Optional, Sequence
+from typing import Callable, Mapping, NamedTuple, Sequence
 
 from labeltools.paper.area import Area, LARGEST_QR, MODULE
 from labeltools.lines.symbologies import SYMBOLOGIES, Symbology
@@ -369,7 +369,7 @@ def module_in(area: Area, need: Need, wished: int, room: int) -> int:
     return max((one for one in allowed if one <= wished and one * need.width <= room), default=0)
 
 
-def frame_of(area: Area, needs: Mapping[Need, int]) -> Optional[Frame]:
+def frame_of(area: Area, needs: Mapping[Need, int]) -> Frame | None:
     """Returns the frame of labels, or None where no one frame serves all of them."""
     demand = JointNeeds(area, needs)
     fits = (module_in(area, need, area.width, area.width) for need in demand.bars)
@@ -401,7 +401,7 @@ def rounds_of(demand: JointNeeds) -> list[list[int]]:
     return [[one] for one in wishes]
 
 
-def best_frame(demand: JointNeeds, level: Level, wishes: Sequence[int]) -> Optional[Frame]:
+def best_frame(demand: JointNeeds, level: Level, wishes: Sequence[int]) -> Frame | None:
     """Returns the best frame on a level, of all arrangements, sizes of titles and modules: those
     that cannot be better than one that is found are not tried.
     """
@@ -459,7 +459,7 @@ class Attempt(NamedTuple):
     is_sparing: bool
     module: int
 
-    def frame(self, rooms: Rooms) -> Optional[Frame]:
+    def frame(self, rooms: Rooms) -> Frame | None:
         """Returns the frame, if all fits."""
         if not self.is_possible(rooms):
             return None
@@ -529,7 +529,7 @@ class Attempt(NamedTuple):
             size = min(size, math.floor(rooms.price / max(was, unit)))
         return Line(size, lines, math.ceil(lines * LINE * size))
 
-    def price(self, rooms: Rooms, head: Heading, details: Line, low: int) -> Optional[Line]:
+    def price(self, rooms: Rooms, head: Heading, details: Line, low: int) -> Line | None:
         """Returns the price, as large as the room allows; None where it and the code do not fit."""
         demand = self.demand
         area = demand.area

@@ -8,7 +8,7 @@ from bisect import bisect_left
 from collections import Counter, defaultdict
 from dataclasses import dataclass, replace
 from functools import cache
-from typing import Iterator, Mapping, Optional, Sequence
+from typing import Iterator, Mapping, Sequence
 
 from labeltools.paper.area import Area, PAD, size_of
 from labeltools.lines.engine import Modules
@@ -218,10 +218,10 @@ def laid_out_needs(counted: Mapping[Need, int], area: Area) -> LaidOutNeeds:
         common = frame_of(area, fitting) if fitting else None
 
     @cache
-    def shared(key: tuple[object, ...]) -> Optional[Frame]:
+    def shared(key: tuple[object, ...]) -> Frame | None:
         return frame_of(area, {one: n for one, n in fitting.items() if one[: len(key)] == key})
 
-    def frames(need: Need) -> Iterator[Optional[Frame]]:
+    def frames(need: Need) -> Iterator[Frame | None]:
         yield common
         yield shared(need[:1])
         yield shared(need[: len(CODE)])
@@ -256,7 +256,7 @@ def alone(need: Need) -> Need:
     return need._replace(title=(1.0,) if need.title else (), price=rounded(need.price))
 
 
-def layout_in(frame: Frame, need: Need, area: Area) -> Optional[Layout]:
+def layout_in(frame: Frame, need: Need, area: Area) -> Layout | None:
     """Returns the layout of a label in a frame; None where its code does not fit."""
     boxes = code_boxes(frame, need, area)
     if boxes is None:
@@ -279,7 +279,7 @@ def layout_in(frame: Frame, need: Need, area: Area) -> Optional[Layout]:
     return Layout(frame, need.kind, module, boxes, is_small)
 
 
-def code_boxes(frame: Frame, need: Need, area: Area) -> Optional[dict[str, Box]]:
+def code_boxes(frame: Frame, need: Need, area: Area) -> dict[str, Box] | None:
     """Returns the places of a code and of what is below its bars; None where it does not fit."""
     code = frame.boxes["code"]
     module = module_in(area, need, frame.module, code.width)
@@ -341,7 +341,7 @@ def largest_of(needs: Sequence[Need]) -> Need:
     return needs[0]._replace(title=max((need.title for need in needs), key=sum), **most)
 
 
-def smallest_for(need: Need, area: Area, width: int) -> Optional[Size]:
+def smallest_for(need: Need, area: Area, width: int) -> Size | None:
     """Returns the lowest cell of a width, or of a bit more, in which a label is laid out, in whole
     millimetres; None where there is none.
     """

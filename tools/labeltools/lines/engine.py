@@ -6,7 +6,7 @@ import sys
 from dataclasses import dataclass
 from functools import cache
 from pathlib import Path
-from typing import Any, Callable, Iterable, Iterator, Optional
+from typing import Any, Callable, Iterable, Iterator
 
 from labeltools.common.text import Text
 from labeltools.lines.reasons import reason_of
@@ -91,7 +91,7 @@ def library() -> Any:
     return liblabels
 
 
-def first_of(folder: Path, pattern: str) -> Optional[Path]:
+def first_of(folder: Path, pattern: str) -> Path | None:
     """Returns the first file of a folder that has a name as in a pattern."""
     return min(folder.glob(pattern), default=None)
 

@@ -17,7 +17,7 @@ import sys
 from dataclasses import dataclass, field, replace
 from io import BytesIO
 from itertools import count
-from typing import Any, Iterable, NamedTuple, Optional, Sequence
+from typing import Any, Iterable, NamedTuple, Sequence
 
 from labeltools import VERSION
 from labeltools.common.text import NOTHING, Text
@@ -95,7 +95,7 @@ class LineRecord(NamedTuple):
     table: str
     label: Label
     line: bytes
-    modules: Optional[Modules] = None
+    modules: Modules | None = None
     refused: Text = NOTHING
 
     @property

@@ -3,7 +3,6 @@
 import math
 from dataclasses import dataclass, replace
 from functools import cached_property
-from typing import Optional
 
 from labeltools.paper.stock import Sheet, Size
 from labeltools.lines.symbologies import SYMBOLOGIES, Symbology
@@ -52,8 +51,8 @@ class Wishes:
     """
 
     design: Design = ARTICLE
-    module: Optional[float] = None
-    turn: Optional[bool] = None
+    module: float | None = None
+    turn: bool | None = None
     is_roll: bool = False
 
 

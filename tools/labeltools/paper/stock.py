@@ -7,7 +7,7 @@ from contextlib import suppress
 from dataclasses import dataclass
 from functools import cache
 from pathlib import Path
-from typing import Iterator, Optional
+from typing import Iterator
 from xml.etree.ElementTree import Element, parse
 
 from labeltools.common.text import Text
@@ -59,7 +59,7 @@ class Grid:
     cell: Size
     columns: int
     rows: int
-    margin: Optional[Size] = None
+    margin: Size | None = None
     gap: Size = (0.0, 0.0)
 
 
@@ -195,7 +195,7 @@ def size_of(element: Element, first: str = "width", second: str = "height") -> S
     return length_of(element.get(first)), length_of(element.get(second))
 
 
-def length_of(text: Optional[str]) -> float:
+def length_of(text: str | None) -> float:
     """Returns a length in millimetres; 0 where there is none.
 
     >>> [round(length_of(text), 2) for text in ("9mm", "2.54cm", "1in", "72pt", "6pc", "72")]

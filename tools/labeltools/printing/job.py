@@ -6,7 +6,7 @@
 """
 
 from dataclasses import dataclass, replace
-from typing import Optional, Sequence
+from typing import Sequence
 
 from labeltools.common.messages import BAD_ARGUMENTS, ToolError
 from labeltools.common.text import NOTHING, Text, counted
@@ -44,21 +44,21 @@ class PrintOptions:
     --escapes of labels(1); `queue` is any printer.
     """
 
-    lines: Optional[str] = None
-    list_stock: Optional[str] = None
-    stock: Optional[str] = None
-    paper: Optional[Size] = None
-    cell: Optional[Size] = None
-    columns: Optional[int] = None
-    rows: Optional[int] = None
-    page: Optional[Size] = None
-    margin: Optional[Size] = None
-    gap: Optional[Size] = None
-    edge: Optional[Edges] = None
+    lines: str | None = None
+    list_stock: str | None = None
+    stock: str | None = None
+    paper: Size | None = None
+    cell: Size | None = None
+    columns: int | None = None
+    rows: int | None = None
+    page: Size | None = None
+    margin: Size | None = None
+    gap: Size | None = None
+    edge: Edges | None = None
     shift: Size = (0.0, 0.0)
     design: str = ARTICLE.name
-    turn: Optional[bool] = None
-    module: Optional[float] = None
+    turn: bool | None = None
+    module: float | None = None
     note: str = ""
     font: str = FONT
     first: int = 1
@@ -66,14 +66,14 @@ class PrintOptions:
     after: int = 0
     is_unique: bool = False
     is_escaped: bool = False
-    to: Optional[str] = None
-    dpi: Optional[int] = None
-    each: Optional[str] = None
-    queue: Optional[str] = None
-    journal: Optional[str] = None
-    again: Optional[str] = None
+    to: str | None = None
+    dpi: int | None = None
+    each: str | None = None
+    queue: str | None = None
+    journal: str | None = None
+    again: str | None = None
     is_stream: bool = False
-    dots: Optional[int] = None
+    dots: int | None = None
     is_cut: bool = True
     is_summed: bool = False
 
@@ -100,7 +100,7 @@ class Job:
     options: PrintOptions
     plan: Plan
     form: Form
-    design: Optional[OwnDesign] = None
+    design: OwnDesign | None = None
 
     @property
     def is_each(self) -> bool:

@@ -23,7 +23,7 @@ import stat
 import time
 from contextlib import contextmanager, suppress
 from pathlib import Path
-from typing import Iterator, Mapping, NamedTuple, Optional
+from typing import Iterator, Mapping, NamedTuple
 
 from labeltools.lines.file import LineRecord
 from labeltools.common.messages import ToolError
@@ -79,7 +79,7 @@ class Journal:
             self.lane = self.free_lane()
         self.before = dict(self.entries)
 
-    def claim(self, record: LineRecord, again: Optional[str] = None) -> bool:
+    def claim(self, record: LineRecord, again: str | None = None) -> bool:
         """Writes that the label of a line is sent, and returns whether it is for this lane: False
         where the journal has its code. A code that was last sent to the printer `again` before this
         lane began is sent again. Raises `ToolError` where it cannot be written.
@@ -113,7 +113,7 @@ class Journal:
             fcntl.lockf(self.file, fcntl.LOCK_UN, 1, FAR + self.lane)
             self.lane = self.free_lane()
 
-    def entry(self, record: LineRecord) -> Optional[Entry]:
+    def entry(self, record: LineRecord) -> Entry | None:
         """Returns the last that is known of the code of a line."""
         return self.entries.get(code_of(record))
 
@@ -299,7 +299,7 @@ def sync_folder(path: str) -> None:
             os.close(folder)
 
 
-def entry_in(line: bytes) -> Optional[tuple[bytes, Entry]]:
+def entry_in(line: bytes) -> tuple[bytes, Entry] | None:
     """Returns the code of a line of a journal, and what it says of it; None where it is no such
     line.
     """

@@ -11,7 +11,7 @@ from collections.abc import Callable, Sequence
 from contextlib import nullcontext
 from io import BytesIO
 from pathlib import Path
-from typing import IO, Any, Optional
+from typing import IO, Any
 
 from labeltools.common.command_line import hold_signals, standard_output
 from labeltools.common.files import Unwritten, save, send, temporary
@@ -114,7 +114,7 @@ class Device(OpenFile):
 
     def __init__(self, name: str) -> None:
         self.name = name
-        self.file: Optional[int] = None
+        self.file: int | None = None
 
     def open(self) -> int:
         """Returns its number, and opens it if it is not open; raises `Unreachable`."""

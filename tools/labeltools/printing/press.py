@@ -4,7 +4,7 @@ from dataclasses import dataclass, replace
 from functools import partial
 from itertools import groupby
 from operator import attrgetter
-from typing import Any, Iterable, Iterator, Mapping, Optional, Sequence
+from typing import Any, Iterable, Iterator, Mapping, Sequence
 
 from labeltools.checking.compare import Comparison, Document
 from labeltools.common.files import temporary
@@ -127,7 +127,7 @@ def prepared(
 
 
 def without_letters(
-    labels: Sequence[PrintLabel], own: Optional[OwnLayouts], letters: Letters
+    labels: Sequence[PrintLabel], own: OwnLayouts | None, letters: Letters
 ) -> Mapping[int, Text]:
     """Returns why labels are left out that have letters which no font has; in a design of a file
     only those of its places.

@@ -4,7 +4,7 @@ import shlex
 from contextlib import suppress
 from functools import partial
 from pathlib import Path
-from typing import Any, Callable, Iterable, Iterator, Mapping, Optional, Sequence, Sized
+from typing import Any, Callable, Iterable, Iterator, Mapping, Sequence, Sized
 
 from labeltools.common.command_line import standard_output
 from labeltools.common.files import save
@@ -31,8 +31,8 @@ class Sender:
     def __init__(
         self,
         outlet: Outlet,
-        journal: Optional[Journal] = None,
-        again: Optional[str] = None,
+        journal: Journal | None = None,
+        again: str | None = None,
         records: Sequence[LineRecord] = (),
     ) -> None:
         """Takes all lines of the input, too."""

@@ -22,7 +22,7 @@ import sys
 from io import BufferedReader, RawIOBase
 from queue import Queue
 from threading import Thread
-from typing import Any, BinaryIO, Iterator, Optional, Sequence
+from typing import Any, BinaryIO, Iterator, Sequence
 
 from labeltools.common.command_line import ENDING, hold_signals, standard_output
 from labeltools.lines.engine import Engine, LABELS_FAILED
@@ -129,7 +129,7 @@ class Ahead:
 Source = BinaryIO | Ahead
 
 
-def source_of(path: Optional[str]) -> tuple[str, Source]:
+def source_of(path: str | None) -> tuple[str, Source]:
     """Returns what lines come from, with its name; raises `ToolError` and `OSError`."""
     if path is None or path == "-":
         if sys.stdin is None:

@@ -13,7 +13,7 @@ from dataclasses import dataclass
 from decimal import Decimal
 from enum import Enum, auto
 from itertools import pairwise
-from typing import NamedTuple, Sequence, Union
+from typing import NamedTuple, Sequence
 
 from labeltools.common.messages import RowError, named, quoted
 from labeltools.common.text import NOTHING, Text
@@ -148,7 +148,7 @@ class Truth(Special):
 
 
 # what a row has: a text as it is, or a cell that knows more; an empty cell is an empty text
-Cell = Union[str, Special]
+Cell = str | Special
 
 
 class Mark(Enum):

@@ -7,7 +7,7 @@ from concurrent.futures import Future
 from contextlib import suppress
 from functools import partial
 from pathlib import Path
-from typing import Any, Optional
+from typing import Any
 
 from labeltools.common.messages import ToolError
 from labeltools.common.text import Text, translated
@@ -25,7 +25,7 @@ from labeltools.window.shop import Made, Table, Talk
 USB = Path("/dev/usb")  # has the printers on USB
 MANY = 1000  # labels above it are asked for before they are printed
 WATCH = 2000  # milliseconds between two looks at a job of CUPS
-Sent = tuple[Optional[SentJob], Text]  # a job of CUPS, and what is reported of the labels
+Sent = tuple[SentJob | None, Text]  # a job of CUPS, and what is reported of the labels
 
 
 class Ways:
@@ -33,8 +33,8 @@ class Ways:
 
     def __init__(self, window: Any) -> None:
         self.window = window
-        self.reports: dict[Optional[SentJob], str] = {}  # of the last job, and of those before it
-        self.over: list[Optional[SentJob]] = []  # jobs whose reports go when the next one is sent
+        self.reports: dict[SentJob | None, str] = {}  # of the last job, and of those before it
+        self.over: list[SentJob | None] = []  # jobs whose reports go when the next one is sent
 
     def send(self, way: Callable[[Prepared, Talk], Sent], is_all: bool = True) -> None:
         """Sends labels by a way, all or those of chosen pages, and keeps what is chosen for the
@@ -62,7 +62,7 @@ class Ways:
         else:
             self.watch(job, translated(text), "")
 
-    def report(self, job: Optional[SentJob], text: str) -> None:
+    def report(self, job: SentJob | None, text: str) -> None:
         """Keeps the report of a job, and shows all that are kept, that of the newest job first."""
         self.reports[job] = text
         self.window.tell("\n".join([*self.reports.values()][::-1]))

@@ -7,7 +7,7 @@ from collections.abc import Iterator, Sequence
 from contextlib import contextmanager, suppress
 from functools import partial
 from pathlib import Path
-from typing import Any, Optional
+from typing import Any
 
 from labeltools.common.text import counted, translated
 from labeltools.paper.area import ARTICLE
@@ -235,7 +235,7 @@ class Window(Gtk.ApplicationWindow):
         """Returns what is chosen."""
         return {name: self.control(name).get_property(kind) for name, kind in CONTROLS.items()}
 
-    def make(self, _control: Any = None, problem: Optional[ToolError] = None) -> None:
+    def make(self, _control: Any = None, problem: ToolError | None = None) -> None:
         """Makes the labels that are chosen, and then says what problem they are made for."""
         if self.table is not None and not self.is_filling:
             self.has_labels = False
@@ -316,7 +316,7 @@ class Window(Gtk.ApplicationWindow):
             self.reason.set_property("wrap-width", width)
             GLib.idle_add(self.why.queue_resize)
 
-    def show_labels(self, problem: Optional[ToolError], made: Made) -> None:
+    def show_labels(self, problem: ToolError | None, made: Made) -> None:
         """Shows the labels that were made, and what there is to say about them."""
         self.made = made
         self.command.set_text(made.command)
