@@ -10,8 +10,8 @@ from labeltools.common.messages import Silence
 from labeltools.designs.fit import OwnText
 from labeltools.designs.layout import OwnLayout
 from labeltools.drawing.pen import Medium
-from labeltools.printing.job import PrintOptions, planned
-from labeltools.printing.press import Prepared, labels_of, pen_of
+from labeltools.printing.job import planned, PrintOptions
+from labeltools.printing.press import labels_of, pen_of, Prepared
 from reading import fault_of
 
 FOLDER = support.TOP / "designs"

@@ -16,7 +16,7 @@ from unittest import mock
 import jobs
 import support
 from labeltools.lines.file import read_lines
-from labeltools.printing.journal import Journal, code_of
+from labeltools.printing.journal import code_of, Journal
 from printers import LABEL
 
 PIPE, NULL = subprocess.PIPE, subprocess.DEVNULL

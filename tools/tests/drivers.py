@@ -11,7 +11,7 @@ from typing import Callable, Iterator, Sequence
 
 import numpy
 
-from jobs import Dots, JobError, data_of_run_lengths
+from jobs import data_of_run_lengths, Dots, JobError
 from labeltools.commands.label_print import options_of
 from labeltools.common.messages import Silence
 from labeltools.printing.job import planned

@@ -6,12 +6,12 @@ from dataclasses import dataclass
 from typing import Any, Sequence
 
 import jobs
-from labeltools.drawing.dots import drawn_page
-from labeltools.layout.layout import LaidOut
 from labeltools.common.messages import Silence
+from labeltools.drawing.dots import drawn_page
 from labeltools.drawing.pen import Medium, Pen
-from labeltools.printing.job import Job, PrintOptions, planned
-from labeltools.printing.press import Prepared, labels_of
+from labeltools.layout.layout import LaidOut
+from labeltools.printing.job import Job, planned, PrintOptions
+from labeltools.printing.press import labels_of, Prepared
 from reading import fault_of
 
 AROUND = 40  # dots of white in which ink would be seen that leaves the area

@@ -5,13 +5,13 @@ from typing import Sequence
 
 import zxingcpp
 
-from labeltools.paper.area import Area
-from labeltools.lines.engine import Modules
+from labeltools.designs.layout import CODE, OwnSymbol, symbols_of
 from labeltools.drawing.dots import drawn_page
+from labeltools.drawing.pen import bits_of, Pen
 from labeltools.layout.frames import Box
 from labeltools.layout.layout import LaidOut
-from labeltools.designs.layout import CODE, OwnSymbol, symbols_of
-from labeltools.drawing.pen import Pen, bits_of
+from labeltools.lines.engine import Modules
+from labeltools.paper.area import Area
 
 NOT_READ = "as drawn it is not read"
 NOT_DRAWN = "its bars as drawn are not those of labels"

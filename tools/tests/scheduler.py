@@ -14,6 +14,7 @@ from typing import Any
 
 import cups
 import numpy
+
 import support
 from jobs import Dots
 

@@ -9,9 +9,9 @@ import unittest
 from typing import Sequence
 
 import support
-from sheets import COLOURS, KINDS, Cell, Look, Sheet, of_ods, of_xlsx
-from test_table import BOOK, PENCIL, SMALL, SOAP, parts_of
-from test_table_workbooks import ODS_SPACES, WorkbookTest, cell, ods, ods_cell, rows, table, xlsx
+from sheets import Cell, COLOURS, KINDS, Look, of_ods, of_xlsx, Sheet
+from test_table import BOOK, parts_of, PENCIL, SMALL, SOAP
+from test_table_workbooks import cell, ods, ods_cell, ODS_SPACES, rows, table, WorkbookTest, xlsx
 
 HEAD = ["EAN", "Name", "Price"]
 PRICED = "--code EAN --title Name --price Price --decimal .".split()

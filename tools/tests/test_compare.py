@@ -12,21 +12,20 @@ from typing import Any, Callable, Iterator, Sequence
 from unittest import mock
 
 import support
-from laying import documents_of
 from labeltools.checking import compare, decode
-from labeltools.lines import engine
-from labeltools.designs import layout as own_layout
-from labeltools.drawing import pen
-from labeltools.printing import press
-from labeltools.lines.engine import Modules
 from labeltools.checking.pdf import pages_of
-from labeltools.drawing import dots, escpos, zpl
-from labeltools.layout.frames import Box
-from labeltools.paper.picture import Picture
 from labeltools.common.messages import Silence, ToolError
-from labeltools.printing.job import PrintOptions, planned
-from labeltools.printing.press import Prepared, labels_of
 from labeltools.common.text import Text
+from labeltools.designs import layout as own_layout
+from labeltools.drawing import dots, escpos, pen, zpl
+from labeltools.layout.frames import Box
+from labeltools.lines import engine
+from labeltools.lines.engine import Modules
+from labeltools.paper.picture import Picture
+from labeltools.printing import press
+from labeltools.printing.job import planned, PrintOptions
+from labeltools.printing.press import labels_of, Prepared
+from laying import documents_of
 
 SHOP: list[tuple[str, dict[str, Any]]] = [
     ("ean13 4006381333931", {"title": "Bleistift, weich", "price": "0,80 €", "text": ["rot"]}),

@@ -15,13 +15,13 @@ import numpy
 
 import designs
 import support
-from designs import CODE, Label, dots_of, reasons_of, said_of, texts_of
-from laying import documents_of
+from designs import CODE, dots_of, Label, reasons_of, said_of, texts_of
 from labeltools.common.messages import Silence, ToolError
 from labeltools.designs import drawing
 from labeltools.designs.layout import OwnLayout
-from labeltools.printing.job import PrintOptions, planned
-from labeltools.printing.press import Prepared, labels_of
+from labeltools.printing.job import planned, PrintOptions
+from labeltools.printing.press import labels_of, Prepared
+from laying import documents_of
 
 TITLE = '<rect id="title" {}/>' + CODE
 WIDE = 'x="2" y="2" width="56" height="10"'

@@ -9,9 +9,9 @@ from unittest import mock
 
 import designs
 import support
-from desk import PIPE, TICKETS, Desk, entry, labels_in, printed
-from labeltools.printing.journal import Journal, escaped
+from desk import Desk, entry, labels_in, PIPE, printed, TICKETS
 from labeltools.lines.file import read_lines
+from labeltools.printing.journal import escaped, Journal
 from labeltools.printing.network import NetworkPrinter
 from labeltools.printing.selection import ranges_in, selection_of
 from printers import Printer

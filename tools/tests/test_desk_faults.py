@@ -16,14 +16,14 @@ from typing import Any, Callable, Sequence
 from unittest import mock
 
 import support
-from desk import NULL, PIPE, ROLL, TICKETS, Desk, Program, entry, labels_in, on_paper, printed
+from desk import Desk, entry, labels_in, NULL, on_paper, PIPE, printed, Program, ROLL, TICKETS
+from jobs import CUT
+from labeltools.common.messages import ToolError
+from labeltools.common.text import Text
 from labeltools.printing import journal as journals
 from labeltools.printing.journal import Journal
-from labeltools.common.messages import ToolError
 from labeltools.printing.network import NetworkPrinter
 from labeltools.printing.outlets import Unreachable
-from labeltools.common.text import Text
-from jobs import CUT
 from printers import BROKEN, LABEL, Printer
 
 SEED = 20

@@ -14,7 +14,7 @@ from typing import Callable
 from unittest import mock
 
 import support
-from desk import PIPE, ROLL, TICKETS, Desk, entry, labels_in, open_files, printed, program
+from desk import Desk, entry, labels_in, open_files, PIPE, printed, program, ROLL, TICKETS
 from labeltools.common import files
 from labeltools.printing import network, outlets, stream
 from labeltools.printing.journal import Journal

@@ -17,9 +17,9 @@ from unittest import mock
 import desk
 import jobs
 import support
-from labeltools.lines.file import LineRecord, read_lines
 from labeltools.common.command_line import CommandTalk
 from labeltools.common.messages import ToolError
+from labeltools.lines.file import LineRecord, read_lines
 
 LABELS = [
     (

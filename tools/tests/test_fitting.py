@@ -10,14 +10,14 @@ from unittest import mock
 import designs
 import support
 from designs import Label
-from laying import documents_of
+from labeltools.drawing.own_pen import OwnPen
+from labeltools.drawing.pen import Medium, options_of, Placed
 from labeltools.layout.fitting import Fitted, Fitter, LEFT, Style
 from labeltools.layout.glyphs import LINE_END
 from labeltools.layout.layout import LaidOut
 from labeltools.layout.letters import FONT, Letters
 from labeltools.layout.pango import UNIT
-from labeltools.drawing.own_pen import OwnPen
-from labeltools.drawing.pen import Medium, Placed, options_of
+from laying import documents_of
 
 WORDS = (
     "AVATAR Tafel Wörter Ägypten Ton Vase V. L'Y 12,5 Größe Übergröße Blatt kariert To Ty rot und "

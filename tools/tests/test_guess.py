@@ -6,11 +6,11 @@ import unittest
 from pathlib import Path
 
 import support
-from sheets import KINDS, Sheet
+from labeltools.common.messages import Silence
 from labeltools.sheets.options import FileOptions
 from labeltools.tables.guess import Guess, guess, guess_of
-from labeltools.common.messages import Silence
 from labeltools.tables.options import TableOptions
+from sheets import KINDS, Sheet
 
 # three lines a table: the names of the columns, a row, and what is guessed; what has a `?` is asked
 TABLES = """\

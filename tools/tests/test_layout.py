@@ -7,11 +7,10 @@ import os
 import unittest
 from typing import Any, Sequence
 
-
 import support
-from labeltools.paper.area import ROLL_SMALLEST
 from labeltools.layout.letters import FONT, Letters
 from labeltools.lines.symbologies import SYMBOLOGIES
+from labeltools.paper.area import ROLL_SMALLEST
 from laying import laid_out, look
 
 EVERY = (

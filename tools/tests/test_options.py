@@ -16,10 +16,10 @@ import zxingcpp
 
 import jobs
 import support
-from labeltools.drawing.dots import drawn_page
-from labeltools.layout.frames import Box
 from labeltools.designs.layout import symbols_of
+from labeltools.drawing.dots import drawn_page
 from labeltools.drawing.pen import bits_of
+from labeltools.layout.frames import Box
 from laying import laid_out
 from reading import fault_in
 

@@ -8,11 +8,11 @@ from typing import Any
 
 import support
 from labeltools.common.messages import Cancelled, Place, Silence
-from labeltools.printing.job import PrintOptions, planned
+from labeltools.common.text import Text
+from labeltools.printing.job import planned, PrintOptions
 from labeltools.printing.press import labels_of
 from labeltools.printing.sending import save_to
 from laying import documents_of
-from labeltools.common.text import Text
 
 LABELS: list[tuple[str, dict[str, Any]]] = [
     (f"ean13 {support.ean13(400638000000 + number)}", {"title": f"Artikel {number}"})

@@ -9,17 +9,18 @@ from pathlib import Path
 from typing import Any, Callable, Iterator, Sequence
 from unittest import mock
 
-import jobs
 import numpy
-import support
+
 import drivers
-from labeltools.printing.job import PrintOptions, planned
-from labeltools.printing.cups import SentJob, lp_line, queue_of, queues
+import jobs
+import support
 from drivers import Bars, bars_of, shift_of, with_end
+from jobs import Dots, JobError
+from labeltools.printing.cups import lp_line, queue_of, queues, SentJob
+from labeltools.printing.job import planned, PrintOptions
 from laying import laid_out, look
 from printers import Printer
-from jobs import Dots, JobError
-from scheduler import Scheduler, raster_of
+from scheduler import raster_of, Scheduler
 
 DPI = (203, 300, 360, 600)
 Pages = Callable[[bytes], Iterator[Dots]]

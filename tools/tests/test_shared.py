@@ -9,10 +9,10 @@ import unittest
 from unittest import mock
 
 import support
-from labeltools.lines.file import Label, first_remark, label_lines, last_remark, read_lines
 from labeltools.common.messages import Place, ToolError, write_message
-from labeltools.lines.symbologies import SYMBOLOGIES
 from labeltools.common.text import Text
+from labeltools.lines.file import first_remark, Label, label_lines, last_remark, read_lines
+from labeltools.lines.symbologies import SYMBOLOGIES
 
 # the keys of settings of each symbology, as the filter's own source has them
 KEY_OF = support.TOP / "crates/labelcore/src/settings.rt"

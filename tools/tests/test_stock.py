@@ -6,8 +6,8 @@ import unittest.mock
 from pathlib import Path
 
 import support
-from labeltools.paper import stock
 from labeltools.common.messages import ToolError
+from labeltools.paper import stock
 from labeltools.paper.stock import Grid
 
 

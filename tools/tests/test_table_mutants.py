@@ -20,11 +20,21 @@ from typing import Callable, Iterator, Sequence
 
 import support
 from labeltools.common.messages import Silence, ToolError
-from labeltools.tables.table import lines_of_table
 from labeltools.tables.options import ColumnOptions, TableOptions
+from labeltools.tables.table import lines_of_table
 from test_table import BOOK, PENCIL, SMALL
-from test_table_workbooks import KINDS, cell, ods, ods_cell, packed, relations, rows, table
-from test_table_workbooks import unpacked, xlsx
+from test_table_workbooks import (
+    cell,
+    KINDS,
+    ods,
+    ods_cell,
+    packed,
+    relations,
+    rows,
+    table,
+    unpacked,
+    xlsx,
+)
 
 SEED = 60
 MUTANTS = 4000

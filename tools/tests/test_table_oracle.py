@@ -23,8 +23,8 @@ from typing import Any, Callable, Iterator, NamedTuple
 from xml.etree import ElementTree
 
 import support
-from labeltools.sheets.cells import PRINTED, taken_of
 from labeltools.common.messages import RowError, Silence
+from labeltools.sheets.cells import PRINTED, taken_of
 from labeltools.sheets.number_format import Formatter, Signs
 from labeltools.sheets.rows import Row
 from labeltools.tables.table import rows_of_workbook

@@ -12,10 +12,20 @@ import unittest
 
 import support
 from labeltools.common.messages import quoted
-from sheets import KINDS, Cell, Sheet
-from test_table import BOOK, PENCIL, SMALL, SOAP, Label, TableTest, parts_of
-from test_table_workbooks import KINDS as SPACE
-from test_table_workbooks import cell, ods, ods_cell, packed, relations, rows, table, unpacked, xlsx
+from sheets import Cell, KINDS, Sheet
+from test_table import BOOK, Label, parts_of, PENCIL, SMALL, SOAP, TableTest
+from test_table_workbooks import (
+    cell,
+    KINDS as SPACE,
+    ods,
+    ods_cell,
+    packed,
+    relations,
+    rows,
+    table,
+    unpacked,
+    xlsx,
+)
 
 NO_PRICE = "which is not a price: it"
 WORDS = "has words that no price tag has; give --price-text if it is right"

@@ -14,7 +14,7 @@ from typing import Sequence
 from xml.sax.saxutils import escape, quoteattr
 
 import support
-from test_table import BOOK, PENCIL, SMALL, SOAP, Label, TableTest, parts_of
+from test_table import BOOK, Label, parts_of, PENCIL, SMALL, SOAP, TableTest
 
 MAIN = "http://schemas.openxmlformats.org/spreadsheetml/2006/main"
 STRICT = "http://purl.oclc.org/ooxml/spreadsheetml/main"

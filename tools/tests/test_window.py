@@ -17,12 +17,13 @@ from typing import Any, Callable
 from unittest import mock
 
 import cairo
+
 import support
 from labeltools.common.messages import ToolError
 from labeltools.common.text import NOTHING, Text
 from labeltools.printing.cups import JobState, Queue
 from printers import Printer
-from scheduler import WITH_TEST, Scheduler, raster_of
+from scheduler import raster_of, Scheduler, WITH_TEST
 
 TABLE = """Nr;EAN;Name;Price;Stock;Labels
 1;4006381333931;Pencil, red;0,80 €;5000;3

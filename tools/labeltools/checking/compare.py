@@ -12,19 +12,19 @@ from itertools import islice, tee
 from operator import itemgetter, mul
 from typing import Any, Iterator, NamedTuple, Sequence
 
-from labeltools.paper.area import Plan
-from labeltools.paper.picture import Picture, rows_reader
-from labeltools.checking.decode import NotDecoded, dots_of
+from labeltools.checking.decode import dots_of, NotDecoded
 from labeltools.checking.pdf import DrawnPage, is_at, pages_of
 from labeltools.checking.svg import dots_of_svg
-from labeltools.lines.engine import Engine, LABELS_FAILED, Refused, bytes_a_row
+from labeltools.common.messages import FAULT, Talk, ToolError
+from labeltools.common.text import Text
+from labeltools.designs.layout import OwnSymbol, symbols_of
+from labeltools.designs.places import key_of, PARTS, Place
 from labeltools.layout.frames import Box
 from labeltools.layout.layout import LaidOut, short
+from labeltools.lines.engine import bytes_a_row, Engine, LABELS_FAILED, Refused
 from labeltools.lines.file import LineRecord
-from labeltools.common.messages import FAULT, Talk, ToolError
-from labeltools.designs.layout import OwnSymbol, symbols_of
-from labeltools.designs.places import PARTS, Place, key_of
-from labeltools.common.text import Text
+from labeltools.paper.area import Plan
+from labeltools.paper.picture import Picture, rows_reader
 
 Labels = Sequence[tuple[LaidOut, tuple[int, int]]]
 Kind = tuple[str, tuple[int, int, int, int], int, int]  # symbology, quiet zones, width, rows

@@ -12,29 +12,29 @@ from typing import Any, Callable, Sequence
 
 from labeltools.common.command_line import (
     CommandTalk,
-    Parser,
     hold_signals,
     keep_standard_error,
+    Parser,
     read_input,
     standard_output,
     wrong_argument,
 )
-from labeltools.common.messages import BAD_ARGUMENTS, ToolError, sentence, write_message
+from labeltools.common.messages import BAD_ARGUMENTS, sentence, ToolError, write_message
 from labeltools.common.report import places_text, report
-from labeltools.common.text import Text, counted, joined
+from labeltools.common.text import counted, joined, Text
 from labeltools.designs.design import is_file
 from labeltools.drawing.forms import FORMS
 from labeltools.lines.file import LineRecord
 from labeltools.paper.area import DESIGNS
 from labeltools.paper.stock import forget, list_stock
-from labeltools.printing.cups import Queue, lp_line, queue_of
-from labeltools.printing.job import DRAWING_DPI, Job, PrintOptions, form_of, planned, refuse
+from labeltools.printing.cups import lp_line, Queue, queue_of
+from labeltools.printing.job import DRAWING_DPI, form_of, Job, planned, PrintOptions, refuse
 from labeltools.printing.journal import Journal
 from labeltools.printing.network import address_of
-from labeltools.printing.outlets import Files, OUTPUT, Outlet, StandardOutput
-from labeltools.printing.press import Prepared, check_count, labels_of
+from labeltools.printing.outlets import Files, Outlet, OUTPUT, StandardOutput
+from labeltools.printing.press import check_count, labels_of, Prepared
 from labeltools.printing.selection import Ranges, ranges_in, selection_of
-from labeltools.printing.sending import Sender, direct_outlet, labels_text, print_on
+from labeltools.printing.sending import direct_outlet, labels_text, print_on, Sender
 
 TOOL = "label-print"
 USAGE = """label-print --stock NAME [OPTIONS] [LINES]

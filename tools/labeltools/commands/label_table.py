@@ -9,22 +9,36 @@ from dataclasses import fields
 from pathlib import Path
 from typing import Any, Callable, Mapping, Sequence, TypeVar
 
+from labeltools.common.command_line import (
+    CommandTalk,
+    main_of,
+    Parser,
+    read_input,
+    standard_output,
+    words_of,
+    wrong_argument,
+)
+from labeltools.common.messages import (
+    BadArguments,
+    Place,
+    quoted,
+    sentence,
+    Silence,
+    ToolError,
+    write_message,
+)
+from labeltools.common.report import listed
+from labeltools.common.text import joined, NOTHING, Text
+from labeltools.lines.file import LinesFile, read_lines
+from labeltools.lines.symbologies import EAN13, SYMBOLOGIES
+from labeltools.sheets.number_format import date_section
 from labeltools.sheets.options import FileOptions
-from labeltools.common.text import NOTHING, Text, joined
 from labeltools.tables.codes import AUTO, CodeRules, NAMES
 from labeltools.tables.columns import column_word
-from labeltools.common.command_line import CommandTalk, Parser, main_of, read_input, standard_output
-from labeltools.common.command_line import words_of, wrong_argument
 from labeltools.tables.guess import Guess, guess_of
-from labeltools.lines.file import LinesFile, read_lines
-from labeltools.common.messages import BadArguments, Place, Silence, ToolError
-from labeltools.common.messages import quoted, sentence, write_message
-from labeltools.common.report import listed
-from labeltools.sheets.number_format import date_section
-from labeltools.tables.prices import PricePattern
-from labeltools.lines.symbologies import EAN13, SYMBOLOGIES
-from labeltools.tables.table import lines_of_table
 from labeltools.tables.options import Columns, PriceRules, TableOptions
+from labeltools.tables.prices import PricePattern
+from labeltools.tables.table import lines_of_table
 
 TOOL = "label-table"
 USAGE = "label-table --code COLUMN [OPTIONS] [TABLE]"

@@ -14,15 +14,15 @@ from pathlib import Path
 from typing import Any, BinaryIO, Callable, Iterator, Mapping, NoReturn
 
 from labeltools import RELEASE
-from labeltools.common.text import NOTHING, Text, translated
 from labeltools.common.messages import (
     BadArguments,
-    Place,
-    ToolError,
     of_system,
+    Place,
     sentence,
+    ToolError,
     write_message,
 )
+from labeltools.common.text import NOTHING, Text, translated
 
 STANDARD_ERROR = 2
 QUIET, BETWEEN = 1.0, 0.3  # seconds before progress is shown, and until it is shown again

@@ -7,8 +7,8 @@ from contextlib import contextmanager
 from pathlib import Path
 from typing import IO, Iterator
 
-from labeltools.common.text import Text
 from labeltools.common.messages import ToolError
+from labeltools.common.text import Text
 
 PART = ".{number}.part"  # a name that no label has: those begin with no dot
 BLOCK = 1 << 20

@@ -6,7 +6,7 @@ from collections import Counter
 from typing import Iterable, Sequence
 
 from labeltools.common.report import listed
-from labeltools.common.text import Text, counted
+from labeltools.common.text import counted, Text
 
 NUMBER = re.compile("[0-9]{1,15}(?:[.,][0-9]{1,9})?")
 

@@ -4,8 +4,8 @@ from dataclasses import dataclass
 from itertools import groupby, islice
 from typing import Iterable, Iterator, Sequence
 
-from labeltools.common.text import NOTHING, Text, joined
 from labeltools.common.messages import Place
+from labeltools.common.text import joined, NOTHING, Text
 
 MOST_REASONS = 8  # that have a message of their own
 MOST_RANGES = 10  # of rows that a message names

@@ -22,13 +22,12 @@ from xml.etree.ElementTree import Element
 
 import cairo
 
-from labeltools.paper.area import Edges
 from labeltools.common.messages import BAD_ARGUMENTS, ToolError
-from labeltools.designs.drawing import HOLDERS, SvgPage, handle_of, read_page, rsvg, tag_of
-from labeltools.designs.places import Colour, PARTS, Place, key_of, part_of, place_of
-from labeltools.designs.places import title_of
-from labeltools.paper.stock import Size, size_text
 from labeltools.common.text import Text
+from labeltools.designs.drawing import handle_of, HOLDERS, read_page, rsvg, SvgPage, tag_of
+from labeltools.designs.places import Colour, key_of, part_of, PARTS, Place, place_of, title_of
+from labeltools.paper.area import Edges
+from labeltools.paper.stock import Size, size_text
 
 SUFFIXES = (".svg", ".svgz")
 MODE = "{http://www.inkscape.org/namespaces/inkscape}groupmode"  # of layers

@@ -21,9 +21,9 @@ from xml.etree import ElementTree
 from xml.etree.ElementTree import Element
 
 from labeltools.common.messages import ToolError
+from labeltools.common.text import Text
 from labeltools.layout.pango import library
 from labeltools.paper.stock import Size
-from labeltools.common.text import Text
 
 SPACE = "{http://www.w3.org/2000/svg}"
 BEGIN = '<svg xmlns="http://www.w3.org/2000/svg"'

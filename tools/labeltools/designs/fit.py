@@ -10,14 +10,14 @@ from functools import cache
 from statistics import median_high
 from typing import NamedTuple
 
-from labeltools.layout.fitting import Style
-from labeltools.layout.glyphs import LINE_END
-from labeltools.layout.frames import Box, HINTING, LEAST_TEXT, LINE, share
 from labeltools.common.kept import Found
-from labeltools.layout.letters import BLANK, Letters, Sign, extent_of
-from labeltools.common.messages import ToolError, quoted
-from labeltools.designs.places import Place
+from labeltools.common.messages import quoted, ToolError
 from labeltools.common.text import Text
+from labeltools.designs.places import Place
+from labeltools.layout.fitting import Style
+from labeltools.layout.frames import Box, HINTING, LEAST_TEXT, LINE, share
+from labeltools.layout.glyphs import LINE_END
+from labeltools.layout.letters import BLANK, extent_of, Letters, Sign
 
 SIDE = 1 / 8  # white at both sides of wrapped lines, in letters
 STEP = 0.97  # the next smaller size of letters that is tried

@@ -9,20 +9,20 @@ from functools import cache, lru_cache
 from itertools import combinations, compress, repeat
 from typing import Iterator, Mapping, NamedTuple, Sequence
 
-from labeltools.paper.area import Area, LARGEST_MODULE, TINY
-from labeltools.lines.engine import Modules, drawn
 from labeltools.common.kept import Found
+from labeltools.common.messages import quoted, sentence, Talk, ToolError
+from labeltools.common.text import Text
+from labeltools.designs.design import mixed_text, NEAR, OwnDesign, UNREAD
+from labeltools.designs.fit import ENLARGE, NoRoom, OwnText, Room
+from labeltools.designs.places import key_of, PARTS, Place
 from labeltools.layout.frames import Box, DIGITS_ROOM, Frame, LOWEST
 from labeltools.layout.layout import ASKED, LaidOut, LaidOutFile, Layout, PrintLabel, short
 from labeltools.layout.letters import Letters
+from labeltools.lines.engine import drawn, Modules
 from labeltools.lines.file import symbology_and_data
-from labeltools.common.messages import Talk, ToolError, quoted, sentence
-from labeltools.designs.design import NEAR, OwnDesign, UNREAD, mixed_text
-from labeltools.designs.fit import ENLARGE, NoRoom, OwnText, Room
-from labeltools.designs.places import PARTS, Place, key_of
-from labeltools.paper.stock import size_text
 from labeltools.lines.symbologies import SYMBOLOGIES, Symbology
-from labeltools.common.text import Text
+from labeltools.paper.area import Area, LARGEST_MODULE, TINY
+from labeltools.paper.stock import size_text
 
 FIELDS = ("title", "price", "unit", "was", "code")  # of each label
 KEPT = 16  # columns of labels

@@ -6,15 +6,15 @@ from typing import Any, Iterator
 
 import cairo
 
-from labeltools.paper.area import Dots, MILLIMETRES
-from labeltools.layout.fitting import Style
-from labeltools.drawing.pdf import POINTS
-from labeltools.layout.layout import LaidOut
-from labeltools.layout.letters import Letters
-from labeltools.designs.design import BLACK, OwnDesign, lightness
+from labeltools.designs.design import BLACK, lightness, OwnDesign
 from labeltools.designs.layout import OwnLayout
 from labeltools.designs.places import Colour, Place
+from labeltools.drawing.pdf import POINTS
 from labeltools.drawing.pen import Medium, Page, Pen, Placed
+from labeltools.layout.fitting import Style
+from labeltools.layout.layout import LaidOut
+from labeltools.layout.letters import Letters
+from labeltools.paper.area import Dots, MILLIMETRES
 
 UPRIGHT = cairo.Matrix()
 LIGHTEST = 0.999  # a part of a colour that is white in 255 steps

@@ -5,13 +5,13 @@ import os
 import re
 import tempfile
 from dataclasses import dataclass
-from typing import IO, Any, Callable, Iterable
+from typing import Any, Callable, IO, Iterable
 
 import cairo
 
-from labeltools.paper.area import MILLIMETRES
 from labeltools.common.files import BLOCK
 from labeltools.drawing.pen import Page, Pen
+from labeltools.paper.area import MILLIMETRES
 from labeltools.paper.stock import Size
 
 POINTS = 72  # in an inch

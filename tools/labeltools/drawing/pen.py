@@ -10,19 +10,19 @@ from typing import Any, Iterable, Iterator, NamedTuple, Sequence
 
 import cairo
 
-from labeltools.paper.area import Dots
-from labeltools.lines.engine import LABELS_FAILED, Modules, bytes_a_row
+from labeltools.common.messages import FAULT, ToolError
+from labeltools.common.text import Text
+from labeltools.designs.design import is_light
+from labeltools.designs.layout import OwnSymbol, symbols_of
+from labeltools.designs.places import Colour
 from labeltools.layout.fitting import Fitted, Fitter, LEFT, MIDDLE, RIGHT, Style
 from labeltools.layout.frames import Box, LINE
 from labeltools.layout.layout import LaidOut, Layout, PrintLabel
 from labeltools.layout.letters import DIGITS_FONT, Letters
-from labeltools.designs.design import is_light
-from labeltools.designs.layout import OwnSymbol, symbols_of
-from labeltools.common.messages import FAULT, ToolError
-from labeltools.common.text import Text
-from labeltools.designs.places import Colour
 from labeltools.layout.pango import PangoCairo, plain_options
-from labeltools.lines.symbologies import SYMBOLOGIES, Span, Symbology
+from labeltools.lines.engine import bytes_a_row, LABELS_FAILED, Modules
+from labeltools.lines.symbologies import Span, SYMBOLOGIES, Symbology
+from labeltools.paper.area import Dots
 
 DARK = re.compile("1+")
 INSET = 0.01  # of a dot: what touches a dot paints it

@@ -7,11 +7,11 @@ from typing import Any, Hashable, Iterator, NamedTuple, Sequence
 
 import cairo
 
+from labeltools.common.kept import Kept
 from labeltools.layout.frames import Box, LINE
 from labeltools.layout.glyphs import BY_PAIRS, Glyphs, LINE_END, Row
-from labeltools.common.kept import Kept
 from labeltools.layout.letters import Letters
-from labeltools.layout.pango import Pango, UNIT, pango_context
+from labeltools.layout.pango import Pango, pango_context, UNIT
 
 NOT_LATIN = re.compile("[^\0-\u024f]")  # letters that may leave their line
 ELLIPSIS = 1 << 1  # PANGO_ANALYSIS_FLAG_IS_ELLIPSIS of a run

@@ -21,8 +21,8 @@ from dataclasses import dataclass, field
 from itertools import product
 from typing import Callable, Mapping, NamedTuple, Sequence
 
-from labeltools.paper.area import Area, LARGEST_QR, MODULE
 from labeltools.lines.symbologies import SYMBOLOGIES, Symbology
+from labeltools.paper.area import Area, LARGEST_QR, MODULE
 
 LINE = 1.2  # the distance of two base lines in sizes of letters
 # as parts of a label's size: letters of texts, and white between two parts

@@ -10,15 +10,15 @@ from dataclasses import dataclass, replace
 from functools import cache
 from typing import Iterator, Mapping, Sequence
 
-from labeltools.paper.area import Area, PAD, size_of
-from labeltools.lines.engine import Modules
-from labeltools.layout.frames import Box, Frame, HINTING, Need, frame_of, module_in
-from labeltools.layout.letters import Letters
-from labeltools.lines.file import LineRecord
 from labeltools.common.messages import Place, Talk
-from labeltools.paper.stock import Size, size_text
+from labeltools.common.text import joined, Text
+from labeltools.layout.frames import Box, Frame, frame_of, HINTING, module_in, Need
+from labeltools.layout.letters import Letters
+from labeltools.lines.engine import Modules
+from labeltools.lines.file import LineRecord
 from labeltools.lines.symbologies import SYMBOLOGIES, Symbology
-from labeltools.common.text import Text, joined
+from labeltools.paper.area import Area, PAD, size_of
+from labeltools.paper.stock import Size, size_text
 
 # marks above or below a letter, of which so many are drawn
 MARKS = "[\u0300-\u036f\u0483-\u0489\u1ab0-\u1aff\u1dc0-\u1dff\u20d0-\u20ff\ufe20-\ufe2f]"

@@ -7,12 +7,12 @@ from typing import Any, Iterable, Mapping, NamedTuple, Sequence
 
 import cairo
 
-from labeltools.common.text import Text
-from labeltools.layout.glyphs import OTHERS
-from labeltools.layout.frames import Extent
-from labeltools.common.messages import ToolError
 from labeltools.common.kept import Found
-from labeltools.layout.pango import MEASURED, Pango, PangoCairo, pango_context, plain_options
+from labeltools.common.messages import ToolError
+from labeltools.common.text import Text
+from labeltools.layout.frames import Extent
+from labeltools.layout.glyphs import OTHERS
+from labeltools.layout.pango import MEASURED, Pango, pango_context, PangoCairo, plain_options
 
 KEPT = 2048  # words of which the extent is kept
 MOST_NAMED = 9  # letters that a message names

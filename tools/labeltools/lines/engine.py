@@ -8,9 +8,9 @@ from functools import cache
 from pathlib import Path
 from typing import Any, Callable, Iterable, Iterator
 
+from labeltools.common.messages import Talk, ToolError
 from labeltools.common.text import Text
 from labeltools.lines.reasons import reason_of
-from labeltools.common.messages import Talk, ToolError
 
 LABELS_FAILED = 3  # the status of a tool that is not in order
 MAJOR = "1"  # the version of the library that these tools know: later ones of it can do no less

@@ -20,10 +20,10 @@ from itertools import count
 from typing import Any, Iterable, NamedTuple, Sequence
 
 from labeltools import VERSION
+from labeltools.common.messages import Place, quoted, Talk, ToolError
 from labeltools.common.text import NOTHING, Text
-from labeltools.common.messages import Place, Talk, ToolError, quoted
-from labeltools.lines.engine import Modules, drawn
-from labeltools.lines.symbologies import SYMBOLOGIES, check_digit
+from labeltools.lines.engine import drawn, Modules
+from labeltools.lines.symbologies import check_digit, SYMBOLOGIES
 
 MOST_COPIES = 9999
 MOST_LEFT_OUT = 20  # rows that the last remark names

@@ -4,8 +4,8 @@ import math
 from dataclasses import dataclass, replace
 from functools import cached_property
 
-from labeltools.paper.stock import Sheet, Size
 from labeltools.lines.symbologies import SYMBOLOGIES, Symbology
+from labeltools.paper.stock import Sheet, Size
 
 Dots = tuple[int, int]
 Edges = tuple[float, float, float, float]  # left, top, right, bottom in millimetres

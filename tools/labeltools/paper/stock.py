@@ -10,8 +10,8 @@ from pathlib import Path
 from typing import Iterator
 from xml.etree.ElementTree import Element, parse
 
-from labeltools.common.text import Text
 from labeltools.common.messages import BAD_ARGUMENTS, ToolError
+from labeltools.common.text import Text
 
 Size = tuple[float, float]
 PartName = tuple[str, str]  # the maker and the name of a part

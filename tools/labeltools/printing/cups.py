@@ -8,7 +8,7 @@ from collections.abc import Iterator, Mapping
 from contextlib import contextmanager
 from dataclasses import dataclass
 from importlib import import_module
-from typing import IO, Any
+from typing import Any, IO
 
 from labeltools.common.messages import BAD_ARGUMENTS, ToolError
 from labeltools.common.text import NOTHING, Text

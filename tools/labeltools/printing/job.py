@@ -9,14 +9,23 @@ from dataclasses import dataclass, replace
 from typing import Sequence
 
 from labeltools.common.messages import BAD_ARGUMENTS, ToolError
-from labeltools.common.text import NOTHING, Text, counted
-from labeltools.designs.design import OwnDesign, is_file, read_design, size_of_page
-from labeltools.drawing.forms import ESCPOS, FORMS, Form, PDF
+from labeltools.common.text import counted, NOTHING, Text
+from labeltools.designs.design import is_file, OwnDesign, read_design, size_of_page
+from labeltools.drawing.forms import ESCPOS, Form, FORMS, PDF
 from labeltools.layout.letters import FONT
 from labeltools.lines.file import UNPRINTABLE
-from labeltools.paper.area import ARTICLE, DESIGNS, Edges, OWN, Plan, Wishes
-from labeltools.paper.area import plan_of, white_of, whole_plan_of
-from labeltools.paper.stock import Grid, Sheet, Size, grid_sheet, stock_sheet
+from labeltools.paper.area import (
+    ARTICLE,
+    DESIGNS,
+    Edges,
+    OWN,
+    Plan,
+    plan_of,
+    white_of,
+    whole_plan_of,
+    Wishes,
+)
+from labeltools.paper.stock import Grid, grid_sheet, Sheet, Size, stock_sheet
 from labeltools.printing.outlets import is_direct
 from labeltools.printing.selection import Selection
 

@@ -25,10 +25,10 @@ from contextlib import contextmanager, suppress
 from pathlib import Path
 from typing import Iterator, Mapping, NamedTuple
 
-from labeltools.lines.file import LineRecord
 from labeltools.common.messages import ToolError
 from labeltools.common.report import few
 from labeltools.common.text import Text
+from labeltools.lines.file import LineRecord
 
 HEAD = b"#labels journal 1\n"
 UPCA = b"upca "

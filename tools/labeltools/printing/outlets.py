@@ -11,10 +11,10 @@ from collections.abc import Callable, Sequence
 from contextlib import nullcontext
 from io import BytesIO
 from pathlib import Path
-from typing import IO, Any
+from typing import Any, IO
 
 from labeltools.common.command_line import hold_signals, standard_output
-from labeltools.common.files import Unwritten, save, send, temporary
+from labeltools.common.files import save, send, temporary, Unwritten
 from labeltools.common.messages import ToolError
 from labeltools.common.text import NOTHING, Text
 

@@ -16,12 +16,12 @@ from labeltools.drawing.dots import drawn_page, pbm, png
 from labeltools.drawing.escpos import escpos
 from labeltools.drawing.forms import ESCPOS, PBM, PDF, PNG, SVG, ZPL
 from labeltools.drawing.own_pen import OwnPen
-from labeltools.drawing.pdf import Paper, drawing
+from labeltools.drawing.pdf import drawing, Paper
 from labeltools.drawing.pen import Medium, Page, Pen
 from labeltools.drawing.zpl import zpl
-from labeltools.layout.layout import LaidOut, LaidOutFile, PrintLabel, lay_out, print_label
+from labeltools.layout.layout import LaidOut, LaidOutFile, lay_out, print_label, PrintLabel
 from labeltools.layout.letters import DIGITS_FONT, Letters
-from labeltools.lines.file import LineRecord, LinesFile, drawn_lines
+from labeltools.lines.file import drawn_lines, LineRecord, LinesFile
 from labeltools.paper.picture import Picture
 from labeltools.printing.job import Job
 from labeltools.printing.remarks import remarks_on

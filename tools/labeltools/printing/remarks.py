@@ -8,7 +8,7 @@ from labeltools.common.report import LeftOut, listed, places_text
 from labeltools.common.text import Text
 from labeltools.drawing.pen import Pen
 from labeltools.layout.layout import LaidOut, LaidOutFile
-from labeltools.paper.area import ARTICLE, Area
+from labeltools.paper.area import Area, ARTICLE
 from labeltools.printing.selection import Selection
 
 DENSE = 0.33  # millimetres: modules of QR below it are reported

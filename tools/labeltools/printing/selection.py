@@ -8,11 +8,11 @@ from itertools import filterfalse
 from pathlib import Path
 from typing import Iterable, Iterator
 
-from labeltools.printing.journal import code_of
-from labeltools.lines.file import LineRecord
 from labeltools.common.messages import Place, ToolError
-from labeltools.common.report import LeftOut, few, ranges_of, ranges_text
+from labeltools.common.report import few, LeftOut, ranges_of, ranges_text
 from labeltools.common.text import Text
+from labeltools.lines.file import LineRecord
+from labeltools.printing.journal import code_of
 
 Ranges = tuple[tuple[int, int], ...]  # the first and the last number of each, in order
 ENDLESS = sys.maxsize  # the last number of a range without an end

@@ -8,17 +8,24 @@ from typing import Any, Callable, Iterable, Iterator, Mapping, Sequence, Sized
 
 from labeltools.common.command_line import standard_output
 from labeltools.common.files import save
-from labeltools.common.messages import Talk, ToolError, sentence
+from labeltools.common.messages import sentence, Talk, ToolError
 from labeltools.common.report import MOST_RANGES, places_text
-from labeltools.common.text import NOTHING, Text, counted, joined
+from labeltools.common.text import counted, joined, NOTHING, Text
 from labeltools.layout.layout import LaidOut
 from labeltools.lines.file import LineRecord
-from labeltools.printing.cups import NOTHING_CHOSEN, Queue, SentJob, print_by
+from labeltools.printing.cups import NOTHING_CHOSEN, print_by, Queue, SentJob
 from labeltools.printing.job import Job
-from labeltools.printing.journal import Entry, Journal, SENDING, code_of
+from labeltools.printing.journal import code_of, Entry, Journal, SENDING
 from labeltools.printing.network import NetworkPrinter, SCHEME
-from labeltools.printing.outlets import Broken, Collected, Device, OUTPUT, Outlet, Untaken
-from labeltools.printing.outlets import has_reader
+from labeltools.printing.outlets import (
+    Broken,
+    Collected,
+    Device,
+    has_reader,
+    Outlet,
+    OUTPUT,
+    Untaken,
+)
 from labeltools.printing.press import Part, Prepared, Press
 from labeltools.printing.selection import FILE, ranges_in
 

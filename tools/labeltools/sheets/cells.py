@@ -11,11 +11,11 @@ import re
 import unicodedata
 from dataclasses import dataclass
 from decimal import Decimal
-from enum import Enum, auto
+from enum import auto, Enum
 from itertools import pairwise
 from typing import NamedTuple, Sequence
 
-from labeltools.common.messages import RowError, named, quoted
+from labeltools.common.messages import named, quoted, RowError
 from labeltools.common.text import NOTHING, Text
 
 LONGEST_CELL = 131068

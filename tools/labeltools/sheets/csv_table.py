@@ -8,11 +8,11 @@ from dataclasses import dataclass
 from itertools import count, islice
 from typing import NamedTuple
 
+from labeltools.common.messages import BAD_ARGUMENTS, named, quoted, RowError, ToolError
+from labeltools.common.names import name_of, row_of_names
+from labeltools.common.text import Text
 from labeltools.sheets.encoding import decoded
 from labeltools.sheets.options import CsvOptions
-from labeltools.common.text import Text
-from labeltools.common.messages import BAD_ARGUMENTS, RowError, ToolError, named, quoted
-from labeltools.common.names import name_of, row_of_names
 from labeltools.sheets.rows import Row
 
 LARGEST_FILE = 40 << 20  # bytes

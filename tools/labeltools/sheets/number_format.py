@@ -10,14 +10,14 @@ import re
 from contextlib import suppress
 from dataclasses import dataclass, field
 from datetime import date, datetime, timedelta
-from decimal import ROUND_HALF_UP, Context, Decimal
+from decimal import Context, Decimal, ROUND_HALF_UP
 from functools import lru_cache
 from pathlib import Path
 from typing import NamedTuple, Sequence
 
 from labeltools.common.lists import lists_of
+from labeltools.common.messages import quoted, RowError
 from labeltools.common.text import Text
-from labeltools.common.messages import RowError, quoted
 from labeltools.sheets.cells import AS_TEXT
 
 LONGEST_FORMAT = 255  # letters, as spreadsheets have it

@@ -9,16 +9,46 @@ from itertools import groupby
 from typing import NamedTuple
 from zipfile import ZipFile
 
+from labeltools.common.messages import quoted, RowError, Talk, ToolError
 from labeltools.common.text import Text
-from labeltools.common.messages import RowError, Talk, ToolError, quoted
-from labeltools.sheets.number_format import DAY_ZERO, Formatter, date_section, date_text, digits_of
-from labeltools.sheets.cells import AS_TEXT, Cell, Fault, Form, Kind, Mark, RAISED, Special, Truth
-from labeltools.sheets.cells import CONDITION, CONDITION_HINT, NO_LETTERS, no_value, text_of_runs
+from labeltools.sheets.cells import (
+    AS_TEXT,
+    Cell,
+    CONDITION,
+    CONDITION_HINT,
+    Fault,
+    Form,
+    Kind,
+    Mark,
+    NO_LETTERS,
+    no_value,
+    RAISED,
+    Special,
+    text_of_runs,
+    Truth,
+)
+from labeltools.sheets.number_format import date_section, date_text, DAY_ZERO, digits_of, Formatter
 from labeltools.sheets.rows import Merge, Row
-from labeltools.sheets.workbook import Attributes, LARGEST_ROW, MOST_COLUMNS, NOT_SAVED
-from labeltools.sheets.workbook import NOT_SAVED_HINT, Reader, SAVE_AGAIN, Sheet, TOO_LARGE
-from labeltools.sheets.workbook import chosen, elements, exact_of, filled, local
-from labeltools.sheets.workbook import merges_at, repeats, rows_from, whole
+from labeltools.sheets.workbook import (
+    Attributes,
+    chosen,
+    elements,
+    exact_of,
+    filled,
+    LARGEST_ROW,
+    local,
+    merges_at,
+    MOST_COLUMNS,
+    NOT_SAVED,
+    NOT_SAVED_HINT,
+    Reader,
+    repeats,
+    rows_from,
+    SAVE_AGAIN,
+    Sheet,
+    TOO_LARGE,
+    whole,
+)
 
 TABLE = "body/spreadsheet/table"
 CONTENT = "content.xml"

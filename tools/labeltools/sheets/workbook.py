@@ -15,10 +15,10 @@ from io import BytesIO
 from itertools import chain
 from typing import Generic, NamedTuple, TypeVar
 from xml.parsers.expat import ExpatError, ParserCreate
-from zipfile import ZIP_DEFLATED, ZIP_STORED, BadZipFile, ZipFile
+from zipfile import BadZipFile, ZIP_DEFLATED, ZIP_STORED, ZipFile
 
-from labeltools.common.text import Text, counted
-from labeltools.common.messages import BAD_ARGUMENTS, ToolError, quoted
+from labeltools.common.messages import BAD_ARGUMENTS, quoted, ToolError
+from labeltools.common.text import counted, Text
 from labeltools.sheets.cells import Cell
 from labeltools.sheets.rows import Merge, Row
 

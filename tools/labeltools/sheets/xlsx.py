@@ -2,23 +2,54 @@
 
 import posixpath
 import re
+from collections.abc import Iterator, Mapping, Sequence
 from dataclasses import dataclass, field
 from decimal import Decimal
-from collections.abc import Iterator, Mapping, Sequence
 from typing import NamedTuple
 from zipfile import ZipFile
 
-from labeltools.sheets import number_format
-from labeltools.common.text import Text
 from labeltools.common.messages import RowError, Talk, ToolError
+from labeltools.common.text import Text
+from labeltools.sheets import number_format
+from labeltools.sheets.cells import (
+    Cell,
+    CONDITION,
+    CONDITION_HINT,
+    Fault,
+    Form,
+    formed,
+    Kind,
+    Mark,
+    NO_LETTERS,
+    no_value,
+    PLAIN,
+    Special,
+    text_of_runs,
+    Truth,
+)
 from labeltools.sheets.number_format import BUILT_IN, BUILT_IN_DATES, Formatter, LANGUAGE
-from labeltools.sheets.cells import Cell, Fault, Form, Kind, Mark, PLAIN, Special, Truth, no_value
-from labeltools.sheets.cells import CONDITION, CONDITION_HINT, NO_LETTERS, formed, text_of_runs
 from labeltools.sheets.rows import Merge, Row
-from labeltools.sheets.workbook import Attributes, F, LARGEST_TEXTS, NOT_SAVED, NOT_SAVED_HINT
-from labeltools.sheets.workbook import Reader, SAVE_AGAIN, Sheet, TOO_LARGE, TRUE
-from labeltools.sheets.workbook import chosen, corners_of, elements, exact_of, filled, merges_at
-from labeltools.sheets.workbook import place_of, rows_from, whole
+from labeltools.sheets.workbook import (
+    Attributes,
+    chosen,
+    corners_of,
+    elements,
+    exact_of,
+    F,
+    filled,
+    LARGEST_TEXTS,
+    merges_at,
+    NOT_SAVED,
+    NOT_SAVED_HINT,
+    place_of,
+    Reader,
+    rows_from,
+    SAVE_AGAIN,
+    Sheet,
+    TOO_LARGE,
+    TRUE,
+    whole,
+)
 
 ESCAPED = re.compile("_x([0-9A-Fa-f]{4})_")
 # an address and a text, as a formula has them

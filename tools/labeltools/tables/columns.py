@@ -7,14 +7,26 @@ from difflib import get_close_matches
 from itertools import islice
 from typing import Iterable, Sequence
 
+from labeltools.common.messages import BAD_ARGUMENTS, quoted, RowError, ToolError
+from labeltools.common.names import name_of, NUMBER, row_of_names
 from labeltools.common.text import Text
-from labeltools.sheets.cells import COPIES, DATA, DIGITS, Kind, MARK, PRICE, PRINTED, taken
-from labeltools.sheets.cells import UNSEEN_CODE, UNSEEN_PRICE, UNSEEN_TEXT, refuse_unseen
 from labeltools.lines.file import MOST_COPIES
-from labeltools.common.messages import BAD_ARGUMENTS, RowError, ToolError, quoted
-from labeltools.common.names import NUMBER, name_of, row_of_names
-from labeltools.sheets.rows import Row
 from labeltools.lines.symbologies import SYMBOLOGIES
+from labeltools.sheets.cells import (
+    COPIES,
+    DATA,
+    DIGITS,
+    Kind,
+    MARK,
+    PRICE,
+    PRINTED,
+    refuse_unseen,
+    taken,
+    UNSEEN_CODE,
+    UNSEEN_PRICE,
+    UNSEEN_TEXT,
+)
+from labeltools.sheets.rows import Row
 from labeltools.tables.options import Columns, TableOptions
 
 ROWS_LOOKED_AT = 50  # for the row of names

@@ -5,19 +5,26 @@ from dataclasses import dataclass, replace
 from decimal import Decimal
 from typing import Iterator, NamedTuple, Sequence
 
-from labeltools.common.text import Text
-from labeltools.tables.codes import Code, CodeRules, code_of, is_in_brackets
-from labeltools.tables.columns import Column, symbology_in
-from labeltools.tables.twice import twice_encoded
-from labeltools.common.messages import RowError, quoted
-from labeltools.tables.money import MOST_DECIMALS, Money, NotMoney, currency_of, parse
-from labeltools.tables.money import parse_unit_price, plain
-from labeltools.tables.prices import ARITHMETIC, MOST_LOST, nearest
+from labeltools.common.messages import quoted, RowError
 from labeltools.common.names import is_repeated, name_of
-from labeltools.tables.once import Once
+from labeltools.common.text import Text
 from labeltools.lines.symbologies import SYMBOLOGIES
 from labeltools.sheets.rows import Row
+from labeltools.tables.codes import Code, code_of, CodeRules, is_in_brackets
+from labeltools.tables.columns import Column, symbology_in
+from labeltools.tables.money import (
+    currency_of,
+    Money,
+    MOST_DECIMALS,
+    NotMoney,
+    parse,
+    parse_unit_price,
+    plain,
+)
+from labeltools.tables.once import Once
 from labeltools.tables.options import Columns, TableOptions
+from labeltools.tables.prices import ARITHMETIC, MOST_LOST, nearest
+from labeltools.tables.twice import twice_encoded
 
 HTML = re.compile("</?[a-z][^<>]*>|&(?:[a-z]{2,8}|#[0-9]{1,6});", re.IGNORECASE)
 OWN_TABLE = Text("make it a table of its own")

@@ -15,16 +15,17 @@ from functools import cached_property, partial
 from itertools import islice, takewhile, zip_longest
 from pathlib import Path
 from typing import NamedTuple
+
 from labeltools.common.lists import lists_of
-from labeltools.tables.codes import AUTO, CodeRules, code_of, has_length
-from labeltools.tables.columns import names_of, texts_of
 from labeltools.common.messages import RowError, Talk
 from labeltools.common.text import NOTHING, Text
-from labeltools.tables.money import parse
 from labeltools.lines.symbologies import CODE128, QR
 from labeltools.sheets.rows import Row
-from labeltools.tables.table import head_of
+from labeltools.tables.codes import AUTO, code_of, CodeRules, has_length
+from labeltools.tables.columns import names_of, texts_of
+from labeltools.tables.money import parse
 from labeltools.tables.options import TableOptions
+from labeltools.tables.table import head_of
 
 COLUMN_WORDS = Path(__file__).with_name("columns.list")
 # words of the names of columns; how the names end that are of numbers

@@ -5,15 +5,15 @@ was asked for.
 from dataclasses import dataclass, field
 from typing import Mapping, NamedTuple
 
+from labeltools.common.messages import Place, quoted, RowError, Talk, ToolError
 from labeltools.common.text import Text
+from labeltools.lines.file import first_remark, Label, label_lines, last_remark, LinesFile
 from labeltools.tables.drafts import Draft, HAS_DIGIT, Price
-from labeltools.lines.file import Label, LinesFile, first_remark, label_lines, last_remark
-from labeltools.common.messages import Place, RowError, Talk, ToolError, quoted
 from labeltools.tables.money import NotMoney
 from labeltools.tables.once import Once
+from labeltools.tables.options import TableOptions
 from labeltools.tables.prices import PriceColumn, settled, with_currency
 from labeltools.tables.summary import Totals
-from labeltools.tables.options import TableOptions
 
 LARGEST_OUTPUT = 1 << 27  # bytes
 

@@ -12,8 +12,8 @@ from functools import lru_cache
 from pathlib import Path
 
 from labeltools.common.lists import lists_of
-from labeltools.common.text import NOTHING, Text
 from labeltools.common.messages import RowError
+from labeltools.common.text import NOTHING, Text
 
 PRICE_WORDS = Path(__file__).with_name("prices.list")
 MOST_LETTERS = 60

@@ -3,11 +3,21 @@
 import re
 from collections import Counter
 from dataclasses import dataclass, field, replace
-from decimal import ROUND_HALF_UP, Decimal
+from decimal import Decimal, ROUND_HALF_UP
 
 from labeltools.common.text import NOTHING, Text
-from labeltools.tables.money import LOOKS, Money, NotMoney, PER_UNIT, SPACES, WITH_THREE_DECIMALS
-from labeltools.tables.money import WORDS, currency_of, is_same, plain
+from labeltools.tables.money import (
+    currency_of,
+    is_same,
+    LOOKS,
+    Money,
+    NotMoney,
+    PER_UNIT,
+    plain,
+    SPACES,
+    WITH_THREE_DECIMALS,
+    WORDS,
+)
 
 OF_MANY = re.compile(
     r"\b(?:tausend|tsd|thousands?|teur|t€|keur|k€)(?!\w)"

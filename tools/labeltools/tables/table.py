@@ -6,27 +6,27 @@ from functools import reduce
 from itertools import chain
 from typing import Iterator, NamedTuple
 
-from labeltools.common.text import NOTHING, Text, counted
-from labeltools.tables.columns import Column, Head, columns_of, names_of
-from labeltools.tables.codes import FREE, OTHER_CODES, OtherCode, WrongDigit
-from labeltools.sheets.csv_table import csv_table
-from labeltools.sheets.options import CsvOptions
-from labeltools.tables.drafts import RowReader
-from labeltools.tables.line_writer import LineWriter, contents_of
-from labeltools.common.messages import BAD_ARGUMENTS, RowError, Talk, ToolError, quoted
-from labeltools.tables.prices import CENTS, measure_of
+from labeltools.common.messages import BAD_ARGUMENTS, quoted, RowError, Talk, ToolError
 from labeltools.common.names import said_of_empty
 from labeltools.common.report import listed
+from labeltools.common.text import counted, NOTHING, Text
+from labeltools.lines.symbologies import SYMBOLOGIES
+from labeltools.sheets.cells import seen
+from labeltools.sheets.csv_table import csv_table
 from labeltools.sheets.number_format import Formatter, local_date, local_signs
 from labeltools.sheets.ods import rows_of_ods
-from labeltools.tables.once import Once
-from labeltools.sheets.cells import seen
+from labeltools.sheets.options import CsvOptions
 from labeltools.sheets.rows import Row
-from labeltools.lines.symbologies import SYMBOLOGIES
-from labeltools.tables.summary import summary
-from labeltools.tables.options import Columns, TableOptions
 from labeltools.sheets.workbook import is_ods, named_errors, opened
 from labeltools.sheets.xlsx import rows_of_xlsx
+from labeltools.tables.codes import FREE, OTHER_CODES, OtherCode, WrongDigit
+from labeltools.tables.columns import Column, columns_of, Head, names_of
+from labeltools.tables.drafts import RowReader
+from labeltools.tables.line_writer import contents_of, LineWriter
+from labeltools.tables.once import Once
+from labeltools.tables.options import Columns, TableOptions
+from labeltools.tables.prices import CENTS, measure_of
+from labeltools.tables.summary import summary
 
 ZIP = (b"PK\x03\x04", b"PK\x05\x06")
 NO_TABLE = re.compile(rb"(?i)\xd0\xcf\x11\xe0|\s*<(?:\?xml|!doctype|html|table)")

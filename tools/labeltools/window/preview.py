@@ -6,12 +6,12 @@ from typing import Any
 
 import cairo
 
-from labeltools.drawing.forms import PBM, SVG
-from labeltools.drawing.dots import drawn_surface
-from labeltools.layout.letters import Letters
 from labeltools.common.messages import Silence
+from labeltools.drawing.dots import drawn_surface
+from labeltools.drawing.forms import PBM, SVG
 from labeltools.drawing.pen import Page
-from labeltools.printing.press import Prepared, Press, pens_of
+from labeltools.layout.letters import Letters
+from labeltools.printing.press import pens_of, Prepared, Press
 
 USED = (0.90, 0.91, 0.92)
 EDGE = (0.80, 0.83, 0.87)

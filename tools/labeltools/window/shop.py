@@ -12,16 +12,16 @@ from pathlib import Path
 from typing import Any
 
 from labeltools.commands import label_print as print_command, label_table as table_command
-from labeltools.common.text import NOTHING, Text
 from labeltools.common.command_line import read_input, words_of
-from labeltools.lines.engine import option_words
-from labeltools.tables.guess import guess_of
-from labeltools.lines.file import LineRecord, first_remark, label_lines, last_remark, read_lines
-from labeltools.common.messages import Cancelled, Place, ToolError, quoted
-from labeltools.printing.job import planned
-from labeltools.printing.press import Prepared, labels_of
-from labeltools.printing.sending import labels_text
+from labeltools.common.messages import Cancelled, Place, quoted, ToolError
 from labeltools.common.report import LeftOut
+from labeltools.common.text import NOTHING, Text
+from labeltools.lines.engine import option_words
+from labeltools.lines.file import first_remark, label_lines, last_remark, LineRecord, read_lines
+from labeltools.printing.job import planned
+from labeltools.printing.press import labels_of, Prepared
+from labeltools.printing.sending import labels_text
+from labeltools.tables.guess import guess_of
 from labeltools.tables.money import NotMoney, parse
 from labeltools.tables.prices import PricePattern
 from labeltools.tables.table import Lines, lines_of_table

@@ -12,14 +12,21 @@ from typing import Any
 from labeltools.common.messages import ToolError
 from labeltools.common.text import Text, translated
 from labeltools.common.words import _
-from labeltools.printing.cups import NOTHING_CHOSEN, PAGES, JobState, Queue, SentJob
-from labeltools.printing.cups import queue_of, queues
-from labeltools.printing.network import SCHEME, address_of
+from labeltools.printing.cups import (
+    JobState,
+    NOTHING_CHOSEN,
+    PAGES,
+    Queue,
+    queue_of,
+    queues,
+    SentJob,
+)
+from labeltools.printing.network import address_of, SCHEME
 from labeltools.printing.outlets import is_direct
 from labeltools.printing.press import Prepared
 from labeltools.printing.sending import labels_text, print_on, save_to, send_to
-from labeltools.window.dialog import Chosen, ask_printer
-from labeltools.window.gtk import GLib, Gdk, Gtk
+from labeltools.window.dialog import ask_printer, Chosen
+from labeltools.window.gtk import Gdk, GLib, Gtk
 from labeltools.window.shop import Made, Table, Talk
 
 USB = Path("/dev/usb")  # has the printers on USB

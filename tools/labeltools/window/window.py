@@ -9,18 +9,18 @@ from functools import partial
 from pathlib import Path
 from typing import Any
 
-from labeltools.common.text import counted, translated
-from labeltools.paper.area import ARTICLE
 from labeltools.common.messages import ToolError
-from labeltools.window import hints
-from labeltools.window.gtk import GLib, Gdk, Gio, Gtk, add_actions
+from labeltools.common.text import counted, translated
+from labeltools.common.words import _
 from labeltools.designs.design import is_file
+from labeltools.paper.area import ARTICLE
+from labeltools.paper.stock import list_stock
+from labeltools.printing.press import check_count
+from labeltools.window import hints
+from labeltools.window.gtk import add_actions, Gdk, Gio, GLib, Gtk
 from labeltools.window.presets import Presets
 from labeltools.window.preview import Preview
-from labeltools.printing.press import check_count
-from labeltools.window.shop import COLUMNS, Choices, Made, Table, price_patterns
-from labeltools.paper.stock import list_stock
-from labeltools.common.words import _
+from labeltools.window.shop import Choices, COLUMNS, Made, price_patterns, Table
 from labeltools.window.ways import Ways
 from labeltools.window.work import Work
 

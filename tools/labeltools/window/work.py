@@ -8,7 +8,7 @@ from contextlib import suppress
 from functools import partial
 from typing import Any
 
-from labeltools.common.messages import Cancelled, ToolError, of_system
+from labeltools.common.messages import Cancelled, of_system, ToolError
 from labeltools.common.words import _
 from labeltools.window.gtk import GLib
 from labeltools.window.shop import Talk
