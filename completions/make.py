@@ -131,7 +131,7 @@ def all_options() -> dict[str, list[Option]]:
     found = {"labels": options_of_labels()}
     for tool, module in TOOLS.items():
         command = __import__(f"labeltools.{module}", fromlist=["command_line"])
-        found[tool] = options_of(command.command_line())
+        found[tool] = options_of(command.new_parser())
     return found
 
 

@@ -7,8 +7,8 @@ from typing import Any, Sequence
 import jobs
 import support
 from labeltools.common.messages import Silence
-from labeltools.designs.fit import OwnText
-from labeltools.designs.layout import OwnLayout
+from labeltools.designs.fit import PlacedText
+from labeltools.designs.svg_layout import SvgLayout
 from labeltools.drawing.pen import Medium
 from labeltools.printing.job import planned, PrintOptions
 from labeltools.printing.press import labels_of, pen_of, Prepared
@@ -80,10 +80,10 @@ def dots_of(found: Prepared, number: int = 0) -> jobs.Dots:
     return jobs.pictures_of_pbm(document)[0]
 
 
-def texts_of(found: Prepared) -> list[OwnText]:
+def texts_of(found: Prepared) -> list[PlacedText]:
     """The texts of all labels."""
     layouts = [item.layout for item in found.labels]
-    return [text for one in layouts if isinstance(one, OwnLayout) for text in one.texts]
+    return [text for one in layouts if isinstance(one, SvgLayout) for text in one.texts]
 
 
 def is_refused(message: object, why: str) -> bool:

@@ -16,7 +16,7 @@ from unittest import mock
 import jobs
 import support
 from labeltools.lines.file import read_lines
-from labeltools.printing.journal import code_of, Journal
+from labeltools.printing.journal import Journal, journal_code
 from printers import LABEL
 
 PIPE, NULL = subprocess.PIPE, subprocess.DEVNULL
@@ -144,7 +144,7 @@ class Desk(unittest.TestCase):
 
     def is_doubtful(self, journal: Journal, number: int) -> bool:
         """Whether the label of a line of TICKETS, from 0, is in doubt."""
-        return code_of(self.records[number]) in journal.doubtful()
+        return journal_code(self.records[number]) in journal.doubtful()
 
     # ---- programs
 

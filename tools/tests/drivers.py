@@ -12,7 +12,7 @@ from typing import Callable, Iterator, Sequence
 import numpy
 
 from jobs import data_of_run_lengths, Dots, JobError
-from labeltools.commands.label_print import options_of
+from labeltools.commands.label_print import print_options
 from labeltools.common.messages import Silence
 from labeltools.printing.job import planned
 from labeltools.printing.press import labels_of
@@ -111,7 +111,7 @@ class Bars:
 
 def bars_of(words: Sequence[str], lines: bytes) -> Iterator[Bars]:
     """The bars of all labels on a sheet, as label-print places them by these words."""
-    options = options_of(words)
+    options = print_options(words)
     prepared = labels_of(planned(options), "lines", lines, Silence())
     press = prepared.press(Silence())
     (part,) = press.parts(prepared.prints)

@@ -5,7 +5,7 @@ from typing import Sequence
 
 import zxingcpp
 
-from labeltools.designs.layout import CODE, OwnSymbol, symbols_of
+from labeltools.designs.svg_layout import CODE, PlacedSymbol, symbols_of
 from labeltools.drawing.dots import drawn_page
 from labeltools.drawing.pen import bits_of, Pen
 from labeltools.layout.frames import Box
@@ -25,7 +25,7 @@ def fault_of(item: LaidOut, area: Area, pen: Pen) -> str | None:
     return fault_in([bits_of(row) for row in picture.rows], symbols_of(item, Box(0, 0, *size)))
 
 
-def fault_in(rows: list[str], symbols: Sequence[OwnSymbol]) -> str | None:
+def fault_in(rows: list[str], symbols: Sequence[PlacedSymbol]) -> str | None:
     """Returns what is wrong with one of the symbols of a label, each read in its place alone."""
     for symbol in symbols:
         box = symbol.box
@@ -38,7 +38,7 @@ def fault_in(rows: list[str], symbols: Sequence[OwnSymbol]) -> str | None:
     return None
 
 
-def fault_of_symbol(rows: list[str], symbol: OwnSymbol) -> str | None:
+def fault_of_symbol(rows: list[str], symbol: PlacedSymbol) -> str | None:
     """Returns what is wrong with a symbol in dots of its place: its data is read by zxing-cpp, and
     each row of its bars is compared.
     """

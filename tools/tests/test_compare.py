@@ -13,10 +13,10 @@ from unittest import mock
 
 import support
 from labeltools.checking import compare, decode
-from labeltools.checking.pdf import pages_of
+from labeltools.checking.read_pdf import pages_of
 from labeltools.common.messages import Silence, ToolError
 from labeltools.common.text import Text
-from labeltools.designs import layout as own_layout
+from labeltools.designs import svg_layout as own_layout
 from labeltools.drawing import dots, escpos, pen, zpl
 from labeltools.layout.frames import Box
 from labeltools.lines import engine
@@ -338,10 +338,10 @@ FAULTS = {
     ),
     "no white below codes": Fault(PEN + "Pen.draw_white", lambda *_: None, ("pdf", "svg")),
     "no white below guards": Fault(
-        PEN + "white_of", lambda symbol: (symbol.boxes["bars"],), ("pdf", "svg"), PAIR
+        PEN + "white_boxes", lambda symbol: (symbol.boxes["bars"],), ("pdf", "svg"), PAIR
     ),
     "white that is cut off": Fault(
-        PEN + "white_of",
+        PEN + "white_boxes",
         lambda symbol: (symbol.boxes["bars"]._replace(width=9),),
         ("pdf", "svg"),
     ),
@@ -503,7 +503,7 @@ class OwnDesigns(unittest.TestCase):
             job = planned(options)
             lines = support.file_of(self.LABELS)
             first = labels_of(job, "lines", lines, Silence()).labels[0].label
-            with mock.patch("labeltools.designs.layout.values_of", texts):
+            with mock.patch("labeltools.designs.svg_layout.values_of", texts):
                 found = labels_of(job, "lines", lines, Silence())
         with self.assertRaisesRegex(ToolError, "^row 3: its code says other data than its line"):
             documents_of(found)
@@ -650,7 +650,7 @@ class Read(unittest.TestCase):
         """
         lines = (b"ean13 4006381333931", b"ean8 73513537", b"code128 LOT-7", b"qr X")
         for line, scale, quarters, left in product(lines, (1, 3), range(4), (0, 5)):
-            symbol = engine.library().line(line, height=1)
+            symbol = engine.labels_library().line(line, height=1)
             dark, looked, high = rows_of(symbol)
             wide = len(dark[0])
             dark, looked = (

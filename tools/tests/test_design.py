@@ -17,8 +17,8 @@ import designs
 import support
 from designs import CODE, dots_of, Label, reasons_of, said_of, texts_of
 from labeltools.common.messages import Silence, ToolError
-from labeltools.designs import drawing
-from labeltools.designs.layout import OwnLayout
+from labeltools.designs import svg_page
+from labeltools.designs.svg_layout import SvgLayout
 from labeltools.printing.job import planned, PrintOptions
 from labeltools.printing.press import labels_of, Prepared
 from laying import documents_of
@@ -196,7 +196,7 @@ class Refused(OwnPages):
         with self.assertRaisesRegex(ToolError, r"seat is not a rectangle \(text\)"):
             self.found(body, [("code128 A", {"text": {"Seat": "7"}})])
 
-    @mock.patch.object(drawing, "MOST_SECONDS", 1)
+    @mock.patch.object(svg_page, "MOST_SECONDS", 1)
     def test_what_takes_too_long_or_too_much_memory(self) -> None:
         blur = '<filter id="f"><feGaussianBlur stdDeviation="{}"/></filter>'
         for by in (1, 2):  # threads of the first one stay, and are not waited for
@@ -685,7 +685,7 @@ class Drawings(OwnPages):
             drawn += f'<path d="{group}" fill="{"#fff" if behind == "#000" else "#000"}"/></g>'
             labels: list[Label] = [ONE, ("code128 B", {"title": "b", "was": "2 €"})]
             found = self.found(drawn + place, labels)
-            self.assertEqual([one.place.number for one in found.left_out if one.place], [4])
+            self.assertEqual([one.origin.number for one in found.left_out if one.origin], [4])
 
     def test_a_group_goes_with_its_field(self) -> None:
         word = '<g id="Best before"><path d="M2 2H9V9H2Z"/></g>'
@@ -827,7 +827,7 @@ class Symbols(OwnPages):
         ):
             (item,) = self.found(place.format(words), [("qr A", {})]).labels
             layout = item.layout
-            assert isinstance(layout, OwnLayout)
+            assert isinstance(layout, SvgLayout)
             ((_, box, _, _, _, _, boxes),) = layout.symbols
             bars, dot = boxes["bars"], 25.4 / 203
             ends = (10 + bars.left * dot, 10 + bars.right * dot)
@@ -839,7 +839,7 @@ class Symbols(OwnPages):
         body = f'<rect data-place="Url, qr, level=Q" x="2" y="2" width="16" height="16"/>{CODE}'
         found = self.found(body, [("code128 A", {"text": {"Url": "a\\b\nc"}})])
         layout = found.labels[0].layout
-        assert isinstance(layout, OwnLayout)
+        assert isinstance(layout, SvgLayout)
         self.assertEqual([one.data for one in layout.symbols], [b"a\\b\nc", b"A"])
 
     def test_a_second_symbol_that_is_refused_leaves_its_label_out(self) -> None:

@@ -15,7 +15,7 @@ import numpy
 import designs
 import jobs
 import support
-from labeltools.designs.layout import OwnLayout
+from labeltools.designs.svg_layout import SvgLayout
 from laying import documents_of
 from reading import fault_in
 from test_forms import dots_of_svg, rendered
@@ -141,7 +141,7 @@ class Shipped(unittest.TestCase):
         read = 0
         for name, dpi in zip(designs.SHIPPED, itertools.cycle(DPIS)):
             layout = self.prepared(name, dpi).labels[0].layout
-            assert isinstance(layout, OwnLayout)
+            assert isinstance(layout, SvgLayout)
             dots = {form: printed(name, form, dpi) for form in ("pbm", "pdf", "svg", *DOTS)}
             for form in DOTS:
                 self.assertTrue(is_same(dots[form], dots["pbm"]), (name, dpi, form))
@@ -152,7 +152,7 @@ class Shipped(unittest.TestCase):
                 read += len(layout.symbols)
         self.assertEqual(read, 27)
 
-    def codes(self, layout: OwnLayout) -> list[str]:
+    def codes(self, layout: SvgLayout) -> list[str]:
         """The data of the symbols of a label, in their order."""
         return sorted(symbol.data.decode() for symbol in layout.symbols)
 

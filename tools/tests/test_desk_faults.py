@@ -300,7 +300,7 @@ class Editors(Desk):
     def test_a_journal_that_goes_while_a_label_goes_out(self) -> None:
         """The label was sent: nothing else may be said."""
         with mock.patch(
-            "labeltools.printing.outlets.send", lambda file, output: os.unlink(self.path)
+            "labeltools.printing.outlets.write_whole", lambda file, output: os.unlink(self.path)
         ):
             done = printed("--journal", self.path)
         self.said(done, 1, "it took 0 labels whole; line 1 may be on paper; it lacks line 1")

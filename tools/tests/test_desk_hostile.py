@@ -340,7 +340,7 @@ class Ends(Desk):
 
         with open(f"{self.folder}/labels", "wb") as labels:
             with mock.patch.multiple("os", fsync=sync, fdatasync=sync):
-                with mock.patch.multiple(outlets, standard_output=lambda: labels, send=send):
+                with mock.patch.multiple(outlets, standard_output=lambda: labels, write_whole=send):
                     done = printed("--journal", self.path, input=TICKETS[:20])
         self.assertEqual(done.returncode, 0, done.stderr)
         first = [Path(self.folder).name, "journal sending", "sent", "labels sending"]

@@ -89,7 +89,7 @@ class FileBetween(unittest.TestCase):
             LABELS[2:3], left_out=[7], left_out_count=1
         )
         lines = read_lines(first + b"qr plain\n" + second.replace(b"articles", b"b"), "lines")
-        found = [label.place for label in lines.records]
+        found = [label.origin for label in lines.records]
         self.assertEqual(
             found[:2] + found[3:], [(f"{name}.xlsx", "row", row) for name, row in ROWS]
         )

@@ -11,7 +11,7 @@ import designs
 import support
 from designs import Label
 from labeltools.drawing.own_pen import OwnPen
-from labeltools.drawing.pen import Medium, options_of, Placed
+from labeltools.drawing.pen import font_options, Medium, Placed
 from labeltools.layout.fitting import Fitted, Fitter, LEFT, Style
 from labeltools.layout.glyphs import LINE_END
 from labeltools.layout.layout import LaidOut
@@ -66,7 +66,7 @@ class Glyphs(unittest.TestCase):
     def compare(self, is_dots: bool, texts: Sequence[tuple[str, Style, int]]) -> int:
         """Compares texts that are drawn as glyphs, and returns how many these are."""
         known = 0
-        by = Fitter(Letters(FONT), options_of(Medium(300, is_dots)), is_dots)
+        by = Fitter(Letters(FONT), font_options(Medium(300, is_dots)), is_dots)
         for text, style, width in texts:
             found = by.by_glyphs(text, style, width, 10 * style.size)
             if found is None:
@@ -101,7 +101,7 @@ class Glyphs(unittest.TestCase):
         self.assertGreater(self.compare(True, texts), 100)
 
     def test_letters_that_are_one_glyph_are_left_to_pango(self) -> None:
-        by = Fitter(Letters(FONT), options_of(Medium(300, False)), False)
+        by = Fitter(Letters(FONT), font_options(Medium(300, False)), False)
         style = Style(FONT, True, 120, 1, LEFT, 0.0, 0)
         for text in ("Profi", "Stoff", "Pfiff", "قلم", "鉛筆", "é̄", "a\u00adb"):
             self.assertIsNone(by.by_glyphs(text, style, 9000, 900), text)

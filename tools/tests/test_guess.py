@@ -7,9 +7,9 @@ from pathlib import Path
 
 import support
 from labeltools.common.messages import Silence
-from labeltools.sheets.options import FileOptions
+from labeltools.sheets.file_options import FileOptions
 from labeltools.tables.guess import Guess, guess, guess_of
-from labeltools.tables.options import TableOptions
+from labeltools.tables.table_options import TableOptions
 from sheets import KINDS, Sheet
 
 # three lines a table: the names of the columns, a row, and what is guessed; what has a `?` is asked

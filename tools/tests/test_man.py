@@ -7,7 +7,7 @@ import unittest
 import support
 from labeltools.commands import label_print, label_table
 from labeltools.common import report
-from labeltools.designs import drawing
+from labeltools.designs import svg_page
 from labeltools.layout import frames
 from labeltools.lines import file
 from labeltools.paper import area
@@ -33,8 +33,8 @@ NUMBERS = (
     (r"waits (\d+) seconds for that", network.FAREWELL),
     (r"(a twentieth) of a second", {0.05: "a twentieth"}.get(network.REGRET)),
     (r"within (\d+) seconds if the FIFO", stream.LOOK),
-    (r"drawing that takes (\d+) seconds", drawing.MOST_SECONDS),
-    (r"seconds or (\d+) MB", drawing.MOST_MEMORY // 1_000_000),
+    (r"drawing that takes (\d+) seconds", svg_page.MOST_SECONDS),
+    (r"seconds or (\d+) MB", svg_page.MOST_MEMORY // 1_000_000),
     (r"the smallest \(([\d.]+)\)", frames.LEAST_TEXT),
     (r"above 60 mm, at most ([\d.]+) mm", area.LARGEST_MODULE),
     (
@@ -94,7 +94,7 @@ class Pages(unittest.TestCase):
             "--symbology": "auto",
         }
         for module, least in ((label_print, 6), (label_table, 2)):
-            options = module.command_line()._actions
+            options = module.new_parser()._actions
             options = [it for it in options if it.option_strings and it.default]
             named |= {it.option_strings[0]: it.default for it in options}
             found = defaults_of(f"{module.TOOL}.1")

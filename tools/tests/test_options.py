@@ -16,7 +16,7 @@ import zxingcpp
 
 import jobs
 import support
-from labeltools.designs.layout import symbols_of
+from labeltools.designs.svg_layout import symbols_of
 from labeltools.drawing.dots import drawn_page
 from labeltools.drawing.pen import bits_of
 from labeltools.layout.frames import Box

@@ -7,7 +7,7 @@ from pathlib import Path
 from typing import Any
 
 import support
-from labeltools.common.messages import Cancelled, Place, Silence
+from labeltools.common.messages import Cancelled, Origin, Silence
 from labeltools.common.text import Text
 from labeltools.printing.job import planned, PrintOptions
 from labeltools.printing.press import labels_of
@@ -73,7 +73,7 @@ class Pages(unittest.TestCase):
         data = support.file_of([LABELS[0], ("ean13 4006381333932", {})])
         found = labels_of(self.job, "lines", data, Silence())
         (one,) = found.left_out
-        self.assertEqual(one.place, Place("articles.xlsx", "row", 3))
+        self.assertEqual(one.origin, Origin("articles.xlsx", "row", 3))
         self.assertEqual((one.data, one.reason), ("4006381333932", "check digit is 2, should be 1"))
 
     def test_work_that_is_stopped_leaves_no_file(self) -> None:

@@ -429,16 +429,16 @@ class Hostile(unittest.TestCase):
         from labeltools.lines import engine
         from labeltools.common.messages import ToolError
 
-        module = engine.library()
+        module = engine.labels_library()
         for version, is_taken in (("1.0.0", True), ("1.9.3", True), ("2.0.0", False)):
-            engine.library.cache_clear()
+            engine.labels_library.cache_clear()
             with mock.patch.object(module, "version", return_value=version):
                 if is_taken:
-                    self.assertIs(engine.library(), module)
+                    self.assertIs(engine.labels_library(), module)
                 else:
                     with self.assertRaisesRegex(ToolError, "liblabels is version 2.0.0, and"):
-                        engine.library()
-        engine.library.cache_clear()
+                        engine.labels_library()
+        engine.labels_library.cache_clear()
 
 
 if __name__ == "__main__":

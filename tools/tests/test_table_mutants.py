@@ -20,8 +20,8 @@ from typing import Callable, Iterator, Sequence
 
 import support
 from labeltools.common.messages import Silence, ToolError
-from labeltools.tables.options import ColumnOptions, TableOptions
 from labeltools.tables.table import lines_of_table
+from labeltools.tables.table_options import ColumnOptions, TableOptions
 from test_table import BOOK, PENCIL, SMALL
 from test_table_workbooks import (
     cell,

@@ -292,7 +292,7 @@ class WindowTest(Keeper):
         self.assertEqual(scheduler.printed("pdf"), self.by_commands(*page))
         self.assertEqual(len(self.printed()), 3)
 
-    @mock.patch("labeltools.window.ways.Ways.watch", mock.Mock())
+    @mock.patch("labeltools.window.ways.WaysOut.watch", mock.Mock())
     def test_chosen_pages_do_not_count_as_printed(self) -> None:
         """They may be a trial. Of the labels only those on these pages are reported."""
         self.open()
@@ -448,7 +448,7 @@ class WindowTest(Keeper):
             self.window.print_button.clicked()
             self.until(lambda: asked)
         self.assertEqual(asked[0][-1], str(device))
-        ways.Ways.ask_way(self.window.ways, asked[0])
+        ways.WaysOut.ask_way(self.window.ways, asked[0])
         printer = Printer().start()
         self.addCleanup(printer.off)
         wanted = self.by_commands("--paper", "60x40", "--to", "zpl", "--dpi", "203")
@@ -688,7 +688,7 @@ class WindowTest(Keeper):
         ):
             settings.set(name, value)
         chosen = {"Quality": "Best", "copies": "2", "page-ranges": "1-2,5-5"}
-        self.assertEqual(dialog.options_of(settings), {**chosen, "outputorder": "reverse"})
+        self.assertEqual(dialog.cups_options(settings), {**chosen, "outputorder": "reverse"})
 
     def test_a_roll_takes_the_dots_that_its_queue_has_by_itself(self) -> None:
         self.open()

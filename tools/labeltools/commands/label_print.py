@@ -20,7 +20,7 @@ from labeltools.common.command_line import (
     wrong_argument,
 )
 from labeltools.common.messages import BAD_ARGUMENTS, sentence, ToolError, write_message
-from labeltools.common.report import places_text, report
+from labeltools.common.report import places_text, Ranges, report
 from labeltools.common.text import counted, joined, Text
 from labeltools.designs.design import is_file
 from labeltools.drawing.forms import FORMS
@@ -33,7 +33,7 @@ from labeltools.printing.journal import Journal
 from labeltools.printing.network import address_of
 from labeltools.printing.outlets import Files, Outlet, OUTPUT, StandardOutput
 from labeltools.printing.press import check_count, labels_of, Prepared
-from labeltools.printing.selection import Ranges, ranges_in, selection_of
+from labeltools.printing.selection import ranges_in, selection_of
 from labeltools.printing.sending import direct_outlet, labels_text, print_on, Sender
 
 TOOL = "label-print"
@@ -100,7 +100,7 @@ def rows(argument: str) -> Ranges:
     raise wrong_argument(Text("{!r}: write rows as 2,7-9 or 7-", argument))
 
 
-def filled(argument: str) -> str:
+def not_empty(argument: str) -> str:
     """Returns an argument that is not empty, as it is where a variable of a shell is not set."""
     if not argument.strip("@ "):
         raise wrong_argument(Text("it is empty"))
@@ -109,7 +109,7 @@ def filled(argument: str) -> str:
 
 def printer_of(argument: str) -> str:
     """Returns the name of a queue of CUPS, of a printer in the network, or of a file."""
-    if "://" in filled(argument):
+    if "://" in not_empty(argument):
         try:
             address_of(argument)
         except ToolError as error:
@@ -122,7 +122,7 @@ POINT = reads("7x15")
 COUNT = reads("3", 1, int)
 
 
-def command_line() -> Parser:
+def new_parser() -> Parser:
     """Returns the arguments; their names are those of `PrintOptions`, which has their defaults."""
     parser = Parser(TOOL, USAGE, ABOUT, EXAMPLES)
     add_sheet_options(parser.add_argument_group("the paper"))
@@ -188,7 +188,7 @@ def add_choice_options(group: Any) -> None:
     value(group, "--only", "ROWS", rows, only, dest="rows_only")
     code = "print the label with this code, or those of @FILE, a code on each line; with --only "
     code += "those of either"
-    value(group, "--only-code", "CODE", filled, code, action="append", dest="codes", default=[])
+    value(group, "--only-code", "CODE", not_empty, code, action="append", dest="codes", default=[])
     after = reads("9", 0, int, 7)  # as many as one run takes
     value(group, "--after", "N", after, "skip this many labels, which are on paper already (0)")
     unique = "skip a line whose code came before, as for tickets and serial numbers"
@@ -208,33 +208,33 @@ def add_output_options(group: Any) -> None:
     queue = "print on this queue of CUPS, tcp://HOST or /dev/usb/lp0, not to standard output"
     value(one, "--print", "QUEUE", printer_of, queue, dest="queue")
     journal = "write each label into this file before it is sent; what is there is not sent again"
-    value(group, "--journal", "FILE", filled, journal)
+    value(group, "--journal", "FILE", not_empty, journal)
     again = "with --only or --only-code: print once more what the journal has of this printer"
-    value(group, "--again", "PRINTER", filled, again)
+    value(group, "--again", "PRINTER", not_empty, again)
     stream = "print each label as soon as its line has come in, and answer on standard error"
     flag(group, "--stream", "is_stream", stream)
     value(group, "--dots", "N", COUNT, "escpos: dots across the paper (576)")
     flag(group, "--no-cut", "is_cut", "escpos: do not cut after each label", False)
 
 
-def options_of(words: Sequence[str] | None = None) -> PrintOptions:
+def print_options(words: Sequence[str] | None = None) -> PrintOptions:
     """Returns what words ask for, or else the arguments of this program; raises `ToolError` and
     `OSError`.
     """
-    given = vars(command_line().parse_args(words))
+    given = vars(new_parser().parse_args(words))
     given["only"] = selection_of(given.pop("rows_only") or (), given.pop("codes"))
     return PrintOptions(**given)
 
 
 def run() -> int:
     """Returns 0 where each label is printed, 1 where one is left out."""
-    options = options_of()
+    options = print_options()
     if options.is_stream:
         keep_standard_error()
     if options.list_stock is not None:
         one_word = Text("--list-stock takes one WORD: put quotes around several")
         refuse(options.lines, one_word)
-        print(listed(options.list_stock))
+        print(stock_lines(options.list_stock))
         return 0
     queue = None
     if options.queue and not options.is_stream and not options.is_sent_singly:
@@ -248,7 +248,7 @@ def run() -> int:
     if options.is_stream:
         from labeltools.printing import stream
 
-        return stream.run(job, sender_of(job, direct_way(job), ()))
+        return stream.answer_lines(job, sender_of(job, direct_way(job), ()))
     gc.disable()  # no label leaves a cycle behind, and to look for them takes time
     return print_lines(job, queue, CommandTalk(TOOL))
 
@@ -260,7 +260,7 @@ def print_lines(job: Job, queue: Queue | None, talk: CommandTalk) -> int:
         write_message(TOOL, message)
     check_count(job, found.prints)
     if after := job.options.after:
-        place = places_text([found.prints[0].label.record.place], len(found.tables) > 1)
+        place = places_text([found.prints[0].label.record.origin], len(found.tables) > 1)
         write_message(TOOL, Text("--after {}: the first label is {}", after, place))
     if queue is None:
         return give_out(found, talk)
@@ -269,7 +269,7 @@ def print_lines(job: Job, queue: Queue | None, talk: CommandTalk) -> int:
     return 1 if found.left_out else 0
 
 
-def listed(wanted: str) -> str:
+def stock_lines(wanted: str) -> str:
     """Returns the sheets that have some words; raises `ToolError` if there is none."""
     hint = Text("try a part of the name, or the size of a cell, such as 70x37")
     what = Text("no sheet has all of these words: {}", wanted)
@@ -333,7 +333,7 @@ def give_out(found: Prepared, talk: CommandTalk) -> int:
         outlet = Files(options.each, data, options.after + 1)
     sender = sender_of(found.job, outlet, found.records)
     try:
-        send(sender, found, talk)
+        send_labels(sender, found, talk)
     finally:
         doubtful = sender.doubtful()
         for message in sender.doubts(doubtful):
@@ -345,7 +345,7 @@ def give_out(found: Prepared, talk: CommandTalk) -> int:
     return 1 if found.left_out or doubtful else 0
 
 
-def send(sender: Sender, found: Prepared, talk: CommandTalk) -> None:
+def send_labels(sender: Sender, found: Prepared, talk: CommandTalk) -> None:
     """Sends labels; raises `ToolError`. If they go out one by one a signal ends it after the label
     that is on its way: that is such an error, which is said here, since the signal then ends the
     tool.

@@ -20,7 +20,7 @@ from labeltools.common.command_line import (
 )
 from labeltools.common.messages import (
     BadArguments,
-    Place,
+    Origin,
     quoted,
     sentence,
     Silence,
@@ -31,14 +31,14 @@ from labeltools.common.report import listed
 from labeltools.common.text import joined, NOTHING, Text
 from labeltools.lines.file import LinesFile, read_lines
 from labeltools.lines.symbologies import EAN13, SYMBOLOGIES
+from labeltools.sheets.file_options import FileOptions
 from labeltools.sheets.number_format import date_section
-from labeltools.sheets.options import FileOptions
 from labeltools.tables.codes import AUTO, CodeRules, NAMES
 from labeltools.tables.columns import column_word
 from labeltools.tables.guess import Guess, guess_of
-from labeltools.tables.options import Columns, PriceRules, TableOptions
 from labeltools.tables.prices import PricePattern
 from labeltools.tables.table import lines_of_table
+from labeltools.tables.table_options import Columns, PriceRules, TableOptions
 
 TOOL = "label-table"
 USAGE = "label-table --code COLUMN [OPTIONS] [TABLE]"
@@ -55,7 +55,7 @@ DELIMITER = '[^"\r\n\0 \x80-\U0010ffff]|tab|none'
 SIGNS = {"comma": ",", "point": ".", ",": ",", ".": "."}
 MOST_PROPOSED = 3  # commands
 MOST_ALIKE = 50  # messages about rows that differ in their cells alone
-Made = TypeVar("Made")
+Read = TypeVar("Read")
 
 
 class TableTalk(CommandTalk):
@@ -67,13 +67,13 @@ class TableTalk(CommandTalk):
         super().__init__(TOOL)
         self.rows: dict[str, list[int]] = {}
 
-    def note(self, place: Place, cell: str, reason: Text, hint: Text) -> None:
+    def note(self, origin: Origin, cell: str, reason: Text, hint: Text) -> None:
         """Writes why a row is left out."""
         kind = re.sub(r'"[^"]*"|[0-9]+X?', "", sentence(reason, hint))
         rows = self.rows.setdefault(kind, [])
-        rows.append(place.number)
+        rows.append(origin.number)
         if len(rows) <= MOST_ALIKE:
-            super().note(place, cell, reason, hint)
+            super().note(origin, cell, reason, hint)
 
     def finish(self) -> None:
         """Writes how many more rows were left out for each reason."""
@@ -84,7 +84,7 @@ class TableTalk(CommandTalk):
                 write_message(TOOL, what)
 
 
-def command_line() -> Parser:
+def new_parser() -> Parser:
     """Returns the parser of the arguments."""
     parser = Parser(TOOL, USAGE, ABOUT, EXAMPLES)
     parser.add_argument("table", metavar="TABLE", nargs="?", help=OF_TABLE)
@@ -104,10 +104,10 @@ def command_line() -> Parser:
     return parser
 
 
-def argument(make: Callable[[str], Made]) -> Callable[[str], Made]:
+def argument(make: Callable[[str], Read]) -> Callable[[str], Read]:
     """Returns a function of an argument whose ValueError, which has a `Text`, is reported."""
 
-    def of(text: str) -> Made:
+    def of(text: str) -> Read:
         try:
             return make(text)
         except ValueError as error:
@@ -213,7 +213,7 @@ OPTIONS: Mapping[str, Sequence[tuple[str, str, str, dict[str, Any]]]] = {
 }
 
 
-def made(kind: type[Made], arguments: argparse.Namespace, **more: Any) -> Made:
+def made(kind: type[Read], arguments: argparse.Namespace, **more: Any) -> Read:
     """Returns a record whose fields are the arguments of these names, or what is given beside
     them; a field keeps its default if there is no such argument.
     """
@@ -222,7 +222,7 @@ def made(kind: type[Made], arguments: argparse.Namespace, **more: Any) -> Made:
     return kind(**{name: found[name] for name in names if found[name] is not None})
 
 
-def options_of(arguments: argparse.Namespace) -> TableOptions:
+def table_options(arguments: argparse.Namespace) -> TableOptions:
     """Returns the options that the arguments are; raises `ToolError` and `OSError` for older lines
     that cannot be read.
     """
@@ -242,7 +242,7 @@ def options_of(arguments: argparse.Namespace) -> TableOptions:
 
 def understood(words: Sequence[str]) -> argparse.Namespace:
     """Returns the arguments that words are; raises `BadArguments`."""
-    parser = command_line()
+    parser = new_parser()
     arguments = parser.parse_args(words)
     if arguments.code is None:
         what = Text("the following arguments are required: --code")
@@ -339,7 +339,7 @@ def run() -> int:
     """Reads the table, and then writes its lines; returns the status."""
     arguments = understood(sys.argv[1:])
     output = standard_output()
-    options = options_of(arguments)
+    options = table_options(arguments)
     name, data = read_input(arguments.table)
     talk = TableTalk()
     lines = lines_of_table(data, name, options, talk)

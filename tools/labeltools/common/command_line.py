@@ -17,7 +17,7 @@ from labeltools import RELEASE
 from labeltools.common.messages import (
     BadArguments,
     of_system,
-    Place,
+    Origin,
     sentence,
     ToolError,
     write_message,
@@ -77,9 +77,9 @@ class CommandTalk:
         self.tool = tool
         self.next_time = time.monotonic() + QUIET
 
-    def note(self, place: Place, cell: str, reason: Text, hint: Text) -> None:
+    def note(self, origin: Origin, cell: str, reason: Text, hint: Text) -> None:
         """Writes why a row or line is left out."""
-        write_message(self.tool, Text("{}: {}", place.text, sentence(reason, hint)))
+        write_message(self.tool, Text("{}: {}", origin.text, sentence(reason, hint)))
 
     def say(self, text: Text, hint: Text = NOTHING) -> None:
         """Writes something about the whole."""

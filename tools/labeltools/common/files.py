@@ -49,7 +49,7 @@ def save(file: IO[bytes], path: Path, number: int = 1) -> None:
         raise
 
 
-def send(data: bytes, output: int) -> None:
+def write_whole(data: bytes, output: int) -> None:
     """Writes bytes to an open file, which gets nothing where it does not take all; raises
     `Unwritten` where that is so, and `OSError`.
     """

@@ -83,10 +83,10 @@ def translated(text: object) -> str:
         template = ngettext(text.template, text.many, first)
     else:
         template = one_text(text.template)
-    return template.format(*map(shown, text.fields))
+    return template.format(*map(shown_field, text.fields))
 
 
-def shown(field: object) -> object:
+def shown_field(field: object) -> object:
     """Returns what a text has in the place of a field."""
     if isinstance(field, Text):
         return translated(field)

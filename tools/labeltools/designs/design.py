@@ -24,8 +24,8 @@ import cairo
 
 from labeltools.common.messages import BAD_ARGUMENTS, ToolError
 from labeltools.common.text import Text
-from labeltools.designs.drawing import handle_of, HOLDERS, read_page, rsvg, SvgPage, tag_of
 from labeltools.designs.places import Colour, key_of, part_of, PARTS, Place, place_of, title_of
+from labeltools.designs.svg_page import handle_of, HOLDERS, read_page, rsvg, SvgPage, tag_of
 from labeltools.paper.area import Edges
 from labeltools.paper.stock import Size, size_text
 
@@ -72,7 +72,7 @@ class Seen(NamedTuple):
 
 
 @dataclass(frozen=True, eq=False)
-class OwnDesign:
+class SvgDesign:
     """A design that suits a label: its page, the sides of a label as it is read, whether labels are
     turned to the right, its places, its groups, by the parts or columns with which they are drawn,
     each with what it is without a number behind it, what other shapes with a name are, by its key,
@@ -139,7 +139,7 @@ def size_of_page(file: str) -> Size:
     return page.size
 
 
-def read_design(file: str, cell: Size, white: Edges, turn: bool | None) -> OwnDesign:
+def read_design(file: str, cell: Size, white: Edges, turn: bool | None) -> SvgDesign:
     """Returns the design of a file for cells of a size, of which `white` takes no ink; raises
     `ToolError` where it does not suit them, or is no design.
     """
@@ -149,7 +149,7 @@ def read_design(file: str, cell: Size, white: Edges, turn: bool | None) -> OwnDe
     edges = (white[1], white[2], white[3], white[0]) if is_turned else white
     shapes = {key_of(title_of(one)): tag_of(one) for one in page.root.iter() if is_drawn(one)}
     groups = marked_groups(page.root)
-    design = OwnDesign(page, label, is_turned, groups, shapes)
+    design = SvgDesign(page, label, is_turned, groups, shapes)
     placed = tuple(located(design, marked_places(page)))
     check_places(file, placed, label)
     cut = tuple(inside(file, place, label, edges) for place in placed)
@@ -161,7 +161,7 @@ def read_design(file: str, cell: Size, white: Edges, turn: bool | None) -> OwnDe
     design = replace(design, places=cut)
     for absent in {frozenset[str](), frozenset(groups)}:
         check_white(design, design.seen(absent))
-    said = tuple(remarks_on(design, smaller, edges))
+    said = tuple(design_remarks(design, smaller, edges))
     colours = design.colours(frozenset())
     places = (replace(place, colour=colours.get(place, BLACK)) for place in cut)
     return replace(design, places=tuple(places), remarks=said)
@@ -239,7 +239,7 @@ def marked_places(page: SvgPage) -> list[Place]:
     return found
 
 
-def located(design: OwnDesign, places: list[Place]) -> Iterator[Place]:
+def located(design: SvgDesign, places: list[Place]) -> Iterator[Place]:
     """Yields places with their sides; raises `ToolError` for one that has none, or is askew. It
     asks librsvg where they are, and where their upper and left edges are.
     """
@@ -325,7 +325,7 @@ def inside(file: str, place: Place, label: Size, edges: Edges) -> Place:
     return replace(place, left=left, top=top, width=wide, height=high)
 
 
-def remarks_on(design: OwnDesign, smaller: list[str], edges: Edges) -> Iterator[Text]:
+def design_remarks(design: SvgDesign, smaller: list[str], edges: Edges) -> Iterator[Text]:
     """Yields what is said of a design and its drawing, of which some places are smaller than drawn,
     since an edge takes no ink.
     """
@@ -358,7 +358,7 @@ def mixed_text(file: str, places: str) -> Text:
     return Text("{}: {}", what, hint)
 
 
-def check_white(design: OwnDesign, seen: Seen) -> None:
+def check_white(design: SvgDesign, seen: Seen) -> None:
     """Raises `ToolError` where a drawing is not white in the place of a symbol."""
     for place in design.places:
         if place.is_symbol and seen.behind(place, EDGE).translate(None, WHITEST):

@@ -13,7 +13,7 @@ from xml.etree.ElementTree import Element
 from labeltools.common.messages import quoted, ToolError
 from labeltools.common.names import name_of
 from labeltools.common.text import Text
-from labeltools.designs.drawing import SPACE
+from labeltools.designs.svg_page import SPACE
 from labeltools.layout.frames import Box
 from labeltools.lines.symbologies import SYMBOLOGIES
 from labeltools.paper.area import Dots

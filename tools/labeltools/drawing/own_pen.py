@@ -6,9 +6,9 @@ from typing import Any, Iterator
 
 import cairo
 
-from labeltools.designs.design import BLACK, lightness, OwnDesign
-from labeltools.designs.layout import OwnLayout
+from labeltools.designs.design import BLACK, lightness, SvgDesign
 from labeltools.designs.places import Colour, Place
+from labeltools.designs.svg_layout import SvgLayout
 from labeltools.drawing.pdf import POINTS
 from labeltools.drawing.pen import Medium, Page, Pen, Placed
 from labeltools.layout.fitting import Style
@@ -23,7 +23,7 @@ LIGHTEST = 0.999  # a part of a colour that is white in 255 steps
 class OwnPen(Pen):
     """Draws labels of a design on a medium: first its drawing, then what differs."""
 
-    def __init__(self, medium: Medium, letters: Letters, design: OwnDesign) -> None:
+    def __init__(self, medium: Medium, letters: Letters, design: SvgDesign) -> None:
         super().__init__(medium, letters)
         self.design = design
         # dots of a unit of the drawing: in points Cairo does not scale it for each label of a PDF,
@@ -54,14 +54,14 @@ class OwnPen(Pen):
         """Returns the drawing without some parts in black dots, on a page of a size if that is
         given; None where there is no ink.
         """
-        from labeltools.drawing.own_dots import Drawing  # Pillow takes 40 ms, also of built-in ones
+        from labeltools.drawing.black_dots import BlackDots
 
         dot = MILLIMETRES / self.medium.dpi
         wide, high = (max(1, int(side / dot)) for side in self.design.label)
         scale = wide / self.design.label[0]
         light = lightness(lambda canvas: self.design.draw(canvas, scale, absent), wide, high)
         ends = {place: ends_of(place, scale) for place in self.design.places}
-        drawing = Drawing(light, (wide, high), [ends[place] for place in ends if place.is_symbol])
+        drawing = BlackDots(light, (wide, high), [ends[place] for place in ends if place.is_symbol])
         self.tinted.update(place for place in ends if drawing.is_tinted(ends[place]))
         has_ink = drawing.picture.getextrema()[0] == 0
         return drawing.surface(size or (wide, high)) if has_ink else None
@@ -129,7 +129,7 @@ def ends_of(place: Place, scale: float) -> tuple[int, int, int, int]:
     return left, top, right, bottom
 
 
-def own_layout(item: LaidOut) -> OwnLayout:
+def own_layout(item: LaidOut) -> SvgLayout:
     """Returns the layout of a label in a design."""
-    assert isinstance(item.layout, OwnLayout)
+    assert isinstance(item.layout, SvgLayout)
     return item.layout

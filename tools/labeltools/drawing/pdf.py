@@ -30,7 +30,7 @@ class Paper:
     turn: int
 
 
-def drawing(
+def drawn_file(
     paper: Paper, pens: Iterable[Pen], pages: Callable[[], Iterable[Page]], is_svg: bool
 ) -> IO[bytes]:
     """Returns a file of pages, at its begin.

@@ -13,8 +13,8 @@ import cairo
 from labeltools.common.messages import FAULT, ToolError
 from labeltools.common.text import Text
 from labeltools.designs.design import is_light
-from labeltools.designs.layout import OwnSymbol, symbols_of
 from labeltools.designs.places import Colour
+from labeltools.designs.svg_layout import PlacedSymbol, symbols_of
 from labeltools.layout.fitting import Fitted, Fitter, LEFT, MIDDLE, RIGHT, Style
 from labeltools.layout.frames import Box, LINE
 from labeltools.layout.layout import LaidOut, Layout, PrintLabel
@@ -41,7 +41,7 @@ WITHOUT_END = 1 << 20  # dots: the height of a text of which all lines are wante
 KNOWN = 1024  # boxes that are kept
 KNOWN_PAGES = 16  # of which the white is kept
 Page = Sequence[tuple[LaidOut, Dots]]  # labels, with the upper left corners of their areas
-Codes = Sequence[tuple[OwnSymbol, Dots]]  # symbols, with those of the areas of their labels
+Codes = Sequence[tuple[PlacedSymbol, Dots]]  # symbols, with those of the areas of their labels
 Whites = Sequence[tuple[Sequence[Box], Dots]]  # boxes of labels, with those of their areas
 
 
@@ -60,7 +60,7 @@ class Placed(NamedTuple):
 
 # glyphs of many labels that are drawn together, by their faces and sizes: a call of Cairo takes as
 # long as a line of glyphs
-Runs = defaultdict[tuple[Any, int], list[tuple[int, float, float]]]
+GlyphRuns = defaultdict[tuple[Any, int], list[tuple[int, float, float]]]
 
 
 @dataclass(frozen=True)
@@ -87,7 +87,7 @@ class Pen:
     def __init__(self, medium: Medium, letters: Letters) -> None:
         self.medium = medium
         self.letters = letters
-        self.options = options_of(medium)
+        self.options = font_options(medium)
         self.fitter = Fitter(letters, self.options, medium.is_dots)
         # Cairo keeps a face as it was first used: a name of its own for each medium
         self.digits_face = cairo.ToyFontFace(DIGITS_FONT + " " * medium.is_dots)
@@ -114,17 +114,17 @@ class Pen:
             canvas.transform(upright_from(turn))
             page = [(item, (top, -left)) for item, (left, top) in page]
         self.draw_below(canvas, page)
-        runs: Runs = defaultdict(list)
+        runs: GlyphRuns = defaultdict(list)
         labels = [(item, place, symbols_of(item)) for item, place in page]
         codes = [(symbol, place) for _, place, symbols in labels for symbol in symbols]
         for symbol, place in codes:
             if "digits" in symbol.boxes:
                 self.draw_digits(canvas, symbol, place, runs)
         for item, place, symbols in labels:
-            taken = [box for symbol in symbols for box in white_of(symbol)]
+            taken = [box for symbol in symbols for box in white_boxes(symbol)]
             for text in self.texts(item):
                 if is_over(text.box, taken):
-                    what = Text("{}: a text is over its code", item.label.record.place.text)
+                    what = Text("{}: a text is over its code", item.label.record.origin.text)
                     raise ToolError(what, FAULT, LABELS_FAILED)
                 self.draw_text(canvas, text, place, runs)
         self.show_runs(canvas, runs)
@@ -230,14 +230,14 @@ class Pen:
             if text:
                 yield text, style, (boxes.get(kind) or boxes["title"]).width, WITHOUT_END
 
-    def draw_digits(self, canvas: Any, symbol: OwnSymbol, place: Dots, runs: Runs) -> None:
+    def draw_digits(self, canvas: Any, symbol: PlacedSymbol, place: Dots, runs: GlyphRuns) -> None:
         """Draws what is below the bars of a symbol of a label whose area begins at a place; digits
         that are not turned are shown with those of other labels.
         """
         quarters = symbol.place.quarters
         whole = canvas.get_matrix()
         corner = turn_to(canvas, symbol.box, quarters, place)
-        own: Runs = defaultdict(list) if quarters else runs
+        own: GlyphRuns = defaultdict(list) if quarters else runs
         self.draw_data(canvas, symbol, corner, own)
         if quarters:
             self.show_runs(canvas, own)
@@ -247,7 +247,7 @@ class Pen:
         """Draws what is white below the codes of a page, so that nothing is over them, and makes
         black the colour. A PDF has it once for all pages that have their codes in the same places.
         """
-        whites: Whites = [(white_of(symbol), place) for symbol, place in codes]
+        whites: Whites = [(white_boxes(symbol), place) for symbol, place in codes]
         if self.medium.is_pdf:
             canvas.set_source_surface(self.recorded_white(tuple(whites), turn))
             canvas.paint()
@@ -278,7 +278,7 @@ class Pen:
         canvas.set_matrix(whole)
         canvas.fill()
 
-    def draw_text(self, canvas: Any, placed: Placed, place: Dots, runs: Runs) -> None:
+    def draw_text(self, canvas: Any, placed: Placed, place: Dots, runs: GlyphRuns) -> None:
         """Draws a text of a label whose area begins at a place; in dots it is black, or takes black
         dots away.
         """
@@ -286,7 +286,7 @@ class Pen:
         if not quarters and colour is None and not is_edged:
             self.show(canvas, text, style, (place[0] + box.left, place[1] + box.top), runs)
             return
-        own: Runs = defaultdict(list)
+        own: GlyphRuns = defaultdict(list)
         canvas.save()
         corner = turn_to(canvas, box, quarters, place)
         if is_edged:
@@ -301,7 +301,7 @@ class Pen:
         self.show_runs(canvas, own)
         canvas.restore()
 
-    def show(self, canvas: Any, text: Fitted, style: Style, corner: Dots, runs: Runs) -> None:
+    def show(self, canvas: Any, text: Fitted, style: Style, corner: Dots, runs: GlyphRuns) -> None:
         """Shows a text in a box that begins at a corner, as shapes where its font needs that;
         glyphs are shown with those of other texts.
         """
@@ -318,7 +318,7 @@ class Pen:
         else:
             show_layout(canvas, text.layout)
 
-    def show_runs(self, canvas: Any, runs: Runs) -> None:
+    def show_runs(self, canvas: Any, runs: GlyphRuns) -> None:
         """Shows glyphs, as shapes if their font needs that."""
         canvas.set_font_options(self.options)
         for (face, size), glyphs in runs.items():
@@ -330,7 +330,9 @@ class Pen:
             else:
                 canvas.show_glyphs(glyphs)
 
-    def draw_modules(self, canvas: Any, modules: Modules, layout: OwnSymbol, corner: Dots) -> None:
+    def draw_modules(
+        self, canvas: Any, modules: Modules, layout: PlacedSymbol, corner: Dots
+    ) -> None:
         """Draws the modules of a symbol whose box begins at a corner, and longer guards of bars."""
         bars = layout.boxes["bars"]
         box = Box(corner[0] + bars.left, corner[1] + bars.top, bars.width, bars.height)
@@ -351,7 +353,7 @@ class Pen:
         mask.set_matrix(scaled(place, modules.width, high))
         canvas.mask(mask)
 
-    def draw_data(self, canvas: Any, symbol: OwnSymbol, corner: Dots, runs: Runs) -> None:
+    def draw_data(self, canvas: Any, symbol: PlacedSymbol, corner: Dots, runs: GlyphRuns) -> None:
         """Draws what is below the bars of a symbol whose box begins at a corner: digits in their
         places, or all data in the middle.
         """
@@ -406,7 +408,7 @@ def edge_letters(canvas: Any, text: Fitted) -> None:
     canvas.restore()
 
 
-def options_of(medium: Medium) -> cairo.FontOptions:
+def font_options(medium: Medium) -> cairo.FontOptions:
     """Returns how letters are drawn on a medium."""
     if not medium.is_dots:
         return plain_options()
@@ -438,7 +440,7 @@ def upright_from(turn: int) -> cairo.Matrix:
     return cairo.Matrix(0, 1, -1, 0, turn, 0)
 
 
-def white_of(symbol: OwnSymbol) -> tuple[Box, ...]:
+def white_boxes(symbol: PlacedSymbol) -> tuple[Box, ...]:
     """Returns where a symbol is on its label: its bars, and what guards are longer."""
     bars, room = symbol.boxes["bars"], symbol.box
     return boxes_of(bars, symbol.module, symbol.symbology.name, room, symbol.place.quarters)

@@ -9,7 +9,7 @@ import cairo
 
 from labeltools.common.kept import Kept
 from labeltools.layout.frames import Box, LINE
-from labeltools.layout.glyphs import BY_PAIRS, Glyphs, LINE_END, Row
+from labeltools.layout.glyphs import BY_PAIRS, GlyphRow, Glyphs, LINE_END
 from labeltools.layout.letters import Letters
 from labeltools.layout.pango import Pango, pango_context, UNIT
 
@@ -58,11 +58,11 @@ class Fitted(NamedTuple):
     height: int
     layout: Any
     glyphs: Glyphs | None = None
-    rows: Sequence[Row] = ()
+    rows: Sequence[GlyphRow] = ()
     room: int = 0
     part: float = 0.0
 
-    def lines(self) -> Iterator[tuple[Row, float, float]]:
+    def lines(self) -> Iterator[tuple[GlyphRow, float, float]]:
         """Yields its rows of glyphs, with where they begin on their base lines."""
         assert self.glyphs
         base = self.y + self.glyphs.base
@@ -118,7 +118,7 @@ class Fitter:
         x, y = corner_of(style, extents, ink, width, height)
         return Fitted(size, x, y, extents[1], None, glyphs, (row,))
 
-    def rows(self, glyphs: Glyphs, text: str, style: Style, width: int) -> list[Row]:
+    def rows(self, glyphs: Glyphs, text: str, style: Style, width: int) -> list[GlyphRow]:
         """Returns the rows of a text in lines, if all are whole; none where Pango has to say
         them.
         """

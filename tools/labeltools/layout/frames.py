@@ -160,12 +160,12 @@ class Frame:
     score: float
 
 
-def share(values: Mapping[float, int]) -> float:
+def common_value(values: Mapping[float, int]) -> float:
     """Returns what nine of ten values keep to, or the largest one where that is not much more.
     Values are given with how often they come; 0 where there is none.
 
-    >>> share({1.0: 9, 1.2: 1}), share({1.0: 9, 3.0: 1}), share({1.0: 8, 3.0: 2})
-    (1.2, 1.0, 3.0)
+    >>> [common_value(one) for one in ({1.0: 9, 1.2: 1}, {1.0: 9, 3.0: 1}, {1.0: 8, 3.0: 2})]
+    [1.2, 1.0, 3.0]
     """
     if not values:
         return 0.0
@@ -223,9 +223,9 @@ class JointNeeds:
             if need.title:
                 self.titles[need.title] += labels
         self.lines = max(need.lines for need in self.needs)
-        self.price = share(count(self.needs, "price", lambda need: need.price > 0))
+        self.price = common_value(count(self.needs, "price", lambda need: need.price > 0))
         self.price_height = max(need.price_height for need in self.needs)
-        self.text = share(count(self.needs, "text", lambda need: True))
+        self.text = common_value(count(self.needs, "text", lambda need: True))
         self.details = (
             max(need.was for need in self.needs),
             max(need.unit for need in self.needs),
@@ -318,7 +318,7 @@ class JointNeeds:
         grown = area.size * area.dot / area.wishes.design.full_qr
         wished = min(LARGEST_QR, module * max(1.0, grown))
         least = max(self.squares) * area.dots(QR_SMALLEST)
-        return int(max(least, math.ceil(share(self.squares) * wished / area.dot)))
+        return int(max(least, math.ceil(common_value(self.squares) * wished / area.dot)))
 
     def largest_square(self) -> int:
         """Returns the most room that QR can use."""
@@ -424,7 +424,7 @@ def best_frame(demand: JointNeeds, level: Level, wishes: Sequence[int]) -> Frame
     return best
 
 
-class Heading(NamedTuple):
+class TitlePart(NamedTuple):
     """Title and text: the lines of titles, whether most are whole, the part that is; the letters
     and the height of texts, whether these are beside the code; the height above price and code.
     """
@@ -438,7 +438,7 @@ class Heading(NamedTuple):
     height: int
 
 
-class Line(NamedTuple):
+class PartSize(NamedTuple):
     """Letters of a part of a label: their size, their lines, the height of all."""
 
     size: int
@@ -495,7 +495,7 @@ class Attempt(NamedTuple):
             return rooms.beside >= LEAST_LINE * self.title
         return bool(demand.price) and rooms.beside >= 1
 
-    def head(self, rooms: Rooms) -> Heading:
+    def head(self, rooms: Rooms) -> TitlePart:
         """Returns the title, and the text below it where that is not beside the code."""
         demand = self.demand
         area = demand.area
@@ -514,22 +514,22 @@ class Attempt(NamedTuple):
             text = small if is_foot_text else text
         text_height = math.ceil(demand.lines * LINE * text)
         height = math.ceil(lines * LINE * self.title) + (0 if is_foot_text else text_height)
-        return Heading(lines, wanted <= most, whole, text, text_height, is_foot_text, height)
+        return TitlePart(lines, wanted <= most, whole, text, text_height, is_foot_text, height)
 
-    def details(self, rooms: Rooms) -> Line:
+    def details(self, rooms: Rooms) -> PartSize:
         """Returns old price and unit price, on a line or on two."""
         was, unit = self.demand.details
         size = round(DETAILS_PART * self.demand.text_size)
         if not was and not unit:
-            return Line(size, 0, 0)
+            return PartSize(size, 0, 0)
         wide = was + unit + (2 if was and unit else 0)
         lines = 1
         if wide * size > rooms.price:
             lines = 2 if was and unit else 1
             size = min(size, math.floor(rooms.price / max(was, unit)))
-        return Line(size, lines, math.ceil(lines * LINE * size))
+        return PartSize(size, lines, math.ceil(lines * LINE * size))
 
-    def price(self, rooms: Rooms, head: Heading, details: Line, low: int) -> Line | None:
+    def price(self, rooms: Rooms, head: TitlePart, details: PartSize, low: int) -> PartSize | None:
         """Returns the price, as large as the room allows; None where it and the code do not fit."""
         demand = self.demand
         area = demand.area
@@ -538,7 +538,7 @@ class Attempt(NamedTuple):
             return None
         if not demand.price:
             is_room = details.height + (low if self.is_stacked else 0) <= rest
-            return Line(0, 0, 0) if is_room else None
+            return PartSize(0, 0, 0) if is_room else None
         high = rest - low - demand.gap if self.is_stacked else rest
         if self.kind != "foot":
             high -= details.height
@@ -546,10 +546,15 @@ class Attempt(NamedTuple):
         size = demand.price_in(wide, high)
         if size < max(self.level.price * self.title, area.dots(LEAST_PRICE)):
             return None
-        return Line(size, 1, math.ceil(HINTING * size * demand.price_height))
+        return PartSize(size, 1, math.ceil(HINTING * size * demand.price_height))
 
     def framed(
-        self, rooms: Rooms, head: Heading, details: Line, price: Line, boxes: Mapping[str, Box]
+        self,
+        rooms: Rooms,
+        head: TitlePart,
+        details: PartSize,
+        price: PartSize,
+        boxes: Mapping[str, Box],
     ) -> Frame:
         """Returns the frame of boxes. A narrower module and cut titles have to be worth it."""
         demand = self.demand
@@ -575,7 +580,7 @@ class Attempt(NamedTuple):
         )
 
 
-def rest_below(area: Area, demand: JointNeeds, head: Heading) -> int:
+def rest_below(area: Area, demand: JointNeeds, head: TitlePart) -> int:
     """Returns the height below title and text."""
     return area.height - head.height - (demand.gap if head.height else 0)
 
@@ -586,9 +591,9 @@ class Arrangement:
 
     attempt: Attempt
     rooms: Rooms
-    head: Heading
-    details: Line
-    price: Line
+    head: TitlePart
+    details: PartSize
+    price: PartSize
     low: int
 
     def stacked(self) -> dict[str, Box]:

@@ -10,14 +10,14 @@ from dataclasses import dataclass, replace
 from functools import cache
 from typing import Iterator, Mapping, Sequence
 
-from labeltools.common.messages import Place, Talk
+from labeltools.common.messages import Origin, Talk
 from labeltools.common.text import joined, Text
 from labeltools.layout.frames import Box, Frame, frame_of, HINTING, module_in, Need
 from labeltools.layout.letters import Letters
 from labeltools.lines.engine import Modules
 from labeltools.lines.file import LineRecord
 from labeltools.lines.symbologies import SYMBOLOGIES, Symbology
-from labeltools.paper.area import Area, PAD, size_of
+from labeltools.paper.area import Area, millimetres_of, PAD
 from labeltools.paper.stock import Size, size_text
 
 # marks above or below a letter, of which so many are drawn
@@ -107,7 +107,7 @@ class LaidOutFile:
     labels: tuple[LaidOut, ...]
     area: Area
     left_out: Mapping[int, Text]
-    said: tuple[tuple[Place, Text], ...] = ()
+    said: tuple[tuple[Origin, Text], ...] = ()
 
 
 def print_label(record: LineRecord, modules: Modules, note: str) -> PrintLabel:
@@ -311,7 +311,7 @@ def reason(needs: Sequence[Need], area: Area) -> Text:
         )
     wide = max(need.width for need in needs) * min(modules)
     is_wide = wide > area.width
-    taken = size_text(size_of(area))
+    taken = size_text(millimetres_of(area))
     what = Text(
         "{} is too high, with its texts, and the label has room for {}", symbology.title, taken
     )

@@ -61,7 +61,7 @@ def bytes_a_row(width: int) -> int:
 
 
 @cache
-def library() -> Any:
+def labels_library() -> Any:
     """Returns the module liblabels with its library: that of $LABELS_LIBRARY, or else those that
     were installed or built with this package, or else those of the system. Raises `ToolError` where
     they are not there, or of another version.
@@ -69,12 +69,12 @@ def library() -> Any:
     package = Path(__file__).resolve().parents[1]
     sources = package.parents[1]
     prefix = package.parents[2]  # PREFIX/share/label-tools/labeltools
-    module = first_of(sources / "lib/python", "liblabels*")
-    module = module or first_of(prefix / "lib/python3/dist-packages", "liblabels*")
+    module = first_file(sources / "lib/python", "liblabels*")
+    module = module or first_file(prefix / "lib/python3/dist-packages", "liblabels*")
     if module is not None and str(module.parent) not in sys.path:
         sys.path.append(str(module.parent))
     name = f"liblabels.so.{MAJOR}*"
-    file = first_of(sources / "out/lib", name) or first_of(prefix / "lib", name)
+    file = first_file(sources / "out/lib", name) or first_file(prefix / "lib", name)
     if file is not None:
         os.environ.setdefault(LIBRARY, str(file))
     try:
@@ -91,7 +91,7 @@ def library() -> Any:
     return liblabels
 
 
-def first_of(folder: Path, pattern: str) -> Path | None:
+def first_file(folder: Path, pattern: str) -> Path | None:
     """Returns the first file of a folder that has a name as in a pattern."""
     return min(folder.glob(pattern), default=None)
 
@@ -102,7 +102,7 @@ class Engine:
     def __init__(self, is_escaped: bool) -> None:
         """Raises `ToolError` where the library is not there."""
         self.is_escaped = is_escaped
-        self.module = library()
+        self.module = labels_library()
         self.line: Callable[..., Any] = self.module.line
 
     def symbol(self, line: bytes) -> Any:

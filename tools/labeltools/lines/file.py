@@ -20,7 +20,7 @@ from itertools import count
 from typing import Any, Iterable, NamedTuple, Sequence
 
 from labeltools import VERSION
-from labeltools.common.messages import Place, quoted, Talk, ToolError
+from labeltools.common.messages import Origin, quoted, Talk, ToolError
 from labeltools.common.text import NOTHING, Text
 from labeltools.lines.engine import drawn, Modules
 from labeltools.lines.symbologies import check_digit, SYMBOLOGIES
@@ -108,11 +108,11 @@ class LineRecord(NamedTuple):
         return self.symbology, self.data
 
     @property
-    def place(self) -> Place:
+    def origin(self) -> Origin:
         """What messages name: the row of the table, or else the line."""
         if self.label.row:
-            return Place(self.table, "row", self.label.row)
-        return Place("", "line", self.number)
+            return Origin(self.table, "row", self.label.row)
+        return Origin("", "line", self.number)
 
 
 @dataclass(frozen=True)
@@ -122,7 +122,7 @@ class LinesFile:
     """
 
     records: tuple[LineRecord, ...]
-    left_out: tuple[Place, ...]
+    left_out: tuple[Origin, ...]
     left_out_count: int
     empty: frozenset[str] = frozenset()
 
@@ -215,7 +215,7 @@ class _Reader:
     waiting: dict[str, Any] = field(default_factory=dict)
     torn: Text = NOTHING
     records: list[LineRecord] = field(default_factory=list)
-    left_out: list[Place] = field(default_factory=list)
+    left_out: list[Origin] = field(default_factory=list)
     left_out_count: int = 0
     empty: set[str] = field(default_factory=set)
 
@@ -231,7 +231,7 @@ class _Reader:
         if "labels" in found:
             self.table, self.first = found.get("table", ""), len(self.records)
         elif "end" in found:
-            self.left_out += [Place(self.table, "row", row) for row in found.get("left_out", [])]
+            self.left_out += [Origin(self.table, "row", row) for row in found.get("left_out", [])]
             self.left_out_count += found.get("left_out_count", 0)
             self.empty.update(found.get("empty", ()))
             self.table, self.first = "", -1
@@ -333,13 +333,13 @@ def symbology_and_data(line: bytes, has_escapes: bool) -> tuple[str, bytes]:
     head, _, data = line.partition(b" ")
     symbology = sys.intern(head.partition(b",")[0].decode("ascii", "replace"))
     if has_escapes:
-        data = ESCAPE.sub(unescaped, data)
+        data = ESCAPE.sub(escaped_byte, data)
     known = SYMBOLOGIES.get(symbology)
     if known and known.is_number and len(data) == known.digits - 1 and data.isdigit():
         data += check_digit(data.decode()).encode()
     return symbology, data
 
 
-def unescaped(match: re.Match[bytes]) -> bytes:
+def escaped_byte(match: re.Match[bytes]) -> bytes:
     """Returns the byte that an escape of labels(1) means."""
     return bytes([int(match[1], 16)]) if match[1] else ESCAPED[match[2]]

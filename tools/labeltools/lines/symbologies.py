@@ -62,9 +62,9 @@ class Symbology:
 
 def layout_of(symbology: Symbology) -> Any:
     """Returns the layout that liblabels has for a symbology; raises `ToolError` without it."""
-    from labeltools.lines.engine import library  # not above: it reads lines by this table
+    from labeltools.lines.engine import labels_library  # not above: it reads lines by this table
 
-    return library().layout(symbology.name)
+    return labels_library().layout(symbology.name)
 
 
 # ISO/IEC 15420: the smallest module is 80 % of 0.33 mm, the height that at 100 %

@@ -38,7 +38,7 @@ class Design:
     full_qr: float
 
 
-OWN = Design("own", 0.0, 0.0)  # of a file: its places say it
+OF_FILE = Design("own", 0.0, 0.0)  # of a file: its places say it
 ARTICLE = Design("article", 0.5, 40.0)
 SHELF = Design("shelf", 0.25, 60.0)
 DESIGNS = {design.name: design for design in (ARTICLE, SHELF)}
@@ -155,7 +155,7 @@ def whole_plan_of(sheet: Sheet, dpi: int, wishes: Wishes) -> Plan:
     return Plan(sheet, dpi, page, places, Area(width, height, dot, wishes))
 
 
-def white_of(sheet: Sheet, edges: Edges) -> Edges:
+def unprinted_edges(sheet: Sheet, edges: Edges) -> Edges:
     """Returns how much of a cell's edges is within those of its page, in any cell."""
     lefts = [x for x, _ in sheet.places]
     tops = [y for _, y in sheet.places]
@@ -177,6 +177,6 @@ def span(side: int, start: float, sheet: Sheet, edges: Edges, dot: float) -> Dot
     return begin, max(0, math.floor(last / dot + TINY) - begin)
 
 
-def size_of(area: Area) -> Size:
+def millimetres_of(area: Area) -> Size:
     """Returns the sides of an area in millimetres."""
     return area.width * area.dot, area.height * area.dot

@@ -147,7 +147,7 @@ def queue_of(name: str, chosen: Mapping[str, str] = NOTHING_CHOSEN) -> Queue:
     """Returns what a queue says, with the options of its driver that are chosen for a job; raises
     `ToolError` if there is no such queue, or no CUPS.
     """
-    cups = library()
+    cups = cups_library()
     try:
         path = connection().getPPD(name)
     except cups.IPPError as error:  # it has no driver, or CUPS makes it for the first job
@@ -245,14 +245,14 @@ def refusals(queue: str) -> Iterator[Any]:
     """Gives a connection to CUPS; raises `ToolError` if it refuses something for a queue."""
     try:
         yield connection()
-    except library().IPPError as error:
+    except cups_library().IPPError as error:
         raise ToolError(Text("CUPS refuses {}: {}", queue, error.args[1])) from error
 
 
 def connection() -> Any:
     """Returns a connection to CUPS; raises `ToolError` where it is not there."""
     try:
-        return library().Connection()
+        return cups_library().Connection()
     except RuntimeError as error:
         hint = Text(
             "install it (apt-get install cups) or start it, or ask who set up this computer"
@@ -260,7 +260,7 @@ def connection() -> Any:
         raise ToolError(Text("CUPS does not answer"), hint) from error
 
 
-def library() -> Any:
+def cups_library() -> Any:
     """Returns the library of CUPS; raises `ToolError` where it is not there."""
     try:
         return import_module("cups")

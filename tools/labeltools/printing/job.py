@@ -10,7 +10,7 @@ from typing import Sequence
 
 from labeltools.common.messages import BAD_ARGUMENTS, ToolError
 from labeltools.common.text import counted, NOTHING, Text
-from labeltools.designs.design import is_file, OwnDesign, read_design, size_of_page
+from labeltools.designs.design import is_file, read_design, size_of_page, SvgDesign
 from labeltools.drawing.forms import ESCPOS, Form, FORMS, PDF
 from labeltools.layout.letters import FONT
 from labeltools.lines.file import UNPRINTABLE
@@ -18,10 +18,10 @@ from labeltools.paper.area import (
     ARTICLE,
     DESIGNS,
     Edges,
-    OWN,
+    OF_FILE,
     Plan,
     plan_of,
-    white_of,
+    unprinted_edges,
     whole_plan_of,
     Wishes,
 )
@@ -109,7 +109,7 @@ class Job:
     options: PrintOptions
     plan: Plan
     form: Form
-    design: OwnDesign | None = None
+    design: SvgDesign | None = None
 
     @property
     def is_each(self) -> bool:
@@ -135,9 +135,9 @@ def planned(options: PrintOptions) -> Job:
         edges = edge, edge, edge, edge
     own = None
     if is_file(options.design):
-        own = read_design(options.design, sheet.cell, white_of(sheet, edges), options.turn)
+        own = read_design(options.design, sheet.cell, unprinted_edges(sheet, edges), options.turn)
     wishes = Wishes(
-        OWN if own else DESIGNS[options.design],
+        OF_FILE if own else DESIGNS[options.design],
         options.module,
         options.turn,
         options.paper is not None,

@@ -84,7 +84,7 @@ class Journal:
         where the journal has its code. A code that was last sent to the printer `again` before this
         lane began is sent again. Raises `ToolError` where it cannot be written.
         """
-        code = code_of(record)
+        code = journal_code(record)
         with self.locked():
             self.read()
             found = self.entries.get(code)
@@ -115,7 +115,7 @@ class Journal:
 
     def entry(self, record: LineRecord) -> Entry | None:
         """Returns the last that is known of the code of a line."""
-        return self.entries.get(code_of(record))
+        return self.entries.get(journal_code(record))
 
     def doubtful(self) -> Mapping[bytes, Entry]:
         """Returns what was sent by lanes that ended before it was taken, by its code. A lane may
@@ -260,8 +260,8 @@ class Journal:
     def write(self, event: bytes, record: LineRecord) -> None:
         """Writes a line."""
         now = time.strftime("%Y-%m-%dT%H:%M:%SZ", time.gmtime()).encode()
-        code = code_of(record)
-        entry = Entry(event, self.lane, self.printer, str(record.place))
+        code = journal_code(record)
+        entry = Entry(event, self.lane, self.printer, str(record.origin))
         texts = f"lane {entry.lane}\t{entry.printer}\t{entry.place}".encode("utf-8", "replace")
         self.append(b"\t".join((now, event, texts, code)) + b"\n")
         self.entries[code] = entry
@@ -313,7 +313,7 @@ def entry_in(line: bytes) -> tuple[bytes, Entry] | None:
     return code, Entry(event, int(lane), *texts)
 
 
-def code_of(record: LineRecord) -> bytes:
+def journal_code(record: LineRecord) -> bytes:
     """Returns the code of a line as it stands in a journal."""
     symbology, data = record.key
     return symbology.encode("utf-8", "replace") + b" " + escaped(data)

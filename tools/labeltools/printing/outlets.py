@@ -14,7 +14,7 @@ from pathlib import Path
 from typing import Any, IO
 
 from labeltools.common.command_line import hold_signals, standard_output
-from labeltools.common.files import save, send, temporary, Unwritten
+from labeltools.common.files import save, temporary, Unwritten, write_whole
 from labeltools.common.messages import ToolError
 from labeltools.common.text import NOTHING, Text
 
@@ -82,7 +82,7 @@ class OpenFile(Outlet):
         try:
             with hold_signals() if self.name == OUTPUT else nullcontext():  # not in a window
                 self.is_kept = stat.S_ISREG(os.fstat(file).st_mode)
-                send(data, file)
+                write_whole(data, file)
                 if self.is_synced and self.is_kept:
                     os.fdatasync(file)
         except OSError as error:

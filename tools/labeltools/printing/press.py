@@ -11,12 +11,12 @@ from labeltools.common.files import temporary
 from labeltools.common.messages import Talk, ToolError
 from labeltools.common.report import LeftOut, places_text
 from labeltools.common.text import Text
-from labeltools.designs.layout import OwnLayouts
+from labeltools.designs.svg_layout import SvgLayouts
 from labeltools.drawing.dots import drawn_page, pbm, png
 from labeltools.drawing.escpos import escpos
 from labeltools.drawing.forms import ESCPOS, PBM, PDF, PNG, SVG, ZPL
 from labeltools.drawing.own_pen import OwnPen
-from labeltools.drawing.pdf import drawing, Paper
+from labeltools.drawing.pdf import drawn_file, Paper
 from labeltools.drawing.pen import Medium, Page, Pen
 from labeltools.drawing.zpl import zpl
 from labeltools.layout.layout import LaidOut, LaidOutFile, lay_out, print_label, PrintLabel
@@ -106,7 +106,7 @@ def prepared(
     own = None
     if job.design:
         own_area = area.turned() if job.design.is_turned else area
-        own = OwnLayouts(job.design, own_area, letters, options.note, lines.empty)
+        own = SvgLayouts(job.design, own_area, letters, options.note, lines.empty)
     reasons.update(without_letters(labels, own, letters))
     if options.is_each_once:
         reasons.update(doubles(lines, reasons))
@@ -127,7 +127,7 @@ def prepared(
 
 
 def without_letters(
-    labels: Sequence[PrintLabel], own: OwnLayouts | None, letters: Letters
+    labels: Sequence[PrintLabel], own: SvgLayouts | None, letters: Letters
 ) -> Mapping[int, Text]:
     """Returns why labels are left out that have letters which no font has; in a design of a file
     only those of its places.
@@ -148,7 +148,7 @@ def doubles(lines: LinesFile, refused: Mapping[int, Text]) -> Mapping[int, Text]
             continue
         earlier = first.setdefault(record.key, record)
         if earlier is not record:
-            named = places_text([earlier.place], earlier.table != record.table)
+            named = places_text([earlier.origin], earlier.table != record.table)
             found[record.number] = Text("has the code of {}", named)
     return found
 
@@ -177,7 +177,7 @@ def refused_labels(
         reason = reasons.get(record.number)
         if reason is not None and only.has(record):
             data = record.data.decode("utf-8", "backslashreplace")
-            yield LeftOut(record.place, data, reason)
+            yield LeftOut(record.origin, data, reason)
 
 
 def repeated(items: Sequence[LaidOut], job: Job) -> Sequence[LaidOut]:
@@ -203,7 +203,7 @@ def check_count(job: Job, prints: Sequence[LaidOut]) -> None:
 
 
 @dataclass(frozen=True, slots=True)
-class Part:
+class Batch:
     """What goes out as a whole: pages of labels, or one label for all that have its dots; `items`
     are its labels with their copies.
     """
@@ -249,7 +249,7 @@ class Press:
         """Draws a page on a canvas of Cairo, whose units are dots."""
         self.pen.draw(canvas, page, self.turn)
 
-    def parts(self, prints: Sequence[LaidOut]) -> Iterator[Part]:
+    def parts(self, prints: Sequence[LaidOut]) -> Iterator[Batch]:
         """Yields what goes out as a whole: a label of ZPL with how many follow one another that
         have the same dots, a label of ESC/POS, each page of another form, or all pages of a PDF.
         """
@@ -259,15 +259,15 @@ class Press:
             return
         pages = [self.page(number, prints) for number in range(self.job.pages_of(len(prints)))]
         if form == PDF and not self.job.is_each:
-            yield Part(pages, prints)
+            yield Batch(pages, prints)
         else:
-            yield from (Part([page], [item for item, _ in page]) for page in pages)
+            yield from (Batch([page], [item for item, _ in page]) for page in pages)
 
-    def part(self, items: Sequence[LaidOut]) -> Part:
+    def part(self, items: Sequence[LaidOut]) -> Batch:
         """Returns labels of a roll that have the same dots."""
-        return Part([[(items[0], self.job.plan.places[0])]], items)
+        return Batch([[(items[0], self.job.plan.places[0])]], items)
 
-    def document(self, part: Part, is_first: bool = True) -> bytes:
+    def document(self, part: Batch, is_first: bool = True) -> bytes:
         """Returns a part in the form of the job, which is whole by itself; `is_first` is whether it
         begins a job. Raises `ToolError` if it has not the codes of its labels.
         """
@@ -275,7 +275,7 @@ class Press:
         if form.is_drawn:
             paper = Paper(self.job.plan.sheet.page, self.job.plan.dpi, self.turn)
             pages = partial(self.told, part)
-            with temporary(), drawing(paper, self.pens, pages, form == SVG) as file:
+            with temporary(), drawn_file(paper, self.pens, pages, form == SVG) as file:
                 document = Document(file.read(), part.pages)
         else:
             picture = drawn_page(self.job.plan.page, self.pen, part.pages[0], self.turn)
@@ -285,7 +285,7 @@ class Press:
         self.comparison.check(document)
         return document.data
 
-    def told(self, part: Part) -> Iterator[Page]:
+    def told(self, part: Batch) -> Iterator[Page]:
         """Yields pages, and says before each one how many labels are drawn."""
         done = 0
         for page in part.pages:

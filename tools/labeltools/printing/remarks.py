@@ -31,14 +31,14 @@ def remarks_on(
         yield LeftOut(place, "", said)
     for some, what in found_on(items, laid_out.area, pen):
         if some:
-            places = [item.label.record.place for item in some]
+            places = [item.label.record.origin for item in some]
             text = Text("{}: {}", places_text(places, has_tables), what)
             yield LeftOut(places[0], "", text)
 
 
 def several(items: Sequence[LaidOut], only: Selection) -> Iterator[LeftOut]:
     """Yields that rows that are asked for are in several tables of the file."""
-    places = [item.label.record.place for item in items]
+    places = [item.label.record.origin for item in items]
     counts = Counter(place.number for place in places if only.has_row(place))
     rows = sorted(number for number, count in counts.items() if count > 1)
     if rows:

@@ -15,7 +15,7 @@ from labeltools.layout.layout import LaidOut
 from labeltools.lines.file import LineRecord
 from labeltools.printing.cups import NOTHING_CHOSEN, print_by, Queue, SentJob
 from labeltools.printing.job import Job
-from labeltools.printing.journal import code_of, Entry, Journal, SENDING
+from labeltools.printing.journal import Entry, Journal, journal_code, SENDING
 from labeltools.printing.network import NetworkPrinter, SCHEME
 from labeltools.printing.outlets import (
     Broken,
@@ -26,7 +26,7 @@ from labeltools.printing.outlets import (
     OUTPUT,
     Untaken,
 )
-from labeltools.printing.press import Part, Prepared, Press
+from labeltools.printing.press import Batch, Prepared, Press
 from labeltools.printing.selection import FILE, ranges_in
 
 
@@ -88,14 +88,14 @@ class Sender:
             what = Text("{}: {}", error.what, self.so_far())
             raise ToolError(what, self.may_be_missing()) from error
 
-    def send(self, press: Press, part: Part, is_first: bool, is_last: bool = False) -> int:
+    def send(self, press: Press, part: Batch, is_first: bool, is_last: bool = False) -> int:
         """Sends what goes out as a whole, and returns how many bytes it has; 0 if the journal has
         its label. The way out ends after the last one, which is taken if that ends well.
         """
         record = part.items[0].label.record
         journal = self.journal
         if journal is not None and self.again is None and journal.entry(record) is not None:
-            self.known.add(code_of(record))  # as it was when the journal was last read
+            self.known.add(journal_code(record))  # as it was when the journal was last read
             return 0
         document = press.document(part, is_first)
         way = self.before(self.outlet.open)
@@ -103,7 +103,7 @@ class Sender:
             self.way = way
             self.on_way.clear()
         if journal is not None and not journal.claim(record, self.again):
-            self.known.add(code_of(record))
+            self.known.add(journal_code(record))
             return 0
         self.give(record, document, is_last)
         self.taken += part.count
@@ -138,7 +138,7 @@ class Sender:
 
     def named(self, items: Iterable[LaidOut]) -> Text:
         """Returns what messages call labels, with their tables if there are several."""
-        return places_text([item.label.record.place for item in items], self.has_tables)
+        return places_text([item.label.record.origin for item in items], self.has_tables)
 
     @property
     def is_lost(self) -> bool:
@@ -148,7 +148,7 @@ class Sender:
     @property
     def is_clear(self) -> bool:
         """Whether a number is that of one line: several tables have rows of the same numbers."""
-        return len({record.place.number for record in self.records}) == len(self.records)
+        return len({record.origin.number for record in self.records}) == len(self.records)
 
     def told(self, error: ToolError, place: Text) -> ToolError:
         """Returns an error at a label with what to do."""
@@ -203,8 +203,8 @@ class Sender:
         it is.
         """
         printer = self.sent_to(record)
-        if printer and code_of(record) in self.doubtful():
-            return may_be_on_paper(printer, by_code(code_of(record)))
+        if printer and journal_code(record) in self.doubtful():
+            return may_be_on_paper(printer, by_code(journal_code(record)))
         if printer := self.sent_to(record):  # it was not taken meanwhile
             what = Text("{} is sending it", printer)
             return sentence(what, Text("send the line again to see whether it was taken"))
@@ -227,7 +227,7 @@ class Sender:
         for code, entry in doubtful.items():
             printers.setdefault(entry.printer, []).append(code)
         records = reversed(self.records if printers else ())
-        places = {code_of(record): record.place for record in records}
+        places = {journal_code(record): record.origin for record in records}
         for printer, codes in printers.items():
             there = sorted((places[code], code) for code in codes if code in places)
             for some in parts_of(there, MOST_RANGES if self.is_clear else 1):

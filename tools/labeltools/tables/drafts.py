@@ -19,11 +19,11 @@ from labeltools.tables.money import (
     NotMoney,
     parse,
     parse_unit_price,
-    plain,
+    plain_signs,
 )
 from labeltools.tables.once import Once
-from labeltools.tables.options import Columns, TableOptions
 from labeltools.tables.prices import ARITHMETIC, MOST_LOST, nearest
+from labeltools.tables.table_options import Columns, TableOptions
 from labeltools.tables.twice import twice_encoded
 
 HTML = re.compile("</?[a-z][^<>]*>|&(?:[a-z]{2,8}|#[0-9]{1,6});", re.IGNORECASE)
@@ -72,7 +72,7 @@ class Draft(NamedTuple):
 
 
 @dataclass
-class RowReader:
+class DraftReader:
     """Reads rows that are not blank."""
 
     options: TableOptions
@@ -239,7 +239,7 @@ class RowReader:
         found = column.mark(row)
         if any(letter.isdigit() for letter in found):
             raise column.error(RowError(Text("has {}, which is not a currency", quoted(found))))
-        is_known = currency_of(plain(found), self.options.prices.currency_name) is not None
+        is_known = currency_of(plain_signs(found), self.options.prices.currency_name) is not None
         if found and not is_known:
             said = Text("row {} has the currency {}, which is not known", row.number, quoted(found))
             self.once.see("currency", said, Text("if it is right, give it with --currency-name"))

@@ -22,10 +22,10 @@ from labeltools.common.text import NOTHING, Text
 from labeltools.lines.symbologies import CODE128, QR
 from labeltools.sheets.rows import Row
 from labeltools.tables.codes import AUTO, code_of, CodeRules, has_length
-from labeltools.tables.columns import names_of, texts_of
+from labeltools.tables.columns import column_names, texts_of
 from labeltools.tables.money import parse
-from labeltools.tables.options import TableOptions
 from labeltools.tables.table import head_of
+from labeltools.tables.table_options import TableOptions
 
 COLUMN_WORDS = Path(__file__).with_name("columns.list")
 # words of the names of columns; how the names end that are of numbers
@@ -55,7 +55,7 @@ OTHER_WAYS = (
 
 
 @dataclass(frozen=True)
-class Column:
+class ColumnSample:
     """A column: its name, its cells that have a text, and the part of its cells that they are."""
 
     name: str
@@ -66,7 +66,7 @@ class Column:
     def words(self) -> frozenset[str]:
         """The words of its name, in small letters without accents.
 
-        >>> sorted(Column("Prix de réf. (inkl. MwSt)", ()).words)
+        >>> sorted(ColumnSample("Prix de réf. (inkl. MwSt)", ()).words)
         ['de', 'inkl', 'mwst', 'prix', 'ref']
         """
         name = re.sub("(?<=[a-z]{3})(?=[A-Z][a-z])", " ", self.name).casefold().translate(FOLDED)
@@ -76,7 +76,7 @@ class Column:
 
     def has(self, test: Callable[[str], object]) -> bool:
         """Returns whether most of its texts pass a test; those that it refuses do not."""
-        return bool(self.texts) and share(self.texts, test) >= LEAST
+        return bool(self.texts) and passing_share(self.texts, test) >= LEAST
 
     @property
     def differs(self) -> bool:
@@ -108,14 +108,15 @@ class Column:
     def is_unpaid(self) -> bool:
         """Whether its name says that no customer pays what it has.
 
-        >>> [Column(name, ()).is_unpaid for name in ("EK netto", "Einkaufspreis", "VK", "Aktion")]
+        >>> names = ("EK netto", "Einkaufspreis", "VK", "Aktion")
+        >>> [ColumnSample(name, ()).is_unpaid for name in names]
         [True, True, False, False]
         """
         return bool(WORDS["unpaid"] & self.words) or self.begins("unpaid-begins")
 
 
 @dataclass(frozen=True)
-class Ways:
+class CodeReading:
     """How the codes of a column may be read, of which each way reads most of them; `problem` is why
     most are no EAN or UPC, if they may be meant as one.
     """
@@ -133,7 +134,7 @@ class Guess:
 
     names: Sequence[str]
     columns: Mapping[str, int]
-    codes: Mapping[int, Ways]
+    codes: Mapping[int, CodeReading]
     header: int
     examples: Sequence[str] = ()
     doubts: Mapping[str, Sequence[int]] = field(default_factory=dict)
@@ -143,7 +144,7 @@ class Guess:
         """The symbology of the codes, or of the first column that may have them, as far as it is
         sure.
         """
-        ways = next(iter(self.codes.values()), Ways())
+        ways = next(iter(self.codes.values()), CodeReading())
         return AUTO if ways.problem else ways.rules[0].symbology
 
     def is_named_as_code(self, at: int) -> bool:
@@ -162,26 +163,26 @@ def guess_of(data: bytes, name: str, options: TableOptions, talk: Talk) -> Guess
     file, head = options.file, start.head.row
     below = list(islice(start.rows, SAMPLE))
     if file.has_header is None and file.header_row is None:
-        top = row_of_names([head, *below])
+        top = guessed_header([head, *below])
         named = replace(file, has_header=True, header_row=top.number)
         found = guess_of(data, name, replace(options, file=named), talk)
-        is_article = share([one for one in names_of(top) if one], is_code) > 0
+        is_article = passing_share([one for one in column_names(top) if one], is_code) > 0
         if not is_article and not any(map(found.is_named_as_code, found.codes)):
             return found
         file = replace(file, has_header=False)
         return guess_of(data, name, replace(options, file=file), talk)
     shown = (row for row in below if options.file.hidden or not row.is_hidden)
     right = (row for row in shown if not (row.problem or row.is_blank()))
-    cells = [texts_of(row) for row in right if names_of(row) != start.head.names]
+    cells = [texts_of(row) for row in right if column_names(row) != start.head.names]
     columns = list(zip_longest(start.head.names, *cells, fillvalue=""))
     return guess(columns, 0 if file.has_header is False else head.number)
 
 
-def row_of_names(rows: Sequence[Row]) -> Row:
+def guessed_header(rows: Sequence[Row]) -> Row:
     """Returns the row of the names: it has more than half as many cells as any row, and no date or
     amount, if there is such a row above the articles; what is above it is a title.
     """
-    cells = [[name for name in names_of(row) if name] for row in rows]
+    cells = [[name for name in column_names(row) if name] for row in rows]
     most = max(map(len, cells))
     wide = [both for both in zip(rows, cells) if 2 * len(both[1]) > most]
     above = takewhile(lambda both: not any(map(ARTICLE.fullmatch, both[1])), wide)
@@ -195,12 +196,12 @@ def guess(columns: Sequence[Sequence[str]], header: int) -> Guess:
     filled = []
     for name, *cells in columns:
         texts = [one.strip() for one in cells if one.strip()]
-        filled.append(Column(name, texts, len(texts) / max(1, len(cells))))
-    codes = codes_of(filled)
-    prices = prices_of({at: one for at, one in enumerate(filled) if at not in codes.may_be})
+        filled.append(ColumnSample(name, texts, len(texts) / max(1, len(cells))))
+    codes = code_columns(filled)
+    prices = price_columns({at: one for at, one in enumerate(filled) if at not in codes.may_be})
     used = {*codes.may_be, *prices.may_be}
     others = {at: one for at, one in enumerate(filled) if at not in used}
-    titles = titles_of(others)
+    titles = title_columns(others)
     of_copies = [at for at, one in others.items() if is_copies(one)]
     copies = Places(of_copies, of_copies[0] if len(of_copies) == 1 else None)
     kinds = {"code": codes, "title": titles, "price": prices, "copies": copies}
@@ -218,7 +219,7 @@ class Places(NamedTuple):
     surely: int | None = None
 
 
-def codes_of(columns: Sequence[Column]) -> Places:
+def code_columns(columns: Sequence[ColumnSample]) -> Places:
     """Returns the columns that may have the codes: those of surely EAN or UPC, else those that are
     named so, else those with another number in each row.
     """
@@ -241,7 +242,7 @@ def codes_of(columns: Sequence[Column]) -> Places:
     return Places(may_be, may_be[0] if is_sure else None)
 
 
-def prices_of(columns: Mapping[int, Column]) -> Places:
+def price_columns(columns: Mapping[int, ColumnSample]) -> Places:
     """Returns the columns that may have the price: those with amounts of money, and those that are
     named so, whatever is in them. One is sure if its name is understood, and those of all others,
     and most rows have an amount in it.
@@ -255,7 +256,7 @@ def prices_of(columns: Mapping[int, Column]) -> Places:
     return Places(may_be, left[0] if is_sure else None)
 
 
-def titles_of(columns: Mapping[int, Column]) -> Places:
+def title_columns(columns: Mapping[int, ColumnSample]) -> Places:
     """Returns the columns that may have the title: those that are named so, and those with another
     text in most rows. Of a short and a long text the short one is sure.
     """
@@ -268,9 +269,11 @@ def titles_of(columns: Mapping[int, Column]) -> Places:
     return Places(may_be, short[0] if len(short) == 1 else None)
 
 
-def is_copies(column: Column) -> bool:
+def is_copies(column: ColumnSample) -> bool:
     """Returns whether a column has numbers of labels."""
-    return bool(WORDS["copies"] & column.words) and share(column.texts, COUNT.fullmatch) == 1
+    return (
+        bool(WORDS["copies"] & column.words) and passing_share(column.texts, COUNT.fullmatch) == 1
+    )
 
 
 def has_letters(text: str) -> bool:
@@ -284,14 +287,14 @@ def has_letters(text: str) -> bool:
     return True
 
 
-def ways_of(column: Column) -> Ways:
+def ways_of(column: ColumnSample) -> CodeReading:
     """Returns how the codes of a column may be read."""
     if column.has(is_code):
-        return Ways()
+        return CodeReading()
     if column.has(has_length) or WORDS["codes"] & column.words:
         rules = [one for one in OTHER_WAYS if column.has(partial(code_of, rules=one))]
-        return Ways(rules or [CodeRules()], problem_of(column.texts))
-    return Ways([CodeRules(QR.name if column.has(NO_BARS.fullmatch) else CODE128.name)])
+        return CodeReading(rules or [CodeRules()], problem_of(column.texts))
+    return CodeReading([CodeRules(QR.name if column.has(NO_BARS.fullmatch) else CODE128.name)])
 
 
 def problem_of(texts: Sequence[str]) -> Text:
@@ -309,7 +312,7 @@ def bare(texts: Sequence[str]) -> tuple[str, ...]:
     return tuple("".join(filter(str.isalnum, text)).lstrip("0") for text in texts)
 
 
-def share(texts: Sequence[str], test: Callable[[str], object]) -> float:
+def passing_share(texts: Sequence[str], test: Callable[[str], object]) -> float:
     """Returns the part of the texts that pass a test; those that it refuses do not."""
     passed = 0
     for text in texts:

@@ -5,15 +5,15 @@ was asked for.
 from dataclasses import dataclass, field
 from typing import Mapping, NamedTuple
 
-from labeltools.common.messages import Place, quoted, RowError, Talk, ToolError
+from labeltools.common.messages import Origin, quoted, RowError, Talk, ToolError
 from labeltools.common.text import Text
 from labeltools.lines.file import first_remark, Label, label_lines, last_remark, LinesFile
 from labeltools.tables.drafts import Draft, HAS_DIGIT, Price
 from labeltools.tables.money import NotMoney
 from labeltools.tables.once import Once
-from labeltools.tables.options import TableOptions
 from labeltools.tables.prices import PriceColumn, settled, with_currency
 from labeltools.tables.summary import Totals
+from labeltools.tables.table_options import TableOptions
 
 LARGEST_OUTPUT = 1 << 27  # bytes
 
@@ -92,7 +92,7 @@ class LineWriter:
         try:
             prices = [self.written(draft.row, *both) for both in zip(draft.prices, self.columns)]
         except RowError as problem:
-            texts = (one.text for one in draft.prices if one and one.column.place == problem.place)
+            texts = (one.text for one in draft.prices if one and one.column.place == problem.column)
             self.leave_out(draft.row, next(texts, ""), problem)
             return
         content = Content(draft.title, draft.text, *prices)
@@ -105,7 +105,7 @@ class LineWriter:
 
     def leave_out(self, row: int, cell: str, problem: RowError) -> None:
         """Leaves out a row."""
-        self.talk.note(Place("", "row", row), cell, problem.what, problem.hint)
+        self.talk.note(Origin("", "row", row), cell, problem.what, problem.hint)
         self.left_out.append(row)
 
     def written(self, row: int, price: Price | None, column: PriceColumn) -> str:

@@ -36,7 +36,7 @@ def ask_printer(window: Any, page: Size, then: Callable[[str, Chosen], object]) 
         operation.cancel()
         settings = operation.get_print_settings()
         if not previews:
-            then(settings.get_printer(), options_of(settings))
+            then(settings.get_printer(), cups_options(settings))
 
     def previewed(_operation: Any, preview: Any, context: Any, _window: Any) -> bool:
         """Shows nothing: the window has the pages. GTK wants somewhere to draw all the same."""
@@ -49,7 +49,7 @@ def ask_printer(window: Any, page: Size, then: Callable[[str, Chosen], object]) 
     operation.run(Gtk.PrintOperationAction.PRINT_DIALOG, window)
 
 
-def options_of(settings: Any) -> Chosen:
+def cups_options(settings: Any) -> Chosen:
     """Returns what was chosen in the dialog, as options of CUPS."""
     found: dict[str, str] = {}
     settings.foreach(lambda name, value: found.setdefault(name, value))

@@ -13,7 +13,7 @@ from typing import Any
 
 from labeltools.commands import label_print as print_command, label_table as table_command
 from labeltools.common.command_line import read_input, words_of
-from labeltools.common.messages import Cancelled, Place, quoted, ToolError
+from labeltools.common.messages import Cancelled, Origin, quoted, ToolError
 from labeltools.common.report import LeftOut
 from labeltools.common.text import NOTHING, Text
 from labeltools.lines.engine import option_words
@@ -40,7 +40,7 @@ PATTERNS = ("0,00 €", "€0.00", "£0.00", "$0.00", "CHF 0.00", "0,00 kr", "0,
 Choices = Mapping[str, Any]  # by the names of the options
 
 
-class Talk:
+class WindowTalk:
     """The talk of work beside the window: what it is told is kept. Work that is stopped ends the
     next time that it talks; a printer that takes labels one by one gets no more of them.
     """
@@ -58,9 +58,9 @@ class Talk:
         """Stops the work."""
         self.stops.append(None)
 
-    def note(self, place: Place | None, cell: str, reason: Text, hint: Text) -> None:
+    def note(self, origin: Origin | None, cell: str, reason: Text, hint: Text) -> None:
         """Keeps why a row is left out."""
-        self.notes.append(LeftOut(place, cell, reason, hint))
+        self.notes.append(LeftOut(origin, cell, reason, hint))
 
     def say(self, text: Text, hint: Text = NOTHING) -> None:
         """Keeps something about the whole."""
@@ -75,7 +75,7 @@ class Talk:
 
 
 @dataclass(frozen=True)
-class Made:
+class MadeLabels:
     """What was made of a table: its lines, the labels that can be printed, what there is to say
     about them, how many rows are left out, and the line that prints them in a shell.
     """
@@ -102,7 +102,7 @@ class Table:
     said: Sequence[LeftOut]  # about them
     words: Sequence[str] = ()
 
-    def __init__(self, path: Path, text: str | None, header: int | None, talk: Talk) -> None:
+    def __init__(self, path: Path, text: str | None, header: int | None, talk: WindowTalk) -> None:
         """Reads a table by further words of label-table, None for those that are kept; its names
         are in the row `header` (0: in none) where that is known. Raises `ToolError` and `OSError`.
         """
@@ -122,19 +122,19 @@ class Table:
         last: Choices = next(reversed(TABLES.all().values()), {})
         self.paper = {name: value for name, value in last.items() if name in PAPER}
 
-    def read(self, text: str, header: int | None, talk: Talk) -> None:
+    def read(self, text: str, header: int | None, talk: WindowTalk) -> None:
         """Guesses the columns of the table as words read it, and finds what is kept for these."""
         head = words_of({"header-row": header, "no-header": header == 0})
         arguments = table_command.understood(
             ["--code", "1", "--price", "1", *head, *option_words(text)]
         )
-        options = table_command.options_of(arguments)
+        options = table_command.table_options(arguments)
         self.guess = guess_of(self.data, self.path.name, options, talk)
         self.text = text
         self.key = "\n".join(self.guess.names) if any(self.guess.names) else ""
         self.kept = TABLES.all().get(self.key, {}) if self.key else {}
 
-    def made(self, choices: Choices, talk: Talk) -> Made:
+    def made(self, choices: Choices, talk: WindowTalk) -> MadeLabels:
         """Returns what is made by choices; raises `ToolError` and `OSError`."""
         for kind, places in self.guess.doubts.items():
             if choices[kind] is None:
@@ -142,23 +142,23 @@ class Table:
                 hint = Text("choose its column")
                 raise ToolError(Text("{} may be in: {}", OF_KINDS[kind], named), hint)
         to_print = print_words(choices)
-        options = print_command.options_of(to_print)
+        options = print_command.print_options(to_print)
         job = planned(options)
         since = {"new-since": str(self.printed) if choices["new-only"] else ""}
         words = [*words_of(since), *table_words(choices)]
         to_read = [*words, "--", str(self.path)]
         if words != self.words:  # other paper needs no other lines
-            rules = table_command.options_of(table_command.understood(to_read))
+            rules = table_command.table_options(table_command.understood(to_read))
             self.lines = lines_of_table(self.data, self.path.name, rules, talk)
             self.said = tuple(talk.notes)
             self.words = words
         found = labels_of(job, self.path.name, self.lines.output, talk)
         rows = set(self.lines.left_out)
-        more = [one for one in found.left_out if one.place and one.place.number not in rows]
+        more = [one for one in found.left_out if one.origin and one.origin.number not in rows]
         commands = ["label-table", *to_read], ["label-print", *to_print]
         command = " | ".join(map(shlex.join, commands)) + f" > labels.{job.form.name}"
-        notes = sorted((*self.said, *more, *found.remarks), key=place_of)
-        return Made(self.lines, found, notes, len(rows) + len(more), command)
+        notes = sorted((*self.said, *more, *found.remarks), key=row_of_note)
+        return MadeLabels(self.lines, found, notes, len(rows) + len(more), command)
 
     @property
     def printed(self) -> Path:
@@ -172,7 +172,7 @@ class Table:
             return time.strftime("%x", time.localtime(self.printed.stat().st_mtime))
         return ""
 
-    def keep_printed(self, made: Made) -> None:
+    def keep_printed(self, made: MadeLabels) -> None:
         """Keeps the lines of the labels that went out, for the next `--new-since`, and those that
         went out before, but for the same codes.
         """
@@ -203,9 +203,9 @@ class Table:
         FILES.keep(self.path.name, choices["for-table"] or None)
 
 
-def place_of(note: LeftOut) -> int:
+def row_of_note(note: LeftOut) -> int:
     """Returns the number of the row that something is said of; 0 for the whole table."""
-    return note.place.number if note.place else 0
+    return note.origin.number if note.origin else 0
 
 
 def price_patterns(example: str) -> Iterator[tuple[str, str]]:

@@ -27,7 +27,7 @@ from labeltools.printing.press import Prepared
 from labeltools.printing.sending import labels_text, print_on, save_to, send_to
 from labeltools.window.dialog import ask_printer, Chosen
 from labeltools.window.gtk import Gdk, GLib, Gtk
-from labeltools.window.shop import Made, Table, Talk
+from labeltools.window.shop import MadeLabels, Table, WindowTalk
 
 USB = Path("/dev/usb")  # has the printers on USB
 MANY = 1000  # labels above it are asked for before they are printed
@@ -35,7 +35,7 @@ WATCH = 2000  # milliseconds between two looks at a job of CUPS
 Sent = tuple[SentJob | None, Text]  # a job of CUPS, and what is reported of the labels
 
 
-class Ways:
+class WaysOut:
     """The ways out of a window."""
 
     def __init__(self, window: Any) -> None:
@@ -43,7 +43,7 @@ class Ways:
         self.reports: dict[SentJob | None, str] = {}  # of the last job, and of those before it
         self.over: list[SentJob | None] = []  # jobs whose reports go when the next one is sent
 
-    def send(self, way: Callable[[Prepared, Talk], Sent], is_all: bool = True) -> None:
+    def send(self, way: Callable[[Prepared, WindowTalk], Sent], is_all: bool = True) -> None:
         """Sends labels by a way, all or those of chosen pages, and keeps what is chosen for the
         next table like this.
         """
@@ -52,7 +52,7 @@ class Ways:
         then = partial(self.on_sent, table, made, is_all)
         self.window.work.start(partial(way, made.labels), then, is_sending=True)
 
-    def on_sent(self, table: Table, made: Made, is_all: bool, sent: Sent) -> None:
+    def on_sent(self, table: Table, made: MadeLabels, is_all: bool, sent: Sent) -> None:
         """Says which labels went out, and from then on what becomes of a job of CUPS. Keeps them,
         unless pages were chosen: these may be a trial.
         """
@@ -108,7 +108,7 @@ class Ways:
     def save(self, path: Path) -> None:
         """Writes what label-print writes."""
 
-        def way(labels: Prepared, talk: Talk) -> Sent:
+        def way(labels: Prepared, talk: WindowTalk) -> Sent:
             save_to(labels, path, talk)
             return None, Text("{} saved as {}", labels_text(len(labels.prints)), path.name)
 
@@ -158,7 +158,7 @@ class Ways:
     def send_to(self, printer: str) -> None:
         """Sends what label-print sends to a printer."""
 
-        def way(labels: Prepared, talk: Talk) -> Sent:
+        def way(labels: Prepared, talk: WindowTalk) -> Sent:
             talk.is_direct = True
             return None, send_to(labels, printer, talk, talk.stops)
 
@@ -186,7 +186,7 @@ def confirmed(dialog: Any) -> bool:
     return bool(answer == Gtk.ResponseType.OK)
 
 
-def printers(is_roll: bool, _talk: Talk) -> list[str]:
+def printers(is_roll: bool, _talk: WindowTalk) -> list[str]:
     """Returns the printers that the system knows: for a printer's own language also those on USB.
     Raises `ToolError` if there is none, but that one may be in the network.
     """

@@ -20,8 +20,8 @@ from labeltools.window import hints
 from labeltools.window.gtk import add_actions, Gdk, Gio, GLib, Gtk
 from labeltools.window.presets import Presets
 from labeltools.window.preview import Preview
-from labeltools.window.shop import Choices, COLUMNS, Made, price_patterns, Table
-from labeltools.window.ways import Ways
+from labeltools.window.shop import Choices, COLUMNS, MadeLabels, price_patterns, Table
+from labeltools.window.ways import WaysOut
 from labeltools.window.work import Work
 
 FILE = Path(__file__).with_name("window.ui")
@@ -46,7 +46,7 @@ class Window(Gtk.ApplicationWindow):
     """
 
     __gtype_name__ = "LabelsWindow"
-    made: Made  # what was made last
+    made: MadeLabels  # what was made last
     shown: Preview
 
     def __init__(self, **properties: Any) -> None:
@@ -63,7 +63,7 @@ class Window(Gtk.ApplicationWindow):
         text = FILE.read_bytes()
         self.builder.extend_with_template(self, self.__gtype__, text.decode(), len(text))
         self.work = Work(self)
-        self.ways = Ways(self)
+        self.ways = WaysOut(self)
         self.presets = Presets(self)
         add_actions(
             self,
@@ -316,14 +316,14 @@ class Window(Gtk.ApplicationWindow):
             self.reason.set_property("wrap-width", width)
             GLib.idle_add(self.why.queue_resize)
 
-    def show_labels(self, problem: ToolError | None, made: Made) -> None:
+    def show_labels(self, problem: ToolError | None, made: MadeLabels) -> None:
         """Shows the labels that were made, and what there is to say about them."""
         self.made = made
         self.command.set_text(made.command)
         self.count.set_text(translated(made.summary))
         self.notes.clear()
         for note in made.notes[:MOST_NOTES]:
-            row = str(note.place.number) if note.place else ""
+            row = str(note.origin.number) if note.origin else ""
             self.notes.append([row, note.data, self.hints.text(note.reason, note.hint)])
         text = translated(counted("{} row is skipped", "{} rows are skipped", made.left_out))
         self.left_out.set_text(text if made.left_out else _("Please look at this"))

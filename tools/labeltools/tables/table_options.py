@@ -6,7 +6,7 @@ from typing import Any, Generic, TypeVar
 
 from labeltools.lines.file import LinesFile
 from labeltools.lines.symbologies import SYMBOLOGIES
-from labeltools.sheets.options import FileOptions
+from labeltools.sheets.file_options import FileOptions
 from labeltools.tables.codes import CodeRules
 from labeltools.tables.prices import PricePattern
 
