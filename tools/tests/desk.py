@@ -16,7 +16,7 @@ from unittest import mock
 import jobs
 import support
 from labeltools.lines.file import read_lines
-from labeltools.printing.journal import Journal, journal_code
+from labeltools.sending.journal import Journal
 from printers import LABEL
 
 PIPE, NULL = subprocess.PIPE, subprocess.DEVNULL
@@ -25,10 +25,10 @@ TICKETS = b"".join(b"qr T%05d\n" % number for number in range(1, 31))
 # What code before the tool can call.
 START = """
 import fcntl, os, resource, signal, sys
-from labeltools.printing import journal, network, stream
-from labeltools.common.command_line import start
-from labeltools.printing.outlets import Broken, StandardOutput
+from labeltools.common.process import start
 from labeltools.common.text import Text
+from labeltools.sending import journal, network, stream
+from labeltools.sending.outlets import Broken, StandardOutput
 
 def end():
     os.kill(os.getpid(), signal.SIGTERM)
@@ -122,7 +122,7 @@ class Desk(unittest.TestCase):
         self.path = f"{self.folder}/journal"
         self.records = read_lines(TICKETS, "lines").records
         # A printer of these tests has its time on a busy machine too.
-        patient = mock.patch("labeltools.printing.network.FAREWELL", float(support.SECONDS))
+        patient = mock.patch("labeltools.sending.network.FAREWELL", float(support.SECONDS))
         self.addCleanup(patient.stop)
         patient.start()
 
@@ -144,7 +144,7 @@ class Desk(unittest.TestCase):
 
     def is_doubtful(self, journal: Journal, number: int) -> bool:
         """Whether the label of a line of TICKETS, from 0, is in doubt."""
-        return journal_code(self.records[number]) in journal.doubtful()
+        return self.records[number].code in journal.doubtful()
 
     # ---- programs
 

@@ -8,10 +8,10 @@ import zxingcpp
 from labeltools.designs.svg_layout import CODE, PlacedSymbol, symbols_of
 from labeltools.drawing.dots import drawn_page
 from labeltools.drawing.pen import bits_of, Pen
-from labeltools.layout.frames import Box
 from labeltools.layout.layout import LaidOut
 from labeltools.lines.engine import Modules
 from labeltools.paper.area import Area
+from labeltools.paper.box import Box
 
 NOT_READ = "as drawn it is not read"
 NOT_DRAWN = "its bars as drawn are not those of labels"

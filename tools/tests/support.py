@@ -225,7 +225,7 @@ def run_here(
             "stdout": open(1, "w", closefd=False),
             "stderr": error,
         }
-        signals = mock.patch("labeltools.common.command_line.on_signals", mock.MagicMock())
+        signals = mock.patch("labeltools.common.process.on_signals", mock.MagicMock())
         changed = mock.patch.dict(os.environ, {**environment(), **variables})
         try:
             with signals, changed, mock.patch.multiple(sys, **streams):
@@ -247,7 +247,7 @@ printed = partial(run_here, "label-print")
 def status_of(tool: str) -> int:
     """The status with which a tool ends in this process."""
     try:
-        import_module("labeltools.common.command_line").start(tool, MODULES[tool])
+        import_module("labeltools.common.process").start(tool, MODULES[tool])
     except SystemExit as end:
         return int(end.code or 0)
     raise AssertionError(f"{tool} has no end")

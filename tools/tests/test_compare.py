@@ -18,9 +18,9 @@ from labeltools.common.messages import Silence, ToolError
 from labeltools.common.text import Text
 from labeltools.designs import svg_layout as own_layout
 from labeltools.drawing import dots, escpos, pen, zpl
-from labeltools.layout.frames import Box
-from labeltools.lines import engine
+from labeltools.lines import engine, library
 from labeltools.lines.engine import Modules
+from labeltools.paper.box import Box
 from labeltools.paper.picture import Picture
 from labeltools.printing import press
 from labeltools.printing.job import planned, PrintOptions
@@ -650,7 +650,7 @@ class Read(unittest.TestCase):
         """
         lines = (b"ean13 4006381333931", b"ean8 73513537", b"code128 LOT-7", b"qr X")
         for line, scale, quarters, left in product(lines, (1, 3), range(4), (0, 5)):
-            symbol = engine.labels_library().line(line, height=1)
+            symbol = library.labels_library().line(line, height=1)
             dark, looked, high = rows_of(symbol)
             wide = len(dark[0])
             dark, looked = (

@@ -16,10 +16,10 @@ from unittest import mock
 import support
 from desk import Desk, entry, labels_in, open_files, PIPE, printed, program, ROLL, TICKETS
 from labeltools.common import files
-from labeltools.printing import network, outlets, stream
-from labeltools.printing.journal import Journal
-from labeltools.printing.network import NetworkPrinter
-from labeltools.printing.outlets import Broken
+from labeltools.sending import network, outlets, stream
+from labeltools.sending.journal import Journal
+from labeltools.sending.network import NetworkPrinter
+from labeltools.sending.outlets import Broken
 from printers import LABEL, Printer
 
 MANY_FILES = """
@@ -98,7 +98,7 @@ class Connections(Desk):
             if is_read:
                 outlet.close()
                 continue
-            with mock.patch("labeltools.printing.network.REGRET", float(support.SECONDS)):
+            with mock.patch("labeltools.sending.network.REGRET", float(support.SECONDS)):
                 self.assertRaises(Broken, outlet.close)
             late.join()
 
@@ -423,7 +423,7 @@ class Streams(Desk):
         os.mkfifo(path)
         for error in (MemoryError(), ValueError("bad")):
             reads = [b"qr A\n", error]
-            with mock.patch("labeltools.printing.stream.BufferedReader") as reader:
+            with mock.patch("labeltools.sending.stream.BufferedReader") as reader:
                 reader.return_value.readline.side_effect = reads
                 lines = stream.Ahead(stream.Fifo(path))
                 self.assertEqual(lines.readline(), b"qr A\n")

@@ -17,8 +17,8 @@ from unittest import mock
 import desk
 import jobs
 import support
-from labeltools.common.command_line import CommandTalk
 from labeltools.common.messages import ToolError
+from labeltools.common.process import CommandTalk
 from labeltools.lines.file import LineRecord, read_lines
 
 LABELS = [
@@ -217,7 +217,7 @@ class Running(unittest.TestCase):
         own, terminal = os.openpty()
         with open(terminal, "w") as stream, mock.patch("sys.stderr", stream):
             for tool, total in (("label-table", 0), ("label-print", 3)):
-                with mock.patch("labeltools.common.command_line.QUIET", 0.0):
+                with mock.patch("labeltools.common.process.QUIET", 0.0):
                     talk = CommandTalk(tool)
                 for done in (0, 1, 2):
                     talk.go_on(done, total)

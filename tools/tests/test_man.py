@@ -8,10 +8,11 @@ import support
 from labeltools.commands import label_print, label_table
 from labeltools.common import report
 from labeltools.designs import svg_page
-from labeltools.layout import frames
+from labeltools.layout import frame
 from labeltools.lines import file
 from labeltools.paper import area
-from labeltools.printing import job, network, stream
+from labeltools.printing import job
+from labeltools.sending import network, stream
 from labeltools.sheets import csv_table, workbook
 
 PAGES = sorted((support.TOP / "man").glob("label*.1"))
@@ -35,7 +36,7 @@ NUMBERS = (
     (r"within (\d+) seconds if the FIFO", stream.LOOK),
     (r"drawing that takes (\d+) seconds", svg_page.MOST_SECONDS),
     (r"seconds or (\d+) MB", svg_page.MOST_MEMORY // 1_000_000),
-    (r"the smallest \(([\d.]+)\)", frames.LEAST_TEXT),
+    (r"the smallest \(([\d.]+)\)", frame.LEAST_TEXT),
     (r"above 60 mm, at most ([\d.]+) mm", area.LARGEST_MODULE),
     (
         r"at most (nine) such messages",

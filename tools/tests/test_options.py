@@ -19,7 +19,7 @@ import support
 from labeltools.designs.svg_layout import symbols_of
 from labeltools.drawing.dots import drawn_page
 from labeltools.drawing.pen import bits_of
-from labeltools.layout.frames import Box
+from labeltools.paper.box import Box
 from laying import laid_out
 from reading import fault_in
 
@@ -366,7 +366,8 @@ class ReadBack(unittest.TestCase):
     def test_a_wrong_label(self) -> None:
         laid = laid_out(b"ean13 400638133393\nean13 501234567890\n", (60.0, 40.0), 300)
         first, second = laid.labels
-        wrong = replace(first, label=replace(first.label, modules=second.label.modules))
+        record = first.label.record._replace(modules=second.label.modules)
+        wrong = replace(first, label=replace(first.label, record=record))
         self.assertIsNone(laid.fault(first))
         self.assertEqual(laid.fault(wrong), "as drawn it is read as b'5012345678900'")
 

@@ -11,7 +11,7 @@ from labeltools.common.messages import Cancelled, Origin, Silence
 from labeltools.common.text import Text
 from labeltools.printing.job import planned, PrintOptions
 from labeltools.printing.press import labels_of
-from labeltools.printing.sending import save_to
+from labeltools.sending.sender import save_to
 from laying import documents_of
 
 LABELS: list[tuple[str, dict[str, Any]]] = [

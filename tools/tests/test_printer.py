@@ -16,8 +16,8 @@ import jobs
 import support
 from drivers import Bars, bars_of, shift_of, with_end
 from jobs import Dots, JobError
-from labeltools.printing.cups import lp_line, queue_of, queues, SentJob
 from labeltools.printing.job import planned, PrintOptions
+from labeltools.sending.cups import lp_line, queue_of, queues, SentJob
 from laying import laid_out, look
 from printers import Printer
 from scheduler import raster_of, Scheduler
@@ -426,19 +426,19 @@ class Hostile(unittest.TestCase):
 
     def test_another_version_of_the_library(self) -> None:
         """Later ones of the same major version are taken."""
-        from labeltools.lines import engine
         from labeltools.common.messages import ToolError
+        from labeltools.lines import library
 
-        module = engine.labels_library()
+        module = library.labels_library()
         for version, is_taken in (("1.0.0", True), ("1.9.3", True), ("2.0.0", False)):
-            engine.labels_library.cache_clear()
+            library.labels_library.cache_clear()
             with mock.patch.object(module, "version", return_value=version):
                 if is_taken:
-                    self.assertIs(engine.labels_library(), module)
+                    self.assertIs(library.labels_library(), module)
                 else:
                     with self.assertRaisesRegex(ToolError, "liblabels is version 2.0.0, and"):
-                        engine.labels_library()
-        engine.labels_library.cache_clear()
+                        library.labels_library()
+        library.labels_library.cache_clear()
 
 
 if __name__ == "__main__":

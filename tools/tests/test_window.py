@@ -21,7 +21,7 @@ import cairo
 import support
 from labeltools.common.messages import ToolError
 from labeltools.common.text import NOTHING, Text
-from labeltools.printing.cups import JobState, Queue
+from labeltools.sending.cups import JobState, Queue
 from printers import Printer
 from scheduler import raster_of, Scheduler, WITH_TEST
 
@@ -954,8 +954,9 @@ class WindowTest(Keeper):
         first = made.labels[0]
         packed = bytearray(first.label.modules.packed)
         packed[len(packed) // 2] ^= 0b00111100
-        wrong = replace(first.label, modules=replace(first.label.modules, packed=bytes(packed)))
-        bad = replace(first, label=wrong)
+        modules = replace(first.label.modules, packed=bytes(packed))
+        record = first.label.record._replace(modules=modules)
+        bad = replace(first, label=replace(first.label, record=record))
         prints = [bad if item is first else item for item in made.prints]
         self.window.made = replace(self.window.made, labels=replace(made, prints=prints))
         path = self.folder / "wrong.pdf"

@@ -19,11 +19,11 @@ from labeltools.common.messages import FAULT, Talk, ToolError
 from labeltools.common.text import Text
 from labeltools.designs.places import key_of, PARTS, Place
 from labeltools.designs.svg_layout import PlacedSymbol, symbols_of
-from labeltools.layout.frames import Box
 from labeltools.layout.layout import LaidOut, short
 from labeltools.lines.engine import bytes_a_row, Engine, LABELS_FAILED, Refused
 from labeltools.lines.file import LineRecord
 from labeltools.paper.area import Plan
+from labeltools.paper.box import Box
 from labeltools.paper.picture import Picture, rows_reader
 
 Labels = Sequence[tuple[LaidOut, tuple[int, int]]]

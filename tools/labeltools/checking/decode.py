@@ -7,7 +7,7 @@ import struct
 import zlib
 from binascii import Error, unhexlify
 
-from labeltools.common.kept import Kept
+from labeltools.common.cache import Kept
 from labeltools.common.text import Text
 from labeltools.paper.picture import Picture, rows_reader
 

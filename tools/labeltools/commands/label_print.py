@@ -10,16 +10,15 @@ from dataclasses import replace
 from pathlib import Path
 from typing import Any, Callable, Sequence
 
-from labeltools.common.command_line import (
+from labeltools.common.arguments import Parser, wrong_argument
+from labeltools.common.messages import BAD_ARGUMENTS, sentence, ToolError, write_message
+from labeltools.common.process import (
     CommandTalk,
     hold_signals,
     keep_standard_error,
-    Parser,
     read_input,
     standard_output,
-    wrong_argument,
 )
-from labeltools.common.messages import BAD_ARGUMENTS, sentence, ToolError, write_message
 from labeltools.common.report import places_text, Ranges, report
 from labeltools.common.text import counted, joined, Text
 from labeltools.designs.design import is_file
@@ -27,14 +26,14 @@ from labeltools.drawing.forms import FORMS
 from labeltools.lines.file import LineRecord
 from labeltools.paper.area import DESIGNS
 from labeltools.paper.stock import forget, list_stock
-from labeltools.printing.cups import lp_line, Queue, queue_of
 from labeltools.printing.job import DRAWING_DPI, form_of, Job, planned, PrintOptions, refuse
-from labeltools.printing.journal import Journal
-from labeltools.printing.network import address_of
-from labeltools.printing.outlets import Files, Outlet, OUTPUT, StandardOutput
 from labeltools.printing.press import check_count, labels_of, Prepared
 from labeltools.printing.selection import ranges_in, selection_of
-from labeltools.printing.sending import direct_outlet, labels_text, print_on, Sender
+from labeltools.sending.cups import lp_line, Queue, queue_of
+from labeltools.sending.journal import Journal
+from labeltools.sending.network import address_of
+from labeltools.sending.outlets import Files, Outlet, OUTPUT, StandardOutput
+from labeltools.sending.sender import direct_outlet, labels_text, print_on, Sender
 
 TOOL = "label-print"
 USAGE = """label-print --stock NAME [OPTIONS] [LINES]
@@ -246,7 +245,7 @@ def run() -> int:
     forget()
     check_way(job, queue)
     if options.is_stream:
-        from labeltools.printing import stream
+        from labeltools.sending import stream
 
         return stream.answer_lines(job, sender_of(job, direct_way(job), ()))
     gc.disable()  # no label leaves a cycle behind, and to look for them takes time

@@ -9,15 +9,7 @@ from dataclasses import fields
 from pathlib import Path
 from typing import Any, Callable, Mapping, Sequence, TypeVar
 
-from labeltools.common.command_line import (
-    CommandTalk,
-    main_of,
-    Parser,
-    read_input,
-    standard_output,
-    words_of,
-    wrong_argument,
-)
+from labeltools.common.arguments import Parser, words_of, wrong_argument
 from labeltools.common.messages import (
     BadArguments,
     Origin,
@@ -27,6 +19,7 @@ from labeltools.common.messages import (
     ToolError,
     write_message,
 )
+from labeltools.common.process import CommandTalk, main_of, read_input, standard_output
 from labeltools.common.report import listed
 from labeltools.common.text import joined, NOTHING, Text
 from labeltools.lines.file import LinesFile, read_lines

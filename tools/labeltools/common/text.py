@@ -6,7 +6,7 @@ xgettext finds them: `--keyword=Text --keyword=counted:1,2`.
 from dataclasses import dataclass
 from typing import Iterable
 
-from labeltools.common.words import ngettext, one_text
+from labeltools.common.language import ngettext, one_text
 
 
 class Text(str):

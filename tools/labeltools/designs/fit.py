@@ -10,14 +10,15 @@ from functools import cache
 from statistics import median_high
 from typing import NamedTuple
 
-from labeltools.common.kept import Found
+from labeltools.common.cache import Found
 from labeltools.common.messages import quoted, ToolError
 from labeltools.common.text import Text
 from labeltools.designs.places import Place
 from labeltools.layout.fitting import Style
-from labeltools.layout.frames import Box, common_value, HINTING, LEAST_TEXT, LINE
+from labeltools.layout.frame import common_value, HINTING, LEAST_TEXT, LINE
 from labeltools.layout.glyphs import LINE_END
 from labeltools.layout.letters import BLANK, extent_of, Letters, Sign
+from labeltools.paper.box import Box
 
 SIDE = 1 / 8  # white at both sides of wrapped lines, in letters
 STEP = 0.97  # the next smaller size of letters that is tried

@@ -10,13 +10,13 @@ from functools import cached_property, lru_cache
 from typing import Any
 from xml.etree.ElementTree import Element
 
+from labeltools.common.column_names import name_of
 from labeltools.common.messages import quoted, ToolError
-from labeltools.common.names import name_of
 from labeltools.common.text import Text
 from labeltools.designs.svg_page import SPACE
-from labeltools.layout.frames import Box
 from labeltools.lines.symbologies import SYMBOLOGIES
 from labeltools.paper.area import Dots
+from labeltools.paper.box import Box
 
 # where programs write the name that was typed; ids have no spaces and commas in many of them
 WRITTEN = (

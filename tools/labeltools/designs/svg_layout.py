@@ -9,19 +9,20 @@ from functools import cache, lru_cache
 from itertools import combinations, compress, repeat
 from typing import Iterator, Mapping, NamedTuple, Sequence
 
-from labeltools.common.kept import Found
+from labeltools.common.cache import Found
 from labeltools.common.messages import quoted, sentence, Talk, ToolError
 from labeltools.common.text import Text
 from labeltools.designs.design import mixed_text, NEAR, SvgDesign, UNREAD
 from labeltools.designs.fit import ENLARGE, NoRoom, PlacedText, Room
 from labeltools.designs.places import key_of, PARTS, Place
-from labeltools.layout.frames import Box, DIGITS_ROOM, Frame, LOWEST
+from labeltools.layout.frame import DIGITS_ROOM, Frame, LOWEST
 from labeltools.layout.layout import ASKED, LaidOut, LaidOutFile, Layout, PrintLabel, short
 from labeltools.layout.letters import Letters
 from labeltools.lines.engine import drawn, Modules
 from labeltools.lines.file import symbology_and_data
 from labeltools.lines.symbologies import SYMBOLOGIES, Symbology
 from labeltools.paper.area import Area, LARGEST_MODULE, TINY
+from labeltools.paper.box import Box
 from labeltools.paper.stock import size_text
 
 FIELDS = ("title", "price", "unit", "was", "code")  # of each label

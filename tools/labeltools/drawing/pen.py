@@ -16,13 +16,14 @@ from labeltools.designs.design import is_light
 from labeltools.designs.places import Colour
 from labeltools.designs.svg_layout import PlacedSymbol, symbols_of
 from labeltools.layout.fitting import Fitted, Fitter, LEFT, MIDDLE, RIGHT, Style
-from labeltools.layout.frames import Box, LINE
+from labeltools.layout.frame import LINE
 from labeltools.layout.layout import LaidOut, Layout, PrintLabel
 from labeltools.layout.letters import DIGITS_FONT, Letters
 from labeltools.layout.pango import PangoCairo, plain_options
 from labeltools.lines.engine import bytes_a_row, LABELS_FAILED, Modules
 from labeltools.lines.symbologies import Span, SYMBOLOGIES, Symbology
 from labeltools.paper.area import Dots
+from labeltools.paper.box import Box
 
 DARK = re.compile("1+")
 INSET = 0.01  # of a dot: what touches a dot paints it

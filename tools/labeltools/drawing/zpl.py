@@ -6,7 +6,7 @@ from itertools import repeat
 from operator import ne, or_
 from typing import Iterator, NamedTuple
 
-from labeltools.common.kept import Kept
+from labeltools.common.cache import Kept
 from labeltools.paper.picture import Picture, rows_reader
 
 MOST_BYTES = 99_999  # of a graphic field

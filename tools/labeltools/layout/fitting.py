@@ -7,11 +7,12 @@ from typing import Any, Hashable, Iterator, NamedTuple, Sequence
 
 import cairo
 
-from labeltools.common.kept import Kept
-from labeltools.layout.frames import Box, LINE
+from labeltools.common.cache import Kept
+from labeltools.layout.frame import LINE
 from labeltools.layout.glyphs import BY_PAIRS, GlyphRow, Glyphs, LINE_END
 from labeltools.layout.letters import Letters
 from labeltools.layout.pango import Pango, pango_context, UNIT
+from labeltools.paper.box import Box
 
 NOT_LATIN = re.compile("[^\0-\u024f]")  # letters that may leave their line
 ELLIPSIS = 1 << 1  # PANGO_ANALYSIS_FLAG_IS_ELLIPSIS of a run

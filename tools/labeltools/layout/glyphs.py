@@ -10,9 +10,9 @@ from typing import Any, Iterator, NamedTuple
 
 import cairo
 
-from labeltools.common.kept import Found
-from labeltools.layout.frames import Box
+from labeltools.common.cache import Found
 from labeltools.layout.pango import UNIT
+from labeltools.paper.box import Box
 
 BY_PAIRS = "dejavu "  # how the names of these fonts begin
 # letters that stand one behind another: Latin, Greek, Cyrillic; punctuation; currencies

@@ -12,12 +12,14 @@ from typing import Iterator, Mapping, Sequence
 
 from labeltools.common.messages import Origin, Talk
 from labeltools.common.text import joined, Text
-from labeltools.layout.frames import Box, Frame, frame_of, HINTING, module_in, Need
+from labeltools.layout.frame import Frame, HINTING, Need
+from labeltools.layout.frame_search import frame_of, module_in
 from labeltools.layout.letters import Letters
 from labeltools.lines.engine import Modules
 from labeltools.lines.file import LineRecord
 from labeltools.lines.symbologies import SYMBOLOGIES, Symbology
 from labeltools.paper.area import Area, millimetres_of, PAD
+from labeltools.paper.box import Box
 from labeltools.paper.stock import Size, size_text
 
 # marks above or below a letter, of which so many are drawn
@@ -32,20 +34,24 @@ LOW_PART = 0.5  # of their width: bars below it may not serve a till that reads 
 ALMOST = 0.97  # bars are a whole number of modules high, so they may be a bit lower
 MOST_HEIGHT = 150  # millimetres: the highest label that a message proposes
 ASKED = 256  # labels between two calls of `go_on`
-CODE = Need._fields[:3]  # what is of the code alone
 NUMBERS = [name for name in Need._fields if name not in ("symbology", "title")]
 
 
 @dataclass(frozen=True, slots=True)
 class PrintLabel:
-    """A label to print: its line, the modules of its code, its title, and its text, which may have
-    a line that is the same on all labels.
+    """A label to print: its line, which is drawn, its title, and its text, which may have a line
+    that is the same on all labels.
     """
 
     record: LineRecord
-    modules: Modules
     title: str
     text: str
+
+    @property
+    def modules(self) -> Modules:
+        """The modules of its code."""
+        assert self.record.modules is not None
+        return self.record.modules
 
     @property
     def is_cut(self) -> bool:
@@ -110,12 +116,12 @@ class LaidOutFile:
     said: tuple[tuple[Origin, Text], ...] = ()
 
 
-def print_label(record: LineRecord, modules: Modules, note: str) -> PrintLabel:
-    """Returns the label of a line; `note` is one more line of its text."""
+def print_label(record: LineRecord, note: str) -> PrintLabel:
+    """Returns the label of a line that is drawn; `note` is one more line of its text."""
     texts = record.label.text
     if note:
         texts = (*texts, note)
-    return PrintLabel(record, modules, short(record.label.title), short("\n".join(texts)))
+    return PrintLabel(record, short(record.label.title), short("\n".join(texts)))
 
 
 def short(text: str) -> str:
@@ -218,13 +224,17 @@ def laid_out_needs(counted: Mapping[Need, int], area: Area) -> LaidOutNeeds:
         common = frame_of(area, fitting) if fitting else None
 
     @cache
-    def shared(key: tuple[object, ...]) -> Frame | None:
-        return frame_of(area, {one: n for one, n in fitting.items() if one[: len(key)] == key})
+    def of_symbology(name: str) -> Frame | None:
+        return frame_of(area, {one: n for one, n in fitting.items() if one.symbology == name})
+
+    @cache
+    def of_code(code: tuple[str, int, int]) -> Frame | None:
+        return frame_of(area, {one: n for one, n in fitting.items() if one.code == code})
 
     def frames(need: Need) -> Iterator[Frame | None]:
         yield common
-        yield shared(need[:1])
-        yield shared(need[: len(CODE)])
+        yield of_symbology(need.symbology)
+        yield of_code(need.code)
         yield frame_of(area, {need: 1})
 
     layouts = {}
@@ -238,9 +248,9 @@ def laid_out_needs(counted: Mapping[Need, int], area: Area) -> LaidOutNeeds:
 
 def fitting_needs(area: Area, counted: Mapping[Need, int]) -> dict[Need, int]:
     """Returns the needs that have a frame by themselves."""
-    groups: dict[tuple[object, ...], list[Need]] = defaultdict(list)
+    groups: dict[tuple[str, int, int], list[Need]] = defaultdict(list)
     for need in counted:
-        groups[need[: len(CODE)]].append(need)
+        groups[need.code].append(need)
     fits = cache(lambda need: frame_of(area, {need: 1}) is not None)
     found: dict[Need, int] = {}
     for needs in groups.values():

@@ -7,10 +7,10 @@ from typing import Any, Iterable, Mapping, NamedTuple, Sequence
 
 import cairo
 
-from labeltools.common.kept import Found
+from labeltools.common.cache import Found
 from labeltools.common.messages import ToolError
 from labeltools.common.text import Text
-from labeltools.layout.frames import Extent
+from labeltools.layout.frame import Extent
 from labeltools.layout.glyphs import OTHERS
 from labeltools.layout.pango import MEASURED, Pango, pango_context, PangoCairo, plain_options
 

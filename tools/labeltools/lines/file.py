@@ -23,6 +23,7 @@ from labeltools import VERSION
 from labeltools.common.messages import Origin, quoted, Talk, ToolError
 from labeltools.common.text import NOTHING, Text
 from labeltools.lines.engine import drawn, Modules
+from labeltools.lines.escapes import escaped, unescaped
 from labeltools.lines.symbologies import check_digit, SYMBOLOGIES
 
 MOST_COPIES = 9999
@@ -56,8 +57,6 @@ ONE_LINE = ("price", "unit", "was")
 # what Pango cuts a text at or takes for a line end: controls (but LF), separators of lines and
 # paragraphs; surrogates
 UNPRINTABLE = re.compile("[\x00-\x09\x0b-\x1f\x7f-\x9f\u2028\u2029\ud800-\udfff]")
-ESCAPE = re.compile(rb"\\(?:x([0-9A-Fa-f]{2})|([n\\]))")
-ESCAPED = {b"n": b"\n", b"\\": b"\\"}
 encode = json.JSONEncoder(ensure_ascii=False, separators=(",", ":")).encode
 decode = json.JSONDecoder().decode
 
@@ -79,6 +78,11 @@ class Label(NamedTuple):
     was: str = ""
     copies: int = 1
     names: tuple[str, ...] = ()
+
+    @property
+    def shown(self) -> tuple[str, tuple[str, ...], str, str, str]:
+        """What is printed beside the code: its title, its text and its prices."""
+        return self.title, self.text, self.price, self.unit, self.was
 
 
 class LineRecord(NamedTuple):
@@ -106,6 +110,12 @@ class LineRecord(NamedTuple):
         if self.symbology == "upca":
             return "ean13", b"0" + self.data
         return self.symbology, self.data
+
+    @property
+    def code(self) -> bytes:
+        """Its code on one line, with its symbology, as a journal has it."""
+        symbology, data = self.key
+        return symbology.encode("utf-8", "replace") + b" " + escaped(data)
 
     @property
     def origin(self) -> Origin:
@@ -333,13 +343,8 @@ def symbology_and_data(line: bytes, has_escapes: bool) -> tuple[str, bytes]:
     head, _, data = line.partition(b" ")
     symbology = sys.intern(head.partition(b",")[0].decode("ascii", "replace"))
     if has_escapes:
-        data = ESCAPE.sub(escaped_byte, data)
+        data = unescaped(data)
     known = SYMBOLOGIES.get(symbology)
     if known and known.is_number and len(data) == known.digits - 1 and data.isdigit():
         data += check_digit(data.decode()).encode()
     return symbology, data
-
-
-def escaped_byte(match: re.Match[bytes]) -> bytes:
-    """Returns the byte that an escape of labels(1) means."""
-    return bytes([int(match[1], 16)]) if match[1] else ESCAPED[match[2]]

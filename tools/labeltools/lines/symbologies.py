@@ -7,6 +7,8 @@ from dataclasses import dataclass
 from functools import cached_property
 from typing import Any, NamedTuple
 
+from labeltools.lines.library import labels_library
+
 
 class Span(NamedTuple):
     """Modules of a picture, from `left` on and before `right`."""
@@ -62,8 +64,6 @@ class Symbology:
 
 def layout_of(symbology: Symbology) -> Any:
     """Returns the layout that liblabels has for a symbology; raises `ToolError` without it."""
-    from labeltools.lines.engine import labels_library  # not above: it reads lines by this table
-
     return labels_library().layout(symbology.name)
 
 

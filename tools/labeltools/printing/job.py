@@ -26,7 +26,6 @@ from labeltools.paper.area import (
     Wishes,
 )
 from labeltools.paper.stock import Grid, grid_sheet, Sheet, Size, stock_sheet
-from labeltools.printing.outlets import is_direct
 from labeltools.printing.selection import Selection
 
 A4 = (210.0, 297.0)
@@ -227,3 +226,10 @@ def named_sheet(options: PrintOptions) -> Sheet:
         raise ToolError(NO_GRID if options.cell else NO_PAPER, status=BAD_ARGUMENTS)
     size = (options.page or A4, options.cell, options.columns, options.rows)
     return grid_sheet(Grid(*size, options.margin, options.gap or NO_GAP))
+
+
+def is_direct(printer: str) -> bool:
+    """Returns whether a printer takes labels one by one: tcp://HOST, or a path, which no queue of
+    CUPS is.
+    """
+    return "/" in printer

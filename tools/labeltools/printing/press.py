@@ -97,7 +97,7 @@ def prepared(
     pens = pens or pens_of(job, Letters(options.font))
     letters = pens[0].letters
     labels = [
-        print_label(record, record.modules, options.note)
+        print_label(record, options.note)
         for record in lines.records
         if record.modules is not None and record.label.copies
     ]

@@ -12,7 +12,6 @@ from labeltools.common.messages import Origin, ToolError
 from labeltools.common.report import few, LeftOut, Ranges, ranges_of, ranges_text
 from labeltools.common.text import Text
 from labeltools.lines.file import LineRecord
-from labeltools.printing.journal import journal_code
 
 ENDLESS = sys.maxsize  # the last number of a range without an end
 RANGE = re.compile(r"(\d{1,7})(-(\d{1,7})?)?", re.ASCII)
@@ -76,7 +75,7 @@ def names_of_code(record: LineRecord) -> set[bytes]:
     """Returns how the code of a line may be named: its data, of a number without its check digit
     too, of UPC-A as EAN-13 too; and as a journal has it, with its symbology.
     """
-    whole = journal_code(record)
+    whole = record.code
     if record.symbology not in ("ean13", "ean8", "upca"):
         return {record.data, whole}
     _, number = record.key

@@ -8,8 +8,8 @@ from dataclasses import dataclass
 from itertools import count, islice
 from typing import NamedTuple
 
+from labeltools.common.column_names import name_of, row_with_names
 from labeltools.common.messages import BAD_ARGUMENTS, named, quoted, RowError, ToolError
-from labeltools.common.names import name_of, row_with_names
 from labeltools.common.text import Text
 from labeltools.sheets.encoding import decoded
 from labeltools.sheets.file_options import CsvOptions

@@ -15,9 +15,9 @@ from functools import lru_cache
 from pathlib import Path
 from typing import NamedTuple, Sequence
 
-from labeltools.common.lists import lists_of
 from labeltools.common.messages import quoted, RowError
 from labeltools.common.text import Text
+from labeltools.common.word_lists import lists_of
 from labeltools.sheets.cells import AS_TEXT
 
 LONGEST_FORMAT = 255  # letters, as spreadsheets have it

@@ -7,8 +7,8 @@ from difflib import get_close_matches
 from itertools import islice
 from typing import Iterable, Sequence
 
+from labeltools.common.column_names import name_of, NUMBER, row_with_names
 from labeltools.common.messages import BAD_ARGUMENTS, quoted, RowError, ToolError
-from labeltools.common.names import name_of, NUMBER, row_with_names
 from labeltools.common.text import Text
 from labeltools.lines.file import MOST_COPIES
 from labeltools.lines.symbologies import SYMBOLOGIES

@@ -5,9 +5,10 @@ from dataclasses import dataclass, replace
 from decimal import Decimal
 from typing import Iterator, NamedTuple, Sequence
 
+from labeltools.common.column_names import is_repeated, name_of
 from labeltools.common.messages import quoted, RowError
-from labeltools.common.names import is_repeated, name_of
 from labeltools.common.text import Text
+from labeltools.lines.file import Label
 from labeltools.lines.symbologies import SYMBOLOGIES
 from labeltools.sheets.rows import Row
 from labeltools.tables.codes import Code, code_of, CodeRules, is_in_brackets
@@ -51,24 +52,13 @@ class Price(NamedTuple):
 
 
 class Draft(NamedTuple):
-    """A row with a right code, before its prices are written; those that it does not have are
-    None.
+    """A row with a right code: its label, before its prices are written; these are the price, the
+    price of a unit, and the old price, None if there is none.
     """
 
-    row: int
     code: Code
-    title: str
-    text: tuple[str, ...]
-    names: tuple[str, ...]  # of the columns of the texts
-    copies: int
-    price: Price | None
-    unit: Price | None
-    was: Price | None
-
-    @property
-    def prices(self) -> tuple[Price | None, ...]:
-        """The price, the price of a unit, and the old price."""
-        return self.price, self.unit, self.was
+    label: Label
+    prices: tuple[Price | None, Price | None, Price | None]
 
 
 @dataclass
@@ -102,13 +92,13 @@ class DraftReader:
         self.right_codes += 1
         title = "\n".join(self.texts(columns.title, row, code).values())
         texts = self.texts(columns.text, row, code)
-        text = tuple(texts.values())
         currency = self.currency(row)
         copies = columns.copies.copies(row) if columns.copies else 1
+        label = Label(row.number, title, (*texts.values(),), copies=copies, names=(*texts,))
         price = self.price(columns.price, row, currency)
         unit = self.price(columns.unit_price, row, currency) if columns.unit_price else None
         was = self.price(columns.old_price, row, currency) if columns.old_price else None
-        return Draft(row.number, code, title, text, tuple(texts), copies, price, unit, was)
+        return Draft(code, label, (price, unit, was))
 
     def refuse_names(self, row: Row) -> None:
         """Raises `RowError` for a row that has the names of the columns again, and for one that

@@ -16,9 +16,9 @@ from itertools import islice, takewhile, zip_longest
 from pathlib import Path
 from typing import NamedTuple
 
-from labeltools.common.lists import lists_of
 from labeltools.common.messages import RowError, Talk
 from labeltools.common.text import NOTHING, Text
+from labeltools.common.word_lists import lists_of
 from labeltools.lines.symbologies import CODE128, QR
 from labeltools.sheets.rows import Row
 from labeltools.tables.codes import AUTO, code_of, CodeRules, has_length

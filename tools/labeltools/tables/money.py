@@ -11,9 +11,9 @@ from decimal import Decimal
 from functools import lru_cache
 from pathlib import Path
 
-from labeltools.common.lists import lists_of
 from labeltools.common.messages import RowError
 from labeltools.common.text import NOTHING, Text
+from labeltools.common.word_lists import lists_of
 
 PRICE_WORDS = Path(__file__).with_name("prices.list")
 MOST_LETTERS = 60

@@ -6,8 +6,8 @@ from functools import reduce
 from itertools import chain
 from typing import Iterator, NamedTuple
 
+from labeltools.common.column_names import said_of_empty
 from labeltools.common.messages import BAD_ARGUMENTS, quoted, RowError, Talk, ToolError
-from labeltools.common.names import said_of_empty
 from labeltools.common.report import listed
 from labeltools.common.text import counted, NOTHING, Text
 from labeltools.lines.symbologies import SYMBOLOGIES
@@ -22,7 +22,7 @@ from labeltools.sheets.xlsx import rows_of_xlsx
 from labeltools.tables.codes import FREE, OTHER_CODES, OtherCode, WrongDigit
 from labeltools.tables.columns import Column, column_names, columns_of, Head
 from labeltools.tables.drafts import DraftReader
-from labeltools.tables.line_writer import contents_of, LineWriter
+from labeltools.tables.line_writer import LineWriter, shown_by
 from labeltools.tables.once import Once
 from labeltools.tables.prices import CENTS, measure_of
 from labeltools.tables.summary import summary
@@ -170,7 +170,7 @@ class TableRun:
     wrong_digits: int = 0
 
     def __post_init__(self) -> None:
-        older = contents_of(self.options.new_since) if self.options.new_since else None
+        older = shown_by(self.options.new_since) if self.options.new_since else None
         has_copies = self.columns.copies is not None
         self.reader = DraftReader(self.options, self.columns, self.start.head.names, self.once)
         texts = tuple(column.name for column in self.columns.text)

@@ -7,11 +7,11 @@ from typing import Any
 
 import cairo
 
-from labeltools.common.words import _
+from labeltools.common.language import _
 from labeltools.drawing.pdf import POINTS
 from labeltools.paper.area import MILLIMETRES
 from labeltools.paper.stock import Size
-from labeltools.printing.cups import media_of
+from labeltools.sending.cups import media_of
 from labeltools.window.gtk import Gtk
 
 Chosen = Mapping[str, str]  # options of CUPS that are chosen for a job

@@ -3,8 +3,8 @@
 import re
 from collections.abc import Mapping
 
+from labeltools.common.language import _
 from labeltools.common.text import NOTHING, Text, translated
-from labeltools.common.words import _
 from labeltools.drawing.forms import FORMS
 from labeltools.tables.codes import NAMES
 

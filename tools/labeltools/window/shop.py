@@ -12,15 +12,15 @@ from pathlib import Path
 from typing import Any
 
 from labeltools.commands import label_print as print_command, label_table as table_command
-from labeltools.common.command_line import read_input, words_of
+from labeltools.common.arguments import words_of
 from labeltools.common.messages import Cancelled, Origin, quoted, ToolError
+from labeltools.common.process import read_input
 from labeltools.common.report import LeftOut
 from labeltools.common.text import NOTHING, Text
-from labeltools.lines.engine import option_words
 from labeltools.lines.file import first_remark, label_lines, last_remark, LineRecord, read_lines
 from labeltools.printing.job import planned
 from labeltools.printing.press import labels_of, Prepared
-from labeltools.printing.sending import labels_text
+from labeltools.sending.sender import labels_text
 from labeltools.tables.guess import guess_of
 from labeltools.tables.money import NotMoney, parse
 from labeltools.tables.prices import PricePattern
@@ -236,3 +236,11 @@ def print_words(choices: Choices) -> list[str]:
         options["paper"] = f"{choices['width']:g}x{choices['height']:g}"
         del options["stock"], options["first"]
     return [*words_of(options), *option_words(choices["for-print"])]
+
+
+def option_words(argument: str) -> tuple[str, ...]:
+    """Returns options that are given as one text, as a shell reads them; raises `ToolError`."""
+    try:
+        return tuple(shlex.split(argument))
+    except ValueError as error:
+        raise ToolError(Text("{}: {}", repr(argument), error)) from error

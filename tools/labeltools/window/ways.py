@@ -9,10 +9,12 @@ from functools import partial
 from pathlib import Path
 from typing import Any
 
+from labeltools.common.language import _
 from labeltools.common.messages import ToolError
 from labeltools.common.text import Text, translated
-from labeltools.common.words import _
-from labeltools.printing.cups import (
+from labeltools.printing.job import is_direct
+from labeltools.printing.press import Prepared
+from labeltools.sending.cups import (
     JobState,
     NOTHING_CHOSEN,
     PAGES,
@@ -21,10 +23,8 @@ from labeltools.printing.cups import (
     queues,
     SentJob,
 )
-from labeltools.printing.network import address_of, SCHEME
-from labeltools.printing.outlets import is_direct
-from labeltools.printing.press import Prepared
-from labeltools.printing.sending import labels_text, print_on, save_to, send_to
+from labeltools.sending.network import address_of, SCHEME
+from labeltools.sending.sender import labels_text, print_on, save_to, send_to
 from labeltools.window.dialog import ask_printer, Chosen
 from labeltools.window.gtk import Gdk, GLib, Gtk
 from labeltools.window.shop import MadeLabels, Table, WindowTalk

@@ -9,9 +9,9 @@ from functools import partial
 from pathlib import Path
 from typing import Any
 
+from labeltools.common.language import _
 from labeltools.common.messages import ToolError
 from labeltools.common.text import counted, translated
-from labeltools.common.words import _
 from labeltools.designs.design import is_file
 from labeltools.paper.area import ARTICLE
 from labeltools.paper.stock import list_stock

@@ -8,8 +8,8 @@ from contextlib import suppress
 from functools import partial
 from typing import Any
 
+from labeltools.common.language import _
 from labeltools.common.messages import Cancelled, of_system, ToolError
-from labeltools.common.words import _
 from labeltools.window.gtk import GLib
 from labeltools.window.shop import WindowTalk
 

@@ -41,8 +41,6 @@ FAR = 1 << 62  # of a file: bytes that are locked and never written
 NO_JOURNAL = Text("give a file that label-print --journal has made, or a new name")
 NOT_WRITTEN = Text("make it writable")
 NO_LOCKS = Text("put the journal on a disk that locks files")
-STRANGE = re.compile(rb"[^ -\[\]-~]| (?= *\Z)")  # what is written as escapes: blanks at the end too
-ESCAPES = {bytes([byte]): b"\\x%02X" % byte for byte in range(256)} | {b"\\": b"\\\\"}
 LINE = re.compile(
     rb"\d{4}-\d\d-\d\dT[\d:]+Z\t(sending|taken)\tlane ([1-9][0-9]{0,8})\t([^\t]*)\t([^\t]*)\t"
     rb"([a-z0-9]+ (?:[ -\[\]-~]|\\\\|\\x[0-9A-F]{2})*)(?<! )"
@@ -84,7 +82,7 @@ class Journal:
         where the journal has its code. A code that was last sent to the printer `again` before this
         lane began is sent again. Raises `ToolError` where it cannot be written.
         """
-        code = journal_code(record)
+        code = record.code
         with self.locked():
             self.read()
             found = self.entries.get(code)
@@ -115,7 +113,7 @@ class Journal:
 
     def entry(self, record: LineRecord) -> Entry | None:
         """Returns the last that is known of the code of a line."""
-        return self.entries.get(journal_code(record))
+        return self.entries.get(record.code)
 
     def doubtful(self) -> Mapping[bytes, Entry]:
         """Returns what was sent by lanes that ended before it was taken, by its code. A lane may
@@ -260,7 +258,7 @@ class Journal:
     def write(self, event: bytes, record: LineRecord) -> None:
         """Writes a line."""
         now = time.strftime("%Y-%m-%dT%H:%M:%SZ", time.gmtime()).encode()
-        code = journal_code(record)
+        code = record.code
         entry = Entry(event, self.lane, self.printer, str(record.origin))
         texts = f"lane {entry.lane}\t{entry.printer}\t{entry.place}".encode("utf-8", "replace")
         self.append(b"\t".join((now, event, texts, code)) + b"\n")
@@ -311,19 +309,3 @@ def entry_in(line: bytes) -> tuple[bytes, Entry] | None:
         code = b"ean13 0" + code.removeprefix(UPCA)
     texts = (text.decode("utf-8", "replace") for text in (printer, place))
     return code, Entry(event, int(lane), *texts)
-
-
-def journal_code(record: LineRecord) -> bytes:
-    """Returns the code of a line as it stands in a journal."""
-    symbology, data = record.key
-    return symbology.encode("utf-8", "replace") + b" " + escaped(data)
-
-
-def escaped(data: bytes) -> bytes:
-    """Returns data on one line: with the escapes of labels(1) for what is no letter of ASCII, and
-    for a blank at its end.
-
-    >>> escaped(b"a\\\\b\\nc ")
-    b'a\\\\\\\\b\\\\x0Ac\\\\x20'
-    """
-    return STRANGE.sub(lambda byte: ESCAPES[byte[0]], data)

@@ -24,19 +24,19 @@ from queue import Queue
 from threading import Thread
 from typing import Any, BinaryIO, Iterator, Sequence
 
-from labeltools.common.command_line import ENDING, hold_signals, standard_output
 from labeltools.common.messages import sentence, Silence, ToolError, visible, write_message
+from labeltools.common.process import ENDING, hold_signals, standard_output
 from labeltools.common.report import places_text
 from labeltools.common.text import NOTHING, Text, translated
 from labeltools.layout.letters import Letters
 from labeltools.lines.engine import Engine, LABELS_FAILED
 from labeltools.lines.file import drawn_lines, LineRecord, OBJECT
 from labeltools.printing.job import Job
-from labeltools.printing.journal import is_in_place
-from labeltools.printing.outlets import Broken, has_reader, OUTPUT
 from labeltools.printing.press import pens_of, Prepared, prepared, Press
 from labeltools.printing.remarks import SHORTENED
-from labeltools.printing.sending import Sender
+from labeltools.sending.journal import is_in_place
+from labeltools.sending.outlets import Broken, has_reader, OUTPUT
+from labeltools.sending.sender import Sender
 
 SKIPPED = (b'#{"labels"', b'#{"end"')
 MOST_AHEAD = 1000  # lines of a FIFO that wait to be printed

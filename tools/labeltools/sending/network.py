@@ -16,7 +16,7 @@ from contextlib import suppress
 
 from labeltools.common.messages import BAD_ARGUMENTS, ToolError
 from labeltools.common.text import Text
-from labeltools.printing.outlets import Broken, events_of, Outlet, Unreachable
+from labeltools.sending.outlets import Broken, events_of, Outlet, Unreachable
 
 SCHEME = "tcp://"
 NAME = re.compile(r"tcp://(\[[0-9A-Fa-f:.%]+\]|[^\s/:\[\]]+)(?::([0-9]{1,5}))?/?", re.ASCII)

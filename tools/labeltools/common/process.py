@@ -1,8 +1,5 @@
-"""How a tool starts and ends: its arguments, standard input and output, signals, messages and
-statuses.
-"""
+"""How a tool starts and ends: standard input and output, signals, messages and statuses."""
 
-import argparse
 import os
 import signal
 import sys
@@ -11,9 +8,8 @@ from contextlib import contextmanager, suppress
 from importlib import import_module
 from io import RawIOBase, TextIOWrapper
 from pathlib import Path
-from typing import Any, BinaryIO, Callable, Iterator, Mapping, NoReturn
+from typing import Any, BinaryIO, Callable, Iterator, NoReturn
 
-from labeltools import RELEASE
 from labeltools.common.messages import (
     BadArguments,
     of_system,
@@ -22,52 +18,13 @@ from labeltools.common.messages import (
     ToolError,
     write_message,
 )
-from labeltools.common.text import NOTHING, Text, translated
+from labeltools.common.text import NOTHING, Text
 
 STANDARD_ERROR = 2
 QUIET, BETWEEN = 1.0, 0.3  # seconds before progress is shown, and until it is shown again
 DRAWING = ("python3-gi-cairo", "gir1.2-pango-1.0")  # the packages that draw labels
-AS_WRITTEN = argparse.RawDescriptionHelpFormatter  # what is around the options
 ENDING = (signal.SIGHUP, signal.SIGINT, signal.SIGTERM)
 HELD: list[list[int]] = []  # the signals that came while they are held back, where they are
-
-
-# what argparse says of bad arguments; it looks for them where words.py has the translations
-OF_ARGPARSE = (
-    Text("argument %(argument_name)s: %(message)s"),
-    Text("unrecognized arguments: %s"),
-    Text("not allowed with argument %s"),
-    Text("ignored explicit argument %r"),
-    Text("the following arguments are required: %s"),
-    Text("one of the arguments %s is required"),
-    Text("expected one argument"),
-    Text("expected at most one argument"),
-    Text("expected at least one argument"),
-    Text("invalid %(type)s value: %(value)r"),
-    Text("invalid choice: %(value)r (choose from %(choices)s)"),
-)
-
-
-class Parser(argparse.ArgumentParser):
-    """A parser of a tool, whose help ends with examples. Bad arguments are an error like others:
-    `main_of` writes it, a window shows it.
-    """
-
-    def __init__(self, tool: str, usage: str, about: str, examples: str = "") -> None:
-        super().__init__(
-            tool, usage, about, examples, formatter_class=AS_WRITTEN, allow_abbrev=False
-        )
-        version = f"{tool} {RELEASE}"
-        self.add_argument("--version", action="version", help="print the version", version=version)
-
-    def error(self, message: str) -> NoReturn:
-        """Raises `BadArguments`; a message of argparse is in the language of the user already."""
-        raise BadArguments(message if isinstance(message, Text) else Text("{}", message))
-
-
-def wrong_argument(what: Text) -> argparse.ArgumentTypeError:
-    """Returns the error of an argument, which argparse says behind its name."""
-    return argparse.ArgumentTypeError(translated(what))
 
 
 class CommandTalk:
@@ -93,22 +50,6 @@ class CommandTalk:
             self.next_time = time.monotonic() + BETWEEN
             count = f"{done} of {total} labels" if total else f"{done} rows"
             print(f"{self.tool}: {count}", end="\r", file=sys.stderr, flush=True)
-
-
-def words_of(options: Mapping[str, Any]) -> list[str]:
-    """Returns the words of a command for options by their names; those without a value are left
-    out.
-
-    >>> words_of({"code": "2", "title": "", "header-row": 3.0, "hidden": True})
-    ['--code', '2', '--header-row', '3', '--hidden']
-    """
-    found = []
-    for name, value in options.items():
-        if value is True:
-            found.append(f"--{name}")
-        elif value:
-            found += [f"--{name}", value if isinstance(value, str) else f"{value:g}"]
-    return found
 
 
 def read_input(path: str | None) -> tuple[str, bytes]:

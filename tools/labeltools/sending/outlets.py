@@ -13,9 +13,9 @@ from io import BytesIO
 from pathlib import Path
 from typing import Any, IO
 
-from labeltools.common.command_line import hold_signals, standard_output
 from labeltools.common.files import save, temporary, Unwritten, write_whole
 from labeltools.common.messages import ToolError
+from labeltools.common.process import hold_signals, standard_output
 from labeltools.common.text import NOTHING, Text
 
 OUTPUT = "standard output"
@@ -203,13 +203,6 @@ def has_reader(file: int) -> bool:
     connection or of a terminal has gone.
     """
     return not events_of(file, 0)
-
-
-def is_direct(printer: str) -> bool:
-    """Returns whether a printer takes labels one by one: tcp://HOST, or a path, which no queue of
-    CUPS is.
-    """
-    return "/" in printer
 
 
 def paths_of(name: str, data: Sequence[bytes], first: int) -> list[Path]:

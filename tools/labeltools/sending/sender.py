@@ -6,18 +6,20 @@ from functools import partial
 from pathlib import Path
 from typing import Any, Callable, Iterable, Iterator, Mapping, Sequence, Sized
 
-from labeltools.common.command_line import standard_output
 from labeltools.common.files import save
 from labeltools.common.messages import sentence, Talk, ToolError
+from labeltools.common.process import standard_output
 from labeltools.common.report import MOST_RANGES, places_text
 from labeltools.common.text import counted, joined, NOTHING, Text
 from labeltools.layout.layout import LaidOut
 from labeltools.lines.file import LineRecord
-from labeltools.printing.cups import NOTHING_CHOSEN, print_by, Queue, SentJob
 from labeltools.printing.job import Job
-from labeltools.printing.journal import Entry, Journal, journal_code, SENDING
-from labeltools.printing.network import NetworkPrinter, SCHEME
-from labeltools.printing.outlets import (
+from labeltools.printing.press import Batch, Prepared, Press
+from labeltools.printing.selection import FILE, ranges_in
+from labeltools.sending.cups import NOTHING_CHOSEN, print_by, Queue, SentJob
+from labeltools.sending.journal import Entry, Journal, SENDING
+from labeltools.sending.network import NetworkPrinter, SCHEME
+from labeltools.sending.outlets import (
     Broken,
     Collected,
     Device,
@@ -26,8 +28,6 @@ from labeltools.printing.outlets import (
     OUTPUT,
     Untaken,
 )
-from labeltools.printing.press import Batch, Prepared, Press
-from labeltools.printing.selection import FILE, ranges_in
 
 
 class Sender:
@@ -95,7 +95,7 @@ class Sender:
         record = part.items[0].label.record
         journal = self.journal
         if journal is not None and self.again is None and journal.entry(record) is not None:
-            self.known.add(journal_code(record))  # as it was when the journal was last read
+            self.known.add(record.code)  # as it was when the journal was last read
             return 0
         document = press.document(part, is_first)
         way = self.before(self.outlet.open)
@@ -103,7 +103,7 @@ class Sender:
             self.way = way
             self.on_way.clear()
         if journal is not None and not journal.claim(record, self.again):
-            self.known.add(journal_code(record))
+            self.known.add(record.code)
             return 0
         self.give(record, document, is_last)
         self.taken += part.count
@@ -203,8 +203,8 @@ class Sender:
         it is.
         """
         printer = self.sent_to(record)
-        if printer and journal_code(record) in self.doubtful():
-            return may_be_on_paper(printer, by_code(journal_code(record)))
+        if printer and record.code in self.doubtful():
+            return may_be_on_paper(printer, by_code(record.code))
         if printer := self.sent_to(record):  # it was not taken meanwhile
             what = Text("{} is sending it", printer)
             return sentence(what, Text("send the line again to see whether it was taken"))
@@ -227,7 +227,7 @@ class Sender:
         for code, entry in doubtful.items():
             printers.setdefault(entry.printer, []).append(code)
         records = reversed(self.records if printers else ())
-        places = {journal_code(record): record.origin for record in records}
+        places = {record.code: record.origin for record in records}
         for printer, codes in printers.items():
             there = sorted((places[code], code) for code in codes if code in places)
             for some in parts_of(there, MOST_RANGES if self.is_clear else 1):

@@ -21,10 +21,20 @@ from dataclasses import dataclass, field
 from itertools import product
 from typing import Callable, Mapping, NamedTuple, Sequence
 
-from labeltools.lines.symbologies import SYMBOLOGIES, Symbology
+from labeltools.layout.frame import (
+    common_value,
+    DIGITS_ROOM,
+    Frame,
+    HINTING,
+    LEAST_TEXT,
+    LINE,
+    LOWEST,
+    Need,
+    ninth_of_ten,
+)
 from labeltools.paper.area import Area, LARGEST_QR, MODULE
+from labeltools.paper.box import Box
 
-LINE = 1.2  # the distance of two base lines in sizes of letters
 # as parts of a label's size: letters of texts, and white between two parts
 TEXT_PART = 1 / 18
 GAP_PART = 1 / 36
@@ -37,7 +47,6 @@ FEW = range(6, 10)  # labels of which one long title may be cut, so that the oth
 TEXT_OF_TITLE = 0.6  # texts below titles without a price, as a part of these
 # millimetres: the least gap, the smallest letters of texts, titles and prices
 LEAST_GAP = 0.6
-LEAST_TEXT = 1.8
 LEAST_TITLE = 2.1
 LEAST_PRICE = 2.1
 HIGHEST_PRICE = 0.45  # of the height of a label: the ink of its price
@@ -46,72 +55,11 @@ LEAST_LINE = 4  # the shortest line of a title beside a code, in letters
 SQUARE = 1.2  # labels up to this width in heights have more lines for titles
 FULL_LINE = 0.97  # of a line: a title of one line takes no more
 WRAPPED = 1.2  # by how much words leave lines of a title empty
-DIGITS_ROOM = 10  # modules: the room of digits below bars
 LOWEST_PART = 0.15  # of the width of a Code 128: its lowest height
-LOWEST = 5.0  # millimetres: the lowest bars
 FULL_BARS = 95  # modules of the bars of EAN-13 without quiet zones: wider ones need not be higher
 QR_SMALLEST = 0.25  # millimetres
 MOST_SIDE = 0.45  # of the width of a label: what QR takes beside words
-HINTING = 1.03  # by how much letters in dots may be larger than they are measured
-# sizes are equal for all if so many take part, or at the cost of no more than this
-MOST_OF = 0.9
-LEAST_SHARE = 0.75
 ARRANGEMENTS = ("foot", "split", "below", "beside")
-
-
-class Box(NamedTuple):
-    """A rectangle in which a part of a label may have ink."""
-
-    left: int
-    top: int
-    width: int
-    height: int
-
-    @property
-    def right(self) -> int:
-        """The column behind it."""
-        return self.left + self.width
-
-    @property
-    def bottom(self) -> int:
-        """The row below it."""
-        return self.top + self.height
-
-
-class Extent(NamedTuple):
-    """The width and height of the ink of a text, in sizes of its letters."""
-
-    width: float
-    height: float
-
-
-class Need(NamedTuple):
-    """What decides where the parts of a label are: the symbology, width and height of its code in
-    modules (bars without a height of their own have 1); the widths of the lines of its title, the
-    lines of its text and the width of the widest, the width and height of the ink of its price, the
-    widths of its old price and its unit price; 0 for what is not there.
-    """
-
-    symbology: str
-    width: int
-    height: int
-    title: tuple[float, ...]
-    lines: int
-    text: float
-    price: float
-    price_height: float
-    was: float
-    unit: float
-
-    @property
-    def kind(self) -> Symbology:
-        """The symbology."""
-        return SYMBOLOGIES[self.symbology]
-
-    @property
-    def is_bars(self) -> bool:
-        """Whether the code is bars."""
-        return self.kind.nominal > 0
 
 
 class Level(NamedTuple):
@@ -135,54 +83,6 @@ LEVELS = (
 
 
 WHOLE_TITLES = 2  # levels on which whole titles are looked for before titles are cut
-
-
-@dataclass(frozen=True)
-class Frame:
-    """Places for the parts of labels, from the left upper corner of the area: `code`, `title`,
-    `price`, `details`, and `text` where that is beside the code.
-
-    `sizes` are those of letters; `module` is that of bars, `bars` their height, `digits` the height
-    below them; `lines`, `text_lines` and `details_lines` are the most of each; `is_whole` is
-    whether most titles are.
-    """
-
-    kind: str
-    boxes: Mapping[str, Box]
-    sizes: Mapping[str, int]
-    module: int
-    bars: int
-    digits: int
-    lines: int
-    text_lines: int
-    details_lines: int
-    is_whole: bool
-    score: float
-
-
-def common_value(values: Mapping[float, int]) -> float:
-    """Returns what nine of ten values keep to, or the largest one where that is not much more.
-    Values are given with how often they come; 0 where there is none.
-
-    >>> [common_value(one) for one in ({1.0: 9, 1.2: 1}, {1.0: 9, 3.0: 1}, {1.0: 8, 3.0: 2})]
-    [1.2, 1.0, 3.0]
-    """
-    if not values:
-        return 0.0
-    most = max(values)
-    usual = ninth_of_ten(values)
-    return most if usual >= LEAST_SHARE * most else usual
-
-
-def ninth_of_ten(values: Mapping[float, int]) -> float:
-    """Returns the smallest value that nine of ten do not exceed."""
-    wanted = math.ceil(MOST_OF * sum(values.values()))
-    seen = 0
-    for value in sorted(values):
-        seen += values[value]
-        if seen >= wanted:
-            return value
-    return max(values)
 
 
 class Rooms(NamedTuple):
@@ -211,7 +111,7 @@ class JointNeeds:
 
     def __post_init__(self) -> None:
         area = self.area
-        codes = {need[:3]: need for need in self.needs}
+        codes = {need.code: need for need in self.needs}
         self.bars = [need for need in codes.values() if need.is_bars]
         self.modules = [area.modules[need.symbology] for need in self.bars]
         self.squares = count(self.needs, "width", lambda need: not need.is_bars)
