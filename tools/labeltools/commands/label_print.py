@@ -10,7 +10,7 @@ from dataclasses import replace
 from pathlib import Path
 from typing import Any, Callable, Sequence
 
-from labeltools.common.arguments import Parser, wrong_argument
+from labeltools.common.arguments import flag, Parser, value, wrong_argument
 from labeltools.common.messages import BAD_ARGUMENTS, sentence, ToolError, write_message
 from labeltools.common.process import (
     CommandTalk,
@@ -134,16 +134,6 @@ def new_parser() -> Parser:
     flag(parser, "--summary", "is_summed", summary)
     parser.set_defaults(**vars(PrintOptions()))
     return parser
-
-
-def value(group: Any, name: str, metavar: str, kind: Any, text: str, **how: Any) -> None:
-    """Adds an option with a value, which `kind` reads; `metavar` stands for it in the help."""
-    group.add_argument(name, metavar=metavar, type=kind, help=text, **how)
-
-
-def flag(group: Any, name: str, target: str, text: str, is_on: bool = True) -> None:
-    """Adds an option without a value, which sets its target."""
-    group.add_argument(name, action="store_const", const=is_on, dest=target, help=text)
 
 
 def add_sheet_options(group: Any) -> None:

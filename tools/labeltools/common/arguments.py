@@ -41,6 +41,16 @@ class Parser(argparse.ArgumentParser):
         raise BadArguments(message if isinstance(message, Text) else Text("{}", message))
 
 
+def value(group: Any, name: str, metavar: str, kind: Any, text: str, **how: Any) -> None:
+    """Adds an option with a value, which `kind` reads; `metavar` stands for it in the help."""
+    group.add_argument(name, metavar=metavar, type=kind, help=text, **how)
+
+
+def flag(group: Any, name: str, target: str, text: str, is_on: bool = True) -> None:
+    """Adds an option without a value, which sets its target."""
+    group.add_argument(name, action="store_const", const=is_on, dest=target, help=text)
+
+
 def wrong_argument(what: Text) -> argparse.ArgumentTypeError:
     """Returns the error of an argument, which argparse says behind its name."""
     return argparse.ArgumentTypeError(translated(what))
