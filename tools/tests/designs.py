@@ -9,9 +9,10 @@ import support
 from labeltools.common.messages import Silence
 from labeltools.designs.fit import PlacedText
 from labeltools.designs.svg_layout import SvgLayout
-from labeltools.drawing.pen import Medium
+from labeltools.drawing.pen import Pen
+from labeltools.layout.medium import Medium
 from labeltools.printing.job import planned, PrintOptions
-from labeltools.printing.press import labels_of, pen_of, Prepared
+from labeltools.printing.press import labels_of, Prepared
 from reading import fault_of
 
 FOLDER = support.TOP / "designs"
@@ -66,7 +67,7 @@ def prepared(
     chosen |= {"design": str(design), **options}
     wished = PrintOptions(**chosen)
     found = labels_of(planned(wished), "lines", lines_of(labels), Silence())
-    pen = pen_of(found.job, Medium(found.job.plan.dpi, True), found.pens[0].letters)
+    pen = Pen(Medium(found.job.plan.dpi, True), found.pens[0].letters, found.job.design)
     for item in found.labels if is_read else ():
         if fault := fault_of(item, found.laid_out.area, pen):
             raise AssertionError(fault)

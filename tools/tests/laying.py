@@ -8,8 +8,9 @@ from typing import Any, Sequence
 import jobs
 from labeltools.common.messages import Silence
 from labeltools.drawing.dots import drawn_page
-from labeltools.drawing.pen import Medium, Pen
+from labeltools.drawing.pen import Pen
 from labeltools.layout.layout import LaidOut
+from labeltools.layout.medium import Medium
 from labeltools.printing.job import Job, planned, PrintOptions
 from labeltools.printing.press import labels_of, Prepared
 from reading import fault_of
@@ -66,7 +67,7 @@ def laid_out(data: bytes, cell: tuple[float, float], dpi: int = 300, **options: 
         )
     job = planned(sheet)
     prepared = labels_of(job, "lines", data, Silence())
-    return Laid(job, prepared, Pen(Medium(dpi, True), prepared.pens[0].letters))
+    return Laid(job, prepared, Pen(Medium(dpi, True), prepared.pens[0].letters, job.design))
 
 
 def documents_of(found: Prepared) -> list[bytes]:

@@ -5,7 +5,7 @@ from typing import Sequence
 
 import zxingcpp
 
-from labeltools.designs.svg_layout import CODE, PlacedSymbol, symbols_of
+from labeltools.designs.design import CODE, PlacedSymbol
 from labeltools.drawing.dots import drawn_page
 from labeltools.drawing.pen import bits_of, Pen
 from labeltools.layout.layout import LaidOut
@@ -22,7 +22,9 @@ def fault_of(item: LaidOut, area: Area, pen: Pen) -> str | None:
     """Returns what is wrong with a label as it is drawn in its area, if anything."""
     size = area.width, area.height
     picture = drawn_page(size, pen, [(item, (0, 0))])
-    return fault_in([bits_of(row) for row in picture.rows], symbols_of(item, Box(0, 0, *size)))
+    return fault_in(
+        [bits_of(row) for row in picture.rows], pen.design.symbols(item, Box(0, 0, *size))
+    )
 
 
 def fault_in(rows: list[str], symbols: Sequence[PlacedSymbol]) -> str | None:

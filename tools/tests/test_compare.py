@@ -580,7 +580,7 @@ class Again(unittest.TestCase):
             options = options_of("zpl", design=design, paper=(100.0, 60.0))
             found = found_of(options, OwnDesigns.LABELS)
         copied = documents_of(found)
-        with mock.patch("labeltools.drawing.own_pen.UPRIGHT", None):
+        with mock.patch("labeltools.designs.background.UPRIGHT", None):
             self.assertEqual(documents_of(found), copied)
 
 

@@ -18,6 +18,7 @@ import support
 from designs import CODE, dots_of, Label, reasons_of, said_of, texts_of
 from labeltools.common.messages import Silence, ToolError
 from labeltools.designs import svg_page
+from labeltools.designs.svg_labels import SvgLabels
 from labeltools.designs.svg_layout import SvgLayout
 from labeltools.printing.job import planned, PrintOptions
 from labeltools.printing.press import labels_of, Prepared
@@ -233,8 +234,8 @@ class Names(OwnPages):
     def places(self, body: str) -> list[str]:
         """The names of the places but that of the code."""
         found = self.found(body + CODE)
-        assert found.job.design is not None
-        return [place.title for place in found.job.design.places if place.part != "code"]
+        assert isinstance(found.job.design, SvgLabels)
+        return [it.title for it in found.job.design.design.places if it.part != "code"]
 
     def test_a_name_is_data_place_or_the_label_or_the_id(self) -> None:
         for name in (

@@ -10,12 +10,12 @@ from unittest import mock
 import designs
 import support
 from designs import Label
-from labeltools.drawing.own_pen import OwnPen
-from labeltools.drawing.pen import font_options, Medium, Placed
-from labeltools.layout.fitting import Fitted, Fitter, LEFT, Style
+from labeltools.drawing.pen import Pen
+from labeltools.layout.fitting import Fitted, Fitter, LEFT, Placed, Style
 from labeltools.layout.glyphs import LINE_END
 from labeltools.layout.layout import LaidOut
 from labeltools.layout.letters import FONT, Letters
+from labeltools.layout.medium import font_options, Medium
 from labeltools.layout.pango import UNIT
 from laying import documents_of
 
@@ -150,9 +150,9 @@ class OwnLines(unittest.TestCase):
     def lines(self, design: Path, labels: Sequence[Label], form: str, dpi: int) -> list[list[str]]:
         """The lines of each text that has several, as they are drawn."""
         drawn = []
-        texts = OwnPen.texts
+        texts = Pen.texts
 
-        def noted(pen: OwnPen, item: LaidOut) -> Iterator[Placed]:
+        def noted(pen: Pen, item: LaidOut) -> Iterator[Placed]:
             for placed in texts(pen, item):
                 rows = lines_in(placed.text.layout) if placed.text.layout else []
                 drawn.extend([rows] * (len(rows) > 1))
@@ -160,7 +160,7 @@ class OwnLines(unittest.TestCase):
 
         size = designs.size_of(design.stem)
         found = designs.prepared(design, labels, paper=size, to=form, dpi=dpi)
-        with mock.patch.object(OwnPen, "texts", noted):
+        with mock.patch.object(Pen, "texts", noted):
             documents_of(found)
         wanted = [
             text.text.replace(LINE_END, "\n").split("\n")

@@ -8,6 +8,7 @@ import unittest
 from typing import Any, Sequence
 
 import support
+from labeltools.designs.framed import styled_text
 from labeltools.layout.letters import FONT, Letters
 from labeltools.lines.symbologies import SYMBOLOGIES
 from labeltools.paper.area import ROLL_SMALLEST
@@ -277,7 +278,7 @@ class Words(unittest.TestCase):
         )
         cut = 0
         for item in laid.labels:
-            text, style = laid.pen.text_of("title", item.label, item.layout)
+            text, style = styled_text("title", item.label, item.layout, laid.pen.letters.family)
             width = item.layout.boxes["title"].width
             layout = laid.pen.fitter.laid_out(text, style, width, style.size)
             self.assertEqual(laid.pen.is_shortened(item), layout.is_ellipsized(), item.label.title)

@@ -16,7 +16,6 @@ import zxingcpp
 
 import jobs
 import support
-from labeltools.designs.svg_layout import symbols_of
 from labeltools.drawing.dots import drawn_page
 from labeltools.drawing.pen import bits_of
 from labeltools.paper.box import Box
@@ -380,7 +379,7 @@ class ReadBack(unittest.TestCase):
         area = laid.prepared.laid_out.area
         picture = drawn_page((area.width, area.height), laid.pen, [(item, (0, 0))])
         bars = item.layout.boxes["bars"]
-        symbols = symbols_of(item, Box(0, 0, area.width, area.height))
+        symbols = laid.pen.design.symbols(item, Box(0, 0, area.width, area.height))
         self.assertIsNone(fault_in([bits_of(row) for row in picture.rows], symbols))
         rows = list(picture.rows)
         for top in range(bars.top, bars.top + bars.height // 3):

@@ -17,8 +17,8 @@ from labeltools.checking.read_pdf import DrawnPage, is_at, pages_of
 from labeltools.checking.read_svg import dots_of_svg
 from labeltools.common.messages import FAULT, Talk, ToolError
 from labeltools.common.text import Text
+from labeltools.designs.design import Design, PlacedSymbol
 from labeltools.designs.places import key_of, PARTS, Place
-from labeltools.designs.svg_layout import PlacedSymbol, symbols_of
 from labeltools.layout.layout import LaidOut, short
 from labeltools.lines.engine import bytes_a_row, Engine, LABELS_FAILED, Refused
 from labeltools.lines.file import LineRecord
@@ -110,8 +110,15 @@ class Comparison:
     """
 
     def __init__(
-        self, plan: Plan, form: str, is_escaped: bool, is_turned: bool, talk: Talk
+        self,
+        design: Design,
+        plan: Plan,
+        form: str,
+        is_escaped: bool,
+        is_turned: bool,
+        talk: Talk,
     ) -> None:
+        self.design = design
         self.plan = plan
         self.talk = talk
         self.form = form
@@ -181,7 +188,7 @@ class Comparison:
         """Yields what has to be on a page, in the order of its drawing; raises `Different`."""
         for item, at in labels:
             record = item.label.record
-            for spot in symbols_of(item, self.area):
+            for spot in self.design.symbols(item, self.area):
                 try:
                     symbol = self.symbol(spot, record)
                     kind = (symbol.symbology, symbol.quiet_zones, symbol.width, symbol.rows)
@@ -218,7 +225,7 @@ class Comparison:
         place = spot.place
         engine, line, data = self.engine, record.line, record.data
         if place.symbology:
-            text = own_text(place, record)
+            text = text_for(place, record)
             said = spot.data if text is None else text.encode("utf-8", "surrogateescape")
             escaped = said.replace(b"\\", b"\\\\").replace(b"\n", b"\\n")
             line = ",".join((place.symbology, *place.settings)).encode() + b" " + escaped
@@ -390,7 +397,7 @@ def wrong(wanted: Wanted, dot: float) -> Different:
     return Different(what, wanted.record)
 
 
-def own_text(place: Place, record: LineRecord) -> str | None:
+def text_for(place: Place, record: LineRecord) -> str | None:
     """Returns the text of a label in a place, by the line itself; None where it is put together of
     several.
     """

@@ -21,7 +21,7 @@ from labeltools.common.process import (
 )
 from labeltools.common.report import places_text, Ranges, report
 from labeltools.common.text import counted, joined, Text
-from labeltools.designs.design import is_file
+from labeltools.designs.svg_design import is_file
 from labeltools.drawing.forms import FORMS
 from labeltools.lines.file import LineRecord
 from labeltools.paper.area import DESIGNS

@@ -14,6 +14,7 @@ from labeltools.common.column_names import name_of
 from labeltools.common.messages import quoted, ToolError
 from labeltools.common.text import Text
 from labeltools.designs.svg_page import SPACE
+from labeltools.layout.fitting import Colour
 from labeltools.lines.symbologies import SYMBOLOGIES
 from labeltools.paper.area import Dots
 from labeltools.paper.box import Box
@@ -49,8 +50,6 @@ WHERE: dict[str, dict[str, Any]] = {  # a text or a symbol is in its place
     "bottom": {"down": 1.0},
 }
 WORDS = {**WHERE, "bold": {"is_bold": True}}  # of texts
-
-Colour = tuple[float, float, float]  # red, green, blue: 0 to 1
 
 
 @dataclass(frozen=True, eq=False)

@@ -12,9 +12,10 @@ from typing import Iterator, Mapping, NamedTuple, Sequence
 from labeltools.common.cache import Found
 from labeltools.common.messages import quoted, sentence, Talk, ToolError
 from labeltools.common.text import Text
-from labeltools.designs.design import mixed_text, NEAR, SvgDesign, UNREAD
+from labeltools.designs.design import PlacedSymbol
 from labeltools.designs.fit import ENLARGE, NoRoom, PlacedText, Room
 from labeltools.designs.places import key_of, PARTS, Place
+from labeltools.designs.svg_design import mixed_text, NEAR, SvgDesign, UNREAD
 from labeltools.layout.frame import DIGITS_ROOM, Frame, LOWEST
 from labeltools.layout.layout import ASKED, LaidOut, LaidOutFile, Layout, PrintLabel, short
 from labeltools.layout.letters import Letters
@@ -27,22 +28,7 @@ from labeltools.paper.stock import size_text
 
 FIELDS = ("title", "price", "unit", "was", "code")  # of each label
 KEPT = 16  # columns of labels
-CODE = Place("code")  # of a built-in design
 NO_FRAME = Frame("own", {}, {}, 0, 0, 0, 0, 0, 0, True, 0.0)
-
-
-class PlacedSymbol(NamedTuple):
-    """A symbol in a place: its box, its data and modules, and where its bars and digits are in that
-    as it is read.
-    """
-
-    place: Place
-    box: Box
-    data: bytes
-    modules: Modules
-    symbology: Symbology
-    module: int
-    boxes: Mapping[str, Box]
 
 
 @dataclass(frozen=True, slots=True)
@@ -54,15 +40,6 @@ class SvgLayout(Layout):
     texts: tuple[PlacedText, ...]
     symbols: tuple[PlacedSymbol, ...]
     absent: frozenset[str]
-
-
-def symbols_of(item: LaidOut, area: Box = Box(0, 0, 0, 0)) -> Sequence[PlacedSymbol]:
-    """Returns the symbols of a label of any design; a built-in one has one, in its whole area."""
-    layout = item.layout
-    if isinstance(layout, SvgLayout):
-        return layout.symbols
-    how = (item.label.record.data, item.label.modules, layout.symbology)
-    return [PlacedSymbol(CODE, area, *how, layout.module, layout.boxes)]
 
 
 class Values(NamedTuple):
@@ -338,3 +315,9 @@ def line_of(place: Place, text: str) -> bytes:
     escaped = text.replace("\\", "\\\\").replace("\n", "\\n")
     line = f"{','.join((place.symbology, *place.settings))} {escaped}"
     return line.encode("utf-8", "surrogateescape")
+
+
+def svg_layout(item: LaidOut) -> SvgLayout:
+    """Returns the layout of a label in a design."""
+    assert isinstance(item.layout, SvgLayout)
+    return item.layout

@@ -7,7 +7,8 @@ import cairo
 
 from labeltools.common.messages import ToolError
 from labeltools.common.text import Text
-from labeltools.drawing.pen import Page, Pen, REVERSED
+from labeltools.drawing.pen import Pen, REVERSED
+from labeltools.layout.layout import Page
 from labeltools.lines.engine import bytes_a_row
 from labeltools.paper.area import Dots, MOST_DOTS
 from labeltools.paper.picture import Picture, rows_reader

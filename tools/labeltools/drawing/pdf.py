@@ -10,11 +10,11 @@ from typing import Any, Callable, IO, Iterable
 import cairo
 
 from labeltools.common.files import BLOCK
-from labeltools.drawing.pen import Page, Pen
-from labeltools.paper.area import MILLIMETRES
+from labeltools.drawing.pen import Pen
+from labeltools.layout.layout import Page
+from labeltools.paper.area import MILLIMETRES, POINTS
 from labeltools.paper.stock import Size
 
-POINTS = 72  # in an inch
 OBJECT = re.compile(rb"([0-9]{10}) [0-9]{5} n")
 TABLE_AT = 64  # bytes from the end of a PDF, in which the place of its table of objects is
 

@@ -30,6 +30,8 @@ ALIGNMENTS = {
     RIGHT: Pango.Alignment.RIGHT,
 }
 
+Colour = tuple[float, float, float]  # red, green, blue: 0 to 1
+
 
 class Style(NamedTuple):
     """How a text is drawn: its letters and their size; the most lines that each line of it takes,
@@ -71,6 +73,19 @@ class Fitted(NamedTuple):
             shift = (self.room - row.width) * self.part
             yield row, self.x + (floor(shift + 0.5) if row.width.is_integer() else shift), base
             base += self.glyphs.high
+
+
+class Placed(NamedTuple):
+    """A text that is fitted into a box: its style; the box, turned to the right by some quarters;
+    its colour where that is not black; whether its letters have a white edge.
+    """
+
+    text: Fitted
+    style: Style
+    box: Box
+    quarters: int = 0
+    colour: Colour | None = None
+    is_edged: bool = False
 
 
 class Fitter:

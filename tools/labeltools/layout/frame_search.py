@@ -158,7 +158,7 @@ class JointNeeds:
     def rooms(self, level: Level, kind: str, module: int) -> Rooms:
         """Returns the rooms for code and words."""
         area = self.area
-        part = min(level.bars, area.wishes.design.bars)
+        part = min(level.bars, area.wishes.purpose.bars)
         heights = (self.least_height(need, module, part) for need in self.bars)
         low = max(heights, default=0)
         bars = self.highest_bars(module, low)
@@ -215,7 +215,7 @@ class JointNeeds:
         if not self.squares:
             return 0
         area = self.area
-        grown = area.size * area.dot / area.wishes.design.full_qr
+        grown = area.size * area.dot / area.wishes.purpose.full_qr
         wished = min(LARGEST_QR, module * max(1.0, grown))
         least = max(self.squares) * area.dots(QR_SMALLEST)
         return int(max(least, math.ceil(common_value(self.squares) * wished / area.dot)))
@@ -296,7 +296,7 @@ def rounds_of(demand: JointNeeds) -> list[list[int]]:
     least = max(min(allowed) for allowed in demand.modules)
     all_modules = {one for allowed in demand.modules for one in allowed}
     wishes = sorted({one for one in all_modules if least <= one <= first} or {least}, reverse=True)
-    if demand.area.wishes.design.name == "shelf":
+    if demand.area.wishes.purpose.name == "shelf":
         return [wishes]
     return [[one] for one in wishes]
 

@@ -18,7 +18,7 @@ from labeltools.layout.letters import Letters
 from labeltools.lines.engine import Modules
 from labeltools.lines.file import LineRecord
 from labeltools.lines.symbologies import SYMBOLOGIES, Symbology
-from labeltools.paper.area import Area, millimetres_of, PAD
+from labeltools.paper.area import Area, Dots, millimetres_of, PAD
 from labeltools.paper.box import Box
 from labeltools.paper.stock import Size, size_text
 
@@ -101,6 +101,9 @@ class LaidOut:
 
     label: PrintLabel
     layout: Layout
+
+
+Page = Sequence[tuple[LaidOut, Dots]]  # labels, with the upper left corners of their areas
 
 
 @dataclass(frozen=True)

@@ -11,6 +11,7 @@ Dots = tuple[int, int]
 Edges = tuple[float, float, float, float]  # left, top, right, bottom in millimetres
 
 MILLIMETRES = 25.4  # in an inch
+POINTS = 72  # in an inch
 PAD = 1.0  # millimetres of white inside each edge of a cell
 # millimetres: the module that is aimed at, and the largest ones of bars and of QR
 MODULE = 0.33
@@ -25,7 +26,7 @@ TINY = 1e-6  # what a sum of rounded numbers may be off by
 
 
 @dataclass(frozen=True)
-class Design:
+class Purpose:
     """What labels are for: bars are this part of their width where there is room for no more, and
     QR grows with labels above a size in millimetres.
 
@@ -38,19 +39,19 @@ class Design:
     full_qr: float
 
 
-OF_FILE = Design("own", 0.0, 0.0)  # of a file: its places say it
-ARTICLE = Design("article", 0.5, 40.0)
-SHELF = Design("shelf", 0.25, 60.0)
+NO_PURPOSE = Purpose("svg", 0.0, 0.0)  # of a page of SVG: its places say it
+ARTICLE = Purpose("article", 0.5, 40.0)
+SHELF = Purpose("shelf", 0.25, 60.0)
 DESIGNS = {design.name: design for design in (ARTICLE, SHELF)}
 
 
 @dataclass(frozen=True)
 class Wishes:
-    """What is asked for: a module in millimetres, a design, whether labels are turned to the right
-    (None: where more of them fit so), whether the paper is a roll.
+    """What is asked for: what labels are for, a module in millimetres, whether they are turned to
+    the right (None: where more of them fit so), whether the paper is a roll.
     """
 
-    design: Design = ARTICLE
+    purpose: Purpose = ARTICLE
     module: float | None = None
     turn: bool | None = None
     is_roll: bool = False

@@ -10,7 +10,10 @@ from typing import Sequence
 
 from labeltools.common.messages import BAD_ARGUMENTS, ToolError
 from labeltools.common.text import counted, NOTHING, Text
-from labeltools.designs.design import is_file, read_design, size_of_page, SvgDesign
+from labeltools.designs.design import Design
+from labeltools.designs.framed import FramedDesign
+from labeltools.designs.svg_design import is_file, read_design, size_of_page
+from labeltools.designs.svg_labels import SvgLabels
 from labeltools.drawing.forms import ESCPOS, Form, FORMS, PDF
 from labeltools.layout.letters import FONT
 from labeltools.lines.file import UNPRINTABLE
@@ -18,7 +21,7 @@ from labeltools.paper.area import (
     ARTICLE,
     DESIGNS,
     Edges,
-    OF_FILE,
+    NO_PURPOSE,
     Plan,
     plan_of,
     unprinted_edges,
@@ -103,12 +106,12 @@ class PrintOptions:
 
 @dataclass(frozen=True)
 class Job:
-    """How labels go out: what is asked for, on which sheet, in which form; a design of a file."""
+    """How labels go out: what is asked for, on which sheet, in which form and design."""
 
     options: PrintOptions
     plan: Plan
     form: Form
-    design: SvgDesign | None = None
+    design: Design
 
     @property
     def is_each(self) -> bool:
@@ -132,20 +135,18 @@ def planned(options: PrintOptions) -> Job:
     if edges is None:
         edge = 0.0 if sheet.is_single else EDGE
         edges = edge, edge, edge, edge
-    own = None
+    wishes = (options.module, options.turn, options.paper is not None)
     if is_file(options.design):
-        own = read_design(options.design, sheet.cell, unprinted_edges(sheet, edges), options.turn)
-    wishes = Wishes(
-        OF_FILE if own else DESIGNS[options.design],
-        options.module,
-        options.turn,
-        options.paper is not None,
-    )
-    plan = whole_plan_of(sheet, dpi, wishes) if own else plan_of(sheet, dpi, edges, wishes)
+        white = unprinted_edges(sheet, edges)
+        design: Design = SvgLabels(read_design(options.design, sheet.cell, white, options.turn))
+        plan = whole_plan_of(sheet, dpi, Wishes(NO_PURPOSE, *wishes))
+    else:
+        design = FramedDesign()
+        plan = plan_of(sheet, dpi, edges, Wishes(DESIGNS[options.design], *wishes))
     dots = options.dots or RECEIPT_DOTS
     too_wide = Text("a label is {} dots wide, and the printer has {} (--dots)", plan.page[0], dots)
     refuse(form == ESCPOS and plan.page[0] > dots, too_wide)
-    return Job(options, plan, form, own)
+    return Job(options, plan, form, design)
 
 
 def refuse(is_wrong: object, what: Text, hint: Text = NOTHING) -> None:

@@ -11,16 +11,16 @@ from labeltools.common.files import temporary
 from labeltools.common.messages import Talk, ToolError
 from labeltools.common.report import LeftOut, places_text
 from labeltools.common.text import Text
-from labeltools.designs.svg_layout import SvgLayouts
+from labeltools.designs.design import Design, Setting
 from labeltools.drawing.dots import drawn_page, pbm, png
 from labeltools.drawing.escpos import escpos
 from labeltools.drawing.forms import ESCPOS, PBM, PDF, PNG, SVG, ZPL
-from labeltools.drawing.own_pen import OwnPen
 from labeltools.drawing.pdf import drawn_file, Paper
-from labeltools.drawing.pen import Medium, Page, Pen
+from labeltools.drawing.pen import Pen
 from labeltools.drawing.zpl import zpl
-from labeltools.layout.layout import LaidOut, LaidOutFile, lay_out, print_label, PrintLabel
+from labeltools.layout.layout import LaidOut, LaidOutFile, Page, print_label, PrintLabel
 from labeltools.layout.letters import DIGITS_FONT, Letters
+from labeltools.layout.medium import Medium
 from labeltools.lines.file import drawn_lines, LineRecord, LinesFile
 from labeltools.paper.picture import Picture
 from labeltools.printing.job import Job
@@ -102,17 +102,13 @@ def prepared(
         if record.modules is not None and record.label.copies
     ]
     reasons = {record.number: record.refused for record in lines.records if record.refused}
-    area = job.plan.area
-    own = None
-    if job.design:
-        own_area = area.turned() if job.design.is_turned else area
-        own = SvgLayouts(job.design, own_area, letters, options.note, lines.empty)
-    reasons.update(without_letters(labels, own, letters))
+    on = Setting(job.plan.area, letters, options.note, lines.empty)
+    reasons.update(without_letters(labels, job.design, on))
     if options.is_each_once:
         reasons.update(doubles(lines, reasons))
     if reasons:
         labels = [label for label in labels if label.record.number not in reasons]
-    laid_out = own.lay_out(labels, talk) if own else lay_out(labels, area, letters, talk)
+    laid_out = job.design.lay_out(labels, on, talk)
     reasons.update(laid_out.left_out)
     only = options.only
     wanted = [item for item in laid_out.labels if only.has(item.label.record)]
@@ -127,13 +123,13 @@ def prepared(
 
 
 def without_letters(
-    labels: Sequence[PrintLabel], own: SvgLayouts | None, letters: Letters
+    labels: Sequence[PrintLabel], design: Design, on: Setting
 ) -> Mapping[int, Text]:
-    """Returns why labels are left out that have letters which no font has; in a design of a file
-    only those of its places.
+    """Returns why labels are left out that have letters which no font has, where a design prints
+    them.
     """
-    found = letters.missing({label.record.number: label.texts for label in labels})
-    return letters.missing(own.texts_in_places(labels)) if own and found else found
+    found = on.letters.missing({label.record.number: label.texts for label in labels})
+    return on.letters.missing(design.printed(labels, on)) if found else found
 
 
 def doubles(lines: LinesFile, refused: Mapping[int, Text]) -> Mapping[int, Text]:
@@ -230,7 +226,7 @@ class Press:
         self.talk = talk
         area = laid_out.area
         self.turn = area.height if area.is_turned else 0
-        how = (job.plan, job.form.name, job.options.is_escaped, area.is_turned)
+        how = (job.design, job.plan, job.form.name, job.options.is_escaped, area.is_turned)
         self.comparison = Comparison(*how, talk)
 
     @property
@@ -317,11 +313,5 @@ def pens_of(job: Job, letters: Letters) -> list[Pen]:
         frozenset({DIGITS_FONT, job.options.font}),
     )
     wanted = outlines if job.form == PDF else outlines[:1]
-    return [pen_of(job, replace(medium, outlines=shapes), letters) for shapes in wanted]
-
-
-def pen_of(job: Job, medium: Medium, letters: Letters) -> Pen:
-    """Returns what draws labels of a job on a medium."""
-    if job.design:
-        return OwnPen(medium, letters, job.design)
-    return Pen(medium, letters)
+    media = (replace(medium, outlines=shapes) for shapes in wanted)
+    return [Pen(one, letters, job.design) for one in media]

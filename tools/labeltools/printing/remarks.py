@@ -51,7 +51,7 @@ def found_on(
     items: Sequence[LaidOut], area: Area, pen: Pen
 ) -> Iterator[tuple[Sequence[LaidOut], Text]]:
     """Yields labels, which may be none, and what is to be said of them."""
-    if area.wishes.design == ARTICLE:
+    if area.wishes.purpose == ARTICLE:
         low = [item for item in items if has_low_bars(item)]
         bars = min((item.layout.boxes["bars"].height for item in low), default=0) * area.dot
         hint = Text("hand scanners read them, a till that reads in all directions may not")

@@ -8,8 +8,7 @@ from typing import Any
 import cairo
 
 from labeltools.common.language import _
-from labeltools.drawing.pdf import POINTS
-from labeltools.paper.area import MILLIMETRES
+from labeltools.paper.area import MILLIMETRES, POINTS
 from labeltools.paper.stock import Size
 from labeltools.sending.cups import media_of
 from labeltools.window.gtk import Gtk

@@ -9,7 +9,7 @@ import cairo
 from labeltools.common.messages import Silence
 from labeltools.drawing.dots import drawn_surface
 from labeltools.drawing.forms import PBM, SVG
-from labeltools.drawing.pen import Page
+from labeltools.layout.layout import Page
 from labeltools.layout.letters import Letters
 from labeltools.printing.press import pens_of, Prepared, Press
 

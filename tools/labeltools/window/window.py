@@ -12,7 +12,7 @@ from typing import Any
 from labeltools.common.language import _
 from labeltools.common.messages import ToolError
 from labeltools.common.text import counted, translated
-from labeltools.designs.design import is_file
+from labeltools.designs.svg_design import is_file
 from labeltools.paper.area import ARTICLE
 from labeltools.paper.stock import list_stock
 from labeltools.printing.press import check_count
