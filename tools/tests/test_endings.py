@@ -10,6 +10,7 @@ import subprocess
 import tempfile
 import time
 import unittest
+from contextlib import suppress
 from pathlib import Path
 from typing import Any, Callable, Sequence
 from unittest import mock
@@ -221,7 +222,10 @@ class Running(unittest.TestCase):
                     talk = CommandTalk(tool)
                 for done in (0, 1, 2):
                     talk.go_on(done, total)
-        shown = os.read(own, 999)
+        shown = b""
+        with suppress(OSError):  # of a terminal that is closed
+            while part := os.read(own, 999):
+                shown += part
         self.assertEqual(shown, b"label-table: 1 rows\rlabel-print: 1 of 3 labels\r")
         os.close(own)
 
