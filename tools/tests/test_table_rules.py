@@ -154,11 +154,14 @@ class Prices(RulesTest):
         self.assertEqual(self.price('="1,20"'), "1,20")
 
     def test_what_a_column_says_once(self) -> None:
+        program = "row 2 has {}, as programs write prices{}: give --price-as {} for two decimals"
         cases = {
             ("1.234", "5.678"): "",
             ("1,50", "1.50"): "",
-            ("7.5", "8.25"): "",
-            ("7.5", "8"): "",
+            ("7.5", "8.2"): program.format("7.5", " (2 rows)", "0.00"),
+            ("7,5", "8"): program.format("7,5", "", "0,00"),
+            ("34.000000", "8.125"): program.format("34.000000", "", "0.00"),
+            ("7.5 €", "8.00 €"): program.format("7.5 €", "", "'0.00 ¤'"),
             ("0.0249 €/g", "0.0184 €/g"): "",
             ("0,00", "0"): "row 2 has the price 0,00 (2 rows)",
             ("5 €", "5 CHF"): "the prices have several currencies: CHF, EUR",

@@ -2,6 +2,7 @@
 was asked for.
 """
 
+import shlex
 from dataclasses import dataclass, field
 from typing import Mapping
 
@@ -10,7 +11,7 @@ from labeltools.common.text import Text
 from labeltools.lines.file import first_remark, Label, label_lines, last_remark, LinesFile
 from labeltools.tables.codes import Code
 from labeltools.tables.drafts import Draft, HAS_DIGIT, Price
-from labeltools.tables.money import NotMoney
+from labeltools.tables.money import Money, NotMoney
 from labeltools.tables.once import Once
 from labeltools.tables.prices import PriceColumn, settled, with_currency
 from labeltools.tables.summary import Totals
@@ -60,13 +61,27 @@ class LineWriter:
         for price, column in zip(draft.prices, self.columns):
             if price and price.money:
                 column.add(price.money, price.currency or "")
-                if not price.money.value:
-                    said = Text("row {} has the price {}", draft.label.row, price.text)
-                    self.once.see(("zero", price.column), said)
+                self.see_price(draft.label.row, price, price.money)
+        now, _, was = draft.prices
+        if now and was and is_below(was.money, now.money):
+            row = draft.label.row
+            said = Text("row {} has the old price {}, below the price {}", row, was.text, now.text)
+            self.once.see("was", said)
         if self.options.prices.pattern:
             self.waiting.append(draft)
         else:
             self.add(draft)
+
+    def see_price(self, row: int, price: Price, money: Money) -> None:
+        """Looks at a price that is zero, or has as many decimals as a program's number has."""
+        if not money.value:
+            self.once.see(("zero", price.column), Text("row {} has the price {}", row, price.text))
+        is_shown = self.options.prices.pattern or money.unit or money.is_open
+        if not is_shown and money.decimals not in (0, 2, 3):
+            said = Text("row {} has {}, as programs write prices", row, price.text)
+            pattern = f"0{money.point}00 ¤" if money.currency else f"0{money.point}00"
+            hint = Text("give --price-as {} for two decimals", shlex.quote(pattern))
+            self.once.see(("decimals", price.column), said, hint)
 
     def finish(self) -> bytes:
         """Writes the drafts that wait, and the end; returns the whole file."""
@@ -162,6 +177,13 @@ class LineWriter:
             self.empty["title"].append(label.row)
         if not label.price:
             self.empty["price"].append(label.row)
+
+
+def is_below(one: Money | None, other: Money | None) -> bool:
+    """Returns whether a price is below another one, where both can be compared."""
+    if not one or not other or one.is_open or other.is_open:
+        return False
+    return one.value < other.value and one.currency == other.currency
 
 
 def shown_by(lines: LinesFile) -> Older:
